@@ -2,9 +2,9 @@
 """Gives the protocol other numbers, in the tree that it is run in: tools/permute.py [--force] [SEED]
 
 For a trial on a copy: is the library proved for that description with no edit by hand? It writes proto/journal.proto
-with other numbers of fields, codes of types and places of schemas, drawn by SEED (1), and prints a line for each message.
-`python3 tools/generate.py` then writes all that repeats them, and `rt check` proves it crate by crate. A tree with
-changes that are not committed is left as it is, but with --force.
+with other numbers of fields, codes of types and places of schemas, drawn by SEED (1), and prints a line for each
+message. `python3 tools/generate.py` then writes all that repeats them, and `rt check` proves it crate by crate. A tree
+with changes that are not committed is left as it is, but with --force.
 
 - The field numbers of each message are permuted, members of oneofs with the others, and one of them is replaced by any
   number that a field can have.
@@ -13,7 +13,8 @@ changes that are not committed is left as it is, but with --force.
 - The codes of types are rotated among those below 0x0400, among commands and among notifications; that of signals, the
   last one, stays.
 - The schemas are permuted.
-- Not changed are the numbers of the messages whose records are hand-written: Future, and a suspension before version 7.
+- The record that is hand-written, Future, has other numbers too, and so its fields in another order.
+- Not changed are the numbers of a suspension before version 7, whose lists are written in their order.
 
 Test vectors that are hand-written, bench/src/rules.rs and the numbers in tests hold bytes of the present numbers. They
 are not changed: what the trial asks is whether the proofs hold.
@@ -62,8 +63,8 @@ def numbers_of(message):
 
 
 def is_kept(message):
-    """Whether the message's record is hand-written, with its numbers."""
-    return message.name in HAND_WRITTEN or message.before_version is not None
+    """Whether the message's fields have to stay in their order."""
+    return message.before_version is not None
 
 
 def field_numbers(draw, found):
@@ -74,7 +75,7 @@ def field_numbers(draw, found):
     other_name = any_number(draw, {number for message in found if message.is_command() for number in numbers_of(message)})
     lines = {}
     for message in found:
-        if is_kept(message):
+        if is_kept(message) or message.name in HAND_WRITTEN:
             continue
         if message.is_notification() or message is template:
             new = common
@@ -85,6 +86,17 @@ def field_numbers(draw, found):
             new = permuted(draw, numbers_of(message))
         for field in fields_of(message):
             lines[field.line] = new[field.number]
+    return lines
+
+
+def numbers_by_hand(draw, found):
+    """The same for the records that are hand-written. They are drawn last, so that those above are the same with any of
+    these."""
+    lines = {}
+    for message in found:
+        if message.name in HAND_WRITTEN:
+            new = permuted(draw, numbers_of(message))
+            lines.update((field.line, new[field.number]) for field in fields_of(message))
     return lines
 
 
@@ -146,7 +158,9 @@ def main():
     found = messages()
     numbers = field_numbers(draw, found)
     codes = type_codes(draw, found)
-    text, said = with_numbers(PROTO.read_text(encoding="utf-8"), found, numbers, codes, schema_places(draw))
+    places = schema_places(draw)
+    numbers.update(numbers_by_hand(draw, found))
+    text, said = with_numbers(PROTO.read_text(encoding="utf-8"), found, numbers, codes, places)
     # what the description cannot say is rejected before it is written
     of_text(text)
     PROTO.write_text(text, encoding="utf-8")

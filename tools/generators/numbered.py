@@ -1,8 +1,8 @@
 """The numbers of fields in files that are written by hand: the record Future, which holds itself, the suspension before
 version 7 as it is written, their definitions and proofs, and planted bugs that quote generated lines.
 
-All else of these files is written by hand, but for the further fields of records that they make. The numbers are found by the text around them, in which the name of a field
-in braces is where its number is.
+All else of these files is written by hand, but for the order of Future's fields and the further fields of records that
+they make. The numbers are found by the text around them, in which the name of a field in braces is where its number is.
 """
 import itertools
 import re
@@ -20,7 +20,8 @@ IS_WHOLE = False
 PARTS = "crates/shared_core_parts"
 RUNTIME = "crates/shared_core_runtime"
 
-NESTED = ("Future", ["future_part {nested_futures} (Message future)", "(Repeated {nested_futures} (Message future))"])
+AT_NESTED = ("Future", ["future_part {nested_futures} (Message future)"])
+NESTED = ("Future", [*AT_NESTED[1], "(Repeated {nested_futures} (Message future))"])
 
 # By file: the messages whose fields' numbers it has, each with the texts around them. Each text is there.
 NUMBERED = {
@@ -49,6 +50,8 @@ NUMBERED = {
         ("OneWayCallCommandMessage", ["uint64_t one_way_call_names[] = {{service_name}, {handler_name}}"]),
     ],
     f"{PARTS}/proofs/future/+measure_future/Answers.antt": [NESTED],
+    f"{PARTS}/proofs/future/+measure_future/Invariants.antt": [AT_NESTED],
+    f"{PARTS}/proofs/future/+encode_future/Invariants.antt": [AT_NESTED],
     f"{PARTS}/proofs/future/+encode_future/Answers.antt": [
         (
             "Future",
@@ -69,6 +72,16 @@ NUMBERED = {
                 "ends.names, {waiting_named_signals}, &future.waiting_named_signals)",
                 "write_head(completions, ends.completions, {waiting_completions})",
                 "write_head(signals, ends.signals, {waiting_signals})",
+            ],
+        )
+    ],
+    f"{RUNTIME}/specs/Flattening.antt": [
+        (
+            "Future",
+            [
+                "completions_place = {waiting_completions@}",
+                "signals_place = {waiting_signals@}",
+                "named_signals_place = {waiting_named_signals@}",
             ],
         )
     ],
@@ -120,12 +133,22 @@ NUMBERED = {
 }
 
 
+# The definition of the order of Future's fields, and what it calls them.
+IN_ROWS = f"{PARTS}/specs/Futures.antt"
+CALLED = {
+    "waiting_completions": "completions",
+    "waiting_signals": "signals",
+    "waiting_named_signals": "named_signals",
+    "nested_futures": "nested",
+    "combinator_type": "combinator",
+}
+
 # The hand-written code that makes records, and those that may have further fields, which it leaves empty.
 CONVERSIONS = f"{PARTS}/src/conversions.rt"
 COMPLETED = ("Failure", "FailureMetadata", "Header")
 
-# By planted bug: the message whose generated record it is in, and its texts. `+1` after a name is the next number, `~`
-# one whose key has another length.
+# By planted bug: the message whose generated record it is in, and its texts. After a name `+1` is the next number, `~`
+# one whose key has another length, and `@` the index among the message's fields, from 0 on.
 PLANTED = {
     f"{PARTS}/mutants/another_number.edit": (
         "Future",
@@ -180,8 +203,11 @@ PLANTED = {
 }
 
 
-def written_number(number, how):
-    """A number, the next one, or one whose key has another length."""
+def written_number(name, how, numbers):
+    """The number of a field, the next one, one whose key has another length, or its index."""
+    number = numbers[name]
+    if how == "@":
+        return sorted(numbers.values()).index(number)
     return number + 1 if how == "+1" else (16 if number < 16 else 1) if how == "~" else number
 
 
@@ -190,21 +216,23 @@ def joined(around, numbers):
     return "".join(text + number for text, number in itertools.zip_longest(around, numbers, fillvalue=""))
 
 
-def with_numbers(path, text, name, patterns):
+def numbers_of(name, described):
+    """The numbers of a message's fields."""
+    return {field.name: field.number for message in described if message.name == name for field in fields_of(message)}
+
+
+def with_numbers(path, text, name, patterns, described):
     """A text in which the numbers of a message's fields are those of the description."""
-    numbers = {
-        field.name: field.number for message in messages() if message.name == name for field in fields_of(message)
-    }
+    numbers = numbers_of(name, described)
     for pattern in patterns:
-        parts = re.split(r"\{(\w+(?:\+1|~)?)\}", pattern)
+        parts = re.split(r"\{(\w+(?:\+1|[~@])?)\}", pattern)
         # a line may end where the pattern has a blank
         around = [re.escape(part).replace("\\ ", r"\s+") for part in parts[::2]]
         written = []
         for part in parts[1::2]:
-            name_of_field, how = re.fullmatch(r"(\w+)(.*)", part).groups()
-            written.append(str(written_number(numbers[name_of_field], how)))
+            written.append(str(written_number(*re.fullmatch(r"(\w+)(.*)", part).groups(), numbers)))
         groups = "".join(f"({part})" + (r"\d+" if at < len(written) else "") for at, part in enumerate(around))
-        text, count = re.subn(rf"(?<!\d){groups}", lambda found, written=written: joined(found.groups(), written), text)
+        text, count = re.subn(rf"(?<!\w){groups}", lambda found, written=written: joined(found.groups(), written), text)
         if not count:
             raise Refused([f"numbered: {path} has no text {pattern}, in which the number is that of {name}"])
     return text
@@ -233,11 +261,20 @@ def empty(row):
     return "Vec::new(alloc)" if row.presence == "repeated" else EMPTY[row.kind]
 
 
-def in_order(text):
+def with_rows(text, described):
+    """The definition of the order of Future's fields, which joins them from the first one on."""
+    numbers = numbers_of("Future", described)
+    order = [CALLED[name] for name in sorted(numbers, key=numbers.get)]
+    rows = "(join ".join(f"{name} " for name in order) + "last" + ")" * (len(order) - 1)
+    text, count = re.subn(r"(?m)^(in_rows join .*=\n    join ).*$", rf"\g<1>{rows}", text)
+    if not count:
+        raise Refused([f"numbered: {IN_ROWS} has no definition in_rows"])
+    return text
+
+
+def in_order(text, described):
     """The record Future with its fields declared, merged, measured and written in the order of their numbers."""
-    numbers = {
-        field.name: field.number for message in messages() if message.name == "Future" for field in fields_of(message)
-    }
+    numbers = numbers_of("Future", described)
 
     def number(line):
         return next(numbers[name] for name in re.findall(r"future\.(\w+)", line) if name in numbers)
@@ -267,15 +304,22 @@ def in_order(text):
 
 
 def paths():
-    return [*NUMBERED, CONVERSIONS, *PLANTED]
+    return [*NUMBERED, IN_ROWS, CONVERSIONS, *PLANTED]
 
 
-def files():
+def texts(described):
+    """The files with the numbers and the order of a description's messages, before code is laid out."""
     found = {}
     for path, numbered in {**NUMBERED, **{path: [planted] for path, planted in PLANTED.items()}}.items():
         text = (ROOT / path).read_text(encoding="utf-8")
         for name, patterns in numbered:
-            text = with_numbers(path, text, name, patterns)
-        found[path] = in_order(text) if path.endswith("future.rt") else text
+            text = with_numbers(path, text, name, patterns, described)
+        found[path] = in_order(text, described) if path.endswith("future.rt") else text
+    found[IN_ROWS] = with_rows((ROOT / IN_ROWS).read_text(encoding="utf-8"), described)
+    return found
+
+
+def files():
+    found = texts(messages())
     found[CONVERSIONS] = completed((ROOT / CONVERSIONS).read_text(encoding="utf-8"))
     return {**found, **laid_out({path: text for path, text in found.items() if path.endswith(".rt")})}

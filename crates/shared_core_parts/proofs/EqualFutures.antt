@@ -1,13 +1,13 @@
 -- When two futures are equal.
 use Rattle.std.proofs.Common.{◌≡◌, ℕ, suc, ◌+◌, ◌<◌, ◌≤◌, List, [], ◌∷◌, Bool, true, false, ◌&&◌, refl, ap, sym, ◌∙◌}
 use Rattle.std.proofs.Common.{eqb, length, drop, get_or, add-one, drop-cons, arith}
-use Rattle.std.specs.Prelude.{ℤ, String, string_eq}
+use Rattle.std.specs.Prelude.{string_eq}
 use Rattle.std.specs.Ordering.{int_eq}
 use Rattle.std.proofs.Math.Bool.{and-false, and-true}
 use Rattle.std.proofs.lemmas.List.{drop_all}
 use lib.Pointwise.{pointwise}
 use Rattle.shared_core_wire.specs.Value as value
-use Rattle.shared_core_parts.specs.Futures.{future_parts, future_layer, futures_part}
+use Rattle.shared_core_parts.specs.Futures.{future_parts, future_layer, futures_part, in_rows}
 use Rattle.shared_core_parts.specs.declared.future.Future.{Future}
 use Rattle.shared_core_parts.specs.declared.future.Future.TheViews.{out-Future}
 use Rattle.shared_core_parts.specs.declared.future.Future.TheFolds.{fold_out-Future}
@@ -16,70 +16,91 @@ use Rattle.shared_core_codec.specs.EqualityRules.{equal_elements, equal_enums, e
 use Rattle.shared_core_codec.specs.FieldParts.{elements_part, enum_part, text_part}
 use Rattle.shared_core_wire.specs.Value.{Parts}
 
+-- ---- whether two futures have the same value in one field
+
+abbrev same_completions : Future → Future → Bool
+same_completions a b = part_equal (elements_part value.Number (out-Future a).waiting_completions.items)
+    (elements_part value.Number (out-Future b).waiting_completions.items)
+
+abbrev same_signals : Future → Future → Bool
+same_signals a b = part_equal (elements_part value.Number (out-Future a).waiting_signals.items)
+    (elements_part value.Number (out-Future b).waiting_signals.items)
+
+abbrev same_names : Future → Future → Bool
+same_names a b = part_equal (elements_part text_part (out-Future a).waiting_named_signals.items)
+    (elements_part text_part (out-Future b).waiting_named_signals.items)
+
+abbrev same_nested : Future → Future → Bool
+same_nested a b = part_equal (futures_part (out-Future a).nested_futures.items)
+    (futures_part (out-Future b).nested_futures.items)
+
+abbrev same_combinator : Future → Future → Bool
+same_combinator a b = part_equal (enum_part (out-Future a).combinator_type) (enum_part (out-Future b).combinator_type)
+
 numbers_equal : (xs ys : List ℕ) → pointwise eqb xs ys ≡ part_equal (elements_part value.Number xs)
     (elements_part value.Number ys)
 numbers_equal xs ys = part_test_is _ _ _ (equal_elements eqb value.Number equal_numbers xs ys)
 
-texts_equal : {A : Type 0} (xs ys : List (String A)) → pointwise string_eq xs ys ≡ part_equal
-    (elements_part text_part xs) (elements_part text_part ys)
-texts_equal xs ys = part_test_is _ _ _ (equal_elements string_eq text_part equal_texts xs ys)
+completions_test : (a b : Future) → pointwise eqb (out-Future a).waiting_completions.items
+    (out-Future b).waiting_completions.items ≡ same_completions a b
+completions_test a b = numbers_equal (out-Future a).waiting_completions.items (out-Future b).waiting_completions.items
 
-enums_equal : (y z : ℤ) → int_eq y z ≡ part_equal (enum_part y) (enum_part z)
-enums_equal y z = part_test_is _ _ _ (equal_enums y z)
+signals_test : (a b : Future) → pointwise eqb (out-Future a).waiting_signals.items (out-Future b).waiting_signals.items
+    ≡ same_signals a b
+signals_test a b = numbers_equal (out-Future a).waiting_signals.items (out-Future b).waiting_signals.items
 
-future_equal : (a b : Future) → parts_equal (future_parts a) (future_parts b)
-    ≡ (part_equal (elements_part value.Number (out-Future a).waiting_completions.items)
-    (elements_part value.Number (out-Future b).waiting_completions.items)
-    && (part_equal (elements_part value.Number (out-Future a).waiting_signals.items)
-    (elements_part value.Number (out-Future b).waiting_signals.items)
-    && (part_equal (elements_part text_part (out-Future a).waiting_named_signals.items)
-    (elements_part text_part (out-Future b).waiting_named_signals.items)
-    && (part_equal (futures_part (out-Future a).nested_futures.items) (futures_part (out-Future b).nested_futures.items)
-    && (part_equal (enum_part (out-Future a).combinator_type) (enum_part (out-Future b).combinator_type) && true)))))
+names_test : (a b : Future) → pointwise string_eq (out-Future a).waiting_named_signals.items
+    (out-Future b).waiting_named_signals.items ≡ same_names a b
+names_test a b = part_test_is _ _ _ (equal_elements string_eq text_part equal_texts
+    (out-Future a).waiting_named_signals.items (out-Future b).waiting_named_signals.items)
+
+combinator_test : (a b : Future) → int_eq (out-Future a).combinator_type (out-Future b).combinator_type ≡
+    same_combinator a b
+combinator_test a b = part_test_is _ _ _ (equal_enums (out-Future a).combinator_type (out-Future b).combinator_type)
+
+-- ---- two futures are equal if all five fields are, in whatever order these are
+
+abbrev all_same : Bool → Bool → Bool → Bool → Bool → Bool
+all_same = in_rows (λ (field fields : Bool). field && fields) true
+
+future_equal : (a b : Future) → parts_equal (future_parts a) (future_parts b) ≡ all_same (same_completions a b)
+    (same_signals a b) (same_names a b) (same_nested a b) (same_combinator a b)
 future_equal a b = rw (fold_out-Future Parts future_layer a, fold_out-Future Parts future_layer b) refl
 
-second : (x z : Bool) → (x && (false && z)) ≡ false
-second x z = and-false x
+beyond : (b c : Bool) → c ≡ false → (b && c) ≡ false
+beyond b c h = rw h (and-false b)
 
-third : (x y z : Bool) → (x && (y && (false && z))) ≡ false
-third x y z = rw (and-false y) (and-false x)
+another_completion : (w x y z : Bool) → all_same false w x y z ≡ false
+another_completion w x y z = search beyond
 
-fourth : (w x y z : Bool) → (w && (x && (y && (false && z)))) ≡ false
-fourth w x y z = rw (and-false y, and-false x) (and-false w)
+another_signal : (v x y z : Bool) → all_same v false x y z ≡ false
+another_signal v x y z = search beyond
+
+another_name : (v w y z : Bool) → all_same v w false y z ≡ false
+another_name v w y z = search beyond
+
+another_nested : (v w x z : Bool) → all_same v w x false z ≡ false
+another_nested v w x z = search beyond
 
 pub by_completions : (a b : Future) → pointwise eqb (out-Future a).waiting_completions.items
     (out-Future b).waiting_completions.items ≡ false → parts_equal (future_parts a) (future_parts b) ≡ false
-by_completions a b h = future_equal a b ∙ rw (sym (numbers_equal (out-Future a).waiting_completions.items
-    (out-Future b).waiting_completions.items) ∙ h) refl
+by_completions a b h = future_equal a b ∙ rw (sym (completions_test a b) ∙ h)
+    (another_completion (same_signals a b) (same_names a b) (same_nested a b) (same_combinator a b))
 
 pub by_signals : (a b : Future) → pointwise eqb (out-Future a).waiting_signals.items
     (out-Future b).waiting_signals.items ≡ false → parts_equal (future_parts a) (future_parts b) ≡ false
-by_signals a b h = future_equal a b ∙ rw (sym (numbers_equal (out-Future a).waiting_signals.items
-    (out-Future b).waiting_signals.items) ∙ h) (and-false (part_equal
-    (elements_part value.Number (out-Future a).waiting_completions.items)
-    (elements_part value.Number (out-Future b).waiting_completions.items)))
+by_signals a b h = future_equal a b ∙ rw (sym (signals_test a b) ∙ h)
+    (another_signal (same_completions a b) (same_names a b) (same_nested a b) (same_combinator a b))
 
 pub by_names : (a b : Future) → pointwise string_eq (out-Future a).waiting_named_signals.items
     (out-Future b).waiting_named_signals.items ≡ false → parts_equal (future_parts a) (future_parts b) ≡ false
-by_names a b h = future_equal a b ∙ rw (sym (texts_equal (out-Future a).waiting_named_signals.items
-    (out-Future b).waiting_named_signals.items) ∙ h) (third (part_equal
-    (elements_part value.Number (out-Future a).waiting_completions.items)
-    (elements_part value.Number (out-Future b).waiting_completions.items))
-    (part_equal (elements_part value.Number (out-Future a).waiting_signals.items)
-    (elements_part value.Number (out-Future b).waiting_signals.items))
-    (part_equal (futures_part (out-Future a).nested_futures.items) (futures_part (out-Future b).nested_futures.items) &&
-    (part_equal (enum_part (out-Future a).combinator_type) (enum_part (out-Future b).combinator_type) && true)))
+by_names a b h = future_equal a b ∙ rw (sym (names_test a b) ∙ h)
+    (another_name (same_completions a b) (same_signals a b) (same_nested a b) (same_combinator a b))
 
 pub by_nested : (a b : Future) → part_equal (futures_part (out-Future a).nested_futures.items)
     (futures_part (out-Future b).nested_futures.items) ≡ false → parts_equal (future_parts a) (future_parts b) ≡ false
-by_nested a b h = future_equal a b ∙ rw h (fourth (part_equal
-    (elements_part value.Number (out-Future a).waiting_completions.items)
-    (elements_part value.Number (out-Future b).waiting_completions.items))
-    (part_equal (elements_part value.Number (out-Future a).waiting_signals.items)
-    (elements_part value.Number (out-Future b).waiting_signals.items))
-    (part_equal (elements_part text_part (out-Future a).waiting_named_signals.items)
-    (elements_part text_part (out-Future b).waiting_named_signals.items))
-    (part_equal (enum_part (out-Future a).combinator_type) (enum_part (out-Future b).combinator_type) && true))
+by_nested a b h = future_equal a b ∙ rw h
+    (another_nested (same_completions a b) (same_signals a b) (same_names a b) (same_combinator a b))
 
 pub by_last : (a b : Future) → pointwise eqb (out-Future a).waiting_completions.items
     (out-Future b).waiting_completions.items ≡ true
@@ -89,13 +110,12 @@ pub by_last : (a b : Future) → pointwise eqb (out-Future a).waiting_completion
     true
     → int_eq (out-Future a).combinator_type (out-Future b).combinator_type ≡ parts_equal (future_parts a)
     (future_parts b)
-by_last a b h i j k = sym (future_equal a b ∙ rw (
-  sym (numbers_equal (out-Future a).waiting_completions.items (out-Future b).waiting_completions.items) ∙ h,
-  sym (numbers_equal (out-Future a).waiting_signals.items (out-Future b).waiting_signals.items) ∙ i,
-  sym (texts_equal (out-Future a).waiting_named_signals.items (out-Future b).waiting_named_signals.items) ∙ j,
+by_last a b h i j k = combinator_test a b ∙ sym (future_equal a b ∙ rw (
+  sym (completions_test a b) ∙ h,
+  sym (signals_test a b) ∙ i,
+  sym (names_test a b) ∙ j,
   k,
-)
-    (and-true _ ∙ sym (enums_equal (out-Future a).combinator_type (out-Future b).combinator_type)))
+) (and-true (same_combinator a b)))
 
 -- whether the futures from an index on are the same
 pub from_same : List Future → List Future → ℕ → Bool

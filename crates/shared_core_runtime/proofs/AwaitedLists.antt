@@ -28,7 +28,7 @@ use Rattle.shared_core_codec.specs.RowEncoding.{capped, length_record, measured_
 use Rattle.shared_core_codec.specs.RowEncoding.{varints_of}
 use Rattle.shared_core_codec.specs.RowFitting.{FieldFits, RowFits}
 use Rattle.shared_core_codec.specs.Table.{suspension_v6, table}
-use Rattle.shared_core_parts.specs.Futures.{future_elements, future_layer, future_parts, futures_part}
+use Rattle.shared_core_parts.specs.Futures.{future_elements, future_layer, future_parts, futures_part, parts_in_rows}
 use Rattle.shared_core_parts.specs.declared.future.Future.{Future}
 use Rattle.shared_core_parts.specs.declared.future.Future.TheViews.{out-Future}
 use Rattle.shared_core_parts.specs.declared.future.Future.TheFolds.{fold_out-Future}
@@ -104,8 +104,8 @@ no_messages view none [] = refl
 no_messages view none (x ∷ xs) = rw (none x) (no_messages view none xs)
 
 nested_alone : (numbers signals : List ℕ) (names : Parts) (nested : Parts) (n : ℕ) → messages_in names ≡ []
-    → messages_in (cons (elements_part Number numbers) (cons (elements_part Number signals)
-    (cons (Elements names) (cons (Elements nested) (cons (Number n) nil))))) ≡ messages_in nested
+    → messages_in (parts_in_rows (elements_part Number numbers) (elements_part Number signals) (Elements names)
+    (Elements nested) (Number n)) ≡ messages_in nested
 unfolding messages_in
 nested_alone numbers signals names nested n h = rw (
   no_messages Number (λ n. refl) numbers,
@@ -117,11 +117,10 @@ nested_alone numbers signals names nested n h = rw (
 -- the value of a future
 abbrev value_of : Future → Parts
 value_of f =
-    cons (elements_part Number (out-Future f).waiting_completions.items)
-    (cons (elements_part Number (out-Future f).waiting_signals.items)
-    (cons (elements_part text_part (out-Future f).waiting_named_signals.items)
-    (cons (futures_part (out-Future f).nested_futures.items)
-    (cons (enum_part (out-Future f).combinator_type) nil))))
+    parts_in_rows (elements_part Number (out-Future f).waiting_completions.items)
+    (elements_part Number (out-Future f).waiting_signals.items)
+    (elements_part text_part (out-Future f).waiting_named_signals.items)
+    (futures_part (out-Future f).nested_futures.items) (enum_part (out-Future f).combinator_type)
 
 is_value : (f : Future) → future_parts f ≡ value_of f
 is_value f = rw (fold_out-Future Parts future_layer f) refl

@@ -1,13 +1,13 @@
 -- What a suspension awaits, in three lists, fits the schema of the flattened suspension, and has no levels.
-use Rattle.std.proofs.Common.{◌≡◌, ℕ, List, [], ◌∷◌, ◌++◌, true, refl, subst}
+use Rattle.std.proofs.Common.{◌≡◌, ℕ, zero, suc, List, [], ◌∷◌, ◌++◌, true, refl, rules, subst}
 use Rattle.shared_core_wire.specs.Schema.{Kind, Row, U32, Text, Message, Plain, Optional, Repeated, OneOf}
 use Rattle.shared_core_wire.specs.Value.{Part, Parts, Absent, Number, Bytes, Nested, Elements, Member, nil, cons, ◌+++◌}
 use Rattle.shared_core_wire.specs.Canonical.{kind_of, levels, part_levels}
 use Rattle.shared_core_wire.specs.Fitting.{ElementsFit, Fits, PartFits, is_single}
 use Rattle.shared_core_codec.specs.Table.{table}
 use Rattle.shared_core_codec.specs.Table as tables
-use Rattle.shared_core_runtime.specs.Flattening.{elements_in, flattened, joined_lists, messages_in, messages_of_part}
-use Rattle.shared_core_runtime.specs.Flattening.{part_at}
+use Rattle.shared_core_runtime.specs.Flattening.{completions_place, elements_in, flattened, joined_lists, messages_in}
+use Rattle.shared_core_runtime.specs.Flattening.{messages_of_part, named_signals_place, part_at, signals_place}
 
 -- ---- the messages in a suspension are futures
 
@@ -44,7 +44,7 @@ kind_holds (Repeated n k) p h = h
 kind_holds (OneOf members) p h = absurd h
 
 future_rows : HoldFutures (table tables.future)
-future_rows = (tt, (tt, (tt, (refl, (tt, tt)))))
+future_rows = search rules
 
 mutual
   unfolding Fits ElementsFit PartFits messages_in messages_of_part
@@ -83,44 +83,45 @@ unfolding PartFits
 part_elements k (Elements ps) f = f
 part_elements k p f = tt
 
-completions_fit : (f : Parts) → Fits table f (table tables.future) → ElementsFit table (elements_in (part_at 0 f)) U32
-unfolding Fits
-completions_fit nil f = tt
-completions_fit (cons p ps) f = part_elements U32 p f.1
+-- the row at an index is a list of a kind
+abbrev IsListAt : ℕ → Kind → List Row → Type 0
+IsListAt place kind [] = ⊥
+IsListAt zero kind (Repeated n k ∷ rows) = k ≡ kind
+IsListAt zero kind (row ∷ rows) = ⊥
+IsListAt (suc place) kind (row ∷ rows) = IsListAt place kind rows
 
-signals_fit : (f : Parts) → Fits table f (table tables.future) → ElementsFit table (elements_in (part_at 1 f)) U32
+list_at : (place : ℕ) (kind : Kind) (rows : List Row) → IsListAt place kind rows → (f : Parts) → Fits table f rows
+    → ElementsFit table (elements_in (part_at place f)) kind
 unfolding Fits
-signals_fit nil f = tt
-signals_fit (cons p nil) f = tt
-signals_fit (cons p (cons q ps)) f = part_elements U32 q f.2.1
+list_at place kind rows is nil f = tt
+list_at place kind [] is (cons p ps) f = absurd is
+list_at zero kind (Repeated n k ∷ rows) is (cons p ps) f = part_elements kind p
+    (subst (λ (k : Kind). PartFits table p k) is f.1)
+list_at zero kind (Plain n k ∷ rows) is (cons p ps) f = absurd is
+list_at zero kind (Optional n k ∷ rows) is (cons p ps) f = absurd is
+list_at zero kind (OneOf members ∷ rows) is (cons p ps) f = absurd is
+list_at (suc place) kind (row ∷ rows) is (cons p ps) f = list_at place kind rows is ps f.2
 
-named_signals_fit : (f : Parts) → Fits table f (table tables.future) → ElementsFit table (elements_in (part_at 2 f))
-    Text
-unfolding Fits
-named_signals_fit nil f = tt
-named_signals_fit (cons p nil) f = tt
-named_signals_fit (cons p (cons q nil)) f = tt
-named_signals_fit (cons p (cons q (cons r ps))) f = part_elements Text r f.2.2.1
-
-joined_fit : (place : ℕ) (k : Kind) → ((f : Parts) → Fits table f (table tables.future) → ElementsFit table
-    (elements_in (part_at place f)) k) → (fs : List Parts) → AreFutures fs → ElementsFit table (joined_lists place fs) k
+joined_fit : (place : ℕ) (kind : Kind) → IsListAt place kind (table tables.future) → (fs : List Parts) → AreFutures fs
+    → ElementsFit table (joined_lists place fs) kind
 unfolding joined_lists ElementsFit
-joined_fit place k own [] are = tt
-joined_fit place k own (f ∷ fs) are = elements_join k _ _ (own f are.0) (joined_fit place k own fs are.1)
+joined_fit place kind is [] are = tt
+joined_fit place kind is (f ∷ fs) are = elements_join kind _ _
+    (list_at place kind (table tables.future) is f are.0) (joined_fit place kind is fs are.1)
 
 -- what a flattened suspension holds
 record FlattenedFits (suspension : Parts) : Type 0 where
-  completions : ElementsFit table (joined_lists 0 (messages_in suspension)) U32
-  signals : ElementsFit table (joined_lists 1 (messages_in suspension)) U32
-  named_signals : ElementsFit table (joined_lists 2 (messages_in suspension)) Text
+  completions : ElementsFit table (joined_lists completions_place (messages_in suspension)) U32
+  signals : ElementsFit table (joined_lists signals_place (messages_in suspension)) U32
+  named_signals : ElementsFit table (joined_lists named_signals_place (messages_in suspension)) Text
 
 lists_fit : (suspension : Parts) → Fits table suspension (table tables.suspension) → FlattenedFits suspension
 lists_fit suspension fits =
     let are = message_futures suspension (table tables.suspension) (refl, tt) fits in
     record {
-      completions = joined_fit 0 U32 completions_fit _ are;
-      signals = joined_fit 1 U32 signals_fit _ are;
-      named_signals = joined_fit 2 Text named_signals_fit _ are;
+      completions = joined_fit completions_place U32 refl _ are;
+      signals = joined_fit signals_place U32 refl _ are;
+      named_signals = joined_fit named_signals_place Text refl _ are;
     }
 
 -- ---- flattened, they fit, and have no levels

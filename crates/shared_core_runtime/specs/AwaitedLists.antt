@@ -7,7 +7,8 @@ use Rattle.shared_core_codec.specs.Table.{table}
 use Rattle.shared_core_codec.specs.RowEncoding.{row_bytes}
 use Rattle.shared_core_runtime.specs.declared.flat_suspension.ListEnds.{ListEnds}
 use Rattle.shared_core_runtime.specs.declared.flat_suspension.ListSizes.{ListSizes}
-use Rattle.shared_core_runtime.specs.Flattening.{elements_in, joined_lists, part_at}
+use Rattle.shared_core_runtime.specs.Flattening.{completions_place, elements_in, joined_lists, named_signals_place}
+use Rattle.shared_core_runtime.specs.Flattening.{part_at, signals_place}
 
 -- One of the three lists.
 pub data AwaitedList : Type 0 where
@@ -31,9 +32,9 @@ end_in list ends = of_list list ends.completions ends.signals ends.names
 
 -- The index of a list in a future, counted from 0.
 abbrev pub place_of : AwaitedList → ℕ
-place_of Completions = 0
-place_of Signals = 1
-place_of NamedSignals = 2
+place_of Completions = completions_place
+place_of Signals = signals_place
+place_of NamedSignals = named_signals_place
 
 -- The kind of a list's elements.
 abbrev pub kind_in : AwaitedList → Kind

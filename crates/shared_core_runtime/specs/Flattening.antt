@@ -38,10 +38,23 @@ unfoldable pub joined_lists : ℕ → List Parts → Parts
 joined_lists place [] = nil
 joined_lists place (future ∷ futures) = elements_in (part_at place future) +++ joined_lists place futures
 
+-- The index of the list of completions among the parts of a future, counted from 0.
+abbrev pub completions_place : ℕ
+completions_place = 0
+
+-- That of the list of signals.
+abbrev pub signals_place : ℕ
+signals_place = 1
+
+-- That of the list of named signals.
+abbrev pub named_signals_place : ℕ
+named_signals_place = 2
+
 -- The three lists of some futures: the completions, the signals and the named signals that they wait for.
 abbrev pub awaited_lists : List Parts → Parts
-awaited_lists futures = cons (Elements (joined_lists 0 futures))
-    (cons (Elements (joined_lists 1 futures)) (cons (Elements (joined_lists 2 futures)) nil))
+awaited_lists futures = cons (Elements (joined_lists completions_place futures))
+    (cons (Elements (joined_lists signals_place futures))
+    (cons (Elements (joined_lists named_signals_place futures)) nil))
 
 -- The flattened form of a suspension's value: the three lists over the preorder of what it awaits, which are empty if
 -- it awaits nothing.
