@@ -33,13 +33,15 @@ import textwrap
 sys.dont_write_bytecode = True
 
 from generators import ROOT, Refused, descriptors, forms, laid_out, literals, proto, quoted, renumbered  # noqa: E402
-from generators.model import COMMANDS, NOTIFICATIONS, json_name, snake  # noqa: E402
+from generators.model import COMMANDS, NOTIFICATIONS, json_name  # noqa: E402
 
 PROGRAMS = ("journal", "journal_list")
 
-# How a comment says the code of a type, in one number or as a sum.
-NUMBER = r"(0x[0-9A-Fa-f]+|\d+)"
-CODE = re.compile(rf"\b(?:message )?(?:type|code)\s*[:=]\s*`?{NUMBER}(?:\s*\+\s*{NUMBER})?`?\.?", re.I)
+# How a comment says the code of a type, in one number or as a sum. The second number of a sum may be hexadecimal
+# without saying so.
+CODE = re.compile(
+    r"\b(?:message )?(?:type|code)\s*[:=]\s*`?(0x[0-9A-F]+|\d+)(?:\s*\+\s*(0x[0-9A-F]+|[0-9A-F]+))?\b`?\.?", re.I
+)
 
 # The kinds by how they are written: those of one form are read as each other.
 WIRE = {
@@ -56,8 +58,8 @@ SUSPENSION, FLAT = "SuspensionMessage", "SuspensionMessageV6"
 # The message without fields here, and that of protobuf.
 EMPTY = "Void", "Empty"
 
-# The version of the streams of examples/.
-EXAMPLES = 8
+# The version of the streams of examples/, and the last one at which a suspension has three lists.
+EXAMPLES, LAST_FLAT = 8, 6
 
 # What is said of a field or a message.
 SAME, RENUMBERED, THEIRS, OURS, KIND = "the same", "renumbered", "only there", "only here", "of another kind"
@@ -81,10 +83,16 @@ def is_same_shape(field, other, names):
     return (field.label, field.kind) == (other.label, other.kind) and plain(field.type_name) == plain(type_name)
 
 
-def code_of(message):
-    """The code that the comment above a message says, in the last place where it says one, or None."""
+def number_of(digits, base):
+    """The number of some digits, which are of this base unless they say another one."""
+    return int(digits, 16 if digits[:2] in ("0x", "0X") else base)
+
+
+def code_of(message, base):
+    """The code that the comment above a message says, in the last place where it says one, or None. What is added to a
+    number there has digits of this base."""
     found = [*CODE.finditer(message.comment)]
-    return int(found[-1][1], 0) + int(found[-1][2] or "0", 0) if found else None
+    return number_of(found[-1][1], 10) + number_of(found[-1][2] or "0", base) if found else None
 
 
 def kind_of(code):
@@ -146,6 +154,8 @@ class Adoption:
         self.pairs = self.paired()
         # the name here of what is called otherwise there
         self.names = {other.name: name for name, other in reversed(self.pairs.items())}
+        # the base of the numbers that are added to others in the codes of types
+        self.base = self.base_of_codes()
 
     def flattened(self, theirs):
         """Their messages by their names; the name of one that is called as another begins with what it is in."""
@@ -177,6 +187,13 @@ class Adoption:
             pairs[FLAT] = last
         return pairs
 
+    def version(self):
+        """The version of their streams: an earlier one, if their suspension has the three lists alone."""
+        other = self.pairs.get(SUSPENSION)
+        lists = {field.name for field in self.ours[FLAT].fields}
+        is_flat = other and other is self.pairs.get(FLAT) and {field.name for field in other.fields} <= lists
+        return LAST_FLAT if is_flat else EXAMPLES
+
     def say(self, *parts):
         self.rows.append(Row(*parts))
         return self.rows[-1]
@@ -204,21 +221,13 @@ class Adoption:
                 ]
                 self.rows[-1].more = ", ".join(["it stays", *moved])
             self.code(message, other)
-        self.order_of_futures()
+        if self.version() == LAST_FLAT:
+            self.person(
+                f"their {SUSPENSION} has the three lists alone, as it is before version {LAST_FLAT + 1}: streams with it "
+                f"are dumped with --protocol 5 or {LAST_FLAT}"
+            )
         self.enums()
         self.further_messages()
-
-    def order_of_futures(self):
-        """Says where the proofs of the record that holds itself do not follow."""
-        for name in forms.HAND_WRITTEN:
-            fields = self.ours[name].fields
-            ours = [field.name for field in sorted(fields, key=lambda field: field.number)]
-            theirs = [field.name for field in sorted(fields, key=lambda field: self.numbers[field.line][1])]
-            if ours != theirs:
-                self.person(
-                    f"{name} has its fields in another order there ({', '.join(theirs)}): its code follows, and the "
-                    f"prover rejects six files that have their places, which docs/CHANGING.md lists, until they are changed"
-                )
 
     def other_fields(self, message, other):
         """Our fields of a message, each with theirs or None."""
@@ -505,12 +514,30 @@ class Adoption:
         comment = [f"{indent}// {line}" for line in about(field, f"Of the runtime: {field.name}.")]
         return [*comment, f"{indent}{label}{type_name} {field.name} = {field.number}{options};"]
 
+    def base_of_codes(self):
+        """Whether comments add hexadecimal numbers to others, which do not say so: where one has a letter, or where
+        more types have their codes of here then."""
+        added = [found[2] for other in self.theirs.values() for found in CODE.finditer(other.comment) if found[2]]
+        lettered = next((digits for digits in added if re.fullmatch(r"\d*[A-Fa-f]\w*", digits)), None)
+
+        def same(base):
+            ours = {name: message.options.get("code") for name, message in self.ours.items()}
+            return sum(code_of(other, base) == ours[name] for name, other in self.pairs.items())
+
+        if lettered is None and same(16) <= same(10):
+            return 10
+        reason = "more types have their codes of here then" if lettered is None else f"'{lettered}' is"
+        self.person(
+            f"numbers that comments add to a code, as in 'Type: 0x0400 + 10', are read as hexadecimal: {reason}"
+        )
+        return 16
+
     def code(self, message, other):
         """The code of a type."""
         ours = message.options.get("code")
         if ours is None or other is None:
             return
-        theirs = code_of(other)
+        theirs = code_of(other, self.base)
         if theirs is None:
             if message.name != FLAT:
                 self.uncoded.append(message.name)
@@ -570,7 +597,7 @@ class Adoption:
         for name, other in self.theirs.items():
             if id(other) in matched:
                 continue
-            code = code_of(other)
+            code = code_of(other, self.base)
             row = self.say(name, "", f"a message{f', code 0x{code:04X}' if code is not None else ''}", THEIRS)
             is_command = code is not None and code in COMMANDS
             lines = [
@@ -589,9 +616,9 @@ class Adoption:
                 lines.append(f'  option (command) = {{ text: "{words}" }};')
             lines.append("")
             self.added.append(Added(name, [*lines, "}"], len(self.lines), row, (), "message"))
-            self.message_fields(name, other, is_command, row)
+            self.message_fields(name, other, is_command)
 
-    def message_fields(self, name, other, is_command, row):
+    def message_fields(self, name, other, is_command):
         """The fields of a message that only they have, each of which may be left out alone."""
         place = 0
         oneofs = collections.defaultdict(list)
@@ -842,8 +869,8 @@ def adopt_vectors(out, renumbering):
 
 
 def adopt_examples(out, renumbering):
-    """The streams of examples/ with their numbers, their listings and dumps, and where pages and tests have lines of these.
-    The lines of listings that are others now."""
+    """The streams of examples/ with their numbers, their listings and dumps, and where pages and tests have lines of
+    these. The lines of listings that are others now."""
     changed = {}
     for listed in sorted((out / "examples" / "streams").glob("*.stdout")):
         place = listed.with_suffix("")
@@ -923,11 +950,13 @@ def adopt_literals(out, renumbering, listings):
 class Sample:
     """Values of their messages: the text that protoc reads, and what a dump shows of the fields that are here too."""
 
-    def __init__(self, adoption, theirs, described):
+    def __init__(self, adoption, described):
         self.theirs = adoption.theirs
         self.enums = adoption.their_enums
         self.here = {message.name: message for message in described.messages}
-        self.names = adoption.names
+        self.names = dict(adoption.names)
+        if adoption.version() <= LAST_FLAT:
+            self.names[adoption.pairs[FLAT].name] = FLAT
         self.count = 0
 
     def scalar(self, field):
@@ -985,7 +1014,7 @@ class Sample:
 
 def stream_of(adoption, theirs, path, described, folders=()):
     """A stream of each of their messages, and for each the type and the fields that its dump has."""
-    sample = Sample(adoption, theirs, described)
+    sample = Sample(adoption, described)
     stream, expected = b"", []
     codes = {message.name: message.options["code"] for message in described.messages if "code" in message.options}
     searched = [f"--proto_path={folder}" for folder in (path.parent, *folders)]
@@ -1034,8 +1063,9 @@ def build(out, names):
     return failed
 
 
-def dumped(out, file):
-    ended = subprocess.run(["sh", out / "scripts" / "run.sh", "journal", "dump", file], capture_output=True, text=True)
+def dumped(out, file, version):
+    words = ["sh", out / "scripts" / "run.sh", "journal", "dump", "--protocol", str(version), file]
+    ended = subprocess.run(words, capture_output=True, text=True)
     return ended.stdout, ended.stderr
 
 
@@ -1121,17 +1151,18 @@ def main():
         "".join(json.dumps({"type": name, "message": shown}) + "\n" for name, shown in expected), encoding="utf-8"
     )
     print(f"{asked.out}/theirs.stream: {len(expected)} messages, made by protoc with {asked.theirs.name}")
-    status = 0 if asked.no_build else tried(asked, expected)
-    print(NEXT.format(out=asked.out))
+    version = adoption.version()
+    status = 0 if asked.no_build else tried(asked, expected, version)
+    print(NEXT.format(out=asked.out, stream=f"--protocol {version} STREAM" if version != EXAMPLES else "STREAM"))
     return status
 
 
-def tried(asked, expected):
-    """Builds the programs, and dumps the stream; the status."""
+def tried(asked, expected, version):
+    """Builds the programs, and dumps the stream as one of this version; the status."""
     failed = build(asked.out, asked.programs.split(","))
     if "journal" not in asked.programs.split(",") or "journal" in failed:
         return 1 if failed else 0
-    shown, told = dumped(asked.out, asked.out / "theirs.stream")
+    shown, told = dumped(asked.out, asked.out / "theirs.stream", version)
     print("\n".join(shown.splitlines()[:3]))
     wrong = list(compared(shown, expected))
     for line in wrong:
@@ -1142,7 +1173,7 @@ def tried(asked, expected):
         f"{len(expected) - len(wrong)} passed, {len(wrong)} failed: messages of theirs whose dump has what protoc wrote"
     )
     if asked.stream:
-        shown, told = dumped(asked.out, asked.stream)
+        shown, told = dumped(asked.out, asked.stream, version)
         print(shown, end="")
         print(told, end="", file=sys.stderr)
     return 1 if wrong or failed else 0
@@ -1151,7 +1182,7 @@ def tried(asked, expected):
 NEXT = """
 Next, in {out}:
   git diff proto/                               what the description is now
-  sh scripts/run.sh journal dump STREAM         a stream of theirs; without proofs it is slow
+  sh scripts/run.sh journal dump {stream:14} a stream of theirs; without proofs it is slow
   sh scripts/check.sh conformance generated     the test vectors have these numbers, and all that repeats them
   sh scripts/check.sh table                     what hand-written tables do not say yet (new fields of commands)
   sh scripts/test.sh --quick                    the tests that say lengths, orders or numbers of before; docs/CHANGING.md

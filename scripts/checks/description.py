@@ -1,5 +1,5 @@
 #!/usr/bin/env python3
-"""Descriptions are refused with what is wrong with them, and another .proto is taken as its table says.
+"""Descriptions are rejected with what is wrong with them, and another .proto is taken as its table says.
 
 Each of the descriptions is the one of proto/journal.proto with an edit, and tools/generators has to reject it with
 these words, and with a line. tests/adopt/other.proto is what a runtime may have: scripts/adopt.sh says of it what
@@ -18,9 +18,9 @@ sys.dont_write_bytecode = True
 
 from checks import ROOT, Check, NotRun, perform
 
-# What is wrong; a text of the description, and what is there in its place; and what is said, after the line. The numbers
-# of fields and of enum values are those that the description has, and in braces is the number of the field of that
-# name, the code of a type's message, the schema of another message, or how many messages there are.
+# What is wrong; a text of the description, and what is there in its place; and what is said, after the line. The
+# numbers of fields and of enum values are those that the description has, and in braces is the number of the field of
+# that name, the code of a type's message, the schema of another message, or how many messages there are.
 REFUSED = [
     # what protoc rejects
     ("an enum that does not begin at 0", "RETRY = 0;", "RETRY = 5;", "The first enum value must be zero in proto3."),
@@ -444,7 +444,12 @@ def adopted(check: Check) -> None:
         named = [json_name(field) for field in re.findall(r"^ *([a-z]\w*)(?::| \{)", said, re.M)]
         check.case(f"{name} of other.proto", sorted(named) == fields(shown), f"{said} is not {shown}")
     check.case("the whole stream", at == len(stream) and bool(expected))
+    # Future has its fields in another order there
+    for messages in (proto.messages(), proto.of_text(text)):
+        order_of_futures(check, messages)
     imported(check)
+    summed(check)
+    earlier(check)
     # the numbers of the hand-written test vectors are changed to theirs, and back
     there = renumbered.Renumbering(proto.description(), described)
     same = renumbered.Renumbering(proto.description(), proto.description())
@@ -460,15 +465,76 @@ def adopted(check: Check) -> None:
     check.same("what wrong lines should have", found, there.inverse(proto.description()).found(other))
 
 
+def order_of_futures(check: Check, described: list[object]) -> None:
+    """The hand-written code and definitions of Future have its fields in the order of a description."""
+    from generators import numbered
+
+    future = next(message for message in described if message.name == "Future")
+    order = [row.name for row in future.rows]
+    texts = numbered.texts(described)
+    rows = re.search(r"^in_rows join last .*=\n    (join .*)$", texts[numbered.IN_ROWS], re.M)[1]
+    joined = re.findall(r"join (\w+)", rows)
+    check.case(f"in_rows of {order}", joined == [numbered.CALLED[name] for name in order], rows)
+    struct = texts[f"{numbered.PARTS}/src/future.rt"].partition("pub struct Future {\n")[2].partition("\n}\n")[0]
+    check.case(f"the record of {order}", re.findall(r"^    pub (\w+):", struct, re.M) == order, struct)
+    found = re.findall(r"^(\w+)_place = (\d+)$", texts[f"{numbered.RUNTIME}/specs/Flattening.antt"], re.M)
+    places = [(name, str(order.index(f"waiting_{name}"))) for name in ("completions", "signals", "named_signals")]
+    check.case(f"the places of {order}", found == places, found)
+    nested = next(row.number for row in future.rows if row.name == "nested_futures")
+    for place in sorted((ROOT / numbered.PARTS / "proofs").rglob("*.antt")):
+        path = str(place.relative_to(ROOT))
+        held = re.findall(r"(\d+) \(Message future\)", texts.get(path) or place.read_text(encoding="utf-8"))
+        check.case(f"the number of nested futures in {path}", set(held) <= {str(nested)}, held)
+
+
+def summed(check: Check) -> None:
+    """What a comment adds to a code is decimal, but where a letter or the codes of here say that it is hexadecimal."""
+    import adopt
+    from generators import descriptors, proto
+
+    for ending, added, code in (("letter", "A", 0x040A), ("codes", "14", 0x0414), ("decimal", "20", 0x0414)):
+        path = check.work / f"{ending}.proto"
+        path.write_text(
+            f'syntax = "proto3";\npackage theirs;\n// Type: 0x0400 + {added}\n'
+            f"message {'PeekPromise' if added == 'A' else 'CompleteAwakeable'}CommandMessage {{ string name = 12; }}\n",
+            encoding="utf-8",
+        )
+        adoption = adopt.Adoption(proto.description(), descriptors.read(path), {})
+        found = [adopt.code_of(other, adoption.base) for other in adoption.theirs.values()]
+        check.same(f"the code of a sum with {added}", [code], found)
+        check.case(f"what is said of a sum with {added}", bool(adoption.decide) == (added != "20"), adoption.decide)
+
+
+def earlier(check: Check) -> None:
+    """A stream of theirs is dumped as of a version before 7, if their suspension has the three lists alone."""
+    import adopt
+    from generators import descriptors, proto
+
+    lists = "repeated uint32 waiting_completions = 4; repeated string waiting_named_signals = 6;"
+    for ending, further, version in (("flat", "", 6), ("future", " Future awaiting_on = 7;", 8)):
+        path = check.work / f"{ending}.proto"
+        head = 'syntax = "proto3";\npackage theirs;\nmessage Future {}\n'
+        path.write_text(f"{head}message SuspensionMessage {{ {lists}{further} }}\n", encoding="utf-8")
+        adoption = adopt.Adoption(proto.description(), descriptors.read(path), {})
+        adoption.match()
+        said = any("--protocol 5 or 6" in point for point in adoption.decide)
+        is_version = adoption.version() == version and said == (version == 6)
+        check.case(f"the version of streams with a suspension of {ending}", is_version, adoption.decide)
+
+
 def imported(check: Check) -> None:
     """What a file imports is found in another folder, if that is named."""
+    from generators import proto
+
+    name = "InputCommandMessage"
+    here = next(row for message in proto.messages() if message.name == name for row in message.rows if row.name == "value")
     folder = check.work / "of_theirs" / "wire"
     folder.mkdir(parents=True)
     head = 'syntax = "proto3";\npackage theirs;\n'
     (folder / "value.proto").write_text(f"{head}message Value {{ bytes content = 4; }}\n", encoding="utf-8")
     text = f'{head}import "wire/value.proto";\n// Type: 0x0400\nmessage InputCommandMessage {{ Value value = 3; }}\n'
     (folder / "input.proto").write_text(text, encoding="utf-8")
-    for words, said in (([], "--proto-path FOLDER says"), (["--proto-path", folder.parent], "14 Value  ")):
+    for words, said in (([], "--proto-path FOLDER says"), (["--proto-path", folder.parent], f"{here.number} Value  ")):
         told = ["sh", "scripts/adopt.sh", "--table", *words, folder / "input.proto"]
         ended = subprocess.run(told, capture_output=True, text=True)
         is_told = said in ended.stdout + ended.stderr and "Traceback" not in ended.stderr

@@ -37,6 +37,7 @@ NAMES = (
     "numbered",
     "dispatch",
     "commands",
+    "erasures",
     "json_names",
     "enum_names",
     "comparisons",
@@ -127,7 +128,7 @@ def shortened(text):
 
 
 def bracketed(elements):
-    """A list in brackets, which is an element of a list of a definition: in a line or, if it is too long, in several."""
+    """A list in brackets, an element of a list of a definition: in a line or, if it is too long, in several."""
     words = [*(f"{element} ∷" for element in elements), "[]"]
     line = " ".join(words)
     if len(f"    ∷ ({line})") <= WIDTH:
@@ -149,7 +150,10 @@ def bracketed(elements):
 
 
 def laid_out(texts):
-    """Files in the layout of `rt fmt`, by their paths. It takes files whose names end with `.rt` alone."""
+    """Files in the layout of `rt fmt`, by their paths. It takes files whose names end with `.rt` alone, and one at
+    least."""
+    if not texts:
+        return {}
     with tempfile.TemporaryDirectory() as work:
         places = {path: pathlib.Path(work) / path.removesuffix(".in") for path in texts}
         for path, place in places.items():

@@ -1,0 +1,168 @@
+"""What is not compared of each command, erased: the impls of `Erase`, and what leads from a command's type to its record
+there. It is said as shared_core_compare has it, by the options of proto/journal.proto.
+"""
+from . import laid_out
+from .forms import bound
+from .proto import OneOf, camel, messages, numbers, snake
+from .records import EMPTY, missing  # noqa: F401
+
+ABOUT = "What is not compared of a command, erased."
+SOURCE = "proto/journal.proto"
+
+PATH = "crates/replay_bench/src/erasures.rt"
+
+HEAD = """\
+//! Commands without what is not compared of them, and from a command's type to its form.
+
+ghost use Rattle.std.specs.Prelude.{IfOk, refl};
+ghost use Rattle.replay_bench.specs.Forms.{HasForm};
+
+"""
+
+FORM = """\
+/// The form of a command, decoded and encoded again.
+pub(crate) fn erased_form(
+    alloc: Global,
+    command: &RawMessage,
+    ignore: bool,
+) -> Result<Form, AllocError>
+    ensures { IfOk result (HasForm ignore command.now) }
+{
+    match command.ty() {
+%s        _ => Ok(Form::Unknown),
+    }
+}
+"""
+
+IMPL = """
+impl Erase for {name} {{
+    fn erase(self, {alloc}: Global, {ignore}: bool) -> {name} {{
+{body}    }}
+
+    ghost shallow = {{ refl }};
+}}
+"""
+
+
+def commands():
+    return [message for message in messages() if message.is_command()]
+
+
+def is_erased(row):
+    """Whether a row is erased in any case, as if it were absent."""
+    return any(field.not_compared for field in members(row))
+
+
+def is_payload(row):
+    """Whether a row is erased if payloads are ignored; its presence stays."""
+    return not is_erased(row) and any(field.payload for field in members(row))
+
+
+def members(row):
+    return row.members if isinstance(row, OneOf) else [row]
+
+
+def absent(row):
+    """What an absent row holds."""
+    if isinstance(row, OneOf) or row.presence in ("optional", "message"):
+        return "None"
+    return "Vec::new(alloc)" if row.presence == "repeated" else EMPTY[row.kind]
+
+
+def emptied(field):
+    """What a present field holds without its content."""
+    if field.kind != "message":
+        return EMPTY[field.kind]
+    return "empty_value()" if field.message == "Value" else f"{field.message}::empty(alloc)"
+
+
+def without_payload(message, row):
+    """What is left of a row whose payload is ignored, and whether that depends on what it holds."""
+    if isinstance(row, OneOf):
+        one = f"{snake(message.name)}::{camel(row.name)}"
+        arms = "".join(
+            f"Some({one}::{camel(member.name)}(_value)) => Some({one}::{camel(member.name)}({emptied(member)})),\n"
+            for member in row.members
+            if member.payload
+        )
+        return f"match {bound(row)} {{\n{arms}other => other,\n}}", True
+    if row.presence in ("optional", "message"):
+        return f"{bound(row)}.map(|_value| {emptied(row)})", True
+    return absent(row), False
+
+
+def struct(name, changed, rest="..self"):
+    """A record with some rows of its own, and all others of another one."""
+    lines = "".join(f"{row}: {value},\n" for row, value in changed.items())
+    return f"{name} {{\n{lines}{rest}\n}}"
+
+
+def ignoring(message, erased):
+    """The lines by which a command is made anew without its payloads."""
+    left = {row.name: without_payload(message, row) for row in message.rows if is_payload(row)}
+    plain = {**erased, **{name: value for name, (value, depends) in left.items() if not depends}}
+    depending = {name: value for name, (value, depends) in left.items() if depends}
+    if not depending:
+        return f"{struct(message.name, plain)}\n"
+    kept = [row.name for row in message.rows if row.name not in plain]
+    pattern = ", ".join(kept + ([".."] if plain else []))
+    made = "".join(f"let {name} = {value};\n" for name, value in depending.items())
+    return (
+        f"let {message.name} {{ {pattern} }} = self;\n{made}"
+        f"{struct(message.name, plain, ''.join(f'{name},' for name in kept))}\n"
+    )
+
+
+def body(message):
+    """The body of `erase`."""
+    erased = {row.name: absent(row) for row in message.rows if is_erased(row)}
+    if message.rows and len(erased) == len(message.rows):
+        return f"{message.name}::empty(alloc)\n"
+    compared = struct(message.name, erased) if erased else "self"
+    if not any(is_payload(row) for row in message.rows):
+        return f"{compared}\n"
+    return f"if !ignore {{\nreturn {compared};\n}}\n{ignoring(message, erased)}"
+
+
+def impl(message):
+    text = body(message)
+    return IMPL.format(
+        name=message.name,
+        body=text,
+        alloc="alloc" if "alloc" in text else "_alloc",
+        ignore="ignore" if "ignore" in text else "_ignore",
+    )
+
+
+def uses(code):
+    """The lines that bring what is used into scope."""
+    found = {message.name for message in commands()}
+    found |= {snake(message.name) for message in commands() if f"{snake(message.name)}::" in code}
+    found |= {message.name for message in messages() if f"{message.name}::empty(alloc)" in code}
+    helpers = ["Erase", *(name for name in ("empty_value", "form_as") if f"{name}(" in code or f"{name}::" in code)]
+    records = "use shared_core::wire::WireRecord;\n" if "::empty(alloc)" in code else ""
+    return (
+        f"use crate::erase::{{{', '.join(helpers)}}};\nuse crate::forms::Form;\n"
+        + ("use bytes::Bytes;\n" if "Bytes::new()" in code else "")
+        + "use shared_core::encoding::RawMessage;\n"
+        + f"use shared_core::messages::{{{', '.join(sorted(found))}}};\n{records}"
+        + "use shared_core_base::header::MessageType;\nuse std::alloc::{AllocError, Global};\n\n"
+    )
+
+
+def texts():
+    """The file, not yet laid out."""
+    arms = "".join(
+        f"        MessageType::{message.type_name()} => form_as::<{message.name}>(alloc, command, ignore),\n"
+        for message in commands()
+    )
+    code = FORM % arms + "".join(impl(message) for message in commands())
+    return {PATH: HEAD + uses(code) + code}
+
+
+def paths():
+    return [PATH]
+
+
+def files():
+    return laid_out(texts())
