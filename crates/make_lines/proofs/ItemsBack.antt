@@ -30,7 +30,8 @@ use Rattle.shared_core_json_reader.specs.FirstError.{number_reason, bytes_reason
 use Rattle.shared_core_json_reader.proofs.LawOfJson.{back_bytes}
 use Rattle.shared_core_json_reader.proofs.Meanings.{accepted_means}
 use Rattle.shared_core_json_reader.proofs.ScalarsBack.{u32_back, bytes_back, byte_string_back, byte_string_there}
-use Rattle.shared_core_json_reader.proofs.TreeBack.{same_bytes, message_back}
+use Rattle.shared_core_json_reader.proofs.TreeBack.{message_back}
+use Rattle.shared_core_json_reader.proofs.NamesApart.{same_bytes}
 use Rattle.shared_core_message.specs.Schemas.{schema_at}
 use Rattle.make_lines.specs.declared.error.LineReason.TheVariants.{Json as Wrong, OtherType, NoSchema, NoFlag}
 use Rattle.make_lines.specs.declared.error.LineReason.TheVariants.{OtherCode, OtherFlag, NoSuchPayload, TooLong}

@@ -1,4 +1,3 @@
-mod Varints
 mod Walking
 mod Stepping
 mod Whole

@@ -3,8 +3,6 @@ use Rattle.std.proofs.Common.{◌≡◌, ◌≢◌, length, ℕ, zero, suc, ◌+
 use Rattle.std.proofs.Common.{◌&&◌, Option, Some, None, Result, Ok, Err, refl, sym, ap, ◌∙◌, append_assoc, eqb, take}
 use Rattle.std.proofs.Common.{drop}
 use Rattle.std.proofs.Common.{arith, inl, inr, append-nil}
-use Rattle.std.proofs.Math.Seq.{take-append_seam, drop-append_seam}
-use Rattle.std.proofs.Common.{length-append}
 use Rattle.std.specs.Result.{IsErrAnd}
 use Rattle.std.proofs.lemmas.Bool.{eqb-true, lt-ltb, le-ltb, cases_lt}
 use Rattle.shared_core_wire.specs.Encoding.{shortest_varint, key_bytes}
@@ -17,7 +15,9 @@ use Rattle.shared_core_fields.specs.declared.table.FieldEntry.{FieldEntry}
 use Rattle.shared_core_fields_writer.specs.declared.error.Reason.{Reason}
 use Rattle.shared_core_fields_writer.specs.declared.error.Reason.TheVariants.{WrongLevel, TooDeep, OutOfMemory}
 use Rattle.shared_core_fields_writer.specs.Given.{Given, Number, Content, Opens, given, field_next}
-use Rattle.shared_core_fields_writer.specs.Walk.{Walked, onto, nested_onto, number_record, content_record, is_packed}
+use Rattle.shared_core_record_writer.specs.Records.{number_record, content_record}
+use Rattle.shared_core_record_writer.proofs.Contents.{content_put}
+use Rattle.shared_core_fields_writer.specs.Walk.{Walked, onto, nested_onto, is_packed}
 use Rattle.shared_core_fields_writer.specs.Walk.{Nothing, Within, Numbers, run_numbers, varints, rest_of, walk, Goes}
 use Rattle.shared_core_fields_writer.specs.Walk.{Continues, Appends}
 use Rattle.shared_core_fields_writer.proofs.Walking.{onto_error, onto_more, stops, too_deep, no_field, no_value}
@@ -51,23 +51,6 @@ appends_error (Err y) x w old new left a e =
 -- ---- a message's length, put before its bytes
 
 -- `begun` has the key, and the bytes that leave room for the length
-pub content_put : (n place end : ℕ) (old out room begun content new after : List ℕ) → out ≡ old ++ key_bytes n 2 → place
-    ≡ length out → begun ≡ out ++ room → end ≡ length begun → after ≡ begun ++ content → new ≡ take place after ++
-    (shortest_varint (length after - end) ++ drop end after) → new ≡ old ++ length_record n content
-content_put n place end old out room begun content new after k p b q a e =
-    let size : length after - end ≡ length content = omega (arith, q, ap length a, length-append begun content) in
-    let whole : after ≡ out ++ (room ++ content) = a ∙ ap (λ (xs : List ℕ). xs ++ content) b ∙ append_assoc out room
-    content in
-    let front : take place after ≡ out = ap (λ (i : ℕ). take i after) p ∙ ap (λ (xs : List ℕ). take (length out) xs)
-    whole
-    ∙ take-append_seam out (room ++ content) in
-    let back : drop end after ≡ content = ap (λ (i : ℕ). drop i after) q ∙ ap
-    (λ (xs : List ℕ). drop (length begun) xs) a ∙ drop-append_seam begun content in
-    e ∙ ap (λ (xs : List ℕ). xs ++ (shortest_varint (length after - end) ++ drop end after)) (front ∙ k)
-    ∙ ap (λ (m : ℕ). (old ++ key_bytes n 2) ++ (shortest_varint m ++ drop end after)) size
-    ∙ ap (λ (xs : List ℕ). (old ++ key_bytes n 2) ++ (shortest_varint (length content) ++ xs)) back
-    ∙ append_assoc old (key_bytes n 2) (shortest_varint (length content) ++ content)
-
 pub message_put : (n place end : ℕ) (old out room begun new after : List ℕ) (inner next : Walked) → out ≡ old ++
     key_bytes n 2 → place ≡ length out → begun ≡ out ++ room → end ≡ length begun → onto begun inner ≡ Ok after → new ≡
     take place after ++ (shortest_varint (length after - end) ++ drop end after) → onto old (nested_onto n inner next) ≡

@@ -3,8 +3,9 @@ use Rattle.std.specs.Prelude.{◌≡◌, ◌≢◌, ℕ, zero, suc, Bool, true, 
 use Rattle.std.specs.Prelude.{nat_lt, nat_eq, flat_map, if◌then◌else◌, Option, Some, None, Result, Ok, Err, MatchResult}
 use Rattle.shared_core_wire.specs.Encoding.{shortest_varint}
 use Rattle.shared_core_wire.specs.Schema.{Kind, Row, U32, U64, Boolean, Enumeration, Text, ByteString, Message}
+use Rattle.shared_core_record_writer.specs.Records.{number_record, content_record}
 use Rattle.shared_core_codec.specs.Table.{table}
-use Rattle.shared_core_codec.specs.RowEncoding.{varint_record, length_record}
+use Rattle.shared_core_codec.specs.RowEncoding.{length_record}
 use Rattle.shared_core_codec.specs.Canonicity.{Next}
 use Rattle.shared_core_fields_writer.specs.declared.walk.Source.{Source}
 use Rattle.shared_core_fields.specs.declared.table.FieldEntry.{FieldEntry}
@@ -25,14 +26,6 @@ onto bytes (Err e) = Err e
 abbrev pub nested_onto : ℕ → Walked → Walked → Walked
 nested_onto n (Ok bytes) after = onto (length_record n bytes) after
 nested_onto n (Err e) after = Err e
-
--- The record of a number; 0 is left out in a plain field.
-abbrev pub number_record : Bool → ℕ → ℕ → List ℕ
-number_record plain n value = if plain && nat_eq value 0 then [] else varint_record n value
-
--- The record of bytes; no bytes are left out in a plain field.
-abbrev pub content_record : Bool → ℕ → List ℕ → List ℕ
-content_record plain n bytes = if plain && nat_eq (length bytes) 0 then [] else length_record n bytes
 
 -- Whether a field, of a kind and repeated or not, is a repeated uint32, which is packed.
 abbrev pub is_packed : Kind × Bool → Bool

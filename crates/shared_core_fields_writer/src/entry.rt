@@ -116,9 +116,10 @@ pub(crate) fn next_of(
     ensures next { ok_view (λ x. next_view x.1) result ≡ field_next (table schema) (rows_view rows.entry) last number }
     ensures same { IfOk result (λ x. x.0 ≡ number) }
 {
-    let Ok(number) = u32::try_from(number) else {
+    if number > u64::from(u32::MAX) {
         return Err(Reason::UnknownField);
-    };
+    }
+    let number = number as u32;
     match next_field(rows, number) {
         Some(next) => Ok((number, next)),
         None => Err(absence(rows_of(schema), last, number)),

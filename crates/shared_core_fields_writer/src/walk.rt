@@ -15,12 +15,12 @@ ghost use Rattle.shared_core_fields_writer.specs.Walk.{run_numbers, onto, is_pac
 
 use crate::entry::{Given, given_value, next_of};
 use crate::error::Reason;
-use crate::records::{
-    LENGTH, append_content, append_key, append_number, append_varint, put_length,
-};
 use shared_core_codec::canonical::NextField;
 use shared_core_codec::rows::{Found, Kind, rows_of};
 use shared_core_fields::table::FieldEntry;
+use shared_core_record_writer::{
+    LENGTH, append_content, append_key, append_number, append_varint, put_length,
+};
 
 /// The entries of a table, the bytes that they point to, and how long the content of their messages and runs was
 /// measured to be, by their index: then room is left for that many, and otherwise for less than 128 bytes.

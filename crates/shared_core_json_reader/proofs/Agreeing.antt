@@ -28,7 +28,8 @@ use Rattle.shared_core_json_reader.specs.Scalars.{unsigned_read, boolean_read, e
 use Rattle.shared_core_json_reader.specs.Reading.{are_known, given, single_read, field_read, elements_read, list_read}
 use Rattle.shared_core_json_reader.specs.Reading.{or_absent, member_read, oneof_read, row_read, rows_read, members_read}
 use Rattle.shared_core_json_reader.specs.Reading.{object_read, message_read}
-use Rattle.shared_core_json_reader.specs.Appended.{varint_record, length_record, both, single_bytes, field_bytes}
+use Rattle.shared_core_record_writer.specs.Records.{number_record, content_record}
+use Rattle.shared_core_json_reader.specs.Appended.{both, single_bytes, field_bytes}
 use Rattle.shared_core_json_reader.specs.Appended.{items_bytes, run_bytes, array_bytes, list_bytes, member_bytes}
 use Rattle.shared_core_json_reader.specs.Appended.{held_after, oneof_bytes, given_bytes, row_bytes, rows_bytes}
 use Rattle.shared_core_json_reader.specs.Appended.{members_bytes, object_bytes, message_bytes}
@@ -102,7 +103,7 @@ module _ (nested_r : ℕ → Json → Option Parts) (nested_b : ℕ → Json →
     (same : (s : ℕ) (j : Json) → nested_b s j ≡ option_map (canonical_payload table s) (nested_r s j)) where
   numbers_same : (plain : Bool) (n : ℕ) (k : Kind) (written : ℕ → ℕ) (o : Option ℕ) →
       ((m : ℕ) → part_values table (Number m) k ≡ Varint (written m) ∷ []) → ((m : ℕ) → eqb (written m) 0 ≡ eqb m 0)
-      → option_map (λ m. varint_record plain n (written m)) o ≡ option_map (single_out plain n k) (option_map Number o)
+      → option_map (λ m. number_record plain n (written m)) o ≡ option_map (single_out plain n k) (option_map Number o)
   numbers_same plain n k written None is zeros = refl
   numbers_same plain n k written (Some m) is zeros =
       ap (λ (xs : List ℕ). Some xs)
@@ -112,13 +113,13 @@ module _ (nested_r : ℕ → Json → Option Parts) (nested_b : ℕ → Json →
 
   bytes_same : (plain : Bool) (n : ℕ) (k : Kind) (o : Option (List ℕ)) →
       ((b : List ℕ) → part_values table (Bytes b) k ≡ Length b ∷ [])
-      → option_map (length_record plain n) o ≡ option_map (single_out plain n k) (option_map Bytes o)
+      → option_map (content_record plain n) o ≡ option_map (single_out plain n k) (option_map Bytes o)
   bytes_same plain n k None is = refl
   bytes_same plain n k (Some b) is =
       ap (λ (xs : List ℕ). Some xs) (length_out (plain && eqb (length b) 0) n b ∙ ap
       (λ (ws : List RecordValue). out_of n (cond (plain && eqb (length b) 0) [] ws)) (sym (is b)))
 
-  message_same : (plain : Bool) (n s : ℕ) (o : Option Parts) → option_map (length_record false n)
+  message_same : (plain : Bool) (n s : ℕ) (o : Option Parts) → option_map (content_record false n)
       (option_map (canonical_payload table s) o) ≡ option_map (single_out plain n (Message s)) (option_map Nested o)
   unfolding part_values
   message_same plain n s None = refl
@@ -139,7 +140,8 @@ module _ (nested_r : ℕ → Json → Option Parts) (nested_b : ℕ → Json →
       (enum_read values j) (λ m. refl) enum_zero
   single_same plain n Text values j = bytes_same plain n Text (text_read j) (λ b. refl)
   single_same plain n ByteString values j = bytes_same plain n ByteString (bytes_read j) (λ b. refl)
-  single_same plain n (Message s) values j = ap (option_map (length_record false n)) (same s j) ∙ message_same plain n s
+  single_same plain n (Message s) values j = ap (option_map (content_record false n)) (same s j) ∙ message_same plain n
+      s
       (nested_r s j)
 
   field_same : (plain : Bool) (f : NamedField) (j : Json) → field_bytes nested_b plain f j ≡ option_map
@@ -196,7 +198,7 @@ module _ (nested_r : ℕ → Json → Option Parts) (nested_b : ℕ → Json →
   -- a packed run is there exactly if it has elements
   run_out : (n : ℕ) (name : List ℕ) (values : List (List ℕ × ℕ)) (js : Items) (ps : Parts) → elements_read nested_r
       (record { number = n; name = name; kind = U32; values = values }) js ≡ Some ps
-      → length_record true n (flat_map number_bytes (element_values table ps U32)) ≡ out_of n
+      → content_record true n (flat_map number_bytes (element_values table ps U32)) ≡ out_of n
       (packed_values U32 (element_values table ps U32))
   unfolding part_values
   run_out n name values no_items ps e = let q : nil ≡ ps = cc in rw (← q) refl
@@ -205,7 +207,7 @@ module _ (nested_r : ℕ → Json → Option Parts) (nested_b : ℕ → Json →
     where
       by_first : (o : Option ℕ) (rest : Option Parts) → option_and_then (λ p. option_map (cons p) rest)
           (option_map Number o) ≡ Some ps
-          → length_record true n (flat_map number_bytes (element_values table ps U32)) ≡ out_of n
+          → content_record true n (flat_map number_bytes (element_values table ps U32)) ≡ out_of n
           (packed_values U32 (element_values table ps U32))
       by_first None rest h = absurd cc
       by_first (Some m) None h = absurd cc
@@ -241,7 +243,7 @@ module _ (nested_r : ℕ → Json → Option Parts) (nested_b : ℕ → Json →
   unfolding part_values
   array_same n name U32 values js =
       let f : NamedField = record { number = n; name = name; kind = U32; values = values } in
-      ap (option_map (length_record true n)) (run_same n name values js) ∙ map_map (length_record true n)
+      ap (option_map (content_record true n)) (run_same n name values js) ∙ map_map (content_record true n)
       (λ ps. flat_map number_bytes (element_values table ps U32)) (elements_read nested_r f js)
       ∙ map_some _ (λ ps. list_out n U32 (Elements ps)) (elements_read nested_r f js) (run_out n name values js) ∙ sym
       (map_map (list_out n U32) Elements (elements_read nested_r f js))

@@ -1,5 +1,8 @@
 pub mod Numbers
 pub mod Texts
+pub mod NamesApart
+pub mod Givens
+pub mod Placed
 pub mod Levels
 pub mod FirstErrors
 pub mod Agreeing

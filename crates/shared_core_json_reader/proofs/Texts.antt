@@ -1,7 +1,7 @@
--- Base64 read, varints appended, and the bytes of original names.
-use Rattle.std.proofs.Common.{◌≡◌, ◌≢◌, Bor, length, ℕ, ◌+◌, ◌/◌, ◌%◌, ◌<◌, ◌≤◌, List, [], ◌∷◌, ◌++◌, Bool, true, false}
+-- Base64 read, and the bytes of original names.
+use Rattle.std.proofs.Common.{◌≡◌, ◌≢◌, Bor, length, ℕ, List, [], ◌∷◌, Bool, true, false}
 use Rattle.std.proofs.Common.{cond, ◌&&◌, Option, Some, None, option_and_then, Result, Ok, Err, refl, sym, ap, subst}
-use Rattle.std.proofs.Common.{◌∙◌, append_assoc, eqb, leb}
+use Rattle.std.proofs.Common.{◌∙◌, eqb}
 use Rattle.std.specs.Result.{result_ok}
 use Rattle.std.specs.Option.{option_or}
 use Rattle.std.specs.Str.{bytes_eq, is_utf8}
@@ -14,11 +14,8 @@ use Rattle.json.specs.Json.{Json}
 use Rattle.json.specs.Find.{as_str}
 use Rattle.json.specs.Value.{members_view}
 use Rattle.json.specs.declared.value.Value.{Value}
-use Rattle.shared_core_wire.specs.Encoding.{shortest_varint}
-use Rattle.shared_core_wire.proofs.Shortest.{shortest_small, shortest_large}
 use Rattle.shared_core_json_reader.specs.Scalars.{utf8_text, text_read, only_text, base64_bytes}
-use Rattle.shared_core_json_reader.specs.Original.{after_byte, after_original}
-use Rattle.shared_core_json_reader.specs.Reading.{original_name}
+use Rattle.shared_core_json_reader.specs.Original.{after_byte}
 
 pub standard_bytes : (s b : List ℕ) → decode_of standard_pad_indifferent s ≡ Ok b → base64_bytes s ≡ Some b
 unfolding base64_bytes
@@ -34,15 +31,6 @@ other_bytes s x o d u = ap (λ (r : Result (List ℕ) DecodeError). option_or (r
 pub failed_with : (s : List ℕ) (e : DecodeAllocError) (d : DecodeError) → e ≡ Failed d → IsDecodeFailure
     standard_pad_indifferent s e → decode_of standard_pad_indifferent s ≡ Err d
 failed_with s e d is f = subst (IsDecodeFailure standard_pad_indifferent s) is f
-
-pub more_varint : (out new : List ℕ) (n : ℕ) → 128 ≤ n → new ≡ out ++ (n % 128 + 128) ∷ [] → new ++ shortest_varint
-    (n / 128) ≡ out ++ shortest_varint n
-more_varint out new n h e =
-    ap (λ (xs : List ℕ). xs ++ shortest_varint (n / 128)) e ∙ append_assoc out ((n % 128 + 128) ∷ [])
-    (shortest_varint (n / 128)) ∙ ap (λ (xs : List ℕ). out ++ xs) (sym (shortest_large n h))
-
-pub last_varint : (out new : List ℕ) (n : ℕ) → n < 128 → new ≡ out ++ n ∷ [] → new ≡ out ++ shortest_varint n
-last_varint out new n h e = e ∙ ap (λ (xs : List ℕ). out ++ xs) (sym (shortest_small n h))
 
 -- a text against a byte and more
 byte_then : (text : List ℕ) (b : ℕ) (bs : List ℕ) → bytes_eq text (b ∷ bs) ≡ elim (after_byte b text) as (λ _. Bool)

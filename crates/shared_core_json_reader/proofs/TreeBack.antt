@@ -2,7 +2,6 @@
 use Rattle.std.proofs.Common.{◌≡◌, ℕ, zero, suc, ◌≤◌, List, [], ◌∷◌, ◌++◌, map, length, Bool, true, false, cond, not}
 use Rattle.std.proofs.Common.{◌&&◌, ◌||◌, Option, Some, None, option_map, option_and_then, refl, sym, ap, ap₂, ◌∙◌}
 use Rattle.std.proofs.Common.{append-nil, arith, eqb, eq-eqb}
-use Rattle.std.specs.List.{list_all}
 use Rattle.std.specs.Str.{bytes_eq}
 use Rattle.std.proofs.lemmas.Bool.{eqb-true, eqb-false, ne_eqb}
 use Rattle.base64.specs.GeneralPurpose.{IsBytes}
@@ -16,10 +15,9 @@ use Rattle.shared_core_wire.specs.Canonical.{kind_of, number_of, is_default, par
 use Rattle.shared_core_wire.specs.Fitting.{is_single, has_shape, NumberFits, BytesFit, PartFits, ElementsFit, Fits}
 use Rattle.shared_core_wire.proofs.ReadBack.{or_split, includes-append, distinct_back, distinct_other}
 use Rattle.shared_core_wire.proofs.Runs.{and_split}
-use Rattle.shared_core_codec.specs.Table.{schemas, table}
+use Rattle.shared_core_codec.specs.Table.{table}
 use Rattle.shared_core_codec.proofs.Tables.{are_schemas}
-use Rattle.shared_core_json.specs.Names.{names}
-use Rattle.shared_core_json.specs.Fields.{names_at, names_of, name_of}
+use Rattle.shared_core_json.specs.Fields.{names_of, name_of}
 use Rattle.shared_core_json.specs.Form.{is_present, member_if, part_json, items_json, members_json, json_with}
 use Rattle.shared_core_json.proofs.Lookup.{not_before}
 use Rattle.shared_core_json_reader.specs.Rows.{NamedField, NamedRow, Plain, Optional, Repeated, named_field, named_row}
@@ -29,67 +27,9 @@ use Rattle.shared_core_json_reader.specs.Reading.{values_named, present, the_onl
 use Rattle.shared_core_json_reader.specs.Reading.{elements_read, list_read, or_absent, member_read, oneof_read}
 use Rattle.shared_core_json_reader.specs.Reading.{row_read, rows_read, object_read, message_read}
 use Rattle.shared_core_json_reader.proofs.Agreeing.{distinct_front}
+use Rattle.shared_core_json_reader.proofs.NamesApart.{names_key, names_apart, same_bytes}
 use Rattle.shared_core_json_reader.proofs.ScalarsBack.{u32_back, u64_back, boolean_back, enum_back, text_back}
 use Rattle.shared_core_json_reader.proofs.ScalarsBack.{byte_string_back, byte_string_there}
-
--- ---- the names of a schema's fields differ
-
-abbrev same_test : Bool → Bool → Bool
-same_test true b = b
-same_test false b = not b
-
-same_test-true : (a b : Bool) → same_test a b ≡ true → a ≡ b
-same_test-true true true e = refl
-same_test-true true false e = absurd cc
-same_test-true false true e = absurd cc
-same_test-true false false e = refl
-
--- whether a key is a name of the field that has this one
-abbrev names_key : List ℕ → List ℕ → Bool
-names_key name k = bytes_eq k name || bytes_eq k (original_name name)
-
-abbrev apart : List (ℕ × List ℕ) → List ℕ → Bool
-apart ns all = list_all (λ n. list_all (λ m. same_test (names_key (name_of ns n) (name_of ns m)) (eqb n m)) all) all
-
-each_apart : List (List (ℕ × List ℕ)) → List (List Row) → Bool
-each_apart nss [] = true
-each_apart [] (rows ∷ lists) = apart [] (all_numbers rows) && each_apart [] lists
-each_apart (ns ∷ nss) (rows ∷ lists) = apart ns (all_numbers rows) && each_apart nss lists
-
-apart_at : (nss : List (List (ℕ × List ℕ))) (lists : List (List Row)) (s : ℕ) → each_apart nss lists ≡ true → apart
-    (names_at nss s) (all_numbers (table_of lists s)) ≡ true
-unfolding each_apart
-apart_at nss [] s h = refl
-apart_at [] (rows ∷ lists) zero h = (and_split _ _ h).0
-apart_at [] (rows ∷ lists) (suc s) h = apart_at [] lists s (and_split _ _ h).1
-apart_at (ns ∷ nss) (rows ∷ lists) zero h = (and_split _ _ h).0
-apart_at (ns ∷ nss) (rows ∷ lists) (suc s) h = apart_at nss lists s (and_split _ _ h).1
-
-all_apart : each_apart names schemas ≡ true
-unfolding each_apart
-all_apart = refl
-
-one_of_all : (P : ℕ → Bool) (ns : List ℕ) (n : ℕ) → list_all P ns ≡ true → includes ns n ≡ true → P n ≡ true
-one_of_all P [] n h g = absurd cc
-one_of_all P (x ∷ xs) n h g = by_test (λ k. one_of_all P xs n (and_split _ _ h).1 k) (eqb n x) refl g
-  where
-    by_test : (includes xs n ≡ true → P n ≡ true) → (b : Bool) → eqb n x ≡ b → (b || includes xs n) ≡ true → P n ≡ true
-    by_test later true e k = ap P (eqb-true n x e) ∙ (and_split _ _ h).0
-    by_test later false e k = later k
-
-names_apart : (s n m : ℕ) → includes (all_numbers (table s)) n ≡ true → includes (all_numbers (table s)) m ≡ true →
-    names_key (name_of (names_of s) n) (name_of (names_of s) m) ≡ eqb n m
-names_apart s n m h g =
-    let all = all_numbers (table s) in
-    let ns = names_of s in
-    let one = one_of_all (λ n. list_all (λ m. same_test (names_key (name_of ns n) (name_of ns m)) (eqb n m)) all) all n
-    (apart_at names schemas s all_apart) h in
-    same_test-true (names_key (name_of ns n) (name_of ns m)) (eqb n m)
-    (one_of_all (λ m. same_test (names_key (name_of ns n) (name_of ns m)) (eqb n m)) all m one g)
-
-pub same_bytes : (xs : List ℕ) → bytes_eq xs xs ≡ true
-same_bytes [] = refl
-same_bytes (x ∷ xs) = ap₂ (λ (a b : Bool). a && b) (eq-eqb x x refl) (same_bytes xs)
 
 -- ---- what the bytes of a value are
 

@@ -10,7 +10,7 @@ use Rattle.shared_core_wire.specs.Value.{Parts}
 use Rattle.shared_core_codec.specs.Table.{table}
 use Rattle.shared_core_codec.specs.Payloads.{IsAccepted, payload_meaning}
 use Rattle.shared_core_codec.proofs.PayloadLaws.{canonical_is_read_back}
-use Rattle.shared_core_json_reader.specs.Reading.{only_value, json_of_text, message_read, value_payload, text_meaning}
+use Rattle.shared_core_json_reader.specs.Reading.{only_value, json_of_text, message_read, value_payload}
 use Rattle.shared_core_json_reader.specs.Reading.{text_payload}
 use Rattle.shared_core_json_reader.specs.Appended.{message_bytes, after}
 use Rattle.shared_core_json_reader.proofs.Agreeing.{message_agrees}

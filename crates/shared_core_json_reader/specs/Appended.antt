@@ -1,24 +1,16 @@
 -- The bytes that are appended for a JSON value, record by record.
-use Rattle.std.specs.Prelude.{◌≡◌, ◌≢◌, ℕ, zero, suc, Bool, true, false, ◌&&◌, List, [], ◌∷◌, ◌++◌, length, ◌==◌}
+use Rattle.std.specs.Prelude.{◌≡◌, ◌≢◌, ℕ, zero, suc, Bool, true, false, List, [], ◌∷◌, ◌++◌}
 use Rattle.std.specs.Prelude.{if◌then◌else◌, Option, Some, None, option_map, option_and_then, Result, MatchResult}
 use Rattle.json.specs.Json.{Json, null, boolean, number, string, array, object, Items, no_items, item, Members}
 use Rattle.shared_core_wire.specs.Schema.{Kind, U32, U64, Boolean, Enumeration, Text, ByteString, Message}
-use Rattle.shared_core_wire.specs.Encoding.{shortest_varint, key_bytes}
+use Rattle.shared_core_wire.specs.Encoding.{shortest_varint}
 use Rattle.shared_core_wire.specs.Canonical.{written_number}
+use Rattle.shared_core_record_writer.specs.Records.{number_record, content_record}
 use Rattle.shared_core_json_reader.specs.declared.error.Reason.{Reason}
 use Rattle.shared_core_json_reader.specs.declared.error.Reason.TheVariants.{OutOfMemory}
 use Rattle.shared_core_json_reader.specs.Rows.{NamedField, NamedRow, Plain, Optional, Repeated, OneOf, named_rows}
 use Rattle.shared_core_json_reader.specs.Scalars.{unsigned_read, boolean_read, enum_read, text_read, bytes_read}
 use Rattle.shared_core_json_reader.specs.Reading.{are_known, given, or_absent}
-
--- The record of a number; none for 0 if that is left out.
-abbrev pub varint_record : Bool → ℕ → ℕ → List ℕ
-varint_record plain n value = if plain && (value == 0) then [] else (key_bytes n 0 ++ shortest_varint value)
-
--- The record of some bytes; none for no bytes if that is left out.
-abbrev pub length_record : Bool → ℕ → List ℕ → List ℕ
-length_record plain n bytes = if plain && (length bytes == 0) then [] else
-    (key_bytes n 2 ++ (shortest_varint (length bytes) ++ bytes))
 
 -- A list and after it another one, if both lists exist.
 abbrev pub both : Option (List ℕ) → Option (List ℕ) → Option (List ℕ)
@@ -26,14 +18,14 @@ both a b = option_and_then (λ xs. option_map (λ ys. xs ++ ys) b) a
 
 -- The record of a single value; a default is left out in a plain field.
 abbrev pub single_bytes : (ℕ → Json → Option (List ℕ)) → Bool → ℕ → Kind → List (List ℕ × ℕ) → Json → Option (List ℕ)
-single_bytes nested plain n U32 values j = option_map (varint_record plain n) (unsigned_read 4294967296 j)
-single_bytes nested plain n U64 values j = option_map (varint_record plain n) (unsigned_read 18446744073709551616 j)
-single_bytes nested plain n Boolean values j = option_map (varint_record plain n) (boolean_read j)
+single_bytes nested plain n U32 values j = option_map (number_record plain n) (unsigned_read 4294967296 j)
+single_bytes nested plain n U64 values j = option_map (number_record plain n) (unsigned_read 18446744073709551616 j)
+single_bytes nested plain n Boolean values j = option_map (number_record plain n) (boolean_read j)
 single_bytes nested plain n Enumeration values j = option_map
-    (λ m. varint_record plain n (written_number Enumeration m)) (enum_read values j)
-single_bytes nested plain n Text values j = option_map (length_record plain n) (text_read j)
-single_bytes nested plain n ByteString values j = option_map (length_record plain n) (bytes_read j)
-single_bytes nested plain n (Message s) values j = option_map (length_record false n) (nested s j)
+    (λ m. number_record plain n (written_number Enumeration m)) (enum_read values j)
+single_bytes nested plain n Text values j = option_map (content_record plain n) (text_read j)
+single_bytes nested plain n ByteString values j = option_map (content_record plain n) (bytes_read j)
+single_bytes nested plain n (Message s) values j = option_map (content_record false n) (nested s j)
 
 -- The record of a value of a field.
 abbrev pub field_bytes : (ℕ → Json → Option (List ℕ)) → Bool → NamedField → Json → Option (List ℕ)
@@ -51,7 +43,7 @@ run_bytes (item j js) = both (option_map shortest_varint (unsigned_read 42949672
 
 -- The records of an array: numbers of 32 bits are packed into one.
 abbrev pub array_bytes : (ℕ → Json → Option (List ℕ)) → NamedField → Kind → Items → Option (List ℕ)
-array_bytes nested f U32 js = option_map (length_record true f.number) (run_bytes js)
+array_bytes nested f U32 js = option_map (content_record true f.number) (run_bytes js)
 array_bytes nested f U64 js = items_bytes nested f js
 array_bytes nested f Boolean js = items_bytes nested f js
 array_bytes nested f Enumeration js = items_bytes nested f js

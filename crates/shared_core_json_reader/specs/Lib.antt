@@ -6,5 +6,6 @@ pub mod Appended
 pub mod Errors
 pub mod Views
 pub mod Original
+pub mod Places
 pub mod FirstError
 pub mod Laws

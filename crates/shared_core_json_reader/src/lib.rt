@@ -8,10 +8,10 @@
 mod enum_values;
 mod error;
 pub mod laws;
+mod measure;
 mod members;
 mod payload;
 mod read;
-mod records;
 mod rows;
 mod scalars;
 

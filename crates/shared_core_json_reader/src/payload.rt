@@ -3,30 +3,38 @@
 //! Each function appends the records of what it is given. After an error, part of them may be there, and the path leads
 //! to the rejected value.
 //! The value that a text means is never made; a proof apart from the code (`message_agrees`) says that what is appended
-//! is its canonical payload. A nested message is made in a buffer of its own, since its length comes before it.
+//! is its canonical payload. The length of a nested message is written once its fields are there, into room that is
+//! left before them: of a deep one as much as was measured before (`measure`), otherwise a byte.
 
 ghost use Rattle.std.specs.Prelude.{◌≡◌, ◌≢◌, ◌++◌, [], ◌∷◌, Some, None, true, false, option_map, MatchOption};
-ghost use Rattle.std.specs.Prelude.{MatchResult};
-ghost use Rattle.shared_core_wire.specs.Schema.{Enumeration};
-ghost use Rattle.shared_core_wire.specs.Canonical.{written_number};
+ghost use Rattle.std.specs.Prelude.{MatchResult, map};
 ghost use Rattle.json.specs.Value.{value_view as json_view, items_view, members_view};
+ghost use Rattle.shared_core_wire.specs.Schema.{OneOf};
+ghost use Rattle.shared_core_codec.specs.ProgramRows as codec;
 ghost use Rattle.shared_core_json_reader.specs.Rows.{field_view, row_view, named_members, named_rows};
 ghost use Rattle.shared_core_json_reader.specs.Reading.{given};
-ghost use Rattle.shared_core_json_reader.specs.Appended.{length_record, field_bytes, items_bytes, run_bytes};
-ghost use Rattle.shared_core_json_reader.specs.Appended.{list_bytes, given_bytes, oneof_bytes, row_bytes};
+ghost use Rattle.shared_core_json_reader.specs.Places.{ArePlaces, IsOf, IsRowOf};
+ghost use Rattle.shared_core_record_writer.specs.Records.{content_record};
+ghost use Rattle.shared_core_json_reader.specs.Appended.{field_bytes, items_bytes, run_bytes};
+ghost use Rattle.shared_core_json_reader.specs.Appended.{list_bytes, given_bytes, oneof_bytes, row_bytes, rows_bytes};
 ghost use Rattle.shared_core_json_reader.specs.Appended.{members_bytes, object_bytes, message_bytes, Appends};
 ghost use Rattle.shared_core_json_reader.specs.FirstError.{path_view, step_view, Leaves, HasError};
 ghost use Rattle.shared_core_json_reader.specs.FirstError.{field_error, items_error, run_error, list_error};
-ghost use Rattle.shared_core_json_reader.specs.FirstError.{given_error, oneof_error, row_error, members_error};
-ghost use Rattle.shared_core_json_reader.specs.FirstError.{object_error, message_error};
+ghost use Rattle.shared_core_json_reader.specs.FirstError.{given_error, oneof_error, row_error, rows_error};
+ghost use Rattle.shared_core_json_reader.specs.FirstError.{members_error, object_error, message_error};
 
 use crate::error::Reason;
-use crate::members::{find_unknown, given};
-use crate::records::{append_bytes, append_number, append_varint};
+use crate::measure::Lengths;
+use crate::members::{Places, given, places_of};
 use crate::rows::{Field, named, rows_of};
-use crate::scalars::{read_boolean, read_bytes, read_enumeration, read_text, read_u32, read_u64};
+use crate::scalars::{
+    extended, read_boolean, read_bytes, read_enumeration, read_text, read_u32, read_u64,
+};
 use json::Value;
 use shared_core_codec::rows::{self, Kind, Row};
+use shared_core_record_writer::{
+    LENGTH, append_content, append_key, append_number, append_varint, put_length,
+};
 use std::alloc::Global;
 
 /// The members of an object.
@@ -44,6 +52,7 @@ pub enum Step<'a> {
 pub struct Walk<'a> {
     pub alloc: Global,
     pub path: Vec<Step<'a>>,
+    pub lengths: Lengths,
 }
 
 impl<'a> Walk<'a> {
@@ -121,41 +130,89 @@ fn append_members<'a>(
         (λ path. members_error (message_error left) (named_rows schema) path (members_view members.now.items))
         walk.old.path.items walk.new.path.items }
 {
-    let rows = rows_of(schema);
-    if let Some(key) = find_unknown(schema, rows, members) {
-        walk.enter(Step::Member(key))?;
-        return Err(Reason::UnknownMember);
-    }
+    let places = match places_of(schema, members) {
+        Ok(places) => places,
+        Err(key) => {
+            walk.enter(Step::Member(key))?;
+            return Err(Reason::UnknownMember);
+        }
+    };
+    append_rows(walk, out, members, &places, left)
+}
+
+/// Appends the records of the rows of an object's schema.
+#[cycle(message)]
+fn append_rows<'a>(
+    walk: &mut Walk<'a>,
+    out: &mut Vec<u8>,
+    members: &Members<'a>,
+    places: &Places,
+    left: u32,
+) -> Result<(), Reason>
+    requires places { ArePlaces members.now.items places.now }
+    ensures appended { Appends result (rows_bytes (message_bytes left) (members_view members.now.items)
+        (named_rows places.now.schema)) out.old.items out.new.items }
+    ensures error { HasError result
+        (λ path. rows_error (message_error left) (members_view members.now.items) path (named_rows places.now.schema))
+        walk.old.path.items walk.new.path.items }
+{
+    let rows = rows_of(places.schema);
     for row in rows {
-        append_row(walk, out, schema, row, members, left)?;
+        append_row(walk, out, row, members, places, left)?;
     }
     Ok(())
 }
 
-/// Appends the records of a row of a schema.
+/// Appends the records of a row of an object's schema.
 #[cycle(message)]
 fn append_row<'a>(
     walk: &mut Walk<'a>,
     out: &mut Vec<u8>,
-    schema: u32,
     row: &Row,
     members: &Members<'a>,
+    places: &Places,
     left: u32,
 ) -> Result<(), Reason>
+    requires places { ArePlaces members.now.items places.now }
+    requires row { IsRowOf places.now.schema (codec.row_view row.now) }
     ensures appended { Appends result (row_bytes (message_bytes left) (members_view members.now.items)
-        (row_view schema row.now))
+        (row_view places.now.schema row.now))
         out.old.items out.new.items }
     ensures error { HasError result
-        (λ path. row_error (message_error left) (members_view members.now.items) path (row_view schema row.now))
+        (λ path. row_error (message_error left) (members_view members.now.items) path
+        (row_view places.now.schema row.now))
         walk.old.path.items walk.new.path.items }
 {
     match row {
-        Row::Plain(field) => append_given(walk, out, true, &named(schema, field), members, left),
+        Row::Plain(field) => append_given(
+            walk,
+            out,
+            true,
+            &named(places.schema, field),
+            members,
+            places,
+            left,
+        ),
         Row::Optional(field) => {
-            append_given(walk, out, false, &named(schema, field), members, left)
+            append_given(
+                walk,
+                out,
+                false,
+                &named(places.schema, field),
+                members,
+                places,
+                left,
+            )
         }
-        Row::Repeated(field) => append_list(walk, out, &named(schema, field), members, left),
-        Row::OneOf(fields) => append_oneof(walk, out, schema, fields, members, left),
+        Row::Repeated(field) => append_list(
+            walk,
+            out,
+            &named(places.schema, field),
+            members,
+            places,
+            left,
+        ),
+        Row::OneOf(fields) => append_oneof(walk, out, fields, members, places, left),
     }
 }
 
@@ -164,7 +221,10 @@ fn enter_given<'v, 'a>(
     walk: &mut Walk<'a>,
     field: &Field,
     members: &'v Members<'a>,
+    places: &Places,
 ) -> Result<Option<&'v Value<'a>>, Reason>
+    requires places { ArePlaces members.now.items places.now }
+    requires field { IsOf places.now.schema (field_view field.now) }
     ensures given { MatchResult result
         (λ found. given (field_view field.now) (members_view members.now.items)
         ≡ Some (option_map (λ v. json_view v.now) found))
@@ -175,7 +235,7 @@ fn enter_given<'v, 'a>(
         (λ reason. reason ≢ Reason.OutOfMemory → (reason ≡ Reason.RepeatedMember)
         × (walk.new.path.items ≡ walk.old.path.items ++ Step.Member field.now.name ∷ [])) }
 {
-    let found = given(field, members);
+    let found = given(members, places, field);
     if let Ok(None) = found {
         return Ok(None);
     }
@@ -191,8 +251,11 @@ fn append_given<'a>(
     plain: bool,
     field: &Field,
     members: &Members<'a>,
+    places: &Places,
     left: u32,
 ) -> Result<(), Reason>
+    requires places { ArePlaces members.now.items places.now }
+    requires field { IsOf places.now.schema (field_view field.now) }
     ensures appended { Appends result (given_bytes (field_bytes (message_bytes left) plain (field_view field.now))
         (given (field_view field.now) (members_view members.now.items)))
         out.old.items out.new.items }
@@ -201,7 +264,7 @@ fn append_given<'a>(
         (given (field_view field.now) (members_view members.now.items)))
         walk.old.path.items walk.new.path.items }
 {
-    let Some(value) = enter_given(walk, field, members)? else {
+    let Some(value) = enter_given(walk, field, members, places)? else {
         return Ok(());
     };
     append_value(walk, out, plain, field, value, left)?;
@@ -209,27 +272,29 @@ fn append_given<'a>(
     Ok(())
 }
 
-/// Appends the record of a oneof of a schema.
+/// Appends the record of a oneof of an object's schema.
 #[cycle(message)]
 fn append_oneof<'a>(
     walk: &mut Walk<'a>,
     out: &mut Vec<u8>,
-    schema: u32,
     fields: &[rows::Field],
     members: &Members<'a>,
+    places: &Places,
     left: u32,
 ) -> Result<(), Reason>
+    requires places { ArePlaces members.now.items places.now }
+    requires row { IsRowOf places.now.schema (OneOf (map codec.field_view fields.now)) }
     ensures appended { Appends result (oneof_bytes (message_bytes left) (members_view members.now.items) false
-        (named_members schema fields.now)) out.old.items out.new.items }
+        (named_members places.now.schema fields.now)) out.old.items out.new.items }
     ensures error { HasError result
         (λ path. oneof_error (message_error left) (members_view members.now.items) path false
-        (named_members schema fields.now))
+        (named_members places.now.schema fields.now))
         walk.old.path.items walk.new.path.items }
 {
     let mut held = false;
     for member in fields {
-        let field = named(schema, member);
-        let Some(value) = enter_given(walk, &field, members)? else {
+        let field = named(places.schema, member);
+        let Some(value) = enter_given(walk, &field, members, places)? else {
             continue;
         };
         if held {
@@ -249,8 +314,11 @@ fn append_list<'a>(
     out: &mut Vec<u8>,
     field: &Field,
     members: &Members<'a>,
+    places: &Places,
     left: u32,
 ) -> Result<(), Reason>
+    requires places { ArePlaces members.now.items places.now }
+    requires field { IsOf places.now.schema (field_view field.now) }
     ensures appended { Appends result (given_bytes (list_bytes (message_bytes left) (field_view field.now))
         (given (field_view field.now) (members_view members.now.items)))
         out.old.items out.new.items }
@@ -259,7 +327,7 @@ fn append_list<'a>(
         (given (field_view field.now) (members_view members.now.items)))
         walk.old.path.items walk.new.path.items }
 {
-    let Some(value) = enter_given(walk, field, members)? else {
+    let Some(value) = enter_given(walk, field, members, places)? else {
         return Ok(());
     };
     let Value::Array(items) = value else {
@@ -305,30 +373,36 @@ fn append_run<'a>(
     number: u32,
     items: &Vec<Value<'a>>,
 ) -> Result<(), Reason>
-    ensures appended { Appends result (option_map (length_record true number) (run_bytes (items_view items.now.items)))
+    ensures appended { Appends result (option_map (content_record true number) (run_bytes (items_view items.now.items)))
         out.old.items out.new.items }
     ensures error { HasError result (λ path. run_error path 0 (items_view items.now.items))
         walk.old.path.items walk.new.path.items }
 {
-    let mut run = Vec::new(walk.alloc);
-    append_numbers(walk, &mut run, items)?;
-    append_bytes(out, true, number, run.as_slice())?;
+    if items.is_empty() {
+        return Ok(());
+    }
+    append_key(out, number, LENGTH)?;
+    let place = out.len();
+    append_varint(out, 0)?;
+    let end = out.len();
+    append_numbers(walk, out, items)?;
+    put_length(out, place, end)?;
     Ok(())
 }
 
 /// Appends the varints of the numbers of an array.
 fn append_numbers<'a>(
     walk: &mut Walk<'a>,
-    run: &mut Vec<u8>,
+    out: &mut Vec<u8>,
     items: &Vec<Value<'a>>,
 ) -> Result<(), Reason>
-    ensures appended { Appends result (run_bytes (items_view items.now.items)) run.old.items run.new.items }
+    ensures appended { Appends result (run_bytes (items_view items.now.items)) out.old.items out.new.items }
     ensures error { HasError result (λ path. run_error path 0 (items_view items.now.items))
         walk.old.path.items walk.new.path.items }
 {
     for (index, item) in items.iter().enumerate() {
         walk.enter(Step::Element(index))?;
-        append_varint(run, u64::from(read_u32(item)?))?;
+        append_varint(out, u64::from(read_u32(item)?))?;
         walk.leave();
     }
     Ok(())
@@ -361,29 +435,21 @@ fn append_value<'a>(
             field.number,
             extended(read_enumeration(field.values, value)?),
         )?,
-        Kind::Text => append_bytes(out, plain, field.number, read_text(value)?)?,
-        Kind::ByteString => append_bytes(
+        Kind::Text => append_content(out, plain, field.number, read_text(value)?)?,
+        Kind::ByteString => append_content(
             out,
             plain,
             field.number,
             read_bytes(walk.alloc, value)?.as_slice(),
         )?,
         Kind::Message(schema) => {
-            let mut content = Vec::new(walk.alloc);
-            append_message(walk, &mut content, schema, value, left)?;
-            append_bytes(out, false, field.number, content.as_slice())?;
+            append_key(out, field.number, LENGTH)?;
+            let place = out.len();
+            append_varint(out, walk.lengths.next(schema, value, left)?)?;
+            let end = out.len();
+            append_message(walk, out, schema, value, left)?;
+            put_length(out, place, end)?;
         }
     }
     Ok(())
-}
-
-/// The number that is written for the low 32 bits of an enum: a negative one is sign-extended to 64 bits.
-fn extended(bits: u32) -> u64
-    ensures { result ≡ written_number Enumeration bits }
-{
-    if bits < 2_147_483_648 {
-        u64::from(bits)
-    } else {
-        u64::from(bits) + 18_446_744_069_414_584_320
-    }
 }

@@ -11,6 +11,7 @@ ghost use Rattle.shared_core_json_reader.specs.FirstError.{offset_of, step_text,
 ghost use Rattle.shared_core_json_reader.specs.FirstError.{value_error, SaysError, IsNotJson};
 
 use crate::error::{JsonReadError, Reason};
+use crate::measure::Lengths;
 use crate::payload::{Step, Walk, append_message};
 use json::{Reader, Scratch, Value};
 use shared_core_wire::records::LEVELS;
@@ -141,6 +142,7 @@ pub fn payload_of_value(
     let mut walk = Walk {
         alloc,
         path: Vec::new(alloc),
+        lengths: Lengths::new(alloc),
     };
     let mut payload = Vec::new(alloc);
     match append_message(&mut walk, &mut payload, schema, value, LEVELS + 1) {

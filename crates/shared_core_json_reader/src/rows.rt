@@ -2,6 +2,8 @@
 //! of the values of its enum.
 
 ghost use Rattle.std.specs.Prelude.{◌≡◌, map};
+ghost use Rattle.shared_core_codec.specs.Table.{table};
+ghost use Rattle.shared_core_codec.specs.ProgramRows.{row_view};
 ghost use Rattle.shared_core_json_reader.specs.EnumValues.{enum_fields};
 ghost use Rattle.shared_core_json_reader.specs.Rows.{value_view, enum_field_view, enum_values};
 ghost use Rattle.shared_core_json_reader.specs.Rows.{field_view, in_schema, rows_view, named_rows};
@@ -52,7 +54,8 @@ fn values_of(schema: u32, number: u32) -> &'static [EnumValue]
 
 /// The rows of the schema at an index of the table; past its end there are none.
 pub fn rows_of(schema: u32) -> &'static [Row]
-    ensures { rows_view schema result.now ≡ named_rows schema }
+    ensures named { rows_view schema result.now ≡ named_rows schema }
+    ensures rows { map row_view result.now ≡ table schema }
 {
     rows::rows_of(schema)
 }

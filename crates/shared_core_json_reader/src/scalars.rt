@@ -6,6 +6,8 @@ ghost use Rattle.json.specs.Value.{value_view as json_view, members_view};
 ghost use Rattle.shared_core_json_reader.specs.Rows.{value_view};
 ghost use Rattle.std.specs.Prelude.{map};
 ghost use Rattle.std.specs.Result.{result_ok};
+ghost use Rattle.shared_core_wire.specs.Schema.{Enumeration};
+ghost use Rattle.shared_core_wire.specs.Canonical.{written_number};
 ghost use Rattle.base64.specs.GeneralPurpose.{decode_of};
 ghost use Rattle.base64.specs.Engines.{url_safe_pad_indifferent};
 ghost use Rattle.shared_core_json_reader.specs.Scalars.{number_text, whole_of_text, whole_read};
@@ -173,6 +175,17 @@ pub fn read_enumeration(values: &[EnumValue], value: &Value<'_>) -> Result<u32, 
     signed_bits(read_whole(value)?)
 }
 
+/// The number that is written for the low 32 bits of an enum: a negative one is sign-extended to 64 bits.
+pub fn extended(bits: u32) -> u64
+    ensures { result ≡ written_number Enumeration bits }
+{
+    if bits < 2_147_483_648 {
+        u64::from(bits)
+    } else {
+        u64::from(bits) + 18_446_744_069_414_584_320
+    }
+}
+
 /// The bytes that a value is: a string is their base64, and an object with the one member `text` has the text that they
 /// are.
 pub fn read_bytes(alloc: Global, value: &Value<'_>) -> Result<Vec<u8>, Reason>
@@ -200,7 +213,7 @@ fn copy_marked(alloc: Global, value: &Value<'_>) -> Result<Vec<u8>, Reason>
 }
 
 /// The text of an object with the one member `text`.
-fn marked_text<'a>(value: &Value<'a>) -> Result<&'a [u8], Reason>
+pub fn marked_text<'a>(value: &Value<'a>) -> Result<&'a [u8], Reason>
     ensures value { MatchResult result (λ text. marked_text (json_view value.now) ≡ Some text.now)
         (λ _. marked_text (json_view value.now) ≡ None) }
     ensures reason { IfErr result (λ reason. reason ≡ Reason.WrongKind) }

@@ -1,12 +1,22 @@
 use Rattle.std.specs.Prelude.{◌≢◌, MatchResult}
-use Rattle.std.proofs.Common.{◌≡◌, Some, None, ◌∷◌, ◌+◌, drop, sym, ap, ◌∙◌, subst, arith, Option, List, ℕ}
+use Rattle.std.proofs.Common.{◌≡◌, Some, None, ◌∷◌, ◌+◌, drop, refl, sym, ap, ◌∙◌, subst, arith, Option, List, ℕ, cond}
+use Rattle.std.proofs.Common.{rules}
 use Rattle.std.proofs.lemmas.List.{drop_more}
 use Rattle.json.specs.Value.{value_view as json_view, members_view}
 use Rattle.shared_core_json_reader.specs.declared.error.Reason.TheVariants.{OutOfMemory}
-use Rattle.shared_core_json_reader.specs.Rows.{field_view}
-use Rattle.shared_core_json_reader.specs.Appended.{message_bytes, Appends}
+use Rattle.shared_core_codec.specs.ProgramRows.{kind_view, row_view}
+use Rattle.shared_core_codec.specs.declared.rows.Row.{Row}
+use Rattle.shared_core_codec.specs.declared.rows.Row.TheVariants.{Plain, Optional, Repeated}
+use Rattle.shared_core_json_reader.specs.Rows.{NamedField, field_view, named_rows}
+use Rattle.shared_core_json_reader.specs.Rows.{row_view as json_row_view}
+use Rattle.shared_core_json_reader.specs.Reading.{given}
+use Rattle.shared_core_json_reader.specs.Places.{IsRowOf}
+use Rattle.shared_core_json_reader.specs.Appended.{row_bytes, rows_bytes, given_bytes, list_bytes, message_bytes}
+use Rattle.shared_core_json_reader.specs.Appended.{Appends}
+use Rattle.shared_core_json_reader.proofs.Givens.{row_field, oneof_field, row_of, stops, stops_error, rows_stop}
+use Rattle.shared_core_json_reader.proofs.Givens.{rows_error_stop}
 use Rattle.shared_core_json_reader.proofs.Levels.{no_level, at_level, items_turn, oneof_turn}
-use Rattle.shared_core_json_reader.specs.FirstError.{PathError, message_error, path_view}
+use Rattle.shared_core_json_reader.specs.FirstError.{PathError, rows_error, message_error, path_view}
 use Rattle.shared_core_json_reader.proofs.FirstErrors.{no_level_error, at_level_error, entered, items_error_turn}
 use Rattle.shared_core_json_reader.proofs.FirstErrors.{oneof_error_turn}
 use Rattle.shared_core_json_reader.proofs.payload.+message.Goals as goal
@@ -45,11 +55,13 @@ append_oneof-loop-member-preserved t c =
     let path = entered c.loop-member.walk.path.items c.enter_given.new.walk.path.items c.args.walk.now.path.items _
     (rw c.in-Some.is at c.in_ok-value.ensures.path) c.loop-member.invariant.2 in
     let found = rw c.in-Some.is at c.in_ok-value.ensures.given in (
-      oneof_turn (message_bytes c.args.left) (members_view c.args.members.now.items) c.args.schema xs i _ f
+      oneof_turn (message_bytes c.args.left) (members_view c.args.members.now.items) c.args.places.now.schema xs i _ f
           (json_view c.in-Some.value.now) c.loop-member.held
           c.loop-member.out.items c.append_value.new.out.items _ here c.named-field.ensures found c.if-held.false
           c.in_ok-append_value.ensures.appended c.loop-member.invariant.0,
-      oneof_error_turn (message_error c.args.left) (members_view c.args.members.now.items) c.args.schema xs i _ f
+      oneof_error_turn (message_error c.args.left) (members_view c.args.members.now.items) c.args.places.now.schema xs i
+          _
+          f
           (json_view c.in-Some.value.now) c.loop-member.held
           (path_view c.args.walk.now.path.items) (path_view c.enter_given.new.walk.path.items) _ here
           c.named-field.ensures found c.if-held.false path c.in_ok-append_value.ensures.error.0
@@ -70,3 +82,100 @@ append_message-returns-clause-error t c =
     (λ reason. reason ≢ OutOfMemory → o ≡ Some (reason, path_view c.append_object.new.walk.path.items)))
     (at_level_error c.args.levels c.args.schema (json_view c.args.value.now) path (omega arith))
     c.append_object.ensures.error
+
+pub append_members-returns-in-Err-clause-appended : goal.append_members-returns-in-Err-clause-appended
+append_members-returns-in-Err-clause-appended t c n =
+    ap (λ b. cond b (rows_bytes (message_bytes c.args.left) (members_view c.args.members.now.items)
+    (named_rows c.args.schema)) None) c.in-Err.ensures.known
+
+pub append_members-returns-clause-appended : goal.append_members-returns-clause-appended
+append_members-returns-clause-appended t c =
+    let nested = message_bytes c.args.left in
+    let ms = members_view c.args.members.now.items in
+    subst (λ (o : Option (List ℕ)). Appends c.append_rows.result o c.args.out.now.items c.append_rows.new.out.items)
+    (ap (λ s. rows_bytes nested ms (named_rows s)) c.in-Ok.ensures.schema
+    ∙ sym (ap (λ b. cond b (rows_bytes nested ms (named_rows c.args.schema)) None) c.in-Ok.ensures.known))
+    c.append_rows.ensures.appended
+
+pub append_oneof-enter_given-requires-clause-field : goal.append_oneof-enter_given-requires-clause-field
+append_oneof-enter_given-requires-clause-field t c =
+    oneof_field c.args.places.now.schema c.loop-member.member-index c.args.fields.now _ _
+    (field_view c.named-field.result) c.requires.row
+    (drop_more c.args.fields.now c.loop-member.member-index _ c.loop-member-test.true) c.named-field.ensures
+
+pub append_row-append_given-requires : goal.append_row-append_given-requires
+append_row-append_given-requires t c = (
+  search rules,
+  (
+    c.requires.places,
+    row_field c.args.places.now.schema c.in-Plain.field.0 (kind_view c.in-Plain.field.1) (field_view c.named.result)
+        (row_view (Plain c.in-Plain.field)) refl
+        (subst (λ (r : Row). IsRowOf c.args.places.now.schema (row_view r)) c.in-Plain.is c.requires.row)
+        c.named.ensures,
+  ),
+)
+
+pub append_row-append_given-requires-in-Optional : goal.append_row-append_given-requires-in-Optional
+append_row-append_given-requires-in-Optional t c = (
+  search rules,
+  (
+    c.requires.places,
+    row_field c.args.places.now.schema c.in-Optional.field.0 (kind_view c.in-Optional.field.1)
+        (field_view c.named-in-Optional.result) (row_view (Optional c.in-Optional.field)) refl
+        (subst (λ (r : Row). IsRowOf c.args.places.now.schema (row_view r)) c.in-Optional.is c.requires.row)
+        c.named-in-Optional.ensures,
+  ),
+)
+
+pub append_row-append_list-requires : goal.append_row-append_list-requires
+append_row-append_list-requires t c = (
+  search rules,
+  (
+    c.requires.places,
+    row_field c.args.places.now.schema c.in-Repeated.field.0 (kind_view c.in-Repeated.field.1)
+        (field_view c.named-in-Repeated.result) (row_view (Repeated c.in-Repeated.field)) refl
+        (subst (λ (r : Row). IsRowOf c.args.places.now.schema (row_view r)) c.in-Repeated.is c.requires.row)
+        c.named-in-Repeated.ensures,
+  ),
+)
+
+pub append_row-returns-in-Repeated-clause-appended : goal.append_row-returns-in-Repeated-clause-appended
+append_row-returns-in-Repeated-clause-appended t c =
+    let nested = message_bytes c.args.left in
+    let ms = members_view c.args.members.now.items in
+    subst (λ (r : Row). Appends c.append_list.result (row_bytes nested ms (json_row_view c.args.places.now.schema r))
+    c.args.out.now.items c.append_list.new.out.items) (sym c.in-Repeated.is)
+    (subst (λ (f : NamedField). Appends c.append_list.result (given_bytes (list_bytes nested f) (given f ms))
+    c.args.out.now.items c.append_list.new.out.items) c.named-in-Repeated.ensures c.append_list.ensures.appended)
+
+pub append_rows-append_row-requires : goal.append_rows-append_row-requires
+append_rows-append_row-requires t c = (
+  search rules,
+  (
+    c.requires.places,
+    row_of c.args.places.now.schema c.loop-row.row-index c.rows_of-rows.result.now _ _ c.rows_of-rows.ensures.rows
+        (drop_more c.rows_of-rows.result.now c.loop-row.row-index _ c.loop-row-test.true),
+  ),
+)
+
+pub append_rows-returns-in_err-append_row-clause-appended : goal.append_rows-returns-in_err-append_row-clause-appended
+append_rows-returns-in_err-append_row-clause-appended t c =
+    let l = c.loop-row in
+    stops c.from_residual.result c.in_err-append_row.field-0.0 _ c.args.out.now.items _ c.from_residual.ensures.1
+    (λ n. rows_stop (message_bytes c.args.left) (members_view c.args.members.now.items) c.args.places.now.schema
+    c.rows_of-rows.result.now l.row-index _ _ l.out.items c.args.out.now.items _
+    (drop_more c.rows_of-rows.result.now l.row-index _ c.loop-row-test.true) l.invariant.0
+    (c.in_err-append_row.ensures.appended n))
+
+pub append_rows-returns-in_err-append_row-clause-error : goal.append_rows-returns-in_err-append_row-clause-error
+append_rows-returns-in_err-append_row-clause-error t c =
+    let l = c.loop-row in
+    let nested = message_error c.args.left in
+    let ms = members_view c.args.members.now.items in
+    stops_error c.from_residual.result c.in_err-append_row.field-0.0
+    (λ path. rows_error nested ms path (named_rows c.args.places.now.schema)) c.args.walk.now.path.items
+    c.append_row.new.walk.path.items c.from_residual.ensures.1
+    (λ n. rows_error_stop nested ms c.args.places.now.schema c.rows_of-rows.result.now l.row-index _ _
+    (path_view c.args.walk.now.path.items) (path_view l.walk.path.items) _ _ (ap path_view l.invariant.2)
+    (drop_more c.rows_of-rows.result.now l.row-index _ c.loop-row-test.true) l.invariant.1
+    (c.in_err-append_row.ensures.error n))

@@ -6,54 +6,57 @@ use Rattle.shared_core_json_reader.specs.FirstError.{items_error, oneof_error, r
 use Rattle.shared_core_json_reader.proofs.payload.+message.Given as goal
 
 abbrev pub decreases-append_message : goal.decreases-append_message
-decreases-append_message l = 7 * l.levels
+decreases-append_message l = 8 * l.levels
 
 abbrev pub decreases-append_object : goal.decreases-append_object
-decreases-append_object l = 7 * l.left + 6
+decreases-append_object l = 8 * l.left + 7
 
 abbrev pub decreases-append_members : goal.decreases-append_members
-decreases-append_members l = 7 * l.left + 5
+decreases-append_members l = 8 * l.left + 6
+
+abbrev pub decreases-append_rows : goal.decreases-append_rows
+decreases-append_rows l = 8 * l.left + 5
 
 abbrev pub decreases-append_row : goal.decreases-append_row
-decreases-append_row l = 7 * l.left + 4
+decreases-append_row l = 8 * l.left + 4
 
 abbrev pub decreases-append_given : goal.decreases-append_given
-decreases-append_given l = 7 * l.left + 3
+decreases-append_given l = 8 * l.left + 3
 
 abbrev pub decreases-append_oneof : goal.decreases-append_oneof
-decreases-append_oneof l = 7 * l.left + 3
+decreases-append_oneof l = 8 * l.left + 3
 
 abbrev pub decreases-append_list : goal.decreases-append_list
-decreases-append_list l = 7 * l.left + 3
+decreases-append_list l = 8 * l.left + 3
 
 abbrev pub decreases-append_items : goal.decreases-append_items
-decreases-append_items l = 7 * l.left + 2
+decreases-append_items l = 8 * l.left + 2
 
 abbrev pub decreases-append_value : goal.decreases-append_value
-decreases-append_value l = 7 * l.left + 1
+decreases-append_value l = 8 * l.left + 1
 
-abbrev pub invariant-append_members-loop-row : goal.invariant-append_members-loop-row
-invariant-append_members-loop-row l =
+abbrev pub invariant-append_rows-loop-row : goal.invariant-append_rows-loop-row
+invariant-append_rows-loop-row l =
     (after l.out.items (rows_bytes (message_bytes l.left) (members_view l.members.items)
-    (rows_view l.schema (drop l.row-index l.rows)))
+    (rows_view l.places.schema (drop l.row-index l.rows)))
     ≡ after l.initial.out.items (rows_bytes (message_bytes l.left) (members_view l.members.items)
-    (named_rows l.schema)))
+    (named_rows l.places.schema)))
     × (rows_error (message_error l.left) (members_view l.members.items) (path_view l.initial.walk.path.items)
-    (rows_view l.schema (drop l.row-index l.rows))
+    (rows_view l.places.schema (drop l.row-index l.rows))
     ≡ rows_error (message_error l.left) (members_view l.members.items) (path_view l.initial.walk.path.items)
-    (named_rows l.schema))
+    (named_rows l.places.schema))
     × (l.walk.path.items ≡ l.initial.walk.path.items)
 
 abbrev pub invariant-append_oneof-loop-member : goal.invariant-append_oneof-loop-member
 invariant-append_oneof-loop-member l =
     (after l.out.items (oneof_bytes (message_bytes l.left) (members_view l.members.items) l.held
-    (named_members l.schema (drop l.member-index l.fields)))
+    (named_members l.places.schema (drop l.member-index l.fields)))
     ≡ after l.initial.out.items (oneof_bytes (message_bytes l.left) (members_view l.members.items) false
-    (named_members l.schema l.fields)))
+    (named_members l.places.schema l.fields)))
     × (oneof_error (message_error l.left) (members_view l.members.items) (path_view l.initial.walk.path.items) l.held
-    (named_members l.schema (drop l.member-index l.fields))
+    (named_members l.places.schema (drop l.member-index l.fields))
     ≡ oneof_error (message_error l.left) (members_view l.members.items) (path_view l.initial.walk.path.items) false
-    (named_members l.schema l.fields))
+    (named_members l.places.schema l.fields))
     × (l.walk.path.items ≡ l.initial.walk.path.items)
 
 abbrev pub invariant-append_items-loop-index : goal.invariant-append_items-loop-index

@@ -1,5 +1,5 @@
 use Rattle.shared_core_json_reader.proofs.Levels.{with_names}
 use Rattle.shared_core_json_reader.proofs.rows.rows_of.Goals as goal
 
-pub returns : goal.returns
-returns c = with_names c.args.schema _ c.rows_of.ensures
+pub returns-clause-named : goal.returns-clause-named
+returns-clause-named c = with_names c.args.schema _ c.rows_of.ensures

@@ -1,0 +1,271 @@
+//! How long the content of messages that are nested deep is, before it is written.
+//!
+//! The lengths only say how much room to leave, so nothing is proved of them: the writer puts the length of what it has
+//! written, and moves it where the room was another one. Values that are rejected are measured as if they were absent.
+
+use crate::members::{Places, likely, places_of};
+use crate::rows::{Field, named, rows_of};
+use crate::scalars::{extended, marked_text, read_boolean, read_enumeration, read_u32, read_u64};
+use json::Value;
+use shared_core_codec::rows::{self, Kind, Row};
+use shared_core_record_writer::{content_len, number_len};
+use shared_core_wire::records::LEVELS;
+use shared_core_wire::varint::varint_len;
+use std::alloc::{AllocError, Global};
+
+/// How deep messages may be nested before they are measured: then few bytes are moved more than once.
+const SHALLOW: u32 = 3;
+
+/// The members of an object.
+type Members<'a> = Vec<(&'a str, Value<'a>)>;
+
+/// The lengths that were measured, in the order in which the messages are written.
+#[derive(Drop)]
+pub struct Lengths {
+    measured: Vec<u64>,
+    /// How many of them have been asked for.
+    used: usize,
+}
+
+impl Lengths {
+    /// No lengths.
+    pub fn new(alloc: Global) -> Lengths {
+        Lengths {
+            measured: Vec::new(alloc),
+            used: 0,
+        }
+    }
+
+    /// Returns how long the content of the message that is written next is likely to be: 0, if it is not nested deep.
+    /// Messages may be nested `left` deep, itself included.
+    pub fn next(&mut self, schema: u32, value: &Value<'_>, left: u32) -> Result<u64, AllocError> {
+        if left > LEVELS - SHALLOW {
+            return Ok(0);
+        }
+        if left == LEVELS - SHALLOW {
+            self.measured.clear();
+            self.used = 0;
+            measure_message(&mut self.measured, schema, value, left)?;
+        }
+        if self.used >= self.measured.len() {
+            return Ok(0);
+        }
+        let length = self.measured[self.used];
+        self.used += 1;
+        Ok(length)
+    }
+}
+
+/// Measures a message and those within it. Returns the length of its content.
+#[cycle(measure)]
+fn measure_message(
+    lengths: &mut Vec<u64>,
+    schema: u32,
+    value: &Value<'_>,
+    levels: u32,
+) -> Result<u64, AllocError> {
+    let index = lengths.len();
+    lengths.push(0)?;
+    if levels == 0 {
+        return Ok(0);
+    }
+    let Value::Object(members) = value else {
+        return Ok(0);
+    };
+    let length = measure_members(lengths, schema, members, levels - 1)?;
+    if index < lengths.len() {
+        lengths[index] = length;
+    }
+    Ok(length)
+}
+
+/// Measures the members of an object of a schema.
+#[cycle(measure)]
+fn measure_members(
+    lengths: &mut Vec<u64>,
+    schema: u32,
+    members: &Members<'_>,
+    left: u32,
+) -> Result<u64, AllocError> {
+    let Ok(places) = places_of(schema, members) else {
+        return Ok(0);
+    };
+    let mut length: u64 = 0;
+    for row in rows_of(schema) {
+        length = length.saturating_add(measure_row(lengths, row, members, &places, left)?);
+    }
+    Ok(length)
+}
+
+/// Measures what an object gives a row of its schema.
+#[cycle(measure)]
+fn measure_row(
+    lengths: &mut Vec<u64>,
+    row: &Row,
+    members: &Members<'_>,
+    places: &Places,
+    left: u32,
+) -> Result<u64, AllocError> {
+    match row {
+        Row::Plain(field) => {
+            measure_given(
+                lengths,
+                true,
+                &named(places.schema, field),
+                members,
+                places,
+                left,
+            )
+        }
+        Row::Optional(field) => {
+            measure_given(
+                lengths,
+                false,
+                &named(places.schema, field),
+                members,
+                places,
+                left,
+            )
+        }
+        Row::Repeated(field) => {
+            measure_given(
+                lengths,
+                false,
+                &named(places.schema, field),
+                members,
+                places,
+                left,
+            )
+        }
+        Row::OneOf(fields) => measure_oneof(lengths, fields, members, places, left),
+    }
+}
+
+/// Measures what an object gives a oneof of its schema.
+#[cycle(measure)]
+fn measure_oneof(
+    lengths: &mut Vec<u64>,
+    fields: &[rows::Field],
+    members: &Members<'_>,
+    places: &Places,
+    left: u32,
+) -> Result<u64, AllocError> {
+    let mut length: u64 = 0;
+    for field in fields {
+        let own = measure_given(
+            lengths,
+            false,
+            &named(places.schema, field),
+            members,
+            places,
+            left,
+        )?;
+        length = length.saturating_add(own);
+    }
+    Ok(length)
+}
+
+/// Measures what an object gives a field.
+#[cycle(measure)]
+fn measure_given(
+    lengths: &mut Vec<u64>,
+    plain: bool,
+    field: &Field,
+    members: &Members<'_>,
+    places: &Places,
+    left: u32,
+) -> Result<u64, AllocError> {
+    let Some(value) = likely(members, places, field) else {
+        return Ok(0);
+    };
+    let Value::Array(items) = value else {
+        return measure_value(lengths, plain, field, value, left);
+    };
+    if let Kind::U32 = field.kind {
+        return Ok(content_len(true, field.number, run_len(items)));
+    }
+    let mut length: u64 = 0;
+    for item in items {
+        let own = measure_value(lengths, false, field, item, left)?;
+        length = length.saturating_add(own);
+    }
+    Ok(length)
+}
+
+/// Measures the record of a value.
+#[cycle(measure)]
+fn measure_value(
+    lengths: &mut Vec<u64>,
+    plain: bool,
+    field: &Field,
+    value: &Value<'_>,
+    left: u32,
+) -> Result<u64, AllocError> {
+    if let Kind::Message(schema) = field.kind {
+        let length = measure_message(lengths, schema, value, left)?;
+        return Ok(content_len(false, field.number, length));
+    }
+    Ok(single_len(plain, field, value))
+}
+
+/// The length of the record of a value that is no message.
+fn single_len(plain: bool, field: &Field, value: &Value<'_>) -> u64 {
+    match field.kind {
+        Kind::Text => content_len(plain, field.number, text_len(value)),
+        Kind::ByteString => content_len(plain, field.number, bytes_len(value)),
+        _ => match read_number(field, value) {
+            Some(number) => number_len(plain, field.number, number),
+            None => 0,
+        },
+    }
+}
+
+/// The number that is written for a value.
+fn read_number(field: &Field, value: &Value<'_>) -> Option<u64> {
+    match field.kind {
+        Kind::U32 => Some(u64::from(read_u32(value).ok()?)),
+        Kind::U64 => read_u64(value).ok(),
+        Kind::Boolean => read_boolean(value).ok(),
+        Kind::Enumeration => Some(extended(read_enumeration(field.values, value).ok()?)),
+        _ => None,
+    }
+}
+
+/// The length of a text.
+fn text_len(value: &Value<'_>) -> u64 {
+    match value.as_str() {
+        Some(text) => text.len() as u64,
+        None => 0,
+    }
+}
+
+/// The length of bytes, which are base64 or a text.
+fn bytes_len(value: &Value<'_>) -> u64 {
+    if let Some(text) = value.as_str() {
+        return decoded_len(text.as_bytes());
+    }
+    match marked_text(value) {
+        Ok(text) => text.len() as u64,
+        Err(_) => 0,
+    }
+}
+
+/// How many bytes a text of base64 encodes.
+fn decoded_len(text: &[u8]) -> u64 {
+    let mut digits = text.len();
+    while digits > 0 && text[digits - 1] == b'=' {
+        digits -= 1;
+    }
+    (digits / 4 * 3 + digits % 4 * 3 / 4) as u64
+}
+
+/// The length of the varints of the numbers of an array.
+fn run_len(items: &Vec<Value<'_>>) -> u64 {
+    let mut length: u64 = 0;
+    for item in items {
+        if let Ok(number) = read_u32(item) {
+            length = length.saturating_add(varint_len(u64::from(number)));
+        }
+    }
+    length
+}

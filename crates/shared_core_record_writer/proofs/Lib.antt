@@ -1,0 +1,3 @@
+mod ShortRecords
+mod Varints
+pub mod Contents

@@ -1,0 +1,67 @@
+//! Records whose key and length, or number, are a byte each, as most are: appended without a loop, and with one test
+//! for room. All others are appended by `records`, and put by `lengths`.
+
+ghost use Rattle.std.specs.Prelude.{◌≡◌, ◌-◌, ◌≤◌, ◌++◌, OnOk, length, take, drop};
+ghost use Rattle.shared_core_wire.specs.Encoding.{shortest_varint};
+ghost use Rattle.shared_core_record_writer.specs.Records.{number_record, content_record};
+
+use crate::{lengths, records};
+use std::alloc::AllocError;
+
+/// The field numbers below this one have a key of one byte.
+const SHORT_KEYS: u32 = 16;
+
+/// Appends the record of a number; 0 is left out in a plain field.
+#[inline(always)]
+pub fn append_number(
+    out: &mut Vec<u8>,
+    plain: bool,
+    number: u32,
+    value: u64,
+) -> Result<(), AllocError>
+    ensures { OnOk result (out.new.items ≡ out.old.items ++ number_record plain number value) }
+{
+    if number >= SHORT_KEYS || value >= 128 || plain && value == 0 {
+        return records::append_number(out, plain, number, value);
+    }
+    out.reserve(2)?;
+    out.push_reserved(8 * number as u8);
+    out.push_reserved(value as u8);
+    Ok(())
+}
+
+/// Appends the record of some bytes; no bytes are left out in a plain field.
+#[inline(always)]
+pub fn append_content(
+    out: &mut Vec<u8>,
+    plain: bool,
+    number: u32,
+    content: &[u8],
+) -> Result<(), AllocError>
+    ensures { OnOk result (out.new.items ≡ out.old.items ++ content_record plain number content.now) }
+{
+    if number >= SHORT_KEYS || content.len() >= 128 || plain && content.is_empty() {
+        return records::append_content(out, plain, number, content);
+    }
+    out.reserve(content.len() + 2)?;
+    out.push_reserved(8 * number as u8 + 2);
+    out.push_reserved(content.len() as u8);
+    out.extend_from_slice(content)
+}
+
+/// Puts the length of what comes from `end` on in the place of the bytes from `place` to there, as a varint. What comes
+/// after is moved only if these were more or fewer bytes.
+#[inline(always)]
+pub fn put_length(out: &mut Vec<u8>, place: usize, end: usize) -> Result<(), AllocError>
+    requires place { place ≤ end }
+    requires end { end ≤ length out.old.items }
+    ensures { OnOk result (out.new.items ≡ take place out.old.items
+        ++ (shortest_varint (length out.old.items - end) ++ drop end out.old.items)) }
+{
+    let len = out.len() - end;
+    if len >= 128 || end - place != 1 {
+        return lengths::put_length(out, place, end);
+    }
+    out[place] = len as u8;
+    Ok(())
+}
