@@ -4,9 +4,8 @@ ghost use Rattle.journal_c_api.specs.Fields.{WritesFields};
 
 use crate::outcome::CallError;
 use shared_core_codec::check;
-use shared_core_fields::fields::CanonicalPayload;
 pub use shared_core_fields::table::FieldEntry;
-use shared_core_fields::table::write::write_entries;
+use shared_core_fields::table::check::write_checked;
 
 /// Writes the entries of the fields of all levels of a canonical payload at the front of a slice, as many as there is
 /// room for. Returns how many the payload has, at most as many as it has bytes. Nothing is allocated.
@@ -23,8 +22,8 @@ pub fn write_fields(
     if !check::is_schema(schema) {
         return Err(CallError::UnknownSchema);
     }
-    if let Some(canonical) = CanonicalPayload::check(schema, payload) {
-        return Ok(write_entries(fields, canonical));
+    if let Some(count) = write_checked(fields, schema, payload) {
+        return Ok(count);
     }
     if check::is_well_formed(schema, payload) {
         Err(CallError::NotCanonical)

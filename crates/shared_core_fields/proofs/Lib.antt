@@ -6,3 +6,4 @@ pub mod Depths
 pub mod Appending
 pub mod Written
 pub mod FewRows
+pub mod Checked

@@ -148,7 +148,7 @@ items_come rows left room payload (Ok p ∷ items) (r ∷ rs) z a h e l =
 
 -- ---- where the bytes are
 
-content_at : (payload : List ℕ) (to : ℕ) (w : RecordValue) → LiesBefore payload to w → IsAt payload
+pub content_at : (payload : List ℕ) (to : ℕ) (w : RecordValue) → LiesBefore payload to w → IsAt payload
     (content_offset w to) (content w)
 content_at payload to (Length bytes) l =
     let as_many : length bytes ≡ to - (to - length bytes) = omega (arith, l.1) in

@@ -4,3 +4,4 @@ pub mod Coming
 pub mod Views
 pub mod Entries
 pub mod Rows
+pub mod Checked

@@ -49,4 +49,5 @@ impl FieldEntry {
 }
 
 pub mod append;
+pub mod check;
 pub mod write;

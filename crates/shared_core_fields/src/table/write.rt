@@ -34,7 +34,7 @@ pub fn write_entries(out: &mut [FieldEntry], payload: CanonicalPayload<'_>) -> u
 }
 
 /// Writes the entries of the bytes of a canonical payload.
-fn write_payload(out: &mut [FieldEntry], schema: u32, bytes: &[u8]) -> usize
+pub(super) fn write_payload(out: &mut [FieldEntry], schema: u32, bytes: &[u8]) -> usize
     requires short { length bytes.now < 4294967296 }
     requires canonical { is_canonical_payload 100 schema bytes.now ≡ true }
     ensures rows { WritesRows bytes.now (table_rows schema (payload_meaning schema bytes.now)) 0 out.old out.new }
@@ -51,10 +51,10 @@ fn write_payload(out: &mut [FieldEntry], schema: u32, bytes: &[u8]) -> usize
 
 /// Where a message is: the payload that it is in, the offset of its bytes there, and its level.
 #[derive(Clone, Copy)]
-struct Place<'a> {
-    whole: &'a [u8],
-    offset: usize,
-    level: u32,
+pub(super) struct Place<'a> {
+    pub whole: &'a [u8],
+    pub offset: usize,
+    pub level: u32,
 }
 
 /// Writes the entries of a payload that is at a place, from an index on; messages may be nested `left` deep. Returns
@@ -117,7 +117,13 @@ fn write_field<'a>(out: &mut [FieldEntry], at: usize, field: Field<'a>, place: P
 }
 
 /// Writes an entry for each number of a packed run.
-fn write_run(out: &mut [FieldEntry], at: usize, run: Run<'_>, level: u32, number: u32) -> usize
+pub(super) fn write_run(
+    out: &mut [FieldEntry],
+    at: usize,
+    run: Run<'_>,
+    level: u32,
+    number: u32,
+) -> usize
     requires few { at + length (run_numbers run.bytes.now) < 2 ^ 63 }
     // numbers have no bytes, whatever the payload
     ensures rows { (payload : List ℕ) → WritesRows payload
@@ -137,7 +143,7 @@ fn write_run(out: &mut [FieldEntry], at: usize, run: Run<'_>, level: u32, number
 }
 
 /// Writes an entry at an index, if there is room for it.
-fn put(out: &mut [FieldEntry], at: usize, entry: FieldEntry)
+pub(super) fn put(out: &mut [FieldEntry], at: usize, entry: FieldEntry)
     ensures { out.new ≡ set out.old at entry }
 {
     if at < out.len() {
@@ -202,7 +208,7 @@ fn message_entry(schema: u32, bytes: &[u8], number: u32, offset: usize, level: u
 }
 
 /// The entry of bytes at an offset.
-fn bytes_entry(
+pub(super) fn bytes_entry(
     kind: u64,
     value: u64,
     length: usize,
@@ -227,7 +233,7 @@ fn bytes_entry(
 }
 
 /// The entry of a number.
-fn number_entry(kind: u64, value: u64, number: u32, level: u32) -> FieldEntry
+pub(super) fn number_entry(kind: u64, value: u64, number: u32, level: u32) -> FieldEntry
     ensures { result ≡ record {
       level = level;
       number = number;

@@ -1,0 +1,317 @@
+//! Checking a payload and writing its entries, in one pass.
+
+ghost use Rattle.std.specs.Prelude.{◌≡◌, ◌↔◌, ◌+◌, ◌-◌, ◌<◌, ◌≤◌, ◌^◌, ℕ, List, length, true, is_some, option_map};
+ghost use Rattle.std.specs.Prelude.{IfSome, IfNone};
+ghost use Rattle.std.specs.Str.{is_utf8};
+ghost use Rattle.shared_core_wire.specs.Grammar.{Varint, Length, content};
+ghost use Rattle.shared_core_wire.specs.View.{value_of};
+ghost use Rattle.shared_core_codec.specs.Canonicity.{IsCanonical, is_canonical_payload, is_canonical_message};
+ghost use Rattle.shared_core_codec.specs.Canonicity.{is_written_field};
+ghost use Rattle.shared_core_codec.specs.Checking.{field_record_of};
+ghost use Rattle.shared_core_codec.specs.Payloads.{payload_meaning};
+ghost use Rattle.shared_core_codec.specs.ProgramRows.{found_view, kind_view};
+ghost use Rattle.shared_core_codec.specs.Table.{table};
+ghost use Rattle.shared_core_fields.specs.Checked.{WritesTo, record_rows, room_after, room_if};
+ghost use Rattle.shared_core_fields.specs.Fields.{message_fields};
+ghost use Rattle.shared_core_fields.specs.Rows.{fields_rows, kind_number, table_rows};
+ghost use Rattle.shared_core_fields.specs.Views.{IsAt, content_offset};
+
+use super::FieldEntry;
+use super::write::{bytes_entry, number_entry, put, write_payload, write_run};
+use crate::runs::Run;
+use crate::typed::content_offset;
+use shared_core_codec::canonical::{
+    NextField, is_written_number, is_written_run, next_field, written_size,
+};
+use shared_core_codec::rows::{Kind, rows_of};
+use shared_core_codec::size::Size;
+use shared_core_wire::record::WireValue;
+use shared_core_wire::records::{LEVELS, Record, Records};
+
+/// How many entries are kept until a payload is known to be canonical.
+const KEPT: usize = 24;
+
+/// No entry.
+const NOTHING: FieldEntry = FieldEntry {
+    level: 0,
+    number: 0,
+    kind: 0,
+    value: 0,
+    offset: 0,
+    length: 0,
+};
+
+/// Checks a payload for the schema at an index of the table, and writes the entries of the fields of all levels, in
+/// order, at the front of a slice: as many as there is room for. Returns how many the payload has, at most as many as
+/// it has bytes; or `None` if it is not canonical, and then the slice is unchanged. Does not allocate, and makes one
+/// pass over the bytes, and a second one if there are more than twenty-four entries.
+pub fn write_checked(out: &mut [FieldEntry], schema: u32, payload: &[u8]) -> Option<usize>
+    ensures canonical { (is_some result ≡ true) ↔ IsCanonical schema payload.now }
+    ensures rows { IfSome result (λ n. WritesTo payload.now (table_rows schema (payload_meaning schema payload.now)) 0
+        out.old out.new n) }
+    ensures few { IfSome result (λ n. n ≤ length payload.now) }
+    ensures unchanged { IfNone result (out.new ≡ out.old) }
+{
+    let mut kept = [NOTHING; KEPT];
+    let count = check_payload(&mut kept, schema, payload)?;
+    if count <= KEPT {
+        let shown = count.min(out.len());
+        out[..shown].copy_from_slice(&kept[..shown]);
+    } else {
+        write_payload(out, schema, payload);
+    }
+    Some(count)
+}
+
+/// Checks a payload and writes its entries as it goes: where it is not canonical, some of them may have been written.
+fn check_payload(out: &mut [FieldEntry], schema: u32, payload: &[u8]) -> Option<usize>
+    ensures canonical { (is_some result ≡ true) ↔ IsCanonical schema payload.now }
+    ensures rows { IfSome result (λ n. WritesTo payload.now (table_rows schema (payload_meaning schema payload.now)) 0
+        out.old out.new n) }
+    ensures few { IfSome result (λ n. n ≤ length payload.now) }
+{
+    if payload.len() as u64 >= Size::LIMIT {
+        return None;
+    }
+    check_message(out, 0, schema, payload, payload, 0, LEVELS)
+}
+
+/// Checks the bytes of a message for its schema, which are at an offset in the whole payload, and writes its entries,
+/// from an index on; messages may be nested `left` deep in it. Returns the index after the last one, or `None` if the
+/// bytes are not canonical.
+#[cycle(check)]
+fn check_message(
+    out: &mut [FieldEntry],
+    at: usize,
+    schema: u32,
+    bytes: &[u8],
+    whole: &[u8],
+    offset: usize,
+    left: u32,
+) -> Option<usize>
+    requires short { length bytes.now < 4294967296 }
+    requires place { IsAt whole.now offset bytes.now }
+    requires levels { left ≤ 100 }
+    requires few { at + length bytes.now < 2 ^ 63 }
+    ensures canonical { is_some result ≡ is_canonical_payload left schema bytes.now }
+    ensures rows { IfSome result (λ n. WritesTo whole.now (fields_rows left (100 - left)
+        (message_fields (table schema) (payload_meaning schema bytes.now))) at out.old out.new n) }
+    ensures few { IfSome result (λ n. n ≤ at + length bytes.now) }
+{
+    let mut rows = rows_of(schema);
+    let mut room = bytes.len() as u64;
+    let mut count = at;
+    // a group is never canonical
+    for item in Records::within(bytes, 0) {
+        let Ok(found) = item else {
+            return None;
+        };
+        let Some(next) = next_field(rows, found.number) else {
+            return None;
+        };
+        let Some((after, still)) = check_record(out, count, &found, next, room, whole, offset, left)
+        else {
+            return None;
+        };
+        count = after;
+        rows = next.rows;
+        room = still;
+    }
+    // more bytes than the records take when they are written
+    if room == 0 { Some(count) } else { None }
+}
+
+/// The same of a record of a message, for the field of which it may be one. Returns also how many bytes the records
+/// after it have to have, of `room` bytes with it. The offset is that of the message.
+#[cycle(check)]
+#[inline(always)]
+fn check_record(
+    out: &mut [FieldEntry],
+    at: usize,
+    found: &Record<'_>,
+    next: NextField<'_>,
+    room: u64,
+    whole: &[u8],
+    offset: usize,
+    left: u32,
+) -> Option<(usize, u64)>
+    requires short { length (content (value_of found.now.value)) < 4294967296 }
+    requires place { IsAt whole.now (offset + content_offset (value_of found.now.value) found.now.span.1)
+        (content (value_of found.now.value)) }
+    requires levels { left ≤ 100 }
+    requires few { at + room < 2 ^ 63 }
+    ensures canonical { option_map (λ x. x.1) result ≡ room_if (is_written_field (is_canonical_message left)
+        next.entry.is_plain (found_view next.entry.field) (value_of found.now.value)) (field_record_of found.now) room }
+    ensures rows { IfSome result (λ x. WritesTo whole.now (record_rows left found.now.number
+        (found_view next.entry.field) (value_of found.now.value)) at out.old out.new x.0) }
+    ensures few { IfSome result (λ x. x.0 + x.1 ≤ at + room) }
+{
+    match found.value {
+        WireValue::Varint(number) => {
+            let still = room_after(found, room)?;
+            let count = check_number(out, at, found.number, next, number, left)?;
+            Some((count, still))
+        }
+        WireValue::Length(content) => {
+            let still = room_after(found, room)?;
+            let start = offset + content_offset(found.value, found.span.1);
+            let count = check_content(out, at, found.number, next, content, whole, start, left)?;
+            Some((count, still))
+        }
+        _ => None,
+    }
+}
+
+/// How many bytes the records after one have to have, of so many with it; `None` if it has more when it is written.
+#[inline(always)]
+fn room_after(found: &Record<'_>, room: u64) -> Option<u64>
+    ensures { result ≡ room_after (field_record_of found.now) room }
+{
+    let size = written_size(found);
+    if room < size { None } else { Some(room - size) }
+}
+
+/// Checks the number of a record for its field, and writes its entry.
+#[inline(always)]
+fn check_number(
+    out: &mut [FieldEntry],
+    at: usize,
+    number: u32,
+    next: NextField<'_>,
+    value: u64,
+    left: u32,
+) -> Option<usize>
+    requires levels { left ≤ 100 }
+    requires few { at + 1 < 2 ^ 63 }
+    ensures canonical { is_some result ≡ is_written_field (is_canonical_message left) next.entry.is_plain
+        (found_view next.entry.field) (Varint value) }
+    // numbers have no bytes, whatever the payload
+    ensures rows { IfSome result (λ n. (payload : List ℕ) → WritesTo payload (record_rows left number
+        (found_view next.entry.field) (Varint value)) at out.old out.new n) }
+    ensures few { IfSome result (λ n. n ≡ at + 1) }
+{
+    if !is_written_number(next.field.kind, value) {
+        return None;
+    }
+    if next.field.is_repeated {
+        if let Kind::U32 = next.field.kind {
+            return None;
+        }
+    } else if next.is_plain && value == 0 {
+        return None;
+    }
+    put(
+        out,
+        at,
+        number_entry(kind_number(next.field.kind), value, number, LEVELS - left),
+    );
+    Some(at + 1)
+}
+
+/// Checks the content of a record for its field, which is at the offset in the whole payload, and writes its entry and
+/// those within it, or one for each number of a packed run.
+#[cycle(check)]
+#[inline(always)]
+fn check_content(
+    out: &mut [FieldEntry],
+    at: usize,
+    number: u32,
+    next: NextField<'_>,
+    content: &[u8],
+    whole: &[u8],
+    offset: usize,
+    left: u32,
+) -> Option<usize>
+    requires short { length content.now < 4294967296 }
+    requires place { IsAt whole.now offset content.now }
+    requires levels { left ≤ 100 }
+    requires few { at + 1 + length content.now < 2 ^ 63 }
+    ensures canonical { is_some result ≡ is_written_field (is_canonical_message left) next.entry.is_plain
+        (found_view next.entry.field) (Length content.now) }
+    ensures rows { IfSome result (λ n. WritesTo whole.now (record_rows left number (found_view next.entry.field)
+        (Length content.now)) at out.old out.new n) }
+    ensures few { IfSome result (λ n. n ≤ at + 1 + length content.now) }
+{
+    if next.is_plain && !next.field.is_repeated && content.is_empty() {
+        return None;
+    }
+    let level = LEVELS - left;
+    match next.field.kind {
+        Kind::Text => {
+            if !is_text(content) {
+                return None;
+            }
+            put(
+                out,
+                at,
+                bytes_entry(FieldEntry::TEXT, 0, content.len(), number, offset, level),
+            );
+            Some(at + 1)
+        }
+        Kind::ByteString => {
+            put(
+                out,
+                at,
+                bytes_entry(
+                    FieldEntry::BYTE_STRING,
+                    0,
+                    content.len(),
+                    number,
+                    offset,
+                    level,
+                ),
+            );
+            Some(at + 1)
+        }
+        Kind::Message(schema) => {
+            if left == 0 {
+                return None;
+            }
+            put(
+                out,
+                at,
+                bytes_entry(
+                    FieldEntry::MESSAGE,
+                    u64::from(schema),
+                    content.len(),
+                    number,
+                    offset,
+                    level,
+                ),
+            );
+            check_message(out, at + 1, schema, content, whole, offset, left - 1)
+        }
+        Kind::U32 => {
+            if !next.field.is_repeated || !is_written_run(content) {
+                return None;
+            }
+            Some(write_run(out, at, Run { bytes: content }, level, number))
+        }
+        _ => None,
+    }
+}
+
+/// The number of a kind in entries.
+fn kind_number(kind: Kind) -> u64
+    ensures { result ≡ kind_number (kind_view kind) }
+{
+    match kind {
+        Kind::U32 => FieldEntry::U32,
+        Kind::U64 => FieldEntry::U64,
+        Kind::Boolean => FieldEntry::BOOLEAN,
+        Kind::Enumeration => FieldEntry::ENUMERATION,
+        Kind::Text => FieldEntry::TEXT,
+        Kind::ByteString => FieldEntry::BYTE_STRING,
+        Kind::Message(_) => FieldEntry::MESSAGE,
+    }
+}
+
+/// Whether bytes are UTF-8.
+fn is_text(bytes: &[u8]) -> bool
+    ensures { result ≡ is_utf8 bytes.now }
+{
+    match std::str::from_utf8(bytes) {
+        Ok(_text) => true,
+        Err(_) => false,
+    }
+}
