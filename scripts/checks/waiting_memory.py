@@ -1,4 +1,4 @@
-"""What a decoder holds of bytes that wait is at most twice their number and 64 KiB, however they came.
+"""What a decoder or a reader of items holds of bytes that wait is at most twice their number and 64 KiB.
 
 The names of the tests of tests/waiting are the lines of the standard input. waiting_memory.py PROGRAM runs a program
 with each of them alone; it has tests/c/refuse.c, which says the most bytes that were allocated at once. Beyond that of

@@ -1,6 +1,6 @@
 -- Reading items from a reader.
-use Rattle.std.proofs.Common.{◌≡◌, ◌∙◌, ℕ, ◌-◌, ◌<◌, ◌≤◌, List, [], ◌∷◌, ◌++◌, length, ap, sym, refl}
-use Rattle.std.proofs.Common.{Option, Some, None, Ok, Err}
+use Rattle.std.proofs.Common.{◌≡◌, ◌∙◌, ℕ, ◌+◌, ◌-◌, ◌<◌, ◌≤◌, List, [], ◌∷◌, ◌++◌, length, ap, sym, refl}
+use Rattle.std.proofs.Common.{Option, Some, None, Result, Ok, Err}
 use Rattle.std.proofs.Common.{append_assoc, append-nil, length-append, arith, subst}
 use Rattle.std.proofs.lemmas.Bool.{le-ltb}
 use Rattle.std.specs.Io.KnownBytes.{IsAtEnd}
@@ -15,7 +15,7 @@ use Rattle.shared_core_stream.proofs.Items.{front_word_more, item_is_long, takes
 use Rattle.shared_core_stream.proofs.Limits.{accepted, front_more}
 use Rattle.shared_core_io.specs.declared.error.ReadError.{ReadError}
 use Rattle.shared_core_io.specs.declared.error.ReadError.TheVariants.{Failed, TooLong, Truncated, OutOfMemory}
-use Rattle.shared_core_io.specs.Reading.{IsRead, IsTaken, TakesNothing, result_at_end, with_more}
+use Rattle.shared_core_io.specs.Reading.{IsRead, IsTaken, IsTakenOf, TakesNothing, result_at_end, with_more}
 
 -- bytes that were read before, and then more
 pub joined : (first loop next new : Limited) (read more : List ℕ) → loop ≡ with_more first read → next ≡ loop → new ≡
@@ -71,6 +71,13 @@ rejects_more state more message some = by_rejected state.rejected refl
     by_rejected (Some error) is = rw is (rw is at some)
     by_rejected None is = rw is (front_more state.unread.version state.limit state.offset state.unread.bytes more
         message (rw is at some))
+
+-- the bytes of the decoder, of the chunk and of the buffer are all that is held
+pub all_held : (pending chunk rest all first second : List ℕ) → first ≡ pending → second ≡ first ++ chunk → all ≡
+    second ++ rest → all ≡ pending ++ (chunk ++ rest)
+all_held pending chunk rest all first second is then last =
+    last ∙ ap (λ (bytes : List ℕ). bytes ++ rest) (then ∙ ap (λ (bytes : List ℕ). bytes ++ chunk) is)
+    ∙ append_assoc pending chunk rest
 
 -- what the decoder returned
 pub taken : (old new : Limited) (outside : List ℕ) (found : Option Item) → ReturnsWithin old (Ok found) new → IsTaken
@@ -166,3 +173,52 @@ module _ (first : Limited) (read more : List ℕ) (old next new : Limited) (outs
       (subst (λ (version : Version). NoItemBegins version old.unread.bytes)
       (ap (λ (state : Limited). state.unread.version) before) none)
       (λ some. kept_idle (rw kept_same some)) item rest begins same_reader
+
+-- what was taken of the decoder was taken of all that was held
+module _ (first old new : Limited) (outside kept : List ℕ) (before : with_more old outside ≡ first) where
+  pub item_taken : (item : Item) → IsTaken old outside (Ok (Some item)) new kept → IsTakenOf first (Ok (Some item))
+      (with_more new kept)
+  item_taken item taken = subst (λ (all : Limited). IsTakenOf all (Ok (Some item)) (with_more new kept)) before
+      (took old new outside kept None item taken)
+
+  pub error_taken : (error : ReadError) → IsTaken old outside (Err error) new kept → IsTakenOf first (Err error)
+      (with_more new kept)
+  error_taken (Failed reason) taken = absurd taken
+  error_taken (TooLong message) taken = subst (λ (all : Limited). IsTakenOf all (Err (TooLong message))
+      (with_more new kept)) before (took_nothing old new outside kept None (TooLong message) taken)
+  error_taken (Truncated count) taken = absurd taken
+  error_taken OutOfMemory taken = subst (λ (all : Limited). IsTakenOf all (Err OutOfMemory) (with_more new kept))
+      before (took_nothing old new outside kept None OutOfMemory taken)
+
+  -- where nothing was outside the decoder
+  pub all_taken : (result : Result (Option Item) ReadError) → outside ≡ [] → IsTaken old outside result new kept →
+      IsTakenOf first result (with_more new kept)
+  all_taken (Err error) gone taken = error_taken error taken
+  all_taken (Ok (Some item)) gone taken = item_taken item taken
+  all_taken (Ok None) gone (accepts, none, short, same, kept_same) =
+      let alone : with_more old [] ≡ old =
+      ap (λ (bytes : List ℕ). record old { unread = record old.unread { bytes = bytes } })
+      (append-nil old.unread.bytes) in
+      let there : old ≡ first = sym alone ∙ ap (λ (bytes : List ℕ). with_more old bytes) (sym gone) ∙ before in (
+        subst (λ (state : Limited). rejection state ≡ None) there accepts,
+        subst (λ (state : Limited). NoItemBegins state.unread.version state.unread.bytes) there none,
+        rw (same, kept_same) before,
+      )
+
+-- no byte is outside the decoder
+pub none_outside : (chunk rest : List ℕ) → length chunk ≡ 0 → length rest ≡ 0 → chunk ++ rest ≡ []
+none_outside [] [] first second = refl
+none_outside [] (byte ∷ rest) first second = absurd (omega (arith, second))
+none_outside (byte ∷ chunk) rest first second = absurd (omega (arith, first))
+
+-- fewer than the bytes that were kept are fewer than those that were there
+pub fewer_outside : (chunk rest kept_chunk kept_rest : List ℕ) (left : ℕ) → kept_chunk ++ kept_rest ≡ chunk ++ rest →
+    left < length kept_chunk + length kept_rest → left < length chunk + length rest
+fewer_outside chunk rest kept_chunk kept_rest left same fewer =
+    omega (
+      arith,
+      fewer,
+      ap (λ (bytes : List ℕ). length bytes) same,
+      length-append kept_chunk kept_rest,
+      length-append chunk rest,
+    )

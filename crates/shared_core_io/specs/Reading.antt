@@ -46,6 +46,19 @@ IsTaken old outside (Err (TooLong message)) new kept =
 IsTaken old outside (Err OutOfMemory) new kept = (new ≡ old) × (kept ≡ outside)
 IsTaken old outside (Err error) new kept = ⊥
 
+-- What was taken without reading, of what was held, and what is held afterwards: the item at the front, if it is within
+-- the limit; nothing, since no whole item is there; an error that the message at the front is too long, after which
+-- nothing is held; or a failed allocation, which takes nothing.
+abbrev pub IsTakenOf : Limited → Result (Option Item) ReadError → Limited → Type 0
+IsTakenOf old (Ok (Some item)) new =
+    (rejection old ≡ None) × TakesWithin old.unread.version old.limit old.unread.bytes item new.unread.bytes
+    × (new ≡ after_item old new.unread.bytes)
+IsTakenOf old (Ok None) new =
+    (rejection old ≡ None) × NoItemBegins old.unread.version old.unread.bytes × (new ≡ old)
+IsTakenOf old (Err (TooLong message)) new = (rejection old ≡ Some message) × (new ≡ after_rejection old message)
+IsTakenOf old (Err OutOfMemory) new = new ≡ old
+IsTakenOf old (Err error) new = ⊥
+
 -- The result at the end of a stream, if these are the bytes that are left: an error, if there are any.
 abbrev pub result_at_end : List ℕ → Result (Option Item) ReadError
 result_at_end [] = Ok None

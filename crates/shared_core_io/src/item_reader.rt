@@ -3,12 +3,14 @@
 //! What was read and not used is held for the next call, so no error loses a byte. A payload that lies in what one read
 //! gave shares the memory that it was read into.
 
-ghost use Rattle.std.specs.Prelude.{◌≡◌, ◌+◌, ◌<◌, ◌≤◌, ◌++◌, ℕ, List, [], length, IfOk, IfErr, false, None};
+ghost use Rattle.std.specs.Prelude.{◌≡◌, ◌+◌, ◌<◌, ◌≤◌, ◌++◌, ℕ, List, [], length, IfOk, IfErr, OnOk, OnErr};
+ghost use Rattle.std.specs.Prelude.{false, None};
 ghost use Rattle.std.specs.Io.KnownBytes.{Consumes, IsAtEnd};
 ghost use Rattle.shared_core_base.specs.Version.{version_number};
 ghost use Rattle.shared_core_stream.specs.Items.{TakesItem};
 ghost use Rattle.shared_core_stream.specs.declared.encoding.item.Item.{Item as AnyItem};
-ghost use Rattle.shared_core_io.specs.Reading.{result_at_end, with_more, IsRead, IsTaken, TakesNothing};
+ghost use Rattle.shared_core_io.specs.Reading.{result_at_end, with_more, IsRead, IsTaken, IsTakenOf, TakesNothing};
+ghost use Rattle.shared_core_io.specs.declared.error.ReadError.TheVariants.{OutOfMemory};
 
 use crate::error::ReadError;
 use bytes::{Bytes, BytesMut};
@@ -16,12 +18,16 @@ use shared_core_base::version::Version;
 use shared_core_stream::encoding::{
     Item, LimitedDecoder, LimitedError, LimitedPushError, PushError,
 };
-use std::alloc::Global;
+use std::alloc::{AllocError, Global};
 use std::io::Read;
 use std::{io, mem};
 
-/// The bytes that a read is given room for, and the most that are pushed at once.
+/// The bytes that a new block is read into, and the most that are pushed at once.
 const CHUNK: usize = 65536;
+
+/// The least room that a read is given. A block is read into until there is less, so that a stream that comes a few
+/// bytes at a time does not take a block for each read.
+const LEAST_ROOM: usize = 4096;
 
 /// Reads the items of a stream, in order.
 #[derive(Drop)]
@@ -65,7 +71,7 @@ impl<R: Read + Drop> ItemReader<R> {
     }
 
     /// Returns the next item, or `None` if the stream ends before it. It reads only while what was read holds no whole
-    /// item, 65,536 bytes at a time or what a read gives.
+    /// item, into blocks of 65,536 bytes, of which one is read into until less than 4,096 are left.
     ///
     /// `TooLong` if the next message is longer than the limit: it comes as soon as its header was read, and from then
     /// on nothing is held, and each call returns it. `Truncated` if the stream ends within an item; `Failed` if a read
@@ -89,6 +95,37 @@ impl<R: Read + Drop> ItemReader<R> {
             }
         }
         Err(ReadError::Failed(io::Error::from(io::ErrorKind::TimedOut)))
+    }
+
+    /// Returns the next item of what was read, and reads nothing; `None` if that holds no whole item.
+    ///
+    /// `TooLong` and `OutOfMemory` are as of `next_item`, and no other error comes.
+    pub fn take_item(&mut self) -> Result<Option<Item>, ReadError>
+        ensures taken { IsTakenOf (held self.old.decoder self.old.chunk self.old.buffer) result
+            (held self.new.decoder self.new.chunk self.new.buffer) }
+        ensures reader { self.new.reader ≡ self.old.reader }
+    {
+        // bytes are outside the decoder only after it could not take them
+        while !self.chunk.is_empty() || !self.buffer.is_empty() {
+            if let Some(item) = self.take()? {
+                return Ok(Some(item));
+            }
+            self.push_held()?;
+        }
+        self.take()
+    }
+
+    /// Returns a copy of the bytes that were read and are in no item that was returned: after `Truncated` those of the
+    /// item that is cut short, after `TooLong` none.
+    #[tactic(auto, using(crate::proofs::Reading::all_held))]
+    pub fn copy_pending(&self) -> Result<Vec<u8>, AllocError>
+        ensures { IfOk result (λ bytes.
+            bytes.items ≡ (held self.now.decoder self.now.chunk self.now.buffer).unread.bytes) }
+    {
+        let mut bytes = self.decoder.decoder().copy_pending()?;
+        bytes.extend_from_slice(self.chunk.as_slice())?;
+        bytes.extend_from_slice(self.buffer.as_slice())?;
+        Ok(bytes)
     }
 
     /// Takes the next item of what the decoder holds. If it is too long, all that is held is dropped.
@@ -125,8 +162,41 @@ impl<R: Read + Drop> ItemReader<R> {
         if !self.next_chunk()? {
             return Ok(false);
         }
+        self.push()?;
+        Ok(true)
+    }
+
+    /// Gives the decoder the next of the bytes that are held outside it, of which there are some.
+    fn push_held(&mut self) -> Result<(), ReadError>
+        requires accepted { self.old.decoder.rejected ≡ None }
+        requires short { length self.old.decoder.unread.bytes ≤ self.old.decoder.limit + 7 }
+        requires some { 0 < length self.old.chunk + length self.old.buffer.items }
+        ensures same { held self.new.decoder self.new.chunk self.new.buffer
+            ≡ held self.old.decoder self.old.chunk self.old.buffer }
+        ensures fewer { OnOk result (length self.new.chunk + length self.new.buffer.items
+            < length self.old.chunk + length self.old.buffer.items) }
+        ensures error { IfErr result (λ error. error ≡ OutOfMemory) }
+        ensures reader { self.new.reader ≡ self.old.reader }
+    {
+        if self.chunk.is_empty() {
+            self.chunk = self.buffer.freeze_to(self.buffer.len().min(CHUNK))?;
+        }
+        self.push()
+    }
+
+    /// Gives the decoder the chunk that is held, which has room for it.
+    fn push(&mut self) -> Result<(), ReadError>
+        requires accepted { self.old.decoder.rejected ≡ None }
+        requires short { length self.old.decoder.unread.bytes ≤ self.old.decoder.limit + 7 }
+        ensures ok { OnOk result ((self.new.decoder ≡ with_more self.old.decoder self.old.chunk)
+            × (self.new.chunk ≡ [])) }
+        ensures kept { OnErr result ((self.new.decoder ≡ self.old.decoder) × (self.new.chunk ≡ self.old.chunk)) }
+        ensures error { IfErr result (λ error. error ≡ OutOfMemory) }
+        ensures reader { self.new.reader ≡ self.old.reader }
+        ensures buffer { self.new.buffer ≡ self.old.buffer }
+    {
         match self.decoder.push(mem::take(&mut self.chunk)) {
-            Ok(()) => Ok(true),
+            Ok(()) => Ok(()),
             Err(LimitedPushError::Rejected(PushError::OutOfMemory(chunk))) => {
                 self.chunk = chunk;
                 Err(ReadError::OutOfMemory)
@@ -170,7 +240,9 @@ impl<R: Read + Drop> ItemReader<R> {
         if !self.buffer.is_empty() {
             return Ok(true);
         }
-        self.buffer.reserve(CHUNK)?;
+        if self.buffer.capacity() < LEAST_ROOM {
+            self.buffer.reserve(CHUNK)?;
+        }
         match self.buffer.read_from(&mut self.reader) {
             Ok(count) => Ok(count > 0),
             Err(reason) if reason.kind() == io::ErrorKind::Interrupted => Ok(true),

@@ -1,5 +1,6 @@
 //! Writing all bytes, or a prefix of them if the output fails. (The contract of the standard library's `write_all` does
-//! not say what is written after an error.)
+//! not say what is written after an error.) Of an error of `shared_core_io::write_whole` the lines of programs need
+//! neither the count nor the reason.
 
 ghost use Rattle.std.specs.Prelude.{ℕ, List};
 ghost use Rattle.std.specs.Io.KnownBytes.{Appends};
@@ -26,21 +27,14 @@ impl fmt::Display for OutputFailed {
 impl Error for OutputFailed {}
 
 /// Writes until all bytes are written, a write fails, or one writes nothing. In the last two cases a prefix of the
-/// bytes is written.
+/// bytes is written. A write that was interrupted is repeated.
 pub fn write_whole<W: Write>(output: &mut W, bytes: &[u8]) -> Result<(), OutputFailed>
     ensures { (written : List ℕ)
         × Appends (W.contents output.old) (W.contents output.new) written
         × IsWritten result written bytes.now }
 {
-    let mut written = 0;
-    while written < bytes.len() {
-        let Ok(count) = output.write(&bytes[written..]) else {
-            return Err(OutputFailed);
-        };
-        if count == 0 {
-            return Err(OutputFailed);
-        }
-        written += count;
+    match shared_core_io::write_whole(output, bytes) {
+        Ok(()) => Ok(()),
+        Err(_) => Err(OutputFailed),
     }
-    Ok(())
 }

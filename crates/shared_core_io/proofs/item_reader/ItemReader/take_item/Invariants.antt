@@ -1,0 +1,12 @@
+use Rattle.std.proofs.Common.{◌≡◌, ◌+◌, length}
+use Rattle.shared_core_io.specs.Reading.{held}
+use Rattle.shared_core_io.proofs.item_reader.ItemReader.take_item.Given as goal
+
+abbrev pub invariant-loop-self : goal.invariant-loop-self
+invariant-loop-self g l = record {
+  same : held l.self.decoder l.self.chunk l.self.buffer ≡ held l.fn.self.decoder l.fn.self.chunk l.fn.self.buffer;
+  reader : l.self.reader ≡ l.fn.self.reader;
+}
+
+abbrev pub decreases-loop-self : goal.decreases-loop-self
+decreases-loop-self g l = length l.self.chunk + length l.self.buffer.items
