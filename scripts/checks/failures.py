@@ -57,6 +57,8 @@ REJECTED: tuple[tuple[str, Words, str], ...] = (
     ("journal_list", "--protocol 9 ./replay 0", AFTER_FILE),
     ("journal_list", "--max-message 4294967296 ./replay", SIZES),
     ("journal_dump", ("--max-message", "", "replay"), SIZES),
+    ("journal_diff", "--max-message 4294967296 recorded recorded", SIZES),
+    ("journal_diff", "--max-message -1 recorded recorded", "error: "),
     ("journal_list", "--protocol 9 ./replay v9", "error: the version is said by v9 or by --protocol, and not by both\n"),
     ("journal_list", "--protocol 9 ./replay v9", "\nUsage: journal_list [OPTIONS] [FILE] [BYTES] [v9]\n"),
     ("journal_diff", "", "<RECORDED>"),
@@ -153,7 +155,7 @@ def inputs(programs: dict[str, Program]) -> None:
         programs[name].ends(words, err=said, status=status, closed=[0], what="of a closed input")
 
 
-def outputs(check: checks.Check, programs: dict[str, Program]) -> None:
+def outputs(programs: dict[str, Program]) -> None:
     """An output that is closed, or full from its first byte on, and one that its reader closed before the first write,
     which is not reported: the program has the signal SIGPIPE ignored."""
     long = [(name, "", given) for name, (given, _) in long_outputs().items()]
@@ -210,7 +212,7 @@ def main(check: checks.Check) -> None:
     os.mkdir("folder")
     arguments(programs)
     inputs(programs)
-    outputs(check, programs)
+    outputs(programs)
     shortened_outputs(check, programs)
     memory(programs)
 

@@ -109,6 +109,12 @@ pub fn diff<'a>(alloc: Global, name: &'a str) -> Result<Command<'a>, AllocError>
             "Says what moved: which commands were inserted,\nremoved or changed",
         ))?
         .arg(flag(alloc, "ignore-payloads", "Compares all but payloads"))?
+        .arg(option(
+            alloc,
+            "max-message",
+            "SIZE",
+            "Ends with an error at a message whose payload has\nmore than this number of bytes",
+        ))?
         .arg(flag(
             alloc,
             "strict",

@@ -5,16 +5,19 @@ ghost use Rattle.shared_core_base.specs.Version.{version_number};
 
 mod arguments;
 mod inputs;
+mod limited;
 
 use crate::call::Call;
 use crate::diff::arguments::{Arguments, parse_arguments};
 use crate::diff::inputs::{Inputs, closed_side, open_both};
-use command_line::{Escapes, Escaping, Pipe, Progress, Watched, has_color};
+use crate::diff::limited::Limited;
+use command_line::{Escapes, Escaping, Pipe, Progress, Watched, fail, has_color};
 use diff_lines::{
     DiffError, Findings, Form, diff, diff_all, diff_with_colors, no_item_note, rest_note,
     unknown_note,
 };
 use replay_bench::{ReaderError, Side};
+use shared_core::encoding::LimitedError;
 use shared_core_base::version::Version;
 use std::io::{IsTerminal, Stdout};
 use std::process::ExitCode;
@@ -54,6 +57,19 @@ fn end(
     }
 }
 
+/// Reports why the journal of a side was not read to its end, and returns the status.
+fn fail_within(call: &Call<'_>, side: Side, failure: LimitedError) -> ExitCode {
+    match failure {
+        LimitedError::OutOfMemory => call.fail(failure, call.failure),
+        LimitedError::MessageTooLong(message) => fail(
+            call.rt,
+            call.name,
+            format_args!("the {side} journal, {message}"),
+            call.failure,
+        ),
+    }
+}
+
 /// The form in which a verdict is written, to a terminal or not.
 fn form_of(is_json: bool, is_terminal: bool) -> Form {
     if is_json {
@@ -70,8 +86,18 @@ fn run_parsed(call: &Call<'_>, parsed: &Arguments<'_>, inputs: Inputs) -> ExitCo
     requires { 5 ≤ version_number parsed.now.version }
 {
     let progress = Progress::new(call.rt, call.name, inputs.size());
-    let recorded = Watched::new(inputs.recorded, &progress);
-    let replayed = Watched::new(inputs.replayed, &progress);
+    let mut recorded = Limited::new(
+        call.rt.alloc(),
+        parsed.version,
+        parsed.limit,
+        Watched::new(inputs.recorded, &progress),
+    );
+    let mut replayed = Limited::new(
+        call.rt.alloc(),
+        parsed.version,
+        parsed.limit,
+        Watched::new(inputs.replayed, &progress),
+    );
     let is_terminal = call.rt.stdout().is_terminal();
     let form = form_of(parsed.is_json, is_terminal);
     let mut output = Pipe::new(Escaping::new(
@@ -85,8 +111,8 @@ fn run_parsed(call: &Call<'_>, parsed: &Arguments<'_>, inputs: Inputs) -> ExitCo
         diff_all(
             call.rt.alloc(),
             parsed.version,
-            recorded,
-            replayed,
+            &mut recorded,
+            &mut replayed,
             parsed.ignore_payloads,
             parsed.is_strict,
             form,
@@ -97,8 +123,8 @@ fn run_parsed(call: &Call<'_>, parsed: &Arguments<'_>, inputs: Inputs) -> ExitCo
         diff_with_colors(
             call.rt.alloc(),
             parsed.version,
-            recorded,
-            replayed,
+            &mut recorded,
+            &mut replayed,
             parsed.ignore_payloads,
             parsed.is_strict,
             form,
@@ -108,8 +134,8 @@ fn run_parsed(call: &Call<'_>, parsed: &Arguments<'_>, inputs: Inputs) -> ExitCo
         diff(
             call.rt.alloc(),
             parsed.version,
-            recorded,
-            replayed,
+            &mut recorded,
+            &mut replayed,
             parsed.ignore_payloads,
             parsed.is_strict,
             form,
@@ -117,6 +143,12 @@ fn run_parsed(call: &Call<'_>, parsed: &Arguments<'_>, inputs: Inputs) -> ExitCo
         )
     };
     progress.clear();
+    if let Some(failure) = recorded.failure() {
+        return fail_within(call, Side::Recorded, failure);
+    }
+    if let Some(failure) = replayed.failure() {
+        return fail_within(call, Side::Replayed, failure);
+    }
     end(call, parsed.version, found, &output)
 }
 

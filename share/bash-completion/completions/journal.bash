@@ -31,9 +31,10 @@ _journal_make() {
 _journal_diff() {
     local word=${COMP_WORDS[COMP_CWORD]}
     case ${COMP_WORDS[COMP_CWORD - 1]} in
+        --max-message) mapfile -t COMPREPLY < <(compgen -W '' -- "$word") ;;
         --color) mapfile -t COMPREPLY < <(compgen -W 'auto always never' -- "$word") ;;
         --protocol) mapfile -t COMPREPLY < <(compgen -W '5 6 7 8 9' -- "$word") ;;
-        *) [[ $word != -* ]] || mapfile -t COMPREPLY < <(compgen -W '--all --ignore-payloads --strict --json --color --protocol --help --version' -- "$word") ;;
+        *) [[ $word != -* ]] || mapfile -t COMPREPLY < <(compgen -W '--all --ignore-payloads --max-message --strict --json --color --protocol --help --version' -- "$word") ;;
     esac
 }
 complete -o default -F _journal journal

@@ -6,7 +6,7 @@ ghost use Rattle.shared_core_base.specs.Version.{version_number};
 use crate::definitions;
 use clap::Error;
 use clap::error::ErrorKind;
-use command_line::{ColorChoice, color_of, protocol_of};
+use command_line::{ColorChoice, color_of, max_message_of, protocol_of};
 use shared_core_base::version::Version;
 use std::alloc::Global;
 
@@ -19,6 +19,8 @@ pub struct Arguments<'a> {
     pub replayed: &'a str,
     /// The version of the protocol of both journals.
     pub version: Version,
+    /// The greatest length of a payload that is taken.
+    pub limit: u32,
     /// Whether all that moved is printed.
     pub is_all: bool,
     /// Whether payloads are left out of the comparison.
@@ -56,10 +58,12 @@ pub fn parse_arguments<'a>(
             "only one journal can come from the standard input",
         )?);
     }
+    let limit = max_message_of(&mut command, &matches)?;
     Ok(Arguments {
         recorded,
         replayed,
         version: protocol_of(&matches),
+        limit,
         is_all: matches.get_flag("all"),
         ignore_payloads: matches.get_flag("ignore-payloads"),
         is_strict: matches.get_flag("strict"),

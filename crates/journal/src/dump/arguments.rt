@@ -7,7 +7,7 @@ use crate::definitions;
 use crate::dump::suggestions::unknown_type;
 use clap::Error;
 use clap::error::ErrorKind;
-use command_line::protocol_of;
+use command_line::{max_message_of, protocol_of};
 use shared_core_base::header::MessageType;
 use shared_core_base::version::Version;
 use std::alloc::{AllocError, Global};
@@ -65,14 +65,6 @@ fn code_within(name: &str) -> Option<u16> {
     digits.parse().ok()
 }
 
-/// The greatest length of a payload; without a text there is no limit.
-fn limit_of(text: Option<&str>) -> Option<u32> {
-    match text {
-        Some(text) => text.parse().ok(),
-        None => Some(u32::MAX),
-    }
-}
-
 /// Parses the arguments. The error is an invalid argument, or a request for the help or the version.
 pub fn parse_arguments<'a>(
     alloc: Global,
@@ -93,12 +85,7 @@ pub fn parse_arguments<'a>(
             codes.push(code)?;
         }
     }
-    let Some(limit) = limit_of(matches.get_str("max-message")) else {
-        return Err(command.error(
-            ErrorKind::InvalidValue,
-            "--max-message takes a number of bytes, from 0 to 4294967295",
-        )?);
-    };
+    let limit = max_message_of(&mut command, &matches)?;
     Ok(Arguments {
         path: matches.get_str("file").unwrap_or("-"),
         version: protocol_of(&matches),
