@@ -246,8 +246,8 @@ def page(journals, verdict, version, ignores_payloads, script=None):
         "version": version,
         "ignoresPayloads": ignores_payloads,
         "verdict": verdict,
-        # the proved alignment, where journal diff gives one: each difference in order, as an object with `change`, which
-        # is inserted, removed or changed, and how many commands of the `recorded` and the `replayed` come before it
+        # the proved alignment, where journal diff gives one: each difference in order, as an object with `change`
+        # (inserted, removed or changed) and how many commands of the `recorded` and the `replayed` come before it
         "script": script,
         "journals": [{name: value for name, value in journal.items() if name != "lines"} for journal in journals],
         **messages_of(version),

@@ -1,9 +1,9 @@
-"""Times pages of large journals in a headless Chromium: python3 view/measure.py [ITEMS..]     1000 100000 438000 by default
+"""Times pages of large journals in a headless Chromium: python3 view/measure.py [ITEMS..]
 
-For each number of items a page of one dump, and one of two that differ in three commands. Prints a row of a table: the
-processor time of the maker; the page's size; until it can be used the time, the processor time, the script's heap and
-the resident memory of the page's process; and the processor time of a key, of a drawing of the overview, and of a first
-filter by a text.
+For each number of items, by default 1000, 100000 and 438000, a page of one dump, and one of two that differ in three
+commands. Prints a row of a table: the processor time of the maker; the page's size; until it can be used the time, the
+processor time, the script's heap and the resident memory of the page's process; and the processor time of a key, of a
+drawing of the overview, and of a first filter by a text.
 """
 import base64
 import json

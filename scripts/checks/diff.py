@@ -66,6 +66,7 @@ def other_type(recorded: str, replayed: str) -> str:
 
 OTHER_PAYLOAD = other_payload("'1'", "'2'")
 OTHER_TYPE = other_type("'set state' (index '1')", "'handler return'")
+CALL = "CallCommand at offset 39: 27 bytes of payload, more than the limit of 26"
 CUT_SHORT = "8 bytes after its last whole item"
 
 # Words, the status, the verdict, and what is said on the standard error of which journal.
@@ -98,6 +99,15 @@ CASES: tuple[tuple[str, int, str, *tuple[str, ...]], ...] = (
     ("--strict recorded unknown_last", 2, "", f"the replayed journal, {END}: unknown header 0x8"),
     ("--strict replayed_other_handler rest", 2, "", f"the replayed journal, {END}: 3 bytes after the last whole item"),
     ("--strict recorded bad_start", 2, "", f"the replayed journal, {END}: malformed payload of Start"),
+    # messages of 9, 14, 27 and 14 bytes of payload, or with another payload as many
+    ("--max-message 27 recorded recorded", 0, "same, 4 commands"),
+    *((f"{words} --max-message 26 recorded replayed_other_payload", 2, "", f"the recorded journal, {CALL}")
+      for words in ("", "--json", "--all", "--color always")),
+    ("--max-message 26 first recorded", 2, "", f"the replayed journal, {CALL}"),
+    ("--max-message 8 /dev/null malformed", 2, "",
+     "the replayed journal, InputCommand at offset 0: 9 bytes of payload, more than the limit of 8"),
+    ("--max-message 7 --protocol 9 /dev/null unknown_type", 2, "", "the replayed journal, unknown protocol.message code"
+     " 0x8 at offset 0: 8 bytes of payload, more than the limit of 7"),
     # in colors the recorded is red, the replayed green
     ("--color always recorded replayed_other_payload", 1,
      "\x1b[1mcommand 1\x1b[0m: " + other_payload("\x1b[31m'1'\x1b[0m", "\x1b[32m'2'\x1b[0m")),
@@ -147,14 +157,14 @@ MOVED: tuple[tuple[str, int, str], ...] = (
      "+ inserted CallCommand, before recorded 1, replayed 2 at offset 39\n"
      "+ inserted OutputCommand, before recorded 1, replayed 3 at offset 90\n"),
     ("recorded replayed_other_handler", 1,
-     "the replay has one command changed, CallCommand, command 2; the one after it is the same\n"
+     "the replay has one command changed, CallCommand greet, command 2; the one after it is the same\n"
      "  2 the same, recorded 0, replayed 0\n"
      "! changed CallCommand, recorded 2 at offset 39, replayed 2 at offset 39\n   handler_name: greet != greet_all\n"
      "  1 the same, recorded 3 at offset 90, replayed 3 at offset 78\n"),
     ("--ignore-payloads recorded replayed_other_payload", 0,
      "same, 4 commands\n  4 the same, recorded 0, replayed 0\n"),
     ("--color always recorded replayed_other_handler", 1,
-     "\x1b[1mthe replay has one command changed, CallCommand, command 2; the one after it is the same\x1b[0m\n"
+     "\x1b[1mthe replay has one command changed, CallCommand greet, command 2; the one after it is the same\x1b[0m\n"
      "  2 the same, recorded 0, replayed 0\n"
      "! changed CallCommand, recorded 2 at offset 39, replayed 2 at offset 39\n"
      "   handler_name: \x1b[31mgreet\x1b[0m != \x1b[32mgreet_all\x1b[0m\n"
@@ -169,7 +179,7 @@ def aligned(check: checks.Check, diff: Program) -> None:
     """What moved between journals, by test vectors and as a text, and where it is too much."""
     lines = [line for line in ALIGNMENTS.read_text().splitlines() if not line.startswith("#")]
     cases = [case.splitlines() for case in "\n".join(lines).split("\n\n") if case.strip()]
-    check.case("test vectors of alignments", len(cases) == 9, f"{len(cases)} cases")
+    check.case("test vectors of alignments", len(cases) == 18, f"{len(cases)} cases")
     for number, case in enumerate(cases, 1):
         given = {name: rest for name, _, rest in (line.partition(" ") for line in case if not line.startswith("{"))}
         for side in ("recorded", "replayed"):
@@ -220,6 +230,9 @@ def main(check: checks.Check) -> None:
         fields = compact({"fields": [{"name": name, "recorded": recorded, "replayed": replayed}]})
         is_right = run.status == 1 and run.out.decode().endswith(f",{fields[1:]}\n") and not run.err
         check.case(f"the fields of {journals}", is_right, run)
+    # of 4 GiB that are announced no byte is waited for
+    diff.ends("--max-message 1048576 - recorded", "", "journal_diff: the recorded journal, InputCommand at offset 0:"
+              " 4294967295 bytes of payload, more than the limit of 1048576\n", 2, given=b"\x04\0\0\0\xff\xff\xff\xff")
     aligned(check, diff)
     # a value that has ' != ' itself
     run = diff.run("--color always unequal key")

@@ -2,7 +2,7 @@
 
 const STATE_ROWS = 200; // keys that are shown
 
-/** What an item does to the state: entries of a key and its value, null where it is cleared; `all` clears the others. */
+/** What an item does to the state: entries of a key and its value, null where cleared; `all` clears the others. */
 function stateChange(item) {
   const { type, message } = item.dump;
   if (message === undefined) return null;

@@ -1,9 +1,8 @@
 #!/usr/bin/env python3
-"""The page in a headless Chromium: what moved between two journals, from the sentence to the cause, by mouse and keys; and
-the overview, trees of JSON, the state, the filter's words, the address and what is copied."""
+"""The page in a headless Chromium: what moved between two journals, from the sentence to the cause, by mouse and keys;
+and the overview, trees of JSON, the state, the filter's words, the address and what is copied."""
 import json
 import sys
-import unittest
 
 from support import FOLDER, STREAMS, WORK, PageTest, make_page, the_browser, written
 from tally import tell

@@ -1,9 +1,7 @@
 #!/usr/bin/env python3
 """The page in a headless Chromium: what it shows, by its keys, and what no payload can do to it."""
-import json
 import re
 import sys
-import unittest
 
 from support import FOLDER, STREAMS, WORK, PageTest, the_browser, written
 from tally import tell

@@ -2,12 +2,12 @@
 use Rattle.std.specs.Prelude.{ℕ, ◌+◌, ◌-◌, ◌^◌, Bool, true, false, List, [], ◌∷◌, ◌++◌, length, nat_eq, nat_lt}
 use Rattle.std.specs.Prelude.{if◌then◌else◌, Option, Some, None, option_map, slice_get}
 use Rattle.shared_core_base.specs.declared.header.MessageType.{MessageType}
+use Rattle.shared_core_stream.specs.declared.encoding.raw_message.RawMessage.{RawMessage}
 use Rattle.edit_script.specs.declared.sequences.Change.{Change}
 use Rattle.edit_script.specs.declared.sequences.Change.TheVariants.{Removed, Inserted, Changed}
 use Rattle.edit_script.specs.declared.sequences.Difference.{Difference}
 use Rattle.edit_script.specs.Scripts.{recorded_taken, replayed_taken}
 use Rattle.replay_bench.specs.declared.aligned.AlignedComparison.{AlignedComparison}
-use Rattle.replay_bench.specs.declared.commands.HeldCommands.{HeldCommands}
 use Rattle.replay_bench.specs.Verdicts.{stopped_index}
 use Rattle.diff_lines.specs.declared.entries.Entry.{Entry}
 use Rattle.diff_lines.specs.declared.entries.EntryKind.{EntryKind}
@@ -84,21 +84,25 @@ at_place items (Some place) = slice_get items place
 abbrev pub at_index : {T : Type 0} → List T → ℕ → ℕ → Option T
 at_index items start index = at_place items (place_of start index)
 
--- The type of the command of an index, if it is held.
-abbrev pub type_at : HeldCommands → ℕ → ℕ → Option MessageType
-type_at held start index = option_map (λ command. command.header.ty) (at_index held.commands.items start index)
+-- The command that an entry of this kind and of these indices is of, if it is one: the recorded one, unless it was
+-- inserted.
+abbrev pub kind_command : AlignedComparison → EntryKind → ℕ → ℕ → Option RawMessage
+kind_command found (Same count) recorded replayed = None
+kind_command found (Differs Inserted) recorded replayed =
+    at_index found.replayed.commands.items (stopped_index found.comparison.verdict) replayed
+kind_command found (Differs Removed) recorded replayed =
+    at_index found.recorded.commands.items (stopped_index found.comparison.verdict) recorded
+kind_command found (Differs Changed) recorded replayed =
+    at_index found.recorded.commands.items (stopped_index found.comparison.verdict) recorded
 
--- The type of the command that an entry of this kind and of these indices is of, if it is one: the recorded one, unless
--- it was inserted.
-abbrev pub kind_type : AlignedComparison → EntryKind → ℕ → ℕ → Option MessageType
-kind_type found (Same count) recorded replayed = None
-kind_type found (Differs Inserted) recorded replayed =
-    type_at found.replayed (stopped_index found.comparison.verdict) replayed
-kind_type found (Differs Removed) recorded replayed =
-    type_at found.recorded (stopped_index found.comparison.verdict) recorded
-kind_type found (Differs Changed) recorded replayed =
-    type_at found.recorded (stopped_index found.comparison.verdict) recorded
+-- The command that an entry is of.
+abbrev pub entry_command : AlignedComparison → Entry → Option RawMessage
+entry_command found entry = kind_command found entry.kind entry.recorded entry.replayed
+
+-- The type of a command, if there is one.
+abbrev pub type_of : Option RawMessage → Option MessageType
+type_of command = option_map (λ message. message.header.ty) command
 
 -- The type of the command that an entry is of.
 abbrev pub entry_type : AlignedComparison → Entry → Option MessageType
-entry_type found entry = kind_type found entry.kind entry.recorded entry.replayed
+entry_type found entry = type_of (entry_command found entry)

@@ -12,7 +12,7 @@ use Rattle.diff_lines.specs.declared.entries.Entry.{Entry}
 use Rattle.diff_lines.specs.declared.entries.EntryKind.{EntryKind}
 use Rattle.diff_lines.specs.declared.entries.EntryKind.TheVariants.{Same, Differs}
 use Rattle.diff_lines.specs.Entries.{at_index, entries_of, entry_type}
-use Rattle.diff_lines.specs.Sentences.{name_text, sentence_of}
+use Rattle.diff_lines.specs.Sentences.{IsSentence, name_text}
 use Rattle.diff_lines.specs.Shown.{plain_line, shown_line}
 
 -- What an entry is.
@@ -93,7 +93,8 @@ GoesOn ignore is_terminal found (entry ∷ entries) old new =
     (text : List ℕ) × IsEntryText ignore is_terminal found entry old text
     × GoesOn ignore is_terminal found entries text new
 
--- The text of two journals that were aligned with this limit: their sentence, and the lines of their entries.
-abbrev pub IsText : Bool → Bool → ℕ → AlignedComparison → List ℕ → Type 0
-IsText ignore is_terminal limit found text =
-    GoesOn ignore is_terminal found (entries_of found) (sentence_of limit found ++ codes "\n") text
+-- This is the text of two journals that were aligned with this limit: their sentence, and the lines of their entries.
+pub record IsText (ignore is_terminal : Bool) (limit : ℕ) (found : AlignedComparison) (text : List ℕ) : Type 0 where
+  pub sentence : List ℕ
+  pub is_sentence : IsSentence is_terminal limit found sentence
+  pub goes_on : GoesOn ignore is_terminal found (entries_of found) (sentence ++ codes "\n") text

@@ -1,6 +1,7 @@
 pub mod Colors
 pub mod Entries
 pub mod EntryLines
+pub mod MovedJson
 pub mod Json
 pub mod Moved
 pub mod PassedOver

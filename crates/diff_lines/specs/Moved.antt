@@ -14,6 +14,7 @@ use Rattle.diff_lines.specs.declared.journals.Form.{Form}
 use Rattle.diff_lines.specs.declared.journals.Form.TheVariants.{Text, Terminal, Json}
 use Rattle.diff_lines.specs.declared.passed_over.Trouble.{Trouble}
 use Rattle.diff_lines.specs.EntryLines.{IsText}
+use Rattle.diff_lines.specs.MovedJson.{IsJsonText}
 use Rattle.diff_lines.specs.PassedOver.{strict_trouble}
 use Rattle.diff_lines.specs.Verdicts.{findings_of}
 
@@ -27,11 +28,11 @@ pub record HasMoved (version : Version) (ignore is_strict : Bool) (recorded repl
   pub aligned : IsAligned version ignore is_strict alignment_limit recorded replayed found
   pub trouble_is : strict_trouble is_strict found.comparison.recorded found.comparison.replayed ≡ trouble
 
--- This text says what moved between two journals, as a text or on a terminal. What it is as JSON is left open.
+-- This text says what moved between two journals, as a text, on a terminal or as JSON.
 abbrev pub IsFormText : Bool → Form → AlignedComparison → List ℕ → Type 0
 IsFormText ignore Text found text = IsText ignore false alignment_limit found text
 IsFormText ignore Terminal found text = IsText ignore true alignment_limit found text
-IsFormText ignore Json found text = Unit {0}
+IsFormText ignore Json found text = IsJsonText ignore alignment_limit found text
 
 -- This is a text, with colors or without.
 abbrev pub IsColored : Bool → List ℕ → List ℕ → Type 0

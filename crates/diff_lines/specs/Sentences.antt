@@ -1,15 +1,20 @@
 -- The sentence that says what moved between two journals.
-use Rattle.std.specs.Prelude.{ℕ, ◌+◌, ◌-◌, List, [], ◌∷◌, ◌++◌, length, codes, decimal, nat_eq, if◌then◌else◌}
-use Rattle.std.specs.Prelude.{Option, Some, None}
+use Rattle.std.specs.Prelude.{◌≡◌, ℕ, ◌+◌, ◌-◌, Bool, true, false, List, [], ◌∷◌, ◌++◌, length, codes, decimal, nat_eq}
+use Rattle.std.specs.Prelude.{if◌then◌else◌, Option, Some, None}
 use Rattle.shared_core_base.specs.declared.header.MessageType.{MessageType}
 use Rattle.shared_core_base.specs.MessageType.{debug_name_of}
+use Rattle.shared_core_stream.specs.declared.encoding.raw_message.RawMessage.{RawMessage}
+use Rattle.command_line.specs.declared.terminal_text.Escapes.TheVariants as escapes
+use Rattle.command_line.specs.TerminalText.{escaped_text}
 use Rattle.edit_script.specs.declared.sequences.Change.{Change}
 use Rattle.edit_script.specs.declared.sequences.Change.TheVariants.{Removed, Inserted, Changed}
 use Rattle.edit_script.specs.declared.sequences.Difference.{Difference}
 use Rattle.edit_script.specs.Scripts.{recorded_taken}
 use Rattle.replay_bench.specs.declared.aligned.AlignedComparison.{AlignedComparison}
+use Rattle.replay_bench.specs.Keys.{HasKey}
 use Rattle.replay_bench.specs.Verdicts.{stopped_index}
-use Rattle.diff_lines.specs.Entries.{count_of, entry_of, entry_type, same_count}
+use Rattle.diff_lines.specs.declared.entries.Entry.{Entry}
+use Rattle.diff_lines.specs.Entries.{count_of, entry_command, entry_of, entry_type, same_count}
 use Rattle.diff_lines.specs.Verdicts.{commands_word}
 
 -- `is` or `are`, by the number of what is.
@@ -48,14 +53,41 @@ abbrev pub after_count : AlignedComparison → Difference → ℕ
 after_count found difference =
     length found.recorded.commands.items - (difference.recorded + recorded_taken difference.change)
 
--- The sentence of one difference: what it is, its type, its command, and how many after it are the same.
-abbrev pub moved_sentence : AlignedComparison → Difference → List ℕ
-moved_sentence found difference =
+-- What comes from a journal, on a terminal or not.
+abbrev pub shown_value : Bool → List ℕ → List ℕ
+shown_value is_terminal value = if is_terminal then escaped_text escapes.Text value else value
+
+-- A space and what says which of its type a command is, if there is anything.
+abbrev pub key_text : Bool → Option (List ℕ) → List ℕ
+key_text is_terminal None = []
+key_text is_terminal (Some key) = codes " " ++ shown_value is_terminal key
+
+-- The entry of a difference.
+abbrev pub moved_entry : AlignedComparison → Difference → Entry
+moved_entry found difference = entry_of (stopped_index found.comparison.verdict) difference
+
+-- The sentence of one difference: what it is, its type, what says which of its type it is, its command, and how many
+-- after it are the same.
+abbrev pub moved_sentence : Bool → Option (List ℕ) → AlignedComparison → Difference → List ℕ
+moved_sentence is_terminal key found difference =
     codes "the replay has one command " ++ (moved_words difference.change ++ (codes "," ++
-    (name_text (entry_type found (entry_of (stopped_index found.comparison.verdict) difference)) ++
+    (name_text (entry_type found (moved_entry found difference)) ++
+    (key_text is_terminal key ++
     (place_words difference.change ++
     (decimal (stopped_index found.comparison.verdict + difference.replayed) ++
-    after_text (after_count found difference))))))
+    after_text (after_count found difference)))))))
+
+-- What says which of its type a command is, if there is one.
+abbrev pub HasKeyOf : Option RawMessage → Option (List ℕ) → Type 0
+HasKeyOf None key = key ≡ None
+HasKeyOf (Some command) key = HasKey command key
+
+-- This is the sentence of one difference.
+pub record IsMovedSentence (is_terminal : Bool) (found : AlignedComparison) (difference : Difference) (text : List ℕ)
+    : Type 0 where
+  pub key : Option (List ℕ)
+  pub has_key : HasKeyOf (entry_command found (moved_entry found difference)) key
+  pub is : text ≡ moved_sentence is_terminal key found difference
 
 -- How many commands are the same.
 abbrev pub same_text : ℕ → List ℕ
@@ -79,15 +111,19 @@ limit_sentence limit same =
     codes "more than " ++ (decimal limit ++ (codes " commands moved" ++
     (codes ", so they are compared index by index" ++ same_text same)))
 
--- The sentence of the fewest differences.
-abbrev pub least_sentence : AlignedComparison → List Difference → List ℕ
-least_sentence found [] = same_sentence (same_count found)
-least_sentence found (difference ∷ []) = moved_sentence found difference
-least_sentence found (difference ∷ (other ∷ rest)) =
-    several_sentence (difference ∷ (other ∷ rest)) (same_count found)
+-- This is the sentence of the fewest differences, on a terminal or not.
+abbrev pub IsLeastSentence : Bool → AlignedComparison → List Difference → List ℕ → Type 0
+IsLeastSentence is_terminal found [] text = text ≡ same_sentence (same_count found)
+IsLeastSentence is_terminal found (difference ∷ []) text = IsMovedSentence is_terminal found difference text
+IsLeastSentence is_terminal found (difference ∷ (other ∷ rest)) text =
+    text ≡ several_sentence (difference ∷ (other ∷ rest)) (same_count found)
 
--- The sentence of two journals that were aligned with this limit.
-abbrev pub sentence_of : ℕ → AlignedComparison → List ℕ
-sentence_of limit found =
-    if found.alignment.is_least then least_sentence found found.alignment.differences.items
-    else limit_sentence limit (same_count found)
+-- The same, or the sentence of more differences than were looked for.
+abbrev pub IsSentenceOf : Bool → Bool → ℕ → AlignedComparison → List ℕ → Type 0
+IsSentenceOf true is_terminal limit found text =
+    IsLeastSentence is_terminal found found.alignment.differences.items text
+IsSentenceOf false is_terminal limit found text = text ≡ limit_sentence limit (same_count found)
+
+-- This is the sentence of two journals that were aligned with this limit, on a terminal or not.
+abbrev pub IsSentence : Bool → ℕ → AlignedComparison → List ℕ → Type 0
+IsSentence is_terminal limit found text = IsSentenceOf found.alignment.is_least is_terminal limit found text

@@ -4,8 +4,8 @@ ghost use Rattle.std.specs.Prelude.{◌≡◌, ◌≤◌, ◌<◌, ◌++◌, ◌
 ghost use Rattle.std.specs.Option.{option_flatten};
 ghost use Rattle.edit_script.specs.Scripts as scripts;
 ghost use Rattle.replay_bench.specs.Verdicts as verdicts;
-ghost use Rattle.diff_lines.specs.Entries.{at_index, count_of, entries_of, entry_of, entry_type, is_change, place_of};
-ghost use Rattle.diff_lines.specs.Entries.{same_count, same_run, type_at};
+ghost use Rattle.diff_lines.specs.Entries.{at_index, count_of, entries_of, entry_command, entry_of, entry_type};
+ghost use Rattle.diff_lines.specs.Entries.{is_change, place_of, same_count, same_run};
 
 use edit_script::{Change, Difference};
 use replay_bench::{AlignedComparison, HeldCommands, Verdict};
@@ -186,14 +186,6 @@ pub(crate) fn offset_at(held: &HeldCommands, start: u128, index: u128) -> Option
     *held.offsets.as_slice().get(place)?
 }
 
-/// The type of the command of a journal at an index, if it is held.
-fn type_at(held: &HeldCommands, start: u128, index: u128) -> Option<MessageType>
-    ensures { result ≡ type_at held.now start index }
-{
-    let command = command_at(held, start, index)?;
-    Some(command.ty())
-}
-
 /// The place of an index among what is held from a start on, if there is any.
 fn place_of(start: u128, index: u128) -> Option<usize>
     ensures { result ≡ place_of start index }
@@ -205,16 +197,27 @@ fn place_of(start: u128, index: u128) -> Option<usize>
     }
 }
 
-/// The type of the command that an entry of a difference is of: the recorded one, unless it was inserted.
-pub(crate) fn entry_type(found: &AlignedComparison, entry: &Entry) -> Option<MessageType>
-    ensures { result ≡ entry_type found.now entry.now }
+/// The command that an entry of a difference is of: the recorded one, unless it was inserted.
+pub(crate) fn entry_command<'a>(
+    found: &'a AlignedComparison,
+    entry: &Entry,
+) -> Option<&'a RawMessage>
+    ensures { option_copied result ≡ entry_command found.now entry.now }
 {
     let start = stopped_index(&found.comparison.verdict);
     match entry.kind {
         EntryKind::Same(_) => None,
-        EntryKind::Differs(Change::Inserted) => type_at(&found.replayed, start, entry.replayed),
+        EntryKind::Differs(Change::Inserted) => command_at(&found.replayed, start, entry.replayed),
         EntryKind::Differs(Change::Removed) | EntryKind::Differs(Change::Changed) => {
-            type_at(&found.recorded, start, entry.recorded)
+            command_at(&found.recorded, start, entry.recorded)
         }
     }
+}
+
+/// The type of that command.
+pub(crate) fn entry_type(found: &AlignedComparison, entry: &Entry) -> Option<MessageType>
+    ensures { result ≡ entry_type found.now entry.now }
+{
+    let command = entry_command(found, entry)?;
+    Some(command.ty())
 }

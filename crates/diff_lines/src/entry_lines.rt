@@ -24,7 +24,7 @@ pub(crate) fn aligned_text(
 ) -> Result<Vec<u8>, AllocError>
     ensures { IfOk result (λ text. IsText ignore_payloads is_terminal limit found.now text.items) }
 {
-    let mut text = sentence(alloc, found, limit)?;
+    let mut text = sentence(alloc, found, limit, is_terminal)?;
     text.push_str("\n")?;
     let entries = entries(alloc, found)?;
     let mut left = entries.as_slice();

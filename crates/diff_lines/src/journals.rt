@@ -6,7 +6,8 @@ ghost use Rattle.std.specs.String.{string_bytes};
 ghost use Rattle.shared_core_base.specs.Version.{version_number};
 ghost use Rattle.diff_lines.specs.Moved.{IsFormText, IsShownForm, ReportsAligned, ReportsMoved};
 ghost use Rattle.diff_lines.specs.Verdicts.{Reports, ReportsFound, ReportsWithColors, WritesWithColors, IsWritten};
-ghost use Rattle.diff_lines.specs.Verdicts.{commands_word, found_line, is_same, terminal_line, verdict_line};
+ghost use Rattle.diff_lines.specs.Verdicts.{commands_word, findings_of, found_line, is_same, terminal_line};
+ghost use Rattle.diff_lines.specs.Verdicts.{verdict_line};
 
 use crate::colors::with_colors;
 use crate::entry_json::aligned_json;
@@ -203,11 +204,7 @@ fn report_moved<W: Write>(
 {
     let text = shown_form(alloc, found, ignore_payloads, form, is_colored)?;
     write_text(output, text.as_slice())?;
-    Ok(Findings {
-        is_same: is_same(&found.comparison.verdict),
-        recorded: found.comparison.recorded,
-        replayed: found.comparison.replayed,
-    })
+    Ok(findings_of(&found.comparison))
 }
 
 /// What moved between two journals in a form, with colors or without.
@@ -312,11 +309,7 @@ fn report<W: Write>(
 {
     let line = found_line(alloc, form, &found)?;
     write_text(output, line.as_slice())?;
-    Ok(Findings {
-        is_same: is_same(&found.verdict),
-        recorded: found.recorded,
-        replayed: found.replayed,
-    })
+    Ok(findings_of(&found))
 }
 
 /// The line of a comparison, in its form.
@@ -345,6 +338,17 @@ fn terminal_line(
     line.extend_from_slice(shown_text(alloc, text.as_str(), fields)?.as_slice())?;
     line.extend_from_slice(b"\n")?;
     Ok(line)
+}
+
+/// What is returned of a comparison.
+fn findings_of(found: &Comparison) -> Findings
+    ensures { result ≡ findings_of found.now }
+{
+    Findings {
+        is_same: is_same(&found.verdict),
+        recorded: found.recorded,
+        replayed: found.replayed,
+    }
 }
 
 /// Whether a verdict is that the journals are the same.

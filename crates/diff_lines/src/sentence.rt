@@ -1,26 +1,31 @@
 //! The sentence that says what moved between two journals.
 
-ghost use Rattle.std.specs.Prelude.{◌≡◌, ◌++◌, IfOk, OnOk};
+ghost use Rattle.std.specs.Prelude.{◌≡◌, ◌++◌, IfOk, OnOk, option_copied, option_map};
 ghost use Rattle.std.specs.String.{string_bytes};
-ghost use Rattle.diff_lines.specs.Sentences.{after_text, are_word, counts_text, moved_words, place_words, same_sentence};
-ghost use Rattle.diff_lines.specs.Sentences.{limit_sentence, moved_sentence, name_text, same_text, sentence_of};
-ghost use Rattle.diff_lines.specs.Sentences.{several_sentence};
+ghost use Rattle.diff_lines.specs.Sentences.{after_text, are_word, counts_text, HasKeyOf, IsMovedSentence, IsSentence};
+ghost use Rattle.diff_lines.specs.Sentences.{key_text, limit_sentence, moved_sentence, moved_words, name_text};
+ghost use Rattle.diff_lines.specs.Sentences.{place_words, same_sentence, same_text, several_sentence, shown_value};
 
-use crate::entries::{count_of, entry_of, entry_type, recorded_taken, same_count, stopped_index};
+use crate::entries::{
+    count_of, entry_command, entry_of, entry_type, recorded_taken, same_count, stopped_index,
+};
 use crate::journals::commands_word;
+use command_line::{Escapes, push_escaped};
 use edit_script::{Change, Difference};
-use replay_bench::AlignedComparison;
+use replay_bench::{AlignedComparison, command_key};
 use shared_core_base::header::MessageType;
+use shared_core_stream::encoding::RawMessage;
 use std::alloc::{AllocError, Global};
 
 /// The sentence of two journals that were aligned, without an end of line: what one command moved, how many did, or
-/// that there are more than were looked for.
+/// that there are more than were looked for. On a terminal what comes from the journals is escaped.
 pub(crate) fn sentence(
     alloc: Global,
     found: &AlignedComparison,
     limit: u32,
+    is_terminal: bool,
 ) -> Result<String, AllocError>
-    ensures { IfOk result (λ text. string_bytes text ≡ sentence_of limit found.now) }
+    ensures { IfOk result (λ text. IsSentence is_terminal limit found.now (string_bytes text)) }
 {
     let same = same_count(found);
     if !found.alignment.is_least {
@@ -30,7 +35,7 @@ pub(crate) fn sentence(
         return same_sentence(alloc, same);
     };
     if rest.is_empty() {
-        return moved_sentence(alloc, found, *difference);
+        return moved_sentence(alloc, found, *difference, is_terminal);
     }
     several_sentence(alloc, found.alignment.differences.as_slice(), same)
 }
@@ -43,13 +48,40 @@ fn same_sentence(alloc: Global, count: u128) -> Result<String, AllocError>
     format!(in alloc; "same, {count} {word}")
 }
 
-/// The sentence of one difference: what it is, its type, its command, and how many after it are the same.
+/// The sentence of one difference, with what says which of its type the command is.
 fn moved_sentence(
     alloc: Global,
     found: &AlignedComparison,
     difference: Difference,
+    is_terminal: bool,
 ) -> Result<String, AllocError>
-    ensures { IfOk result (λ text. string_bytes text ≡ moved_sentence found.now difference) }
+    ensures { IfOk result (λ text. IsMovedSentence is_terminal found.now difference (string_bytes text)) }
+{
+    let entry = entry_of(stopped_index(&found.comparison.verdict), difference);
+    let key = key_of(alloc, entry_command(found, &entry))?;
+    keyed_sentence(alloc, found, difference, key, is_terminal)
+}
+
+/// What says which of its type a command is, if there is one.
+fn key_of(alloc: Global, command: Option<&RawMessage>) -> Result<Option<String>, AllocError>
+    ensures { IfOk result (λ key. HasKeyOf (option_copied command.entry) (option_map string_bytes key)) }
+{
+    match command {
+        Some(command) => command_key(alloc, command),
+        None => Ok(None),
+    }
+}
+
+/// The sentence of one difference: what it is, its type, this key, its command, and how many after it are the same.
+fn keyed_sentence(
+    alloc: Global,
+    found: &AlignedComparison,
+    difference: Difference,
+    key: Option<String>,
+    is_terminal: bool,
+) -> Result<String, AllocError>
+    ensures { IfOk result (λ text. string_bytes text
+        ≡ moved_sentence is_terminal (option_map string_bytes key) found.now difference) }
 {
     let entry = entry_of(stopped_index(&found.comparison.verdict), difference);
     let mut text = String::new(alloc);
@@ -57,6 +89,7 @@ fn moved_sentence(
     text.push_str(moved_words(difference.change))?;
     text.push_str(",")?;
     push_name(&mut text, entry_type(found, &entry))?;
+    push_key(&mut text, &key, is_terminal)?;
     text.push_str(place_words(difference.change))?;
     let index = entry.replayed;
     write!(text, "{index}")?;
@@ -64,6 +97,28 @@ fn moved_sentence(
     let held = found.recorded.commands.len() as u128;
     push_after(&mut text, held.saturating_sub(taken))?;
     Ok(text)
+}
+
+/// Appends a space and what says which of its type a command is, if there is anything.
+fn push_key(text: &mut String, key: &Option<String>, is_terminal: bool) -> Result<(), AllocError>
+    ensures { OnOk result (string_bytes text.new
+        ≡ string_bytes text.old ++ key_text is_terminal (option_map string_bytes key.now)) }
+{
+    let Some(key) = key else {
+        return Ok(());
+    };
+    text.push_str(" ")?;
+    push_value(text, key.as_str(), is_terminal)
+}
+
+/// Appends what comes from a journal, on a terminal or not.
+fn push_value(text: &mut String, value: &str, is_terminal: bool) -> Result<(), AllocError>
+    ensures { OnOk result (string_bytes text.new ≡ string_bytes text.old ++ shown_value is_terminal value.now) }
+{
+    if is_terminal {
+        return push_escaped(text, Escapes::Text, value);
+    }
+    text.push_str(value)
 }
 
 /// What one command is.

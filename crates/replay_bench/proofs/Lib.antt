@@ -1,6 +1,7 @@
 pub mod Agreement
 pub mod Alignments
 pub mod Surveys
+pub mod EqualForms
 pub mod Fronts
 pub mod Lengths
 pub mod Listing

@@ -8,5 +8,7 @@ pub mod Fields
 pub mod Verdicts
 pub mod Texts
 pub mod Alignments
+pub mod Forms
+pub mod Keys
 pub mod Held
 pub mod Holding

@@ -33,7 +33,7 @@ TakesFirst version (Some old) first (Some new) =
 abbrev pub HasNoCommand : Version → Option (List ℕ) → Type 0
 HasNoCommand version known = IfSome known (λ bytes. IsJournal version bytes [])
 
--- How many bytes a journal has, where those that are still to come after so many are known.
+-- How many bytes a journal has, where those that are still to come after the first `taken` are known.
 abbrev pub known_length : ℕ → Option (List ℕ) → Option ℕ
 known_length taken coming = option_map (λ bytes. taken + length bytes) coming
 
