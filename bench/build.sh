@@ -28,8 +28,8 @@ quietly() {
 if command -v python3 > /dev/null; then
   quietly python3 ../tools/generate.py --check peer || exit 1
 fi
-quietly sh ../scripts/static_library.sh journal_ffi || exit 1
-quietly sh ../scripts/static_library.sh bench_ffi || exit 1
+quietly python3 -B ../scripts/build.py journal_ffi || exit 1
+quietly python3 -B ../scripts/build.py bench_ffi || exit 1
 # installed again only if it is new, since all is built again then
 library=target/pendratsoa/lib/libpendratsoa.a
 if [ ! -e $library ] || [ -n "$(find ../crates/journal_ffi/out/libjournal_ffi.a -newer $library)" ]; then

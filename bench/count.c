@@ -1,6 +1,6 @@
 /*
- * Counts allocations. The linker's --wrap leads each call of malloc, calloc and realloc of the program here, from Rust's allocator
- * as from the library. The program has one thread.
+ * Counts allocations. The linker's --wrap leads each call of malloc, calloc and realloc of the program here, from
+ * Rust's allocator as from the library. The program has one thread.
  */
 #include <stddef.h>
 #include <stdint.h>

@@ -61,13 +61,20 @@ int64_t measure_frame_spare(uint32_t version, uint16_t code, const uint8_t *payl
 int64_t measure_frame_shared(uint32_t version, uint16_t code, const uint8_t *payload, size_t payload_length,
                              size_t rounds, uint8_t *out, size_t room);
 
-/* As journal_is_well_formed, but `rounds` times over (0 counts as 1): beside as many calls, what a call from C costs. */
+/*
+ * As measure_frame, but all rounds append the frame to one list of chunks, which is cleared before each: long bytes are
+ * shared with the message, and all else is in one buffer. The chunks of the last round are joined.
+ */
+int64_t measure_frame_chunks(uint32_t version, uint16_t code, const uint8_t *payload, size_t payload_length,
+                             size_t rounds, uint8_t *out, size_t room);
+
+/* As journal_is_well_formed, but `rounds` times over (0 counts as 1): beside as many calls, it says what one costs. */
 int64_t measure_well_formed(uint32_t schema, const uint8_t *payload, size_t payload_length, size_t rounds);
 
 /*
  * Checks a payload and reads all of its fields, of all levels, `rounds` times over (0 counts as 1). Returns the sum of
- * what they hold, modulo 2^32: numbers, and the lengths of texts and bytes. JOURNAL_NOT_CANONICAL if it is not canonical
- * for the schema.
+ * what they hold, modulo 2^32: numbers, and the lengths of texts and bytes. JOURNAL_NOT_CANONICAL if it is not
+ * canonical for the schema.
  */
 int64_t measure_fields(uint32_t schema, const uint8_t *payload, size_t payload_length, size_t rounds);
 

@@ -135,6 +135,15 @@ mod c {
             out: *mut u8,
             room: usize,
         ) -> i64;
+        pub fn measure_frame_chunks(
+            version: u32,
+            code: u16,
+            payload: *const u8,
+            payload_length: usize,
+            rounds: usize,
+            out: *mut u8,
+            room: usize,
+        ) -> i64;
         pub fn measure_well_formed(
             schema: u32,
             payload: *const u8,
@@ -269,7 +278,7 @@ pub fn frame_once(version: u32, code: u16, payload: &[u8]) -> Result<Vec<u8>, Re
 /// A call that returns a frame's length, and writes it where there is room for it.
 pub type FrameCall = fn(u32, u16, &[u8], usize, &mut [u8]) -> Result<usize, Refusal>;
 
-/// The same of the last of the rounds, by one of the four calls below.
+/// The same of the last of the rounds, by one of the calls below.
 pub fn frame(
     call: FrameCall,
     version: u32,
@@ -356,6 +365,17 @@ pub fn frame_spare(
     out: &mut [u8],
 ) -> Result<usize, Refusal> {
     frame_by(c::measure_frame_spare, version, code, payload, rounds, out)
+}
+
+/// A frame as chunks, which are dropped before each round: long bytes are shared, and all else is in one buffer.
+pub fn frame_chunks(
+    version: u32,
+    code: u16,
+    payload: &[u8],
+    rounds: usize,
+    out: &mut [u8],
+) -> Result<usize, Refusal> {
+    frame_by(c::measure_frame_chunks, version, code, payload, rounds, out)
 }
 
 /// A frame for which the frames of all rounds share the blocks of one buffer; the last 1,024 are held.

@@ -1,15 +1,18 @@
-"""The impls by which records, oneofs and messages are appended as chunks, of crates/shared_core_chunks."""
+"""The impls by which records, oneofs and messages are appended as chunks, of crates/shared_core_chunks, and what leads
+from a type to the one of its record, of crates/bench_ffi, which measures them."""
 import shutil
 
 from . import laid_out
 from .forms import bound
-from .proto import OneOf, camel, fields_of, messages, snake
+from .proto import OneOf, camel, fields_of, messages, snake, typed
 from .records import crate_of, shared_oneofs
 
 ABOUT = "What appends records as chunks."
 SOURCE = "proto/journal.proto"
 
 FOLDER = "crates/shared_core_chunks/src"
+
+MEASURED = "crates/bench_ffi/src/chunk_dispatch.rt"
 
 
 def table():
@@ -135,8 +138,26 @@ def messages_text():
     return heading("Messages, whose frames are appended as chunks.", uses) + "\n".join(code)
 
 
+def dispatch_text():
+    """From a message's type to its record."""
+    uses = {
+        "crate::chunks::Chunking",
+        "journal_c_api::outcome::CallError",
+        "shared_core::header::MessageType",
+        f"shared_core::messages::{{{', '.join(sorted(message.name for message in typed()))}}}",
+    }
+    arms = "".join(f"        MessageType::{message.type_name()} => chunking.frame::<{message.name}>(),\n" for message in typed())
+    return (
+        heading("From a message's type to its record, which is encoded as chunks.", uses)
+        + "/// The frame of the record of a type; a custom entry has none.\n"
+        "pub fn frame_of(ty: MessageType, chunking: Chunking<'_>) -> Result<Vec<u8>, CallError> {\n"
+        f"    match ty {{\n{arms}        MessageType::CustomEntry(_) => Err(CallError::UnknownType),\n    }}\n}}\n"
+    )
+
+
 def texts():
     return {
+        MEASURED: dispatch_text(),
         f"{FOLDER}/messages.rt": messages_text(),
         f"{FOLDER}/oneofs.rt": oneofs_text(),
         f"{FOLDER}/records.rt": records_text(),

@@ -1,6 +1,6 @@
 //! Measures the iterator of fields beside prost's decode of the same payloads: a payload is checked, and all of its
-//! fields are read; or it is decoded to its record, which is dropped. A line is the workload, nanoseconds a message here
-//! and there, and how many times as fast the iterator is.
+//! fields are read; or it is decoded to its record, which is dropped. A line is the workload, nanoseconds a message
+//! here and there, and how many times as fast the iterator is.
 
 use std::error::Error;
 use std::hint::black_box;

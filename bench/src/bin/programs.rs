@@ -1,8 +1,8 @@
 //! Measures the programs journal_dump, journal_list and journal_make beside the peer's, and prints a table in Markdown:
 //! programs DUMP LIST MAKE FOLDER [LENGTH]
 //!
-//! DUMP, LIST and MAKE are this project's programs, FOLDER is where streams and lines are written, of which it keeps the
-//! streams that are measured, by their names, and LENGTH is how many bytes one of these has at least. The peer's
+//! DUMP, LIST and MAKE are this project's programs, FOLDER is where streams and lines are written, of which it keeps
+//! the streams that are measured, by their names, and LENGTH is how many bytes one of these has at least. The peer's
 //! programs `dump`, `list` and `make` are beside this one. Before a row is measured, both sides have to write the same
 //! bytes. What a stream is made of is the peer's dump of it, and its length is that of the dump.
 

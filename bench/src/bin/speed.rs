@@ -1,6 +1,6 @@
 //! Measures the library and the peer side by side, and prints a table in Markdown: speed [--check] [--only WORKLOAD]
 //! [--side ours|peer]
-//! [--what items|item_refs|messages|encode|encode_to_vec|encode_into|encode_spare|encode_shared|encode_held|payloads|headers]
+//! [--what items|item_refs|messages|encode|encode_to_vec|encode_into|encode_spare|encode_shared|encode_held|encode_chunks|payloads|headers]
 //! [--chunk N] [--row NAME] [--size N] [--rounds N] [--protocol 5..9]
 //!
 //! With --side nothing is compared or printed: that side alone goes over the workload that many times, for a profiler.
@@ -55,6 +55,9 @@ const CROSSINGS: usize = 65_536;
 /// Times, at least, that a frame is encoded for each time that its message is decoded.
 const ENCODINGS: usize = 64;
 
+/// The same where long bytes are shared: to decode and to join a frame takes far longer than to encode it.
+const SHARINGS: usize = 4096;
+
 /// Times, at least, that two commands are compared for each time that they are decoded.
 const COMPARISONS: usize = 4096;
 
@@ -88,6 +91,8 @@ enum What {
     EncodeShared,
     /// The library's frames share the blocks of one buffer; each of the peer's has one of its own.
     EncodeHeld,
+    /// The library's frames are chunks, of which long bytes are shared; the peer's are made in one buffer.
+    EncodeChunks,
     /// Commands are compared, with their payloads.
     Payloads,
     /// Commands are compared, but for their payloads. The peer's derived `==` knows no such thing, and compares all.
@@ -96,7 +101,7 @@ enum What {
 
 impl What {
     /// What is done to a stream of messages.
-    const STREAM: [What; 9] = [
+    const STREAM: [What; 10] = [
         What::Items,
         What::ItemRefs,
         What::Messages,
@@ -106,16 +111,18 @@ impl What {
         What::EncodeSpare,
         What::EncodeShared,
         What::EncodeHeld,
+        What::EncodeChunks,
     ];
 
     /// What is done to messages that are only written.
-    const FRAMES: [What; 6] = [
+    const FRAMES: [What; 7] = [
         What::Encode,
         What::EncodeVec,
         What::EncodeInto,
         What::EncodeSpare,
         What::EncodeShared,
         What::EncodeHeld,
+        What::EncodeChunks,
     ];
 
     /// What is done to commands.
@@ -136,6 +143,7 @@ impl What {
             | What::EncodeSpare
             | What::EncodeShared
             | What::EncodeHeld => ENCODINGS,
+            What::EncodeChunks => SHARINGS,
             What::Payloads | What::Headers => COMPARISONS,
         }
     }
@@ -151,6 +159,7 @@ impl What {
             What::EncodeSpare => "encode_spare",
             What::EncodeShared => "encode_shared",
             What::EncodeHeld => "encode_held",
+            What::EncodeChunks => "encode_chunks",
             What::Payloads => "payloads",
             What::Headers => "headers",
         }
@@ -339,6 +348,9 @@ impl<'a> Bench<'a> {
                 (Side::Ours, What::EncodeShared | What::EncodeHeld) => {
                     ours::frame_shared(version, *code, payload, rounds, &mut self.out)?;
                 }
+                (Side::Ours, What::EncodeChunks) => {
+                    ours::frame_chunks(version, *code, payload, rounds, &mut self.out)?;
+                }
                 (Side::Ours, _) => {
                     ours::frame_to(version, *code, payload, rounds, &mut self.out)?;
                 }
@@ -354,7 +366,7 @@ impl<'a> Bench<'a> {
                     let frame = peer::frame_held(version, *code, payload, rounds)?;
                     self.out[..frame.len()].copy_from_slice(&frame);
                 }
-                (Side::Peer, What::EncodeInto | What::EncodeSpare) => {
+                (Side::Peer, What::EncodeInto | What::EncodeSpare | What::EncodeChunks) => {
                     peer::frame_into(version, *code, payload, rounds, &mut self.buffer)?;
                     self.out[..self.buffer.len()].copy_from_slice(&self.buffer);
                 }
@@ -719,14 +731,21 @@ fn check_rounds(workload: &Workload, what: What, side: Side) -> Result<(), Faile
     let twice = bench.counted(side, 2)?;
     let more = bench.counted(side, 5)?;
     // of frames that share blocks, a round allocates none or several, as the blocks are used up
-    if what == What::EncodeShared || (what == What::EncodeHeld && side == Side::Ours) {
+    let shares_blocks = match side {
+        Side::Ours => matches!(what, What::EncodeShared | What::EncodeHeld | What::EncodeChunks),
+        Side::Peer => what == What::EncodeShared,
+    };
+    if shares_blocks {
         return Ok(());
     }
     // the peer makes the lists of a suspension before V7, and the library writes them off its tree
     let makes_lists = workload.has_lists() && matches!(side, Side::Peer);
     let is_borrowed = what == What::ItemRefs && matches!(side, Side::Ours);
-    let asks =
-        !(matches!(what, What::EncodeInto | What::EncodeSpare) || is_borrowed) || makes_lists;
+    let has_buffer = matches!(
+        what,
+        What::EncodeInto | What::EncodeSpare | What::EncodeChunks
+    );
+    let asks = !(has_buffer || is_borrowed) || makes_lists;
     if (of_a_round > 0) != asks || more.saturating_sub(twice) != 3 * of_a_round {
         return Err(failed(format!(
             "{of_a_round} allocations in a round, {twice} in two and {more} in five"

@@ -2,6 +2,8 @@
 //! library of their own, so that the library for C holds none of them.
 #![tactic(auto)]
 
+mod chunk_dispatch;
+mod chunks;
 mod commands;
 mod fields;
 mod frames;
@@ -158,6 +160,20 @@ pub extern "C" fn measure_frame_shared(
         buffer: Buffer::Shared,
     };
     outcome_of(frames::write_frame(alloc, version, code, payload, rounds, out))
+}
+
+/// As `measure_frame`, but all rounds append the frame to one list of chunks, which is cleared before each: long bytes
+/// are shared with the message, and all else is in one buffer. The chunks of the last round are joined.
+#[unsafe(no_mangle)]
+pub extern "C" fn measure_frame_chunks(
+    alloc: Global,
+    version: u32,
+    code: u16,
+    payload: &[u8],
+    rounds: usize,
+    out: &mut [u8],
+) -> i64 {
+    outcome_of(chunks::write_frame(alloc, version, code, payload, rounds, out))
 }
 
 /// As `journal_is_well_formed`, but repeated `rounds` times (0 counts as 1).
