@@ -57,11 +57,16 @@ def with_above(crates: collections.abc.Iterable[str]) -> list[str]:
 
 def is_up_to_date(file: pathlib.Path, crate: str) -> bool:
     """Whether a file exists and no source of the crate, or of one that it depends on, is newer."""
+    return is_newer(file, with_below([crate]))
+
+
+def is_newer(file: pathlib.Path, crates: collections.abc.Iterable[str]) -> bool:
+    """Whether a file exists and no source of these crates is newer."""
     if not file.exists():
         return False
     built = file.stat().st_mtime_ns
     sources = [ROOT / "crates.txt"]
-    for name in with_below([crate]):
+    for name in crates:
         for part in PARTS:
             for folder, folders, files in os.walk(ROOT / "crates" / name / part):
                 sources += [pathlib.Path(folder, entry) for entry in ["", *files]]

@@ -9,7 +9,7 @@
 #                library and files for pkg-config and CMake in lib, and man pages and completion for bash and zsh in
 #                share
 #   --library    the library alone, its man pages with it: no program is proved or built for that
-#   --target     the library alone, for aarch64-unknown-linux-gnu, by Debian's gcc-aarch64-linux-gnu
+#   --target     for aarch64-unknown-linux-gnu, by Debian's gcc-aarch64-linux-gnu
 #   --libdir     where the libraries are, below PREFIX, instead of lib
 #   --uninstall  removes exactly these files
 #   --from       installs what is in a release, by the install.sh in it, which needs no toolchain and no compiler; where
@@ -67,7 +67,7 @@ libdir=lib
 while [ $# -gt 1 ]; do
   case $1 in
     --library) programs= links= ;;
-    --target) machine=$2; programs= links=; shift ;;
+    --target) machine=$2; shift ;;
     --libdir) libdir=$2; shift ;;
     --uninstall) action=uninstall ;;
     *) usage ;;
@@ -81,7 +81,7 @@ esac
 case $machine in
   x86_64-unknown-linux-gnu) tools= ;;
   aarch64-unknown-linux-gnu) tools=aarch64-linux-gnu- ;;
-  *) not_installed "there is no library for $machine" ;;
+  *) not_installed "there is nothing for $machine" ;;
 esac
 prefix=$1
 target=${DESTDIR-}$prefix
@@ -126,16 +126,22 @@ for tool in "$compiler" "${tools}ld" "${tools}objcopy" "${tools}ar"; do
 done
 command -v rt > /dev/null || not_installed 'there is no rt, the command of the Rattle toolchain'
 
-sh "$top/scripts/static_library.sh" --target "$machine" journal_ffi
+# what is built for another processor is in a folder of its own
+built=out${tools:+/$machine}
+python3 -B "$top/scripts/build.py" --target "$machine" journal_ffi
 # one after the other: rt locks a crate and those below it, and proves its functions side by side
 for program in $programs; do
-  sh "$top/scripts/program.sh" "$program" > /dev/null || not_installed "$program is not proved"
+  if [ -z "$tools" ]; then
+    sh "$top/scripts/program.sh" "$program" > /dev/null || not_installed "$program is not proved"
+  else
+    python3 -B "$top/scripts/build.py" --target "$machine" "$program"
+  fi
 done
 work=$(mktemp -d)
 trap 'rm -rf "$work"' EXIT
 
 # What the library allocates by is the toolchain's, which has it for x86-64 alone.
-archive=$top/crates/journal_ffi/out/${tools:+$machine/}libjournal_ffi.a
+archive=$top/crates/journal_ffi/$built/libjournal_ffi.a
 if [ -z "$tools" ]; then
   heap=$(dirname "$(rt doc)")/c/liblibc_c.a
 else
@@ -228,7 +234,7 @@ for call in $calls; do
   place "$work/call.3" 644 "share/man/man3/$call.3"
 done
 for program in $programs; do
-  place "$top/crates/$program/out/$program" 755 "bin/$program"
+  place "$top/crates/$program/$built/$program" 755 "bin/$program"
 done
 for program in $links; do
   ln -sfn journal "$target/bin/$program"

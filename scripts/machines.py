@@ -1,4 +1,4 @@
-"""The processors that there is a library for, and what each is called by others."""
+"""The processors that there are programs and a library for, and what each is called by others."""
 from __future__ import annotations
 
 import dataclasses
@@ -17,8 +17,6 @@ class Machine:
     go: str
     # how the names of the tools for it begin
     tools: str
-    # whether there are programs for it beside the library
-    has_programs: bool
 
     @property
     def target(self) -> str:
@@ -30,7 +28,7 @@ class Machine:
 
     def words(self) -> list[str]:
         """The words by which scripts/install.sh is told of it."""
-        return [] if self.has_programs else ["--target", self.target]
+        return ["--target", self.target] if self.tools else []
 
     def glibc(self, *files: pathlib.Path) -> str:
         """The latest version of the C library that a symbol of these files has."""
@@ -41,7 +39,6 @@ class Machine:
 
 
 MACHINES = (
-    Machine("x86_64", "amd64", "x64", "amd64", tools="", has_programs=True),
-    # the toolchain has what a program calls of the system for x86-64 alone
-    Machine("aarch64", "arm64", "arm64", "arm64", tools="aarch64-linux-gnu-", has_programs=False),
+    Machine("x86_64", "amd64", "x64", "amd64", tools=""),
+    Machine("aarch64", "arm64", "arm64", "arm64", tools="aarch64-linux-gnu-"),
 )

@@ -2,8 +2,8 @@
 """Makes a Debian package of the programs and the library for C: scripts/package.sh [--arm64] [FOLDER]
 
 The package is FOLDER/pendratsoa_VERSION_amd64.deb, by default in the current folder, and has what scripts/install.sh
-installs, which is proved; with --arm64 it is that of the library alone, for arm64. The same tools make the same bytes
-of the same commit. It needs what scripts/install.sh needs, and dpkg-deb and gzip.
+installs, which is proved; with --arm64 it is that for arm64. The same tools make the same bytes of the same commit. It
+needs what scripts/install.sh needs, and dpkg-deb and gzip.
 """
 from __future__ import annotations
 
@@ -52,22 +52,18 @@ Architecture: {architecture}
 Maintainer: {maintainer}
 Installed-Size: {size}
 Depends: libc6 (>= {glibc})
-Section: {section}
+Section: utils
 Priority: optional
 Description: journal protocol of the Restate SDKs
-{description}
-"""
-PROGRAMS = """\
  Programs that list a stream of the protocol, print it as JSON and say where
  two journals differ, and the protocol as a library for C: items of a stream,
  frames, payloads and their JSON, notifications, commands and journals
  compared. Each call is proved to do what its contract says.
+{processor}"""
+SSE = """\
  .
- It needs a processor that has SSE4.2."""
-LIBRARY = """\
- The protocol as a library for C: items of a stream, frames, payloads and
- their JSON, notifications, commands and journals compared. Each call is
- proved to do what its contract says."""
+ It needs a processor that has SSE4.2.
+"""
 
 
 class NotMade(Exception):
@@ -117,8 +113,7 @@ def adapt(usr: pathlib.Path, machine: Machine) -> None:
     looks, compressed pages, and links for pages that have several names."""
     strip(usr, machine)
     shared_library(usr).chmod(0o644)
-    if machine.has_programs:
-        (usr / "share/zsh/site-functions").rename(usr / "share/zsh/vendor-completions")
+    (usr / "share/zsh/site-functions").rename(usr / "share/zsh/vendor-completions")
     pages = usr / "share/man"
     for page in (pages / "man3").glob("journal_*.3"):
         page.unlink()
@@ -150,8 +145,7 @@ def describe(root: pathlib.Path, machine: Machine) -> None:
         "architecture": machine.debian,
         "size": run("du", "-ks", "--apparent-size", usr).split()[0],
         "glibc": machine.glibc(*programs(usr), shared_library(usr)),
-        "section": "utils" if machine.has_programs else "libdevel",
-        "description": PROGRAMS if machine.has_programs else LIBRARY,
+        "processor": "" if machine.tools else SSE,
     }
     write(debian / "control", CONTROL.format(**said))
     write(debian / "shlibs", f"libpendratsoa {version().split('.')[0]} pendratsoa (>= {version()})\n")

@@ -65,7 +65,7 @@ PROVED = """\
 | The gate, `sh scripts/test.sh` | {gate} |
 
 Each program and each call of the library is proved to do what its contract says; docs/PROOFS.md of that commit names
-the clause of each promise, and the version of `journal_ffi` for aarch64 is proved for that processor. The packages for
+the clause of each promise, and the programs and `journal_ffi` are proved for either processor. The packages for
 Python, Ruby, Node, Rust and Go make those calls, and are tested.
 
 ## Needs
@@ -104,13 +104,12 @@ class Release:
         lines = []
         for machine in self.machines:
             prefix = self.prefixes[machine.name]
-            line = f"- {machine.name}: the library glibc {machine.glibc(package.shared_library(prefix))}"
-            if machine.has_programs:
-                programs = machine.glibc(*package.programs(prefix))
-                line += f", the programs {programs}, or later, and a processor with SSE4.2"
-            else:
-                line += " or later; there are no programs for it"
-            lines.append(f"{line}\n")
+            library, programs = package.shared_library(prefix), package.programs(prefix)
+            processor = "" if machine.tools else ", and a processor with SSE4.2"
+            lines.append(
+                f"- {machine.name}: the library glibc {machine.glibc(library)}, the programs "
+                f"{machine.glibc(*programs)}, or later{processor}\n"
+            )
         return {"version": version(), "toolchain": run("rt", "version").strip(), "needs": "".join(lines)}
 
     def copy(self, folder: str, name: str | None = None) -> pathlib.Path:
@@ -158,7 +157,7 @@ def tarball(release: Release, machine: Machine) -> None:
 
 
 def deb(release: Release, machine: Machine) -> None:
-    """The Debian package, of the programs and the library; for arm64 of the library."""
+    """The Debian package, of the programs and the library."""
     work = release.work / f"deb-{machine.name}"
     work.mkdir()
     package.make(release.out, work, machine)
@@ -183,8 +182,8 @@ def wheel(release: Release, machine: Machine) -> None:
 
 
 def cpython_headers(release: Release, machine: Machine) -> pathlib.Path:
-    """A folder where the headers of Debian's CPython find the one that is of a processor. For what the module takes of it
-    that of this one will do: both have the same sizes, and the stable interface of CPython asks for no more."""
+    """A folder where the headers of Debian's CPython find the one that is of a processor. For what the module takes of
+    it that of this one will do: both have the same sizes, and the stable interface of CPython asks for no more."""
     folder = release.work / "headers"
     for header in pathlib.Path("/usr/include").glob(f"{MACHINES[0].triplet}/python3.*/pyconfig.h"):
         target = folder / machine.triplet / header.parent.name / header.name

@@ -1,8 +1,10 @@
 #!/bin/sh
-# The library for C on arm64: its constants, an example, the test vectors and adversarial calls, under qemu.
+# The programs and the library for C on arm64, under qemu: what the programs print of the examples, the library's
+# constants, an example, the test vectors and adversarial calls.
 #
-# scripts/install.sh --target builds it over the libraries that rt ci or rt lib has proved; of the proof of journal_ffi
-# it takes what scripts/static_library.sh has kept for x86-64.
+# scripts/install.sh --target builds them over the libraries that rt ci or rt lib has proved, and proves the crates of
+# the programs for that processor, in some ten processor minutes; of the proof of journal_ffi it takes what scripts/build.py has kept for
+# x86-64.
 set -u
 cd "$(dirname "$0")/../.." || exit 1
 . scripts/checks/lib.sh
@@ -19,7 +21,7 @@ needs ${tools}gcc gcc-aarch64-linux-gnu
 needs qemu-aarch64 qemu-user
 [ -e /usr/aarch64-linux-gnu/include/stdlib.h ] ||
   not_run 'there is no C library for arm64; the Debian package libc6-dev-arm64-cross has it'
-for name in $(below journal_ffi); do
+for name in $(below journal_ffi) $(below journal) $(below journal_list); do
   is_newer "crates/$name/out/rlib/$name.rlib" "$name" ||
     not_run "crates/$name/out/rlib is not there or older than a source; sh scripts/install.sh proves it"
 done
@@ -36,6 +38,39 @@ case_of 'adversarial calls' $emulator "$work/hostile" 1 20000
 case_of 'adversarial calls in two threads' $emulator "$work/hostile" 2 5000 2
 message_structs 20000
 message_example "$prefix/lib/libpendratsoa.a"
+
+# printed EMULATOR.. PROGRAM WORD..: all that a program prints, and its status
+printed() {
+  (cd examples/streams && "$@" 2>&1 < /dev/null)
+  echo "status $?"
+}
+
+# alike NAME WORD..: a program prints the same on both processors, on the standard error too, with the same status
+alike() {
+  name=$1
+  shift
+  printed "$PWD/crates/$name/out/$name" "$@" > "$work/wanted"
+  # shellcheck disable=SC2086 # the words are split
+  printed $emulator "$prefix/bin/$name" "$@" > "$out"
+  same "$name $*" "$work/wanted" "$out"
+}
+
+alike journal_list replay
+alike journal_list replay 7 v9
+alike journal_list ./nothing
+alike journal_list --max-message 3 replay
+alike journal_list --help
+for file in replay cut_short unknown_type three_unknown_types; do
+  alike journal dump --strict $file
+done
+alike journal make replay.dump
+alike journal diff recorded replayed_other_handler
+alike journal diff --all --json recorded replayed_other_handler
+alike journal diff recorded ./nothing
+NO_COLOR=1 alike journal diff --color always recorded replayed_other_payload
+# shellcheck disable=SC2086 # the words are split
+$emulator "$prefix/bin/journal_dump" examples/streams/replay > "$out"
+same 'journal_dump of the replay' examples/streams/replay.dump "$out"
 
 # The example, with each library
 for listing in static shared; do

@@ -4,7 +4,7 @@
 # scripts/install.sh puts it into a folder and takes it away again, and both libraries show the calls of
 # include/pendratsoa.h alone. The examples in C and Python list streams alike, and as list_stream.py does; and
 # tests/c/hostile_calls.c makes a million adversarial calls. It takes the proved static library, which
-# scripts/static_library.sh builds over what rt ci has proved.
+# scripts/build.py builds over what rt ci has proved.
 set -u
 cd "$(dirname "$0")/../.." || exit 1
 . scripts/checks/lib.sh

@@ -141,7 +141,7 @@ class Check:
         return self.case(name, ended.status == 0, ended)
 
     def counted(self, name: str, words: collections.abc.Sequence[str | pathlib.Path], **how: typing.Any) -> Run:
-        """Adds what a command has counted, whose last line is 'N passed, M failed', and shows what it says of failures."""
+        """Adds what a command counts, whose last line is 'N passed, M failed', and shows what it says of failures."""
         ended = run(words, **how)
         counts = re.search(rb"^(\d+) passed, (\d+) failed\n\Z", ended.out, re.MULTILINE)
         if not counts:
@@ -200,7 +200,7 @@ class Check:
         self.needs("cc", "gcc")
         for tool in ("ld", "objcopy", "ar", "nm"):
             self.needs(tool, "binutils")
-        status = subprocess.run(["sh", "scripts/static_library.sh", "journal_ffi"]).returncode
+        status = subprocess.run([sys.executable, "-B", "scripts/build.py", "journal_ffi"]).returncode
         if status == 2:
             raise NotRun("there is no static library")
         if status != 0:

@@ -96,7 +96,7 @@ static_library() {
   for tool in ld objcopy ar nm; do
     needs $tool binutils
   done
-  sh scripts/static_library.sh journal_ffi
+  python3 -B scripts/build.py journal_ffi
   case $? in
     0) ;;
     2) not_run 'there is no static library' ;;

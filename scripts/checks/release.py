@@ -14,7 +14,6 @@ import os
 import pathlib
 import re
 import shutil
-import subprocess
 
 import checks
 import crates
@@ -198,8 +197,7 @@ class Trial:
         (self.inside / "schemas").write_text("".join(f"{name}\n" for _, name in sorted(numbered)))
         elves = [package for package in (unpacked / "lib").glob("*.so") if package.exists()]
         self.needs_at_most("the library", LIBRARY_GLIBC, *elves)
-        if self.machine.has_programs:
-            self.needs_at_most("the programs", PROGRAMS_GLIBC, *(unpacked / "bin").iterdir())
+        self.needs_at_most("the programs", PROGRAMS_GLIBC, *(unpacked / "bin").iterdir())
 
     def needs_at_most(self, name: str, latest: tuple[int, ...], *files: pathlib.Path) -> None:
         """The symbols of the C library in these files are of no later version than this."""
@@ -411,12 +409,14 @@ def under_qemu(trial: Trial) -> None:
         folder = trial.inside / pathlib.Path(trial.tarball).name.removesuffix(".tar.gz")
         words = ["sh", folder / "install.sh"]
         check.command("install.sh for arm64", [*words, root.folder / "srv/pendratsoa"])
+        trial.programs("of the tarball for arm64", "/srv/pendratsoa/bin")
         trial.of_c(LD_LIBRARY_PATH="/srv/pendratsoa/lib")
         check.command("install.sh --uninstall for arm64", [*words, "--uninstall", root.folder / "srv/pendratsoa"])
 
     def by_deb() -> None:
         deb = trial.inside / trial.file(f"pendratsoa_{VERSION}_arm64.deb")
         check.command("dpkg-deb --extract for arm64", ["dpkg-deb", "--extract", deb, trial.inside / "deb"])
+        trial.programs("of the Debian package for arm64", "/trial/deb/usr/bin")
         trial.of_c(LD_LIBRARY_PATH="/trial/deb/usr/lib/aarch64-linux-gnu")
 
     def by_wheel() -> None:
