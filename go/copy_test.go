@@ -49,8 +49,13 @@ func TestBytesOfItemsThatDidNotCome(t *testing.T) {
 			t.Errorf("%v is %x", item, item.Bytes())
 		}
 	}
-	if none := (Message{Version: 8, Code: 8}).Bytes(); none != nil {
-		t.Errorf("%x", none)
+	none := Message{Version: 8, Code: 8}
+	if bytes := none.Bytes(); bytes != nil {
+		t.Errorf("%x", bytes)
+	}
+	var written bytes.Buffer
+	if count, err := none.WriteTo(&written); count != 0 || !errors.Is(err, ErrUnknown) || written.Len() != 0 {
+		t.Errorf("%d, %v, %x", count, err, written.Bytes())
 	}
 }
 

@@ -98,8 +98,9 @@ func (d *Decoder) Next() (Item, error) {
 //
 //	for item, err := range decoder.All() {
 //
-// and before that by a call with the function that takes them, which returns whether it takes more. The loop ends at the
-// end of the stream, and after an error, which comes without an item: io.ErrUnexpectedEOF if the last item is not whole.
+// and before that by a call with the function that takes them, which returns whether it takes more. The loop ends at
+// the end of the stream, and after an error, which comes without an item: io.ErrUnexpectedEOF if the last item is not
+// whole.
 func (d *Decoder) All() func(yield func(item Item, err error) bool) {
 	return func(yield func(item Item, err error) bool) {
 		for {

@@ -53,8 +53,8 @@ func (e *Error) Unwrap() error {
 	return e.Err
 }
 
-// arguments are those of a call that an error can be about, each with its value. The payload is the only one of the call
-// or the first of two.
+// arguments are those of a call that an error can be about, each with its value. The payload is the only one of the
+// call or the first of two.
 type arguments struct {
 	version, schema, code, payload, second string
 }

@@ -77,14 +77,19 @@ func (s Skipped) String() string {
 // Bytes returns the message as it came, whatever was set in it since. Of one that did not come in a stream they are its
 // payload as it is after the header of its type, and nil if its version, its code or the length has no header.
 func (m Message) Bytes() []byte {
+	bytes, _ := m.bytes()
+	return bytes
+}
+
+func (m Message) bytes() ([]byte, error) {
 	if m.came != nil {
-		return m.came
+		return m.came, nil
 	}
 	header, err := Header(m.Version, m.Code, len(m.Payload))
 	if err != nil {
-		return nil
+		return nil, err
 	}
-	return append(header, m.Payload...)
+	return append(header, m.Payload...), nil
 }
 
 // Bytes returns the eight bytes.
@@ -100,9 +105,14 @@ func (s Skipped) Bytes() []byte {
 	return wordBytes(s.Word, s.Payload)
 }
 
-// WriteTo writes the message as it came, as Bytes returns it.
+// WriteTo writes the message as it came, as Bytes returns it. Of one that did not come in a stream, the errors are also
+// those of Header.
 func (m Message) WriteTo(writer io.Writer) (int64, error) {
-	return writeAll(writer, m.Bytes())
+	bytes, err := m.bytes()
+	if err != nil {
+		return 0, err
+	}
+	return writeAll(writer, bytes)
 }
 
 // WriteTo writes the eight bytes.
@@ -200,8 +210,8 @@ func (m Message) Frame(version int) ([]byte, error) {
 	return frame[:len(frame):len(frame)], err
 }
 
-// AppendFrame appends the frame that Frame returns, and returns the extended slice, as append does. With an error, which
-// is one of those of Frame, it returns the slice as it was.
+// AppendFrame appends the frame that Frame returns, and returns the extended slice, as append does. With an error,
+// which is one of those of Frame, it returns the slice as it was.
 func (m Message) AppendFrame(dst []byte, version int) ([]byte, error) {
 	return m.appendFrame("AppendFrame", dst, version)
 }

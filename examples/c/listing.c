@@ -3,8 +3,8 @@
  *
  * A line is an item: the name of its type and the length of its payload, and " ack" if its header requests an
  * acknowledgement; after a call also the names of its service and its handler. The last line counts the bytes that are
- * in no item. VERSION is from 5 to 9; the default is 8. The status is 0 after a whole listing, 1 if the input, the output
- * or an allocation fails, and 2 if the arguments are wrong.
+ * in no item. VERSION is from 5 to 9; the default is 8. The status is 0 after a whole listing, 1 if the input, the
+ * output or an allocation fails, and 2 if the arguments are wrong.
  *
  *   cc -std=c99 listing.c $(pkg-config --cflags --libs pendratsoa) -o listing
  */
@@ -83,8 +83,8 @@ static uint64_t varint(const uint8_t **at) {
 }
 
 /*
- * Prints the text field of this number in a canonical payload, or no text. A record is a key, which is 8 times the number
- * of its field, and a number; or 2 more, with a length and that number of bytes after it.
+ * Prints the text field of this number in a canonical payload, or no text. A record is a key, which is 8 times the
+ * number of its field, and a number; or 2 more, with a length and that number of bytes after it.
  */
 static void print_text(const uint8_t *at, const uint8_t *end, uint64_t number) {
     fputs(" \"", stdout);

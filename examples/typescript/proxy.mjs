@@ -1,7 +1,7 @@
 // Passes a journal on from one connection to another, with each state one greater: node proxy.mjs VERSION HOST PORT
 //
-// It takes a connection at a port of this machine, which it prints, and opens one to HOST and PORT. All that it does not
-// change it passes on byte for byte. It is JavaScript, since the types of node:net are in another package.
+// It takes a connection at a port of this machine, which it prints, and opens one to HOST and PORT. All that it does
+// not change it passes on byte for byte. It is JavaScript, since the types of node:net are in another package.
 
 import { once } from 'node:events';
 import { connect, createServer } from 'node:net';

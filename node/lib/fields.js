@@ -28,8 +28,8 @@ const OFFSET = 2 * FIELD.offset;
 const LENGTH = 2 * FIELD.length;
 const HALVES = 2 * FIELD_NUMBERS;
 
-// Up to how many bytes a payload is made a text at once, and up to how many units a text is looked through here: of what
-// is short the calls of Buffer are most of the time.
+// Up to how many bytes a payload is made a text at once, and up to how many units a text is looked through here: of
+// what is short the calls of Buffer are most of the time.
 const SHORT_PAYLOAD = 1024;
 const SHORT_TEXT = 128;
 

@@ -149,7 +149,7 @@ function earlierSchema(version, code) {
   return found < 0 || found === schema(LAST_VERSION, code) ? undefined : found;
 }
 
-/** The frame of a payload whose schema the type has at earlier versions only: `frame` would read it by the later one. */
+/** The frame of a payload whose schema its type has at earlier versions only; `frame` reads it by the later one. */
 function earlierFrame(call, version, code, earlier, payload) {
   if (schema(version, code) !== earlier) {
     throw new Unknown(`${call}: there is no ${RECORDS[earlier].name} at version ${version}`, { call });

@@ -1,5 +1,5 @@
-"""The compiled module, where it is there: it reads and writes records without ctypes. Where it is not, since there was no
-compiler or this is no CPython, or where PENDRATSOA_PURE is set, all of it is done in Python."""
+"""The compiled module, where it is there: it reads and writes records without ctypes. Where it is not, since there was
+no compiler or this is no CPython, or where PENDRATSOA_PURE is set, all of it is done in Python."""
 
 from __future__ import annotations
 

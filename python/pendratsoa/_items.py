@@ -8,6 +8,7 @@ import json
 from dataclasses import dataclass, field
 from typing import Any, Mapping, Optional, Protocol, Union, cast
 
+# _codec is imported since it lists what reads and what writes each record
 from . import _calls, _codec
 from ._calls import Notification
 from ._errors import JournalError, Unknown

@@ -159,8 +159,8 @@ def earlier_frame(call: str, version: int, code: int, schema: int, payload: byte
 
 
 class _Scratch(threading.local):
-    """What a thread has for calls that need no more room: for the numbers of a table, for a payload, and for what a table
-    is written as; of each the address, and a view."""
+    """What a thread has for calls that need no more room: for the numbers of a table, for a payload, and for what a
+    table is written as; of each the address, and a view."""
 
     def __init__(self) -> None:
         self._numbers = (ctypes.c_uint64 * (NUMBERS * ENTRIES))()

@@ -1,8 +1,9 @@
-//! Records and the table of fields: a record is read from the fields that the library finds in a payload, and written as
-//! those of which the library makes one. Nothing is known here of how a payload is encoded.
+//! Records and the table of fields: a record is read from the fields that the library finds in a payload, and written
+//! as those of which the library makes one. Nothing is known here of how a payload is encoded.
 
 use std::cell::Cell;
 use std::collections::TryReserveError;
+use std::error;
 use std::fmt;
 use std::mem::size_of;
 
@@ -271,6 +272,14 @@ pub struct FieldError {
 
 impl fmt::Display for FieldError {
     fn fmt(&self, f: &mut fmt::Formatter<'_>) -> fmt::Result {
-        write!(f, "{}: {}", self.path, self.reason.text())
+        write!(f, "{}: {}", self.path, self.reason)
     }
 }
+
+impl fmt::Display for FieldReason {
+    fn fmt(&self, f: &mut fmt::Formatter<'_>) -> fmt::Result {
+        f.write_str(self.text())
+    }
+}
+
+impl error::Error for FieldError {}

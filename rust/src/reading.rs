@@ -1,5 +1,6 @@
 //! JSON texts, read as payloads.
 
+use std::error;
 use std::fmt;
 
 use crate::calls::text;
@@ -116,6 +117,8 @@ impl fmt::Display for JsonError {
     }
 }
 
+impl error::Error for JsonError {}
+
 impl fmt::Display for JsonReason {
     fn fmt(&self, f: &mut fmt::Formatter<'_>) -> fmt::Result {
         f.write_str(match self {
@@ -149,7 +152,10 @@ mod tests {
             (8, 0, "a", "a: too deep"),
         ] {
             match payload_of([number, offset], path.as_bytes().to_vec()) {
-                Err(Error::Json(error)) => assert_eq!(error.to_string(), expected),
+                Err(Error::Json(error)) => {
+                    let error: Box<dyn error::Error> = error.into();
+                    assert_eq!(error.to_string(), expected);
+                }
                 other => panic!("{other:?}"),
             }
         }

@@ -9,34 +9,11 @@
 #define _POSIX_C_SOURCE 200809L
 #include <pendratsoa_messages.h>
 
-#include <stdarg.h>
-#include <stdio.h>
-#include <stdlib.h>
+#define PROGRAM "test_messages"
+#include "vectors.h"
 
-/* Bytes that grow. */
-struct buffer {
-    uint8_t *bytes;
-    size_t length, room;
-};
-
-static char *schema_names[JOURNAL_SCHEMAS];
 /* A record as it is printed. */
 static struct buffer printed;
-
-static void fail(const char *why) {
-    fprintf(stderr, "test_messages: %s\n", why);
-    exit(2);
-}
-
-static void reserve(struct buffer *buffer, size_t room) {
-    if (buffer->bytes == NULL || room > buffer->room) {
-        buffer->room = 2 * room + 1;
-        buffer->bytes = (uint8_t *)realloc(buffer->bytes, buffer->room);
-        if (buffer->bytes == NULL) {
-            fail("out of memory");
-        }
-    }
-}
 
 static void print_words(const char *words) {
     reserve(&printed, printed.length + strlen(words));
@@ -178,16 +155,6 @@ static int is_right(uint32_t schema, const char *kind, const struct buffer *payl
     return is_malformed ? result == JOURNAL_MALFORMED && canonical == JOURNAL_MALFORMED : is_same;
 }
 
-static uint32_t schema_of(const char *name) {
-    for (uint32_t schema = 0; name != NULL && schema < JOURNAL_SCHEMAS; schema++) {
-        if (strcmp(name, schema_names[schema]) == 0) {
-            return schema;
-        }
-    }
-    fail("a line names no schema");
-    return 0;
-}
-
 /* Checks a line: 1 if it passed, 0 if it failed, and -1 if it is not checked. */
 static int check_line(char *line) {
     char *expected = strstr(line, " = "), *word;
@@ -218,50 +185,6 @@ static int check_line(char *line) {
     return passed;
 }
 
-static void read_schemas(const char *path) {
-    FILE *file = fopen(path, "r");
-    size_t room;
-
-    if (file == NULL) {
-        fail("the names of the schemas cannot be read");
-    }
-    for (uint32_t schema = 0; schema < JOURNAL_SCHEMAS; schema++) {
-        room = 0;
-        if (getline(&schema_names[schema], &room, file) < 0) {
-            fail("there are too few names of schemas");
-        }
-        schema_names[schema][strcspn(schema_names[schema], "\n")] = '\0';
-    }
-    fclose(file);
-}
-
 int main(int count, char **arguments) {
-    long passed = 0, failed = 0;
-    char *line = NULL;
-    size_t room = 0;
-
-    if (count != 2) {
-        fail("usage: test_messages SCHEMAS");
-    }
-    read_schemas(arguments[1]);
-    while (getline(&line, &room, stdin) >= 0) {
-        line[strcspn(line, "\n")] = '\0';
-        switch (check_line(line)) {
-        case 1:
-            passed++;
-            break;
-        case 0:
-            failed++;
-            printf("failed: %.300s: %.*s\n", line, (int)(printed.length < 300 ? printed.length : 300),
-                   (char *)printed.bytes);
-            break;
-        }
-    }
-    for (uint32_t schema = 0; schema < JOURNAL_SCHEMAS; schema++) {
-        free(schema_names[schema]);
-    }
-    free(line);
-    free(printed.bytes);
-    printf("%ld passed, %ld failed\n", passed, failed);
-    return failed > 0;
+    return check_lines(count, arguments, check_line, &printed);
 }

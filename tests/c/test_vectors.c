@@ -9,36 +9,14 @@
 #include <pendratsoa.h>
 
 #include <inttypes.h>
-#include <stdio.h>
-#include <stdlib.h>
-#include <string.h>
 
-/* Bytes that grow. */
-struct buffer {
-    uint8_t *bytes;
-    size_t length, room;
-};
+#define PROGRAM "test_vectors"
+#include "vectors.h"
 
-static char *schema_names[JOURNAL_SCHEMAS];
 /* What the line's input gives, as the line's expected result is written. */
 static struct buffer found;
 /* What the last call wrote. */
 static struct buffer written;
-
-static void fail(const char *why) {
-    fprintf(stderr, "test_vectors: %s\n", why);
-    exit(2);
-}
-
-static void reserve(struct buffer *buffer, size_t room) {
-    if (room > buffer->room) {
-        buffer->room = 2 * room;
-        buffer->bytes = realloc(buffer->bytes, buffer->room);
-        if (buffer->bytes == NULL) {
-            fail("out of memory");
-        }
-    }
-}
 
 static void append(struct buffer *buffer, const void *bytes, size_t length) {
     reserve(buffer, buffer->length + length + 1);
@@ -101,17 +79,7 @@ static const char *next_word(void) {
     return word;
 }
 
-static uint32_t next_schema(void) {
-    const char *name = next_word();
-
-    for (uint32_t schema = 0; schema < JOURNAL_SCHEMAS; schema++) {
-        if (strcmp(name, schema_names[schema]) == 0) {
-            return schema;
-        }
-    }
-    fail("a line names no schema");
-    return 0;
-}
+static uint32_t next_schema(void) { return schema_of(next_word()); }
 
 static uint16_t next_type(void) {
     const char *name = next_word();
@@ -395,44 +363,6 @@ static int check_line(char *line) {
     return -1;
 }
 
-static void read_schemas(const char *path) {
-    FILE *file = fopen(path, "r");
-    size_t room;
-
-    if (file == NULL) {
-        fail("the names of the schemas cannot be read");
-    }
-    for (uint32_t schema = 0; schema < JOURNAL_SCHEMAS; schema++) {
-        room = 0;
-        if (getline(&schema_names[schema], &room, file) < 0) {
-            fail("there are too few names of schemas");
-        }
-        schema_names[schema][strcspn(schema_names[schema], "\n")] = '\0';
-    }
-    fclose(file);
-}
-
 int main(int count, char **arguments) {
-    long passed = 0, failed = 0;
-    char *line = NULL;
-    size_t room = 0;
-
-    if (count != 2) {
-        fail("usage: test_vectors SCHEMAS");
-    }
-    read_schemas(arguments[1]);
-    while (getline(&line, &room, stdin) >= 0) {
-        line[strcspn(line, "\n")] = '\0';
-        switch (check_line(line)) {
-        case 1:
-            passed++;
-            break;
-        case 0:
-            failed++;
-            printf("failed: %.300s: %.*s\n", line, (int)(found.length < 300 ? found.length : 300), (char *)found.bytes);
-            break;
-        }
-    }
-    printf("%ld passed, %ld failed\n", passed, failed);
-    return failed > 0;
+    return check_lines(count, arguments, check_line, &found);
 }

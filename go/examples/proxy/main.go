@@ -1,7 +1,7 @@
 // Proxy passes a journal on from one connection to another, with each state one greater: proxy VERSION HOST PORT
 //
-// It takes a connection at a port of this machine, which it prints, and opens one to HOST and PORT. All that it does not
-// change it passes on byte for byte.
+// It takes a connection at a port of this machine, which it prints, and opens one to HOST and PORT. All that it does
+// not change it passes on byte for byte.
 package main
 
 import (

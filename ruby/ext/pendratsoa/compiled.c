@@ -2,8 +2,8 @@
  * Records of the gem, read from the table of fields and written as one, without Fiddle.
  *
  * What a record has is given by compiled.rb, from what is generated; the table is made and read by the library, whose
- * two calls are given by their addresses. Nothing is known here of how a payload is encoded. What is unusual, as a value
- * of a wrong class, is left to the methods in Ruby, which say what is wrong. No other thread runs in between.
+ * two calls are given by their addresses. Nothing is known here of how a payload is encoded. What is unusual, as a
+ * value of a wrong class, is left to the methods in Ruby, which say what is wrong. No other thread runs in between.
  */
 
 #include <ruby.h>
@@ -212,7 +212,7 @@ static VALUE decode(VALUE class, VALUE payload)
  * Writing.
  */
 
-/* The table of a record, and the bytes that its entries are places in. What is long is in strings, for the collector. */
+/* The table of a record, and the bytes that its entries are places in. What is long is in strings of Ruby's. */
 struct writing {
     struct journal_field *entries;
     size_t count;

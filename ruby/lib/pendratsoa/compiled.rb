@@ -1,8 +1,8 @@
 # frozen_string_literal: true
 
 module Pendratsoa
-  # The compiled module, where it is there for this Ruby: it reads and writes records without Fiddle. Where it is not, since
-  # there was no compiler or it is of another Ruby, or where PENDRATSOA_PURE is set, all of it is done in Ruby.
+  # The compiled module, where it is there for this Ruby: it reads and writes records without Fiddle. Where it is not,
+  # since there was no compiler or it is of another Ruby, or where PENDRATSOA_PURE is set, all of it is done in Ruby.
   module Compiled
     FILE = File.join(__dir__, RbConfig::CONFIG.fetch("ruby_version"), "compiled.so")
     SHAPES = %i[plain optional repeated member].freeze

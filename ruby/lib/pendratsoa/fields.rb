@@ -1,8 +1,8 @@
 # frozen_string_literal: true
 
 module Pendratsoa
-  # Records and the table of fields: a record is read from the fields that the library finds in a payload, and written as
-  # those of which the library makes one. Nothing is known here of how a payload is encoded.
+  # Records and the table of fields: a record is read from the fields that the library finds in a payload, and written
+  # as those of which the library makes one. Nothing is known here of how a payload is encoded.
   module Fields
     # How many numbers an entry has, and how many entries there is room for at first.
     NUMBERS = FIELD_NUMBERS

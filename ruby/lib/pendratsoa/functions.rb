@@ -68,8 +68,8 @@ module Pendratsoa
       call.written(:journal_frame, call.version, call.code("a named type"), *call.data(:payload))
     end
 
-    # Appends the frame that `frame` returns to a binary String, which it returns. The errors are those of `frame`; after
-    # one of them the String is as it was.
+    # Appends the frame that `frame` returns to a binary String, which it returns. The errors are those of `frame`;
+    # after one of them the String is as it was.
     def append_frame(out, version, code, payload)
       raise TypeError, "append_frame: out must be a String, not #{out.class}" unless out.is_a?(String)
 

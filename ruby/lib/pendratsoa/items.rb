@@ -21,8 +21,8 @@ module Pendratsoa
   # A message of a stream of a version: the code of its type, its payload, and whether its header requests an
   # acknowledgement. It is frozen, and so is its payload.
   #
-  # `word` is the eight bytes of its header as one big-endian number, where it came in a stream, and otherwise nil. It is
-  # no member, and `==` does not compare it. In a pattern a message has its `type` besides:
+  # `word` is the eight bytes of its header as one big-endian number, where it came in a stream, and otherwise nil. It
+  # is no member, and `==` does not compare it. In a pattern a message has its `type` besides:
   #
   #   case item
   #   in Pendratsoa::Message[type: "SetStateCommand", payload:] then ..

@@ -49,8 +49,8 @@ module Pendratsoa
     end
   end
 
-  # What all records have. Each is a frozen class below this one, made with keywords: what is left out is absent, or what
-  # the field is by default.
+  # What all records have. Each is a frozen class below this one, made with keywords: what is left out is absent, or
+  # what the field is by default.
   #
   #   command = Pendratsoa::SetStateCommandMessage.new(key: "counter", value: Pendratsoa::Value.new(content: "1"))
   #   command.frame(8)
@@ -60,8 +60,8 @@ module Pendratsoa
   #   in Pendratsoa::SetStateCommandMessage[key:, value: { content: }] then ..
   #   end
   class Record
-    # A field: its name, or that of the oneof that it is a member of, its number, its kind, its shape, what it holds, and
-    # of a member of a oneof its own name, its class, and whether that is made for it.
+    # A field: its name, or that of the oneof that it is a member of, its number, its kind, its shape, what it holds,
+    # and of a member of a oneof its own name, its class, and whether that is made for it.
     Row = Struct.new(:name, :number, :kind, :shape, :holds, :member, :member_class, :is_wrapped) do
       # What it holds, which may be a class that comes later in the file.
       def held
