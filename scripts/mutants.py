@@ -6,8 +6,8 @@ has to reject. Of the crates that are named, with --above also of all crates tha
 with no name, of all crates. The gate tries must-fail/ alone, since a mutant takes seconds to a minute.
 
 It works on a copy of crates/ in a temporary folder (below TMPDIR, or /tmp), with what earlier checks kept in out/, so
-nothing in crates/ changes and other checks can run beside it. What is not yet proved of a crate and of those below it is
-proved first: minutes on a fresh clone. N crates are tried at once, 2 by default, each in up to 3 GB of memory. A
+nothing in crates/ changes and other checks can run beside it. What is not yet proved of a crate and of those below it
+is proved first: minutes on a fresh clone. N crates are tried at once, 2 by default, each in up to 3 GB of memory. A
 line for each mutant, once its crate is through:
 
   refused CRATE/NAME: the first error that the prover gave, which should name the function that the mutant changes

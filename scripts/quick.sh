@@ -1,7 +1,9 @@
 #!/bin/sh
-# What can be known within three minutes, without a proof: the tables, the pages and the generated files, the test vectors
-# that are not random, and the tests of the folders of tests/ that are named, else those of the library; by programs that
-# are built unproved. sh scripts/test.sh --quick [FOLDER..] calls it. The last line is 'N passed, M failed'.
+# What can be known within three minutes, without a proof: sh scripts/test.sh --quick [FOLDER..] calls it.
+#
+# It checks the tables, the pages and the generated files, the test vectors that are not random, and the tests of the
+# folders of tests/ that are named, else those of the library; by programs that are built without proofs. The last line
+# is 'N passed, M failed'.
 set -u
 cd "$(dirname "$0")/.." || exit 1
 

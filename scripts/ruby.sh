@@ -1,9 +1,9 @@
 #!/bin/sh
 # Compiles the module of the gem for Ruby: scripts/ruby.sh [FOLDER]; FOLDER is ruby/ or a copy of it.
 #
-# The module is put into FOLDER/lib, for the Ruby that compiled it, where 'gem build' takes it along; the gem does without
-# it in any other Ruby. It needs make, a C compiler and the headers of Ruby, which Debian's ruby-dev has. With CC, the
-# compiler for another processor, it is for that one. Nothing is downloaded.
+# The module is put into FOLDER/lib, for the Ruby that compiled it, where 'gem build' takes it along; the gem does
+# without it in any other Ruby. It needs make, a C compiler and the headers of Ruby, which Debian's ruby-dev has. With
+# CC, the compiler for another processor, it is for that one. Nothing is downloaded.
 set -eu
 
 [ $# -le 1 ] || { echo 'usage: ruby.sh [FOLDER]' >&2; exit 2; }

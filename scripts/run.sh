@@ -12,8 +12,8 @@
 #   scripts/run.sh [--proved] journal_list [ARGUMENT]..
 #       the listing of a stream, of examples/streams/replay without arguments
 #
-# Before dump, make, diff and view, journal may be left out; list is journal_list. docs/PROGRAMS.md says what arguments a
-# program takes, and so does the program with --help.
+# Before dump, make, diff and view, journal may be left out; list is journal_list. docs/PROGRAMS.md says what arguments
+# a program takes, and so does the program with --help.
 #
 # The first run without the proofs builds the program, in one to three minutes of processor time, and keeps it; it is
 # hundreds of times slower than the proved one. With --proved every crate below the program is proved first, which takes

@@ -3,8 +3,8 @@
 #
 # All tests: the gate (proves every crate, on a machine that has proved it before what changed and what is above it; the
 # mutants of must-fail/, the stored runs of the programs), then all checks of scripts/check.sh, which lists them. With
-# --quick: what can be known within three minutes, without a proof, and the tests of the folders of tests/ that are named
-# (scripts/quick.sh). The last line is 'N passed, M failed', of all.
+# --quick (scripts/quick.sh): what can be known within three minutes, without a proof, and the tests of the folders of
+# tests/ that are named. The last line is 'N passed, M failed', of all.
 set -u
 cd "$(dirname "$0")/.." || exit 1
 

@@ -8,9 +8,11 @@
 
 All that is wrong with the description is said, and then nothing is written. A file says in its first line that it is
 generated, and from what, where it can have a comment; .gitattributes marks each. What needs a tool that is not there is
-not made, which is said. The last line of --check is 'N passed, M failed', of files. It needs Python 3.11, which reads TOML.
+not made, which is said. The last line of --check is 'N passed, M failed', of files. It needs Python 3.11, which reads
+TOML.
 """
 import importlib
+import os
 import pathlib
 import subprocess
 import sys
@@ -169,6 +171,10 @@ def told():
     except Refused as refused:
         print(refused, file=sys.stderr)
         return 2
+    except BrokenPipeError:
+        # whoever reads has read enough, as head; nothing more is flushed at the end
+        os.dup2(os.open(os.devnull, os.O_WRONLY), sys.stdout.fileno())
+        return 1
     except subprocess.CalledProcessError as ended:
         refuse(f"{ended}\n{(ended.stderr or b'').decode(errors='replace') if isinstance(ended.stderr, bytes) else ended.stderr or ''}".strip())
 

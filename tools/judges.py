@@ -1,8 +1,9 @@
 #!/usr/bin/env python3
-"""Compares the protocol's description, proto/journal.proto, with what is written by hand from the protocol itself: tools/judges.py
+"""Compares the protocol's description, proto/journal.proto, with what is written by hand from the protocol itself:
+tools/judges.py
 
-These share nothing with what tools/generate.py writes: the codes and the lines of conformance/, the tables of the program that writes
-comparisons, and the rules of bench/src/rules.rs. The last line is 'N passed, M failed'.
+These share nothing with what tools/generate.py writes: the codes and the lines of conformance/, the tables of the
+program that writes comparisons, and the rules of bench/src/rules.rs. The last line is 'N passed, M failed'.
 """
 import re
 import sys

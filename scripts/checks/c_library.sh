@@ -60,8 +60,8 @@ compile_hostile_calls() {
     -Wl,--wrap=malloc,--wrap=realloc,--wrap=free -pthread -o "$work/hostile"
 }
 
-# message_structs COUNT FLAG..: the structs of pendratsoa_messages.h, by the test vectors and by COUNT adversarial calls,
-# compiled with these flags
+# message_structs COUNT FLAG..: the structs of pendratsoa_messages.h, by the test vectors and by COUNT adversarial
+# calls, compiled with these flags
 message_structs() {
   calls=$1
   shift

@@ -1,11 +1,11 @@
 #!/bin/sh
-# The library gives the results of the test vectors of conformance/*.txt that are not random, by the program of
-# tests/vectors; with the word '-' those of the lines on standard input.
+# The library gives the results of the test vectors that are not random, by the program of tests/vectors.
 #
-# The program is built without proofs, with checks of each access to memory, and needs a minute for some ten thousand
-# lines. All lines but `record`, the random ones too, are checked by the calls for C over the proved library
-# (scripts/checks/c.sh) and by each package. Each line that fails is shown with the result of the library instead. That
-# the program finds wrong results is shown first, by a wrong line of each kind.
+# With the word '-' it is the lines on standard input that are checked, and not those of conformance/*.txt. The program
+# is built without proofs, with checks of each access to memory, and needs a minute for some ten thousand lines. All
+# lines but `record`, the random ones too, are checked by the calls for C over the proved library (scripts/checks/c.sh)
+# and by each package. Each line that fails is shown with the result of the library instead. That the program finds
+# wrong results is shown first, by a wrong line of each kind.
 set -u
 cd "$(dirname "$0")/../.." || exit 1
 . scripts/checks/lib.sh

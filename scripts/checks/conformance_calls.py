@@ -1,9 +1,9 @@
 """Checks the test vectors on standard input by the calls for C: conformance_calls.py < LINES
 
 It takes the package for Python, which has to be installed or in PYTHONPATH. Lines of the kind `record` have no call.
-Besides, a record that is decoded and encoded is the canonical payload, a stream is the same byte by byte, a canonical payload is its own canonical payload and has the same JSON, JSON
-is read as the canonical payload, a frame is a header and the canonical payload, and a command is the same as itself. The
-last line is 'N passed, M failed'.
+Besides, a record that is decoded and encoded is the canonical payload, a stream is the same byte by byte, a canonical
+payload is its own canonical payload and has the same JSON, JSON is read as the canonical payload, a frame is a header
+and the canonical payload, and a command is the same as itself. The last line is 'N passed, M failed'.
 """
 
 import sys

@@ -7,7 +7,6 @@ and outputs that fail.
 from __future__ import annotations
 
 import os
-import pathlib
 import subprocess
 
 import checks

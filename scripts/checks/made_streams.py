@@ -8,7 +8,8 @@ of which is dumped alone.
 
 Each is dumped and made again of the dump. If no payload was damaged, that is the stream, so its dump is the same.
 Otherwise what is made has the same dump, but for offsets and lengths, and is what is made of its own dump. A dump
-with texts says the same, and the same is made of it. Of a batch that fails each stream is tried alone. The last line but one has the seed.
+with texts says the same, and the same is made of it. Of a batch that fails each stream is tried alone. The last line
+but one has the seed.
 """
 import base64
 import json

@@ -2,8 +2,9 @@
 """Links, paths, worked lines and the names in tables of promises exist; the README shows what runs.
 
 Each link, anchor and path of this repository in `code`, the length of lines, the form of decisions, each worked line
-of conformance, the test vectors of each rule, the README's page of code and the dump that it shows, and each name in a
-table of promises, in the crates of its section. What is missing is shown before the last line.
+of conformance, the test vectors of each rule, the README's page of code and the dump that it shows, each name in a
+table of promises, in the crates of its section, and each `unsafe` block, which the page on what is proved names. What
+is missing is shown before the last line.
 """
 from __future__ import annotations
 
@@ -131,12 +132,12 @@ def decisions() -> Found:
 
 def worked_lines() -> Found:
     """A worked line is one of conformance."""
-    vectors = {line for path in pathlib.Path("conformance").glob("*.txt") for line in lines(str(path))}
+    vectors = {line for path in files("conformance", ".txt") for line in lines(path)}
     for page in pages():
         if page == "conformance/README.md":
             continue
         for line in lines(page):
-            worked = re.fullmatch("    ((payload|merge|frame|stream|record|compare) .* = .*)", line)
+            worked = re.fullmatch("    ((payload|merge|frame|stream|record|compare|fields|json|read) .* = .*)", line)
             if worked:
                 yield page, f"no line of conformance/: {worked[1]}", worked[1].strip() in vectors
 
@@ -228,16 +229,34 @@ def promised_names() -> Found:
     """Each name in a table of promises is a word of the code or the definitions of the crate in the heading, of one
     that it depends on, or of one that the column names; or it is a crate."""
     below = crates.uses()
-    for page in ("README.md", "docs/PROOFS.md"):
-        for crate, names in promises(page):
-            known = set().union(*map(words_of, [crate, *below.get(crate, []), *names]))
-            for name in names:
-                yield page, f"{name} is not in crates/{crate}", name in known or bool(words_of(name))
+    page = "docs/PROOFS.md"
+    for crate, names in promises(page):
+        known = set().union(*map(words_of, [crate, *below.get(crate, []), *names]))
+        for name in names:
+            yield page, f"{name} is not in crates/{crate}", name in known or bool(words_of(name))
+
+
+def guarantees() -> Found:
+    """Each name among the guarantees of the README is a word of some crate."""
+    known = set().union(*map(words_of, crates.uses()))
+    section = text("README.md").partition("\n## Guarantees\n")[2].partition("\n## ")[0]
+    for name in sorted({word for code in section.split("`")[1::2] for word in re.findall(r"\w+", code)}):
+        yield "README.md", f"{name} is in no crate", name in known
+
+
+def unsafe_blocks() -> Found:
+    """The page on what is proved names the function of each `unsafe` block."""
+    page = "docs/PROOFS.md"
+    said = next(part for part in text(page).split("\n\n") if "`unsafe` blocks" in part)
+    for file in files("crates", ".rt"):
+        for block in re.finditer(r"\bunsafe \{", text(file)):
+            name = re.findall(r"\bfn (\w+)", text(file)[:block.start()])[-1]
+            yield page, f"{name} of {file} has an unsafe block", f"`{name}`" in said
 
 
 PARTS = (
     links_and_paths, anchors, long_lines, decisions, worked_lines, rules, page_of_code, quoted_code, shown_dump,
-    promised_names,
+    promised_names, guarantees, unsafe_blocks,
 )
 
 

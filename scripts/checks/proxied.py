@@ -2,8 +2,8 @@
 """proxied.py COMMAND..: a proxy passes journals on over sockets of this machine.
 
 The command is one of the examples named proxy, which takes a version, a host and a port after these words, prints the
-port at which it listens, and adds 1 to each state that is set. The journals have flags that no encoder sets, lengths longer than
-they need to be, custom entries and unknown types, and come in chunks of any size.
+port at which it listens, and adds 1 to each state that is set. The journals have flags that no encoder sets, lengths
+longer than they need to be, custom entries and unknown types, and come in chunks of any size.
 """
 import random
 import socket

@@ -2,8 +2,8 @@
 # The package for Python: built and installed with its library, its tests, its types, the test vectors by its calls.
 #
 # It takes the proved static library, as scripts/checks/c.sh does. The package is built in a copy of the folder python/,
-# and nothing is downloaded. For a wheel a Python needs pip, setuptools and wheel, for the compiled module the headers of
-# CPython, and for the types there has to be mypy. Tests and vectors are run with that module and without.
+# and nothing is downloaded. For a wheel a Python needs pip, setuptools and wheel, for the compiled module the headers
+# of CPython, and for the types there has to be mypy. Tests and vectors are run with that module and without.
 set -u
 cd "$(dirname "$0")/../.." || exit 1
 . scripts/checks/lib.sh

@@ -2,7 +2,8 @@
 # The gem for Ruby: its tests and the test vectors without a warning, built and installed with its library, its example.
 #
 # It works on a copy, over the installed library and without a network. It takes the proved static library, as
-# scripts/checks/c.sh does. Tests are run with the compiled module, which needs make and the headers of Ruby, and without.
+# scripts/checks/c.sh does. Tests are run with the compiled module, which needs make and the headers of Ruby, and
+# without.
 set -u
 cd "$(dirname "$0")/../.." || exit 1
 . scripts/checks/lib.sh

@@ -39,8 +39,8 @@ for folder in "$@"; do
   sources "tests/$folder" "$crate/src/$folder"
 done
 
-# as_library CRATE FOLDER [LIBRARY]: in the copy, a crate that no other can use is a library of public modules, which the
-# tests of this folder use, and this other library
+# as_library CRATE FOLDER [LIBRARY]: in the copy, a crate that no other can use is a library of public modules, which
+# the tests of this folder use, and this other library
 as_library() {
   [ -d "$crate/src/$2" ] || return 0
   top=$work/tree/crates/$1/src

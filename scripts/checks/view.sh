@@ -1,5 +1,5 @@
 #!/bin/sh
-# The page of journal_view: its maker, and the page in a headless Chromium, by mouse and keys, with adversarial payloads.
+# The page of journal_view: its maker, and the page in a headless Chromium, by mouse and keys, of adversarial payloads.
 #
 # It takes the proved journal. The browser is driven over a pipe, without a network.
 set -u

@@ -1,7 +1,6 @@
 """All that repeats the calls for C, from proto/calls.json: the header, the functions of journal_ffi, what each binding
 declares of the library, and the list of calls for tests/c/hostile_calls.c. Each language has a function here.
 """
-import pathlib
 import re
 import textwrap
 

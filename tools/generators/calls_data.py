@@ -101,7 +101,7 @@ def kinds():
 
 
 def constants(entry):
-    """The kinds of a list: the number of each, its name in C without `JOURNAL_`, its name elsewhere, and its meaning."""
+    """The kinds of a list: the number of each, its name in C without `JOURNAL_`, its name elsewhere, its meaning."""
     begin = entry.get("from", 0)
     for number, (name, said) in enumerate(entry["values"], entry.get("first", 0)):
         yield number, entry.get("prefix", "") + name if number >= begin else name, name, said

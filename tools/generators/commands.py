@@ -1,7 +1,7 @@
 """How the commands of proto/journal.proto are compared, and how their differences are printed.
 
-One file a command, one for each oneof that several commands share, the module of these, and for a command with printed fields
-the proof that they follow each other.
+One file a command, one for each oneof that several commands share, the module of these, and for a command with printed
+fields the proof that they follow each other.
 """
 from . import laid_out
 from .forms import bound, writer
@@ -22,8 +22,8 @@ def name_number():
 
 
 class Entry:
-    """What the description says of a command: the numbers of the fields that are never compared, those of its payloads, and the numbers and
-    names of the printed fields, in order."""
+    """What the description says of a command: the numbers of the fields that are never compared, those of its payloads,
+    and the numbers and names of the printed fields, in order."""
 
     def __init__(self, message):
         fields = fields_of(message)
@@ -237,8 +237,8 @@ def write_command(command, shared):
 
 
 def chained_fields(command):
-    """The proof that a command's fields follow each other, which the prover does not find by itself beyond six, or through definitions that it
-    must not open."""
+    """The proof that a command's fields follow each other, which the prover does not find by itself beyond six, or
+    through definitions that it must not open."""
     path = f"Rattle.{CRATE}.proofs.commands.{command.module}.{command.message.name}CommandMessageHeaderDiff.write_fields.Goals"
     counts = {}
     steps = ""

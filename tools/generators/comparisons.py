@@ -390,7 +390,7 @@ def malformed(about, command, actual, expected):
 
 
 def records(command, *fields):
-    """The records of fields, each a name and a value, in this order; a message is given as the dictionary of its fields."""
+    """The records of fields, each a name and a value, in this order; a message is a dictionary of its fields."""
     out = b""
     for name, held in fields:
         field = field_of(f"{command}CommandMessage", name)

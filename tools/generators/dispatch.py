@@ -1,5 +1,5 @@
-"""The records of shared_core by their types, commands and schemas: what leads from one that is known at run time to its record, the number of a
-type's schema, and all records by one public path.
+"""The records of shared_core by their types, commands and schemas: what leads from one that is known at run time to its
+record, the number of a type's schema, and all records by one public path.
 """
 from . import laid_out
 from .proto import OneOf, earlier, messages, schemas, snake, typed

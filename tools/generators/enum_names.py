@@ -1,5 +1,5 @@
-"""The names of the values of the protocol's enums, by the fields that have one: the table that the contracts of shared_core_json_reader
-cite, and that of the program, which is proved to be the same.
+"""The names of the values of the protocol's enums, by the fields that have one: the table that the contracts of
+shared_core_json_reader cite, and that of the program, which is proved to be the same.
 """
 from . import laid_out
 from .proto import enums, fields_of, schemas

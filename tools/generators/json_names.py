@@ -1,5 +1,5 @@
-"""The names that JSON has for the fields of the protocol's messages, in the order of the schemas of shared_core_codec: the table that the
-contracts of shared_core_json cite, and that of the program, which is proved to be the same.
+"""The names that JSON has for the fields of the protocol's messages, in the order of the schemas of shared_core_codec:
+the table that the contracts of shared_core_json cite, and that of the program, which is proved to be the same.
 """
 from . import bracketed, laid_out
 from .proto import fields_of, json_name, schemas

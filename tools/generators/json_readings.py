@@ -1,7 +1,7 @@
 """JSON texts as test vectors, conformance/json/readings.txt: what each is read as, or why it is not, and where.
 
-The results are hand-written, but for those of each field, which follow from its name and its kind in proto/journal.proto. No reader of JSON takes
-part.
+The results are hand-written, but for those of each field, which follow from its name and its kind in
+proto/journal.proto. No reader of JSON takes part.
 """
 from . import missing  # noqa: F401
 from .payloads import lengthy, varint
@@ -31,7 +31,8 @@ class First:
         return next(self.results[field.name] for field in fields_of(message) if field.name in self.results)
 
 
-# A title, and its lines: the schema, the text, and the result: the fields of a message, or the kind of the error with an offset or a path.
+# A title, and its lines: the schema, the text, and the result: the fields of a message, or the kind of the error with
+# an offset or a path.
 WRITTEN = [
     ("Members in any order, by either name, with spaces and escapes", [
         ("StartMessage", '{"knownEntries":3}', {"known_entries": 3}),

@@ -1,5 +1,5 @@
-"""Lists of what proto/journal.proto names, for programs and tests that go through all of it: types, commands, schemas, and the members of
-oneofs.
+"""Lists of what proto/journal.proto names, for programs and tests that go through all of it: types, commands, schemas,
+and the members of oneofs.
 """
 from . import laid_out
 from .proto import OneOf, camel, command_types, messages, schemas, snake, typed

@@ -33,7 +33,7 @@ ESCAPES = {"n": 10, "r": 13, "t": 9, "0": 0, "b": 8, "a": 7, "f": 12, "v": 11, "
 def text_bytes(text):
     """The bytes of a literal's text, or None where it has more than bytes."""
     out = bytearray()
-    for hexadecimal, broken, escape, other in re.findall(
+    for hexadecimal, _, escape, other in re.findall(
         r"""\\x([0-9a-fA-F]{2})|(\\\n\s*)|\\(.)|([^\\])""", text, re.S
     ):
         if hexadecimal:
@@ -173,13 +173,6 @@ class Literals:
         self.lines = re.compile(f"({words})") if words else None
         self.count = 0
 
-    def is_stream(self, data):
-        """Whether bytes are whole frames of types and nothing else."""
-        items = list(self.old.items(renumbered.SKIPPED_FROM, data))
-        return bool(items) and items[-1][2] == len(data) and all(
-            code in self.old.codes and data[at + 2:at + 4] in (b"\0\0", b"\x80\0") for code, at, _, _ in items
-        )
-
     def changed(self, path, pieces):
         """The other bytes of a literal that is in several parts, or None where it is nothing that is known."""
         data = b"".join(pieces)
@@ -187,7 +180,7 @@ class Literals:
         schema = elsewhere.get(data.hex(), self.means.get(data.hex()))
         if schema:
             return [self.renumbering.payload(schema, data, None)]
-        version = self.versions.get(data.hex(), renumbered.SKIPPED_FROM if self.is_stream(data) else None)
+        version = self.versions.get(data.hex(), renumbered.SKIPPED_FROM if self.old.is_stream(data) else None)
         return self.renumbering.stream(version, pieces, None) if version else None
 
     def text(self, path, text):

@@ -183,7 +183,7 @@ def cells(line):
 
 
 def table(text):
-    """A table's rows as items: of two cells the first is the tag, of more the first two, and the last has its heading."""
+    """A table's rows as items: of two cells the first is the tag, of more the first two, and the last its heading."""
     found = ""
     head, _, *lines = text.split("\n")
     for line in lines:

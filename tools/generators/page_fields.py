@@ -1,5 +1,6 @@
-"""What the page of view/ has to know of the protocol: of each type whether it is a command or a notification, and its message; of each message
-its fields, as JSON names them, with the kind of each. So the page knows which texts of a dump are bytes, and which fields are not compared.
+"""What the page of view/ has to know of the protocol: of each type whether it is a command or a notification, and its
+message; of each message its fields, as JSON names them, with the kind of each. So the page knows which texts of a dump
+are bytes, and which fields are not compared.
 """
 import json
 
@@ -30,7 +31,8 @@ def field_entry(field):
 
 
 def types():
-    """The types by their names, each with its direction and its messages: that of the last version, and those before a version."""
+    """The types by their names, each with its direction and its messages: that of the last version, and those before a
+    version."""
     found = {message.type_name(): {"direction": direction(message), "message": message.name} for message in typed()}
     for message, last in earlier():
         found[last.type_name()].setdefault("before", {})[str(message.before_version)] = message.name

@@ -1,11 +1,13 @@
 """The peer's records and tables, over prost.
 
-bench/src/records.rs has the records of proto/journal.proto as prost-build would write them, with shared buffers for `bytes`. table.rs has
-what depends on their numbers: the fields of each schema, the code of each message type, and macros that lead from a number to the record.
-json.rs has how serde writes the records, in proto3's JSON form, and read_json.rs how it reads them.
+bench/src/records.rs has the records of proto/journal.proto as prost-build would write them, with shared buffers for
+`bytes`. table.rs has what depends on their numbers: the fields of each schema, the code of each message type, and
+macros that lead from a number to the record. json.rs has how serde writes the records, in proto3's JSON form, and
+read_json.rs how it reads them.
 """
 from . import missing  # noqa: F401
 from .proto import OneOf, camel, enums, json_name, messages, schemas, snake, typed
+from .tables import least
 
 ABOUT = "The records and the tables of the peer, in Rust."
 SOURCE = "proto/journal.proto"
@@ -134,11 +136,6 @@ def written_one_of(message, row):
     return f"        match &self.{row.name} {{\n{arms}            None => (),\n        }}\n"
 
 
-def least_number(row):
-    """The place of a row in a message: its least number."""
-    return min(member.number for member in row.members) if isinstance(row, OneOf) else row.number
-
-
 def json():
     """The source of src/json.rs."""
     parts = [
@@ -149,7 +146,7 @@ def json():
     for message in messages():
         members = "".join(
             written_one_of(message, row) if isinstance(row, OneOf) else written_field(row)
-            for row in sorted(message.rows, key=least_number)
+            for row in sorted(message.rows, key=least)
         )
         mutable = "mut " if members else ""
         parts.append(
@@ -161,7 +158,7 @@ def json():
 
 
 def read_type(field):
-    """The type by which serde reads a single value of a field, and what makes the field's value of one that was read."""
+    """The type by which serde reads a single value of a field, and what makes the field's value of it."""
     return {
         "u32": ("Number<u32>", "{0}.0"),
         "u64": ("Number<u64>", "{0}.0"),

@@ -1,14 +1,14 @@
 """Streams and their dumps, with protobuf's own JSON printer as the judge:
 
     protobuf_dumps.py --write FOLDER FROM
-                                         writes the stored run of journal and the JSON of each message below a folder, for tools/generate.py,
-                                         from the records and the types below another one
+        writes the stored run of journal and the JSON of each message below a folder, for tools/generate.py, from the
+        records and the types below another one
     protobuf_dumps.py --random SEED COUNT PROGRAM [WORD..]
-                                         COUNT random payloads of each message type in one stream, dumped by the program and printed by protobuf
+        COUNT random payloads of each message type in one stream, dumped by the program and printed by protobuf
 
-It needs protoc and python3's protobuf (Debian's protobuf-compiler and python3-protobuf). Nothing of this project's own code takes part: payloads are
-those of conformance/records.txt, which protoc made, and what protobuf makes of random values; a type's code is that of proto/types.txt. The last
-line of --random is 'N passed, M failed'.
+It needs protoc and python3's protobuf (Debian's protobuf-compiler and python3-protobuf). Nothing of this project's own
+code takes part: payloads are those of conformance/records.txt, which protoc made, and what protobuf makes of random
+values; a type's code is that of proto/types.txt. The last line of --random is 'N passed, M failed'.
 """
 import base64
 import json
@@ -145,8 +145,9 @@ def future_of(kinds, levels):
 
 
 def stored(kinds, root):
-    """The stream of the stored run: each message with every field, with each member of its oneofs, and empty; texts with every escape; ninety
-    levels; a malformed payload between two good ones; headers with bits that say nothing; items that are no messages; and a rest."""
+    """The stream of the stored run: each message with every field, with each member of its oneofs, and empty; texts
+    with every escape; ninety levels; a malformed payload between two good ones; headers with bits that say nothing;
+    items that are no messages; and a rest."""
     stream = Stream(kinds, root)
     for name, payload in records(root):
         if name.endswith("Message"):

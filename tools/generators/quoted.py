@@ -89,13 +89,6 @@ class Quoted:
         self.schemas = {message.schema: name for name, message in self.old.messages.items()}
         self.count = 0
 
-    def is_stream(self, data):
-        """Whether bytes are whole frames of types and nothing else."""
-        items = list(self.old.items(renumbered.SKIPPED_FROM, data))
-        return bool(items) and items[-1][2] == len(data) and all(
-            code in self.old.codes and data[at + 2:at + 4] in (b"\0\0", b"\x80\0") for code, at, _, _ in items
-        )
-
     def begins(self, schema, data, is_schema):
         """Whether bytes begin with a field of a message, which is whole; where the code says a schema it may be of no
         field."""
@@ -120,7 +113,7 @@ class Quoted:
 
     def changed(self, schema, data, is_schema):
         """Bytes with the other numbers, or as they are."""
-        if self.is_stream(data):
+        if self.old.is_stream(data):
             return b"".join(self.renumbering.stream(renumbered.SKIPPED_FROM, [data], None))
         if schema in self.old.fields and self.begins(schema, data, is_schema):
             return self.renumbering.payload(schema, data, None)

@@ -1,7 +1,7 @@
 """The records of proto/journal.proto as Rattle source, as prost-build writes them for Rust.
 
-One file a message, in the crates below, laid out as `rt fmt` does. Future alone is written by hand, since it leads back to itself and so has a
-form of its own; its fields and numbers are compared with the description.
+One file a message, in the crates below, laid out as `rt fmt` does. Future alone is written by hand, since it leads back
+to itself and so has a form of its own; its fields and numbers are compared with the description.
 """
 import re
 import shutil
@@ -213,6 +213,62 @@ def part_laws(message):
     return laws(PARTS_CRATE, snake(message), message, "WireRecord", snake(message))
 
 
+class OneOfLines:
+    """The lines of a oneof's enum and of its impl, which are added member by member."""
+
+    def __init__(self, source, name):
+        self.source = source
+        self.name = name
+        self.variants = f"{snake(name)}_is"
+        self.declared, self.members, self.parts, self.merges, self.sizes, self.writes = [], [], [], [], [], []
+        self.presents, self.equals, self.laws = [], [], []
+
+    def add(self, member):
+        variant, local, number = camel(member.name), bound(member), member.number
+        held, kind, rules = self.held(member)
+        view = f"{self.variants}.{variant}"
+        part = self.source.part(member.kind, member.message, "x")
+        search = f"({', '.join(rules)})" if len(rules) > 1 else rules[0]
+        self.declared.append(comment(member.comment, "    ") + f"    {variant}({held}),\n")
+        self.members.append(f"({number}, {kind})")
+        self.parts.append(f"      | {view} x ↦ Member {number} ({part})\n")
+        self.merges.append(self.merge(member, variant, local))
+        self.sizes.append(f"            {self.name}::{variant}({local}) => {local}.measure_value(size, {number}),\n")
+        self.writes.append(f"            {self.name}::{variant}({local}) => {local}.write_value(out, end, {number}),\n")
+        self.presents.append(f"{view} x ↦ refl")
+        self.equals.append(
+            f"      | {view} x ↦ elim [ {view} y ↦ Prim.search {search} | _ ↦ different_members _ _ _ _ refl ]\n"
+        )
+
+    def held(self, member):
+        """The type that a variant holds, the kind of its field, and the rules by which two of it are equal."""
+        if member.kind != "message":
+            self.source.kinds.add(KINDS[member.kind])
+            return TYPES[member.kind], KINDS[member.kind], ["equality_rules"]
+        self.source.uses.add("shared_core_codec::record::WireRecord")
+        self.source.kinds.add("Message")
+        line, found = part_laws(member.message)
+        if line not in self.laws:
+            self.laws.append(line)
+        return member.message, f"Message tables.{schema_name(member.message)}", ["equality_rules", *found]
+
+    def merge(self, member, variant, local):
+        """The arm that merges an occurrence of a member: a message and a text are merged into what is there."""
+        one = f"{self.name}::{variant}"
+        if member.kind not in ("message", "text"):
+            return f"            {member.number} => *oneof = Some({one}(FieldKind::read_value(field)?)),\n"
+        return (
+            f"            {member.number} => {{\n"
+            f"                if !matches!(oneof, Some({one}(_))) {{\n"
+            f"                    *oneof = Some({one}(FieldKind::empty_value(field.alloc)));\n"
+            "                }\n"
+            f"                if let Some({one}({local})) = oneof {{\n"
+            f"                    {local}.merge_value(field)?;\n"
+            "                }\n"
+            "            }\n"
+        )
+
+
 def write_oneof(source, module, name, oneof, about, derived=()):
     """The enum of a oneof and its impl."""
     source.uses |= {
@@ -225,84 +281,128 @@ def write_oneof(source, module, name, oneof, about, derived=()):
     source.values.add("Member")
     source.prelude |= {"[]", "◌∷◌", "refl"}
     source.rules.add("different_members")
-    variants = f"{snake(name)}_is"
     result = source.result()
-    members, parts, merges, sizes, writes, presents, equals = [], [], [], [], [], [], []
-    law_lines, declared = [], ""
+    lines = OneOfLines(source, name)
     for member in oneof.members:
-        variant = camel(member.name)
-        local = bound(member)
-        number = member.number
-        rules = ["equality_rules"]
-        if member.kind == "message":
-            source.uses.add("shared_core_codec::record::WireRecord")
-            source.kinds.add("Message")
-            kind = f"Message tables.{schema_name(member.message)}"
-            held = member.message
-            line, found = part_laws(member.message)
-            if line not in law_lines:
-                law_lines.append(line)
-            rules += found
-        else:
-            source.kinds.add(KINDS[member.kind])
-            kind = KINDS[member.kind]
-            held = TYPES[member.kind]
-        if member.kind in ("message", "text"):
-            merge = (
-                f"            {number} => {{\n"
-                f"                if !matches!(oneof, Some({name}::{variant}(_))) {{\n"
-                f"                    *oneof = Some({name}::{variant}(FieldKind::empty_value(field.alloc)));\n"
-                "                }\n"
-                f"                if let Some({name}::{variant}({local})) = oneof {{\n"
-                f"                    {local}.merge_value(field)?;\n"
-                "                }\n"
-                "            }\n"
-            )
-        else:
-            merge = f"            {number} => *oneof = Some({name}::{variant}(FieldKind::read_value(field)?)),\n"
-        declared += comment(member.comment, "    ") + f"    {variant}({held}),\n"
-        members.append(f"({number}, {kind})")
-        parts.append(f"      | {variants}.{variant} x ↦ Member {number} ({source.part(member.kind, member.message, 'x')})\n")
-        merges.append(merge)
-        sizes.append(f"            {name}::{variant}({local}) => {local}.measure_value(size, {number}),\n")
-        writes.append(f"            {name}::{variant}({local}) => {local}.write_value(out, end, {number}),\n")
-        presents.append(f"{variants}.{variant} x ↦ refl")
-        search = f"({', '.join(rules)})" if len(rules) > 1 else rules[0]
-        equals.append(
-            f"      | {variants}.{variant} x ↦ elim [ {variants}.{variant} y ↦ Prim.search {search} | _ ↦ different_members _ _ _ _ refl ]\n"
-        )
+        lines.add(member)
     source.body.append(
         comment(about)
-        + f"#[derive({', '.join(['Debug', 'PartialEq', *derived, 'Drop'])})]\npub enum {name} {{\n{declared}}}\n\n"
+        + f"#[derive({', '.join(['Debug', 'PartialEq', *derived, 'Drop'])})]\n"
+        + f"pub enum {name} {{\n{''.join(lines.declared)}}}\n\n"
         + f"impl OneOf for {name} {{\n"
-        + f"    ghost use Rattle.{source.crate}.specs.declared.{module}.{name}.TheVariants as {variants};\n\n"
-        + f"    ghost members = {{ {' ∷ '.join(members)} ∷ [] }};\n\n"
+        + f"    ghost use Rattle.{source.crate}.specs.declared.{module}.{name}.TheVariants as {lines.variants};\n\n"
+        + f"    ghost members = {{ {' ∷ '.join(lines.members)} ∷ [] }};\n\n"
         + "    ghost part = { elim [\n"
-        + "".join(parts)
+        + "".join(lines.parts)
         + "    ] };\n\n"
         + "    #[tactic(auto, using(shared_core_codec::proofs::Keeping::part_stays))]\n"
         + f"    fn merge_member(oneof: &mut Option<{name}>, field: &Occurrence<'_>) -> {result}<(), WireError> {{\n"
         + "        match field.number {\n"
-        + "".join(merges)
+        + "".join(lines.merges)
         + "            _ => unreachable!(),\n        }\n        Ok(())\n    }\n\n"
         + "    fn measure(&self, size: &mut Size) {\n        match self {\n"
-        + "".join(sizes)
+        + "".join(lines.sizes)
         + "        }\n    }\n\n"
         + "    fn encode_back(&self, out: &mut [u8], end: usize) -> usize {\n        match self {\n"
-        + "".join(writes)
+        + "".join(lines.writes)
         + "        }\n    }\n\n"
-        + "".join(law_lines)
-        + ("\n" if law_lines else "")
-        + f"    ghost present = {{ elim [ {' | '.join(presents)} ] }};\n\n"
+        + "".join(lines.laws)
+        + ("\n" if lines.laws else "")
+        + f"    ghost present = {{ elim [ {' | '.join(lines.presents)} ] }};\n\n"
         + "    ghost equality = { elim [\n"
-        + "".join(equals)
+        + "".join(lines.equals)
         + "    ] };\n}\n\n"
     )
 
 
+class RecordLines:
+    """The lines of a record's struct and of its impl, which are added row by row."""
+
+    def __init__(self, source, crate, module, shared):
+        self.source = source
+        self.crate = crate
+        self.module = module
+        self.shared = shared
+        self.fields, self.parts, self.empties, self.merges, self.sizes, self.writes = [], [], [], [], [], []
+        self.laws, self.rules = [], ["equality_rules"]
+
+    def add(self, row):
+        self.source.values.add("cons")
+        self.fields.append(comment(row.comment, "    "))
+        if isinstance(row, OneOf):
+            self.add_oneof(row)
+        else:
+            self.add_field(row)
+
+    def add_oneof(self, row):
+        self.source.uses.add("shared_core_codec::oneof::OneOf")
+        self.source.views.add("option_part")
+        enum = camel(row.name)
+        part = f"option_part ⟦<{enum} as OneOf>⟧.part message.{row.name}"
+        self.member(row, f"Option<{enum}>", part, "None")
+        self.code(" | ".join(str(member.number) for member in row.members), "oneof", None, row.name)
+        home, enum_name = self.shared.get(row.name, (self.module, enum))
+        self.law(*laws(self.crate, home, enum_name, "OneOf", row.name))
+
+    def add_field(self, row):
+        number, at = row.number, f"message.{row.name}"
+        held = row.message or TYPES[row.kind]
+        if row.kind == "message":
+            self.law(*part_laws(row.message))
+        if row.presence == "repeated":
+            part = f"{self.view('elements_part', row)} {at}.items"
+            self.member(row, f"Vec<{held}>", part, "Vec::new(alloc)")
+            self.code(number, "packed" if row.kind == "u32" else "repeated", number, row.name)
+        elif row.presence in ("optional", "message"):
+            self.member(row, f"Option<{held}>", f"{self.view('option_part', row)} {at}", "None")
+            self.code(number, "optional", number, row.name)
+        else:
+            self.member(row, held, self.source.part(row.kind, None, at), EMPTY[row.kind])
+            self.code(number, "plain", number, row.name)
+
+    def view(self, part, row):
+        """How a part with a presence is seen: by the view of what it holds."""
+        self.source.views.add(part)
+        view = self.source.part(row.kind, row.message, "")
+        return f"{part} ({view})" if " " in view else f"{part} {view}"
+
+    def member(self, row, held, part, empty):
+        """A member of the struct: its type, its part of the value, and what it is in the empty record."""
+        self.fields.append(f"    pub {row.name}: {held},\n")
+        self.parts.append(part)
+        self.empties.append(f"            {row.name}: {empty},\n")
+
+    def code(self, numbers, presence, number, name):
+        """The lines that merge, measure and write a row."""
+        merge, size, write = self.source.lines(presence, number, name)
+        self.merges.append(f"            {numbers} => {merge}")
+        self.sizes.append(size)
+        self.writes.append(write)
+
+    def law(self, line, found):
+        """The law by which two of what a row holds are equal."""
+        if line not in self.laws:
+            self.laws.append(line)
+            self.rules.extend(found)
+
+    def value(self):
+        """The parts of the value, in order."""
+        value = "nil"
+        for part in reversed(self.parts):
+            value = f"cons ({part})\n        ({value})" if value != "nil" else f"cons ({part}) nil"
+        return value
+
+    def bodies(self):
+        """The bodies of `merge_field` and `encode_back`; the last field is written first."""
+        if not self.parts:
+            return "        Ok(())\n", "        end\n"
+        merge = "        match field.number {\n" + "".join(self.merges) + "            _ => {}\n        }\n        Ok(())\n"
+        write = "".join(f"        let end = {line};\n" for line in reversed(self.writes[1:]))
+        return merge, write + f"        {self.writes[0]}\n"
+
+
 def write_record(source, crate, message, shared):
     """The struct of a message and its impl."""
-    module = snake(message.name)
     name = message.name
     source.uses |= {
         "shared_core_codec::occurrence::Occurrence",
@@ -312,76 +412,16 @@ def write_record(source, crate, message, shared):
         "std::alloc::Global",
     }
     source.values.add("nil")
-    fields, parts, empties, merges, sizes, writes = [], [], [], [], [], []
-    law_lines, rules = [], ["equality_rules"]
-
-    def law(line, found):
-        if line not in law_lines:
-            law_lines.append(line)
-            rules.extend(found)
-
-    def line(numbers, presence, number, name):
-        merge, size, write = source.lines(presence, number, name)
-        merges.append(f"            {numbers} => {merge}")
-        sizes.append(size)
-        writes.append(write)
-
+    lines = RecordLines(source, crate, snake(name), shared)
     for row in message.rows:
-        source.values.add("cons")
-        at = f"message.{row.name}"
-        fields.append(comment(row.comment, "    "))
-        if isinstance(row, OneOf):
-            source.uses.add("shared_core_codec::oneof::OneOf")
-            source.views.add("option_part")
-            enum = camel(row.name)
-            fields.append(f"    pub {row.name}: Option<{enum}>,\n")
-            parts.append(f"option_part ⟦<{enum} as OneOf>⟧.part {at}")
-            empties.append(f"            {row.name}: None,\n")
-            numbers = " | ".join(str(member.number) for member in row.members)
-            line(numbers, "oneof", None, row.name)
-            home, enum_name = shared.get(row.name, (module, enum))
-            law(*laws(crate, home, enum_name, "OneOf", row.name))
-            continue
-        number = row.number
-        kind = row.message or TYPES[row.kind]
-        if row.kind == "message":
-            law(*part_laws(row.message))
-        if row.presence == "repeated":
-            source.views.add("elements_part")
-            view = source.part(row.kind, row.message, "")
-            view = f"({view})" if " " in view else view
-            fields.append(f"    pub {row.name}: Vec<{kind}>,\n")
-            parts.append(f"elements_part {view} {at}.items")
-            empties.append(f"            {row.name}: Vec::new(alloc),\n")
-            line(number, "packed" if row.kind == "u32" else "repeated", number, row.name)
-        elif row.presence in ("optional", "message"):
-            source.views.add("option_part")
-            view = source.part(row.kind, row.message, "")
-            view = f"({view})" if " " in view else view
-            fields.append(f"    pub {row.name}: Option<{kind}>,\n")
-            parts.append(f"option_part {view} {at}")
-            empties.append(f"            {row.name}: None,\n")
-            line(number, "optional", number, row.name)
-        else:
-            fields.append(f"    pub {row.name}: {kind},\n")
-            parts.append(source.part(row.kind, None, at))
-            empties.append(f"            {row.name}: {EMPTY[row.kind]},\n")
-            line(number, "plain", number, row.name)
-    value = "nil"
-    for part in reversed(parts):
-        value = f"cons ({part})\n        ({value})" if value != "nil" else f"cons ({part}) nil"
-    alloc = "alloc" if any("alloc" in empty for empty in empties) else "_alloc"
+        lines.add(row)
+    alloc = "alloc" if any("alloc" in empty for empty in lines.empties) else "_alloc"
     result = source.result()
-    search = f"({', '.join(rules)})" if len(rules) > 1 else rules[0]
+    search = f"({', '.join(lines.rules)})" if len(lines.rules) > 1 else lines.rules[0]
     depth = f" depth {2 * len(message.rows) + 12}" if message.rows else ""
-    if message.rows:
-        merge = "        match field.number {\n" + "".join(merges) + "            _ => {}\n        }\n        Ok(())\n"
-        # the last field is written first
-        write = "".join(f"        let end = {line};\n" for line in reversed(writes[1:])) + f"        {writes[0]}\n"
-    else:
-        merge, write = "        Ok(())\n", "        end\n"
-    declared = "{\n" + "".join(fields) + "}" if message.rows else "{}"
-    built = "{\n" + "".join(empties) + "        }" if message.rows else "{}"
+    merge, write = lines.bodies()
+    declared = "{\n" + "".join(lines.fields) + "}" if message.rows else "{}"
+    built = "{\n" + "".join(lines.empties) + "        }" if message.rows else "{}"
     unused = "" if message.rows else "_"
     binder = "message" if message.rows else "_"
     source.body.append(
@@ -389,20 +429,21 @@ def write_record(source, crate, message, shared):
         + f"#[derive(Debug, PartialEq, Drop)]\npub struct {name} {declared}\n\n"
         + f"impl WireRecord for {name} {{\n"
         + f"    ghost schema = {{ tables.{schema_name(name)} }};\n\n"
-        + f"    ghost parts = {{ λ {binder}. {value} }};\n\n"
+        + f"    ghost parts = {{ λ {binder}. {lines.value()} }};\n\n"
         + f"    fn empty({alloc}: Global) -> {name} {{\n        {name} {built}\n    }}\n\n"
         + "    #[tactic(auto, using(shared_core_codec::proofs::Keeping::rows_stay))]\n"
         + f"    fn merge_field(&mut self, {unused}field: &Occurrence<'_>) -> {result}<(), WireError> {{\n{merge}    }}\n\n"
-        + f"    fn measure(&self, {unused}size: &mut Size) {{\n{''.join(sizes)}    }}\n\n"
+        + f"    fn measure(&self, {unused}size: &mut Size) {{\n{''.join(lines.sizes)}    }}\n\n"
         + f"    fn encode_back(&self, {unused}out: &mut [u8], end: usize) -> usize {{\n{write}    }}\n\n"
-        + "".join(law_lines)
-        + ("\n" if law_lines else "")
+        + "".join(lines.laws)
+        + ("\n" if lines.laws else "")
         + f"    ghost equality = {{ Prim.search {search}{depth} }};\n}}\n"
     )
 
 
 def write_message(source, message):
-    """The impls that say a record's type and what it is written as. What is written otherwise at some versions is in versions.rt."""
+    """The impls that say a record's type and what it is written as. What is written otherwise at some versions is in
+    versions.rt."""
     name = message.name
     ty = TYPE_OF.get(name, name.removesuffix("Message"))
     result = source.result()
@@ -449,8 +490,8 @@ def is_alike(oneof, other):
 
 
 def shared_oneofs(crate, table):
-    """The oneofs that messages of a crate share: the module, the enum's name, what it is, the oneof, and each message with its field. A message
-    whose oneof is not that of the first one keeps an enum of its own."""
+    """The oneofs that messages of a crate share: the module, the enum's name, what it is, the oneof, and each message
+    with its field. A message whose oneof is not that of the first one keeps an enum of its own."""
     found = []
     for module, enum, about, names in SHARED.get(crate, []):
         oneof, users = None, []

@@ -97,8 +97,8 @@ class Side:
         return found
 
     def items(self, version, data):
-        """The items of a stream: the code, the places of its header, its payload and its end, and whether its header
-        is an item by itself; and last where the rest begins."""
+        """The items of a stream: of each the code, where it begins and ends, and whether its header is an item by
+        itself."""
         at = 0
         while len(data) - at >= 8:
             code = int.from_bytes(data[at:at + 2], "big")
@@ -108,6 +108,13 @@ class Side:
                 break
             yield code, at, end, is_alone
             at = end
+
+    def is_stream(self, data):
+        """Whether bytes are whole frames of types and nothing else."""
+        items = list(self.items(SKIPPED_FROM, data))
+        return bool(items) and items[-1][2] == len(data) and all(
+            code in self.codes and data[at + 2:at + 4] in (b"\0\0", b"\x80\0") for code, at, _, _ in items
+        )
 
     def is_type(self, code):
         return code in self.codes or bool(code & CUSTOM)

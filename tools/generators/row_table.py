@@ -1,5 +1,5 @@
-"""The rows of each schema by which the program goes over payloads, in the order of the schemas of shared_core_codec. The rows are proved to be
-those of the schemas.
+"""The rows of each schema by which the program goes over payloads, in the order of the schemas of shared_core_codec.
+The rows are proved to be those of the schemas.
 """
 from . import laid_out
 from .proto import OneOf, schemas

@@ -1,5 +1,6 @@
-"""The tables that contracts cite, each a definition with a row for what proto/journal.proto says once: schemas, the schema of each type, and
-what of a command is compared and printed. And the list of types for the scripts that write and list streams.
+"""The tables that contracts cite, each a definition with a row for what proto/journal.proto says once: schemas, the
+schema of each type, and what of a command is compared and printed. And the list of types for the scripts that write and
+list streams.
 """
 from . import bracketed, laid_out
 from .commands import Entry, name_number

@@ -2,7 +2,7 @@
 import textwrap
 
 from .calls_data import camel
-from .typed_model import TypedOneOf, enumerations, messages, reasons, records
+from .typed_model import TypedOneOf, enumerations, reasons, records
 
 TYPES = {"u32": "uint32", "u64": "uint64", "bool": "bool", "text": "string", "bytes": "[]byte"}
 
@@ -73,10 +73,6 @@ def oneof(record, row):
             text += "\n" + doc(f"{own}: {field.comment[0].lower()}{field.comment[1:]}") + f"type {own} {element(field)}\n"
     width = max(map(len, members))
     return text + "\n" + "".join(f"func ({member}) is{name}(){' ' * (width - len(member))} {{}}\n" for member in members)
-
-
-def article(name):
-    return "An" if name[0] in "AEIOU" else "A"
 
 
 def struct(record):

@@ -61,9 +61,6 @@ class TypedField:
     enum: Optional[str]
     comment: str
 
-    def kind_number(self):
-        return kind_numbers()[self.kind]
-
 
 @dataclasses.dataclass
 class TypedOneOf:

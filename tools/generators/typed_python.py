@@ -1,7 +1,7 @@
 """The records as dataclasses of Python."""
-import re
 import textwrap
 
+from .model import camel
 from .typed_model import TypedOneOf, enumerations, kind_numbers, messages, records
 
 PATH = "python/pendratsoa/messages.py"
@@ -29,10 +29,6 @@ from ._records import MessageRecord, OpenEnum, Record, Row, described
 '''
 
 
-def snake_capitals(name):
-    return re.sub(r"(?<=[a-z0-9])(?=[A-Z])", "_", name).upper()
-
-
 def doc(comment, indent):
     """A comment as the text of a class or of an attribute."""
     lines = textwrap.wrap(comment, 120 - len(indent) - 6)
@@ -50,10 +46,6 @@ def told_apart(oneof):
     """Whether the members of a oneof have classes of their own."""
     classes = [field.record or CLASSES[field.kind] for field in oneof.members]
     return len(classes) == len(set(classes))
-
-
-def camel(name):
-    return "".join(word.capitalize() for word in name.split("_"))
 
 
 def wrapper(record, field):

@@ -2,15 +2,12 @@
 import re
 import textwrap
 
+from .model import camel
 from .typed_model import TypedOneOf, enumerations, kind_numbers, messages, records
 
 # What Ruby tells apart: numbers are Integers, and both texts and bytes are Strings.
 CLASSES = {"u32": "Integer", "u64": "Integer", "enum": "Integer", "bool": "bool", "text": "String", "bytes": "String"}
 DEFAULTS = {"u32": "0", "u64": "0", "bool": "false", "text": '""', "bytes": '"".b'}
-
-
-def camel(name):
-    return "".join(word.capitalize() for word in name.split("_"))
 
 
 def doc(comment, indent):
@@ -66,7 +63,6 @@ def class_of(record):
         text += "  #\n"
         for row in record.rows:
             text += doc(f"- {row.name}, {what(record, row)}: {row.comment[0].lower()}{row.comment[1:]}", "  ")
-    names = ", ".join(f":{row.name}" for row in record.rows)
     rows = []
     for row in record.rows:
         rows += [row_words(record, field, row) for field in row.members] if isinstance(row, TypedOneOf) else [row_words(record, row)]

@@ -3,6 +3,7 @@ import functools
 import textwrap
 
 from .calls_data import described
+from .model import camel
 from .typed_model import TypedOneOf, enumerations, messages, reasons, records
 
 HEAD = """\
@@ -35,10 +36,6 @@ use crate::schema::Schema;
 
 pub use crate::fields::{MessageRecord, Record};
 """
-
-
-def camel(name):
-    return "".join(word.capitalize() for word in name.split("_"))
 
 
 def doc(comment, indent=""):

@@ -1,5 +1,6 @@
-"""The version, from the file VERSION, in hand-written files: the library and its contract, the packages of other languages,
-and pages. Files that are generated whole take it from `library_version` below. All else of these files is written by hand.
+"""The version, from the file VERSION, in hand-written files: the library and its contract, the packages of other
+languages, and pages. Files that are generated whole take it from `library_version` below. All else of these files is
+written by hand.
 """
 import re
 
