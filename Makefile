@@ -2,7 +2,7 @@
 .PHONY: help quick test check generate view install uninstall package release python go ruby rust node bench
 
 help:
-	@echo 'make quick                  what can be known in two minutes, without a proof (sh scripts/test.sh --quick)'
+	@echo 'make quick                  what can be known in three minutes, without a proof (sh scripts/test.sh --quick)'
 	@echo 'make test                   the gate: every proof, test and check, more than an hour (sh scripts/test.sh)'
 	@echo 'make check [NAME=dump]      lists the checks, or runs those that are named, or all (sh scripts/check.sh)'
 	@echo 'make generate [NAME=..]     makes the files that are not written by hand (python3 tools/generate.py)'
