@@ -4,7 +4,8 @@ For two journals of so many commands, 100,000 by default, of which 0, 10 and 1,0
 removed and a third changed, spread evenly. Prints a table in Markdown: the processor time and the peak of resident
 memory of journal diff, of journal diff --all, of diff -u of the dumps without their offsets, which would differ in all
 lines after the first difference, and of both dumps before it. It takes the proved program that rt ci leaves in out/;
-where it is not there, or there is no diff, it says 'not run: ..'.
+where it is not there, or there is no diff, it says 'not run: ..'. The memory is what GNU time says, since the system
+counts that of this script for the processes that it begins itself; without that command the column has a dash.
 """
 import os
 import pathlib
@@ -44,17 +45,20 @@ def write_journals(recorded, replayed, commands, differences):
 
 
 def measured(words, output):
-    """The processor seconds of a program, the least of several runs, and its peak of memory in MiB."""
+    """The processor seconds of a program, the least of several runs, and its peak of memory in MiB, or None."""
+    time = shutil.which("time")
+    peak = f"{output}.peak"
     best = None
     for _ in range(REPEATED):
         with open(output, "wb") as file:
-            process = subprocess.Popen(words, stdout=file, stderr=subprocess.DEVNULL)
+            timed = [time, "-q", "-f", "%M", "-o", peak, *words] if time else words
+            process = subprocess.Popen(timed, stdout=file, stderr=subprocess.DEVNULL)
             _, status, used = os.wait4(process.pid, 0)
             process.returncode = os.waitstatus_to_exitcode(status)
         if process.returncode not in (0, 1):
             raise SystemExit(f"{words}: status {process.returncode}")
-        one = (used.ru_utime + used.ru_stime, used.ru_maxrss / 1024)
-        best = one if best is None else min(best, one)
+        one = (used.ru_utime + used.ru_stime, int(pathlib.Path(peak).read_text()) / 1024 if time else None)
+        best = one if best is None else min(best, one, key=lambda found: found[0])
     return best
 
 
@@ -65,7 +69,7 @@ def without_offsets(path):
 
 
 def shown(one):
-    return f"{one[0]:.2f} s, {one[1]:.0f} MiB"
+    return f"{one[0]:.3f} s, {'–' if one[1] is None else f'{one[1]:.1f} MiB'}"
 
 
 def main(words):
@@ -89,7 +93,7 @@ def main(words):
                 measured([JOURNAL, "diff", *paths], out),
                 measured([JOURNAL, "diff", "--all", *paths], out),
                 measured(["diff", "-u", *dumps], out),
-                (sum(seconds for seconds, _ in made), max(memory for _, memory in made)),
+                (sum(seconds for seconds, _ in made), made[0][1]),
             ]
             print(f"| {commands:,}, {differences:,} | {' | '.join(map(shown, cells))} |")
 

@@ -21,7 +21,7 @@ from checks import Check, NotRun, perform  # noqa: E402
 
 VECTORS = ROOT / "conformance"
 
-# As many random cases as the gate has; of so many, whatever the seed, there are some of each kind.
+# As many random cases as the gate has: among these are some of each kind, whatever the seed.
 COUNT = 50000
 
 
