@@ -162,7 +162,7 @@ fn check_record(
     }
 }
 
-/// How many bytes the records after one have to have, of so many with it; `None` if it has more when it is written.
+/// How many of `room` bytes are left for the records after one; `None` if it has more when it is written.
 #[inline(always)]
 fn room_after(found: &Record<'_>, room: u64) -> Option<u64>
     ensures { result ≡ room_after (field_record_of found.now) room }
