@@ -7,7 +7,7 @@ ghost use Rattle.journal_c_api.specs.JsonPayloads.{reading_bytes, reading_number
 use crate::outcome::{CallError, write_over};
 use json::Scratch;
 use shared_core_codec::check::is_schema;
-use shared_core_json_reader::{JsonReadError, Reason, payload_of_value, value_of_text};
+use shared_core_json_reader::{JsonReadError, Reason, payload_of_node, table_of_text};
 use std::alloc::Global;
 
 /// The number of numbers that are written for a text.
@@ -79,11 +79,11 @@ fn read(alloc: Global, schema: u32, json: &[u8]) -> Result<Reading, CallError>
     ensures { ReadsText schema json.now result }
 {
     let mut scratch = Scratch::new(alloc);
-    let value = match value_of_text(alloc, json, &mut scratch) {
-        Ok(value) => value,
+    let table = match table_of_text(alloc, json, &mut scratch) {
+        Ok(table) => table,
         Err(error) => return not_json(error),
     };
-    match payload_of_value(alloc, schema, &value) {
+    match payload_of_node(alloc, schema, &table.root()) {
         Ok(payload) => if_short(payload),
         Err(error) => not_taken(error),
     }

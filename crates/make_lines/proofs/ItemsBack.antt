@@ -23,7 +23,6 @@ use Rattle.shared_core_codec.specs.Table.{table}
 use Rattle.shared_core_codec.specs.Payloads.{payload_meaning}
 use Rattle.shared_core_json.specs.Fields.{names_of}
 use Rattle.shared_core_json.specs.Form.{byte_string_json, members_json, json_with}
-use Rattle.shared_core_json_reader.specs.Reading.{value_payload}
 use Rattle.shared_core_json_reader.specs.declared.error.Reason.TheVariants.{OutOfRange}
 use Rattle.shared_core_json_reader.specs.Scalars.{bytes_read}
 use Rattle.shared_core_json_reader.specs.FirstError.{number_reason, bytes_reason, value_error}

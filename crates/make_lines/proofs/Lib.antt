@@ -1,5 +1,5 @@
 pub mod Names
-pub mod Checked
+mod Placing
 pub mod Taking
 pub mod Steps
 pub mod Progress

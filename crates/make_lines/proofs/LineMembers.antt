@@ -1,5 +1,5 @@
 -- What the members of a line say.
-use Rattle.std.proofs.Common.{◌≡◌, ℕ, List, [], ◌++◌, eqb, decimal, arith, length, Bool, true, cond, not, Option, Some}
+use Rattle.std.proofs.Common.{◌≡◌, ℕ, List, [], ◌++◌, decimal, arith, length, Bool, true, not, Option, Some}
 use Rattle.std.proofs.Common.{None, option_map, Result, Ok, refl, ap, ap₂, ◌∙◌}
 use Rattle.std.specs.Prelude.{codes, ok_or}
 use Rattle.std.specs.Option.{is_none}

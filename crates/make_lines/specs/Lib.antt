@@ -1,6 +1,7 @@
 pub mod Errors
 pub mod Appending
 pub mod Members
+pub mod Places
 pub mod Lines
 pub mod Made
 pub mod Steps

@@ -1,11 +1,11 @@
 //! The bytes that a line means: the header and the payload of an item, or the bytes after the last one.
 
 ghost use Rattle.std.specs.Prelude.{◌≡◌, ◌++◌, length, Some, None, option_and_then, Ok, IfOk, IfErr, OnOk, MatchResult};
-ghost use Rattle.json.specs.Value.{value_view as json_view};
 ghost use Rattle.shared_core_base.specs.MessageType.{type_of};
 ghost use Rattle.shared_core_message.specs.Schemas.{schema_at};
 ghost use Rattle.make_lines.specs.Errors.{lack};
-ghost use Rattle.make_lines.specs.Lines.{code_read, name_read, code_named, is_name_of, code_if, line_code};
+ghost use Rattle.make_lines.specs.Lines.{code_read, name_read, code_named, code_of_name, is_name_of, code_if};
+ghost use Rattle.make_lines.specs.Lines.{line_code};
 ghost use Rattle.make_lines.specs.Lines.{bytes_said, bytes_name, message_said, nothing_said, line_payload};
 ghost use Rattle.make_lines.specs.Lines.{has_flag, ack_name, line_flag, word, is_alone, line_header, framed};
 ghost use Rattle.make_lines.specs.Lines.{agrees_in_flag, word_fault, alone_given, with_size, header_given};
@@ -13,20 +13,23 @@ ghost use Rattle.make_lines.specs.Lines.{item_said, says_no_item, rest_said, lin
 ghost use Rattle.make_lines.specs.Appending.{HasFault, Rejects, Appends, AppendsLine};
 
 use crate::error::{LineError, LineReason};
-use crate::members::{check_line, given, given_either, given_name};
+use crate::members::{
+    ACK, BYTES, CODE, HEADER, Line, MESSAGE, PAYLOAD, REQUESTED_ACK, REST, TYPE, UNKNOWN,
+};
 use crate::reject::{out_of_memory, reject, reject_inside, reject_name, reject_text};
 use crate::text::is_blank;
-use json::{Scratch, Value};
+use json::Scratch;
+use json_table::Node;
 use shared_core_base::header::MessageType;
 use shared_core_base::version::Version;
 use shared_core_json_reader::{
-    Reason, payload_of_value, read_bytes, read_u32, read_u64, value_of_text,
+    Reason, payload_of_node, read_bytes, read_u32, read_u64, table_of_text,
 };
 use shared_core_message::schemas::schema_at;
 use std::alloc::{AllocError, Global};
 
 /// What a code is multiplied by in the word of a header.
-const CODE: u64 = 1 << 48;
+const CODE_UNIT: u64 = 1 << 48;
 
 /// What a flag is multiplied by there.
 const FLAG: u64 = 1 << 47;
@@ -37,9 +40,9 @@ const LENGTHS: u64 = 1 << 32;
 // ---- the code
 
 /// The code that a value is.
-fn read_code(alloc: Global, value: &Value<'_>) -> Result<u16, LineError>
-    ensures { MatchResult result (λ code. code_read (json_view value.now) ≡ Ok code)
-        (Rejects (code_read (json_view value.now))) }
+fn read_code(alloc: Global, value: &Node<'_, '_>) -> Result<u16, LineError>
+    ensures { MatchResult result (λ code. code_read value.now ≡ Ok code)
+        (Rejects (code_read value.now)) }
 {
     match read_u32(value) {
         Ok(code) if code < 65536 => Ok(code as u16),
@@ -49,9 +52,9 @@ fn read_code(alloc: Global, value: &Value<'_>) -> Result<u16, LineError>
 }
 
 /// The name that a value is.
-fn read_name<'a>(alloc: Global, value: &Value<'a>) -> Result<&'a str, LineError>
-    ensures { MatchResult result (λ name. name_read (json_view value.now) ≡ Ok name.now)
-        (Rejects (name_read (json_view value.now))) }
+fn read_name<'a>(alloc: Global, value: &Node<'_, 'a>) -> Result<&'a str, LineError>
+    ensures { MatchResult result (λ name. name_read value.now ≡ Ok name.now)
+        (Rejects (name_read value.now)) }
 {
     match value.as_str() {
         Some(name) => Ok(name),
@@ -97,35 +100,39 @@ fn code_if(alloc: Global, code: u16, name: &str) -> Result<u16, LineError>
     }
 }
 
-/// The code of a line, by its type and its code.
-fn code_of(alloc: Global, line: &Value<'_>) -> Result<u16, LineError>
-    ensures { MatchResult result (λ code. line_code (json_view line.now) ≡ Ok code)
-        (Rejects (line_code (json_view line.now))) }
+/// The code of the named type that has this name.
+fn code_of_name(alloc: Global, name: &str) -> Result<u16, LineError>
+    ensures { MatchResult result (λ code. code_of_name name.now ≡ Ok code)
+        (Rejects (code_of_name name.now)) }
 {
-    let ty = given("type", line);
-    let Some(code) = given("code", line) else {
-        let Some(ty) = ty else {
-            return Err(reject(alloc, LineReason::NoType, ""));
-        };
-        let name = read_name(alloc, ty)?;
-        return match code_named(name.as_bytes()) {
-            Some(code) => Ok(code),
-            None => Err(reject_name(alloc, name)),
-        };
-    };
-    let code = read_code(alloc, code)?;
-    match ty {
-        Some(ty) => code_if(alloc, code, read_name(alloc, ty)?),
-        None => Ok(code),
+    match code_named(name.as_bytes()) {
+        Some(code) => Ok(code),
+        None => Err(reject_name(alloc, name)),
+    }
+}
+
+/// The code of a line, by its type and its code.
+fn code_of(alloc: Global, line: &Line<'_, '_>) -> Result<u16, LineError>
+    ensures { MatchResult result (λ code. line_code line.now ≡ Ok code)
+        (Rejects (line_code line.now)) }
+{
+    match (line.given(TYPE), line.given(CODE)) {
+        (None, None) => Err(reject(alloc, LineReason::NoType, "")),
+        (Some(ty), None) => code_of_name(alloc, read_name(alloc, &ty)?),
+        (None, Some(code)) => read_code(alloc, &code),
+        (Some(ty), Some(code)) => {
+            let code = read_code(alloc, &code)?;
+            code_if(alloc, code, read_name(alloc, &ty)?)
+        }
     }
 }
 
 // ---- the payload
 
 /// The bytes that a value is, in base64.
-fn bytes_of(alloc: Global, value: &Value<'_>, member: &str) -> Result<Vec<u8>, LineError>
-    ensures { MatchResult result (λ bytes. bytes_said member.now (json_view value.now) ≡ Ok bytes.items)
-        (Rejects (bytes_said member.now (json_view value.now))) }
+fn bytes_of(alloc: Global, value: &Node<'_, '_>, member: &str) -> Result<Vec<u8>, LineError>
+    ensures { MatchResult result (λ bytes. bytes_said member.now value.now ≡ Ok bytes.items)
+        (Rejects (bytes_said member.now value.now)) }
 {
     match read_bytes(alloc, value) {
         Ok(bytes) => Ok(bytes),
@@ -134,10 +141,13 @@ fn bytes_of(alloc: Global, value: &Value<'_>, member: &str) -> Result<Vec<u8>, L
 }
 
 /// The name of the member that gives bytes.
-fn bytes_name(line: &Value<'_>) -> &'static str
-    ensures { result.now ≡ bytes_name (json_view line.now) }
+fn bytes_name(line: &Line<'_, '_>) -> &'static str
+    ensures { result.now ≡ bytes_name line.now }
 {
-    given_name("bytes", "payload", line)
+    match line.given(BYTES) {
+        Some(_) => "bytes",
+        None => "payload",
+    }
 }
 
 /// The schema of the messages that have a code.
@@ -155,24 +165,24 @@ fn message_of(
     alloc: Global,
     version: Version,
     code: u16,
-    message: &Value<'_>,
+    message: &Node<'_, '_>,
 ) -> Result<Vec<u8>, LineError>
-    ensures { MatchResult result (λ bytes. message_said version code (json_view message.now) ≡ Ok bytes.items)
-        (Rejects (message_said version code (json_view message.now))) }
+    ensures { MatchResult result (λ bytes. message_said version code message.now ≡ Ok bytes.items)
+        (Rejects (message_said version code message.now)) }
 {
     let Some(schema) = schema_of(version, code) else {
         return Err(reject(alloc, LineReason::NoSchema, "message"));
     };
-    match payload_of_value(alloc, schema, message) {
+    match payload_of_node(alloc, schema, message) {
         Ok(payload) => Ok(payload),
         Err(error) => Err(reject_inside(alloc, &error, "message")),
     }
 }
 
 /// The payload of an item that is a header alone.
-fn nothing_of(alloc: Global, code: u16, value: &Value<'_>) -> Result<Vec<u8>, LineError>
-    ensures { MatchResult result (λ bytes. nothing_said code (json_view value.now) ≡ Ok bytes.items)
-        (Rejects (nothing_said code (json_view value.now))) }
+fn nothing_of(alloc: Global, code: u16, value: &Node<'_, '_>) -> Result<Vec<u8>, LineError>
+    ensures { MatchResult result (λ bytes. nothing_said code value.now ≡ Ok bytes.items)
+        (Rejects (nothing_said code value.now)) }
 {
     let Some(true) = value.as_bool() else {
         return Err(reject(alloc, LineReason::Json(Reason::WrongKind), "unknown"));
@@ -188,18 +198,18 @@ fn payload_of(
     alloc: Global,
     version: Version,
     code: u16,
-    line: &Value<'_>,
+    line: &Line<'_, '_>,
 ) -> Result<Vec<u8>, LineError>
-    ensures { MatchResult result (λ payload. line_payload version code (json_view line.now) ≡ Ok payload.items)
-        (Rejects (line_payload version code (json_view line.now))) }
+    ensures { MatchResult result (λ payload. line_payload version code line.now ≡ Ok payload.items)
+        (Rejects (line_payload version code line.now)) }
 {
-    let message = given("message", line);
-    let bytes = given_either("bytes", "payload", line);
-    let unknown = given("unknown", line);
+    let message = line.given(MESSAGE);
+    let bytes = line.given_either(BYTES, PAYLOAD);
+    let unknown = line.given(UNKNOWN);
     match (message, bytes, unknown) {
-        (Some(message), None, None) => message_of(alloc, version, code, message),
-        (None, Some(bytes), None) => bytes_of(alloc, bytes, bytes_name(line)),
-        (None, None, Some(unknown)) => nothing_of(alloc, code, unknown),
+        (Some(message), None, None) => message_of(alloc, version, code, &message),
+        (None, Some(bytes), None) => bytes_of(alloc, &bytes, bytes_name(line)),
+        (None, None, Some(unknown)) => nothing_of(alloc, code, &unknown),
         (None, None, None) => Err(reject(alloc, LineReason::NoPayload, "")),
         _ => Err(reject(alloc, LineReason::SeveralPayloads, "")),
     }
@@ -218,18 +228,21 @@ fn has_flag(code: u16) -> bool
 }
 
 /// The name of the member that says whether an acknowledgement is requested.
-fn ack_name(line: &Value<'_>) -> &'static str
-    ensures { result.now ≡ ack_name (json_view line.now) }
+fn ack_name(line: &Line<'_, '_>) -> &'static str
+    ensures { result.now ≡ ack_name line.now }
 {
-    given_name("requestedAck", "ack", line)
+    match line.given(REQUESTED_ACK) {
+        Some(_) => "requestedAck",
+        None => "ack",
+    }
 }
 
 /// Whether a line requests an acknowledgement.
-fn flag_of(alloc: Global, code: u16, line: &Value<'_>) -> Result<bool, LineError>
-    ensures { MatchResult result (λ flag. line_flag code (json_view line.now) ≡ Ok flag)
-        (Rejects (line_flag code (json_view line.now))) }
+fn flag_of(alloc: Global, code: u16, line: &Line<'_, '_>) -> Result<bool, LineError>
+    ensures { MatchResult result (λ flag. line_flag code line.now ≡ Ok flag)
+        (Rejects (line_flag code line.now)) }
 {
-    let Some(value) = given_either("requestedAck", "ack", line) else {
+    let Some(value) = line.given_either(REQUESTED_ACK, ACK) else {
         return Ok(false);
     };
     if !has_flag(code) {
@@ -246,14 +259,14 @@ fn word(code: u16, flag: bool, size: u32) -> u64
     ensures { result ≡ word code flag size }
 {
     let flag = if flag { FLAG } else { 0 };
-    u64::from(code) * CODE + flag + u64::from(size)
+    u64::from(code) * CODE_UNIT + flag + u64::from(size)
 }
 
 /// Whether a line says that there is no payload.
-fn is_alone(line: &Value<'_>) -> bool
-    ensures { result ≡ is_alone (json_view line.now) }
+fn is_alone(line: &Line<'_, '_>) -> bool
+    ensures { result ≡ is_alone line.now }
 {
-    given("unknown", line).is_some()
+    line.given(UNKNOWN).is_some()
 }
 
 /// Whether the word of a header has this flag, which only some types have.
@@ -268,7 +281,7 @@ fn agrees_in_flag(code: u16, flag: bool, word: u64) -> bool
 fn check_word(alloc: Global, code: u16, flag: bool, word: u64) -> Result<(), LineError>
     ensures { MatchResult result (λ _. word_fault code flag word ≡ None) (HasFault (word_fault code flag word)) }
 {
-    if word / CODE != u64::from(code) {
+    if word / CODE_UNIT != u64::from(code) {
         return Err(reject(alloc, LineReason::OtherCode, "header"));
     }
     if !agrees_in_flag(code, flag, word) {
@@ -343,13 +356,13 @@ fn append_header(
     code: u16,
     flag: bool,
     size: usize,
-    line: &Value<'_>,
+    line: &Line<'_, '_>,
     out: &mut Vec<u8>,
 ) -> Result<(), LineError>
-    ensures { Appends result (line_header version code flag size (json_view line.now)) out.old.items out.new.items }
+    ensures { Appends result (line_header version code flag size line.now) out.old.items out.new.items }
 {
-    if let Some(header) = given("header", line) {
-        let header = bytes_of(alloc, header, "header")?;
+    if let Some(header) = line.given(HEADER) {
+        let header = bytes_of(alloc, &header, "header")?;
         let alone = is_alone(line);
         return append_given(
             alloc,
@@ -388,10 +401,10 @@ fn append_framed(
     code: u16,
     flag: bool,
     payload: &[u8],
-    line: &Value<'_>,
+    line: &Line<'_, '_>,
     out: &mut Vec<u8>,
 ) -> Result<(), LineError>
-    ensures { Appends result (framed version code flag (json_view line.now) payload.now) out.old.items out.new.items }
+    ensures { Appends result (framed version code flag line.now payload.now) out.old.items out.new.items }
 {
     append_header(alloc, version, code, flag, payload.len(), line, out)?;
     append(alloc, payload, out)
@@ -402,10 +415,10 @@ fn append_framed(
 fn append_item(
     alloc: Global,
     version: Version,
-    line: &Value<'_>,
+    line: &Line<'_, '_>,
     out: &mut Vec<u8>,
 ) -> Result<(), LineError>
-    ensures { Appends result (item_said version (json_view line.now)) out.old.items out.new.items }
+    ensures { Appends result (item_said version line.now) out.old.items out.new.items }
 {
     let code = code_of(alloc, line)?;
     let flag = flag_of(alloc, code, line)?;
@@ -414,28 +427,28 @@ fn append_item(
 }
 
 /// Whether a line has none of the members that say what an item is.
-fn says_no_item(line: &Value<'_>) -> bool
-    ensures { result ≡ says_no_item (json_view line.now) }
+fn says_no_item(line: &Line<'_, '_>) -> bool
+    ensures { result ≡ says_no_item line.now }
 {
-    given("type", line).is_none()
-        && given("code", line).is_none()
-        && given("message", line).is_none()
-        && given("unknown", line).is_none()
-        && given("header", line).is_none()
-        && given_either("requestedAck", "ack", line).is_none()
+    line.given(TYPE).is_none()
+        && line.given(CODE).is_none()
+        && line.given(MESSAGE).is_none()
+        && line.given(UNKNOWN).is_none()
+        && line.given(HEADER).is_none()
+        && line.given_either(REQUESTED_ACK, ACK).is_none()
 }
 
 /// The bytes after the last item.
 #[tactic(auto, unfolding(crate::specs::Lines::rest_said))]
-fn rest_of(alloc: Global, rest: &Value<'_>, line: &Value<'_>) -> Result<Vec<u8>, LineError>
-    ensures { MatchResult result (λ bytes. rest_said (json_view rest.now) (json_view line.now) ≡ Ok bytes.items)
-        (Rejects (rest_said (json_view rest.now) (json_view line.now))) }
+fn rest_of(alloc: Global, rest: &Node<'_, '_>, line: &Line<'_, '_>) -> Result<Vec<u8>, LineError>
+    ensures { MatchResult result (λ bytes. rest_said rest.now line.now ≡ Ok bytes.items)
+        (Rejects (rest_said rest.now line.now)) }
 {
     if !says_no_item(line) {
         return Err(reject(alloc, LineReason::ItemInRest, "rest"));
     }
-    if let Some(bytes) = given_either("bytes", "payload", line) {
-        return bytes_of(alloc, bytes, bytes_name(line));
+    if let Some(bytes) = line.given_either(BYTES, PAYLOAD) {
+        return bytes_of(alloc, &bytes, bytes_name(line));
     }
     match read_u64(rest) {
         Ok(0) => Ok(Vec::new(alloc)),
@@ -449,16 +462,19 @@ fn rest_of(alloc: Global, rest: &Value<'_>, line: &Value<'_>) -> Result<Vec<u8>,
 fn append_said(
     alloc: Global,
     version: Version,
-    line: &Value<'_>,
+    value: &Node<'_, '_>,
     out: &mut Vec<u8>,
 ) -> Result<(), LineError>
-    ensures { Appends result (line_said version (json_view line.now)) out.old.items out.new.items }
+    ensures { Appends result (line_said version value.now) out.old.items out.new.items }
 {
-    check_line(alloc, line)?;
-    let Some(rest) = given("rest", line) else {
-        return append_item(alloc, version, line, out);
+    let line = match Line::of_value(alloc, value) {
+        Ok(line) => line,
+        Err(error) => return Err(error),
     };
-    let bytes = rest_of(alloc, rest, line)?;
+    let Some(rest) = line.given(REST) else {
+        return append_item(alloc, version, &line, out);
+    };
+    let bytes = rest_of(alloc, &rest, &line)?;
     append(alloc, bytes.as_slice(), out)
 }
 
@@ -477,8 +493,8 @@ pub fn append_line(
     if is_blank(line) {
         return Ok(());
     }
-    let error = match value_of_text(alloc, line, scratch) {
-        Ok(value) => return append_said(alloc, version, &value, out),
+    let error = match table_of_text(alloc, line, scratch) {
+        Ok(table) => return append_said(alloc, version, &table.root(), out),
         Err(error) => error,
     };
     match (error.reason, error.offset) {

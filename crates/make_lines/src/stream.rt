@@ -12,6 +12,7 @@ use crate::line::append_line;
 use json::Scratch;
 use memchr::memchr;
 use shared_core_base::version::Version;
+use shared_core_io::read_some;
 use shared_core_json_reader::Reason;
 use std::alloc::{AllocError, Global};
 use std::io::{Read, Write};
@@ -160,7 +161,7 @@ pub fn make<R: Read, W: Write>(
     let buffer = buffer.as_mut_slice();
     let mut scratch = Scratch::new(alloc);
     for _ in 0..u64::MAX {
-        let Ok(count) = input.read(buffer) else {
+        let Ok(count) = read_some(input, buffer) else {
             return Err(MakeError::Input);
         };
         if count == 0 {

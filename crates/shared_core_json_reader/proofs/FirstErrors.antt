@@ -4,15 +4,15 @@ use Rattle.std.proofs.Common.{false, Option, Some, None, refl, sym, ap, subst, �
 use Rattle.std.specs.Option.{option_or}
 use Rattle.std.specs.Str.{is_utf8}
 use Rattle.std.proofs.lemmas.List.{map-append}
-use Rattle.json.specs.Json.{Json, Members}
-use Rattle.json.specs.Value.{value_view, items_view}
-use Rattle.json.specs.declared.value.Value.{Value}
+use Rattle.json.specs.Json.{Json, Items, no_items, item, Members}
 use Rattle.shared_core_codec.specs.declared.rows.Field.{Field}
 use Rattle.shared_core_json_reader.specs.declared.error.Reason.{Reason}
 use Rattle.shared_core_json_reader.specs.declared.error.Reason.TheVariants.{NotJson, TooDeep}
 use Rattle.shared_core_json_reader.specs.declared.payload.Step as program
 use Rattle.shared_core_json_reader.specs.Rows.{NamedField, in_schema, named_members, named_rows}
 use Rattle.shared_core_json_reader.specs.Reading.{given}
+use Rattle.shared_core_json_reader.specs.Scalars.{unsigned_read}
+use Rattle.shared_core_json_reader.specs.FirstError.{run_error, unread, number_reason}
 use Rattle.shared_core_json_reader.specs.FirstError.{Step, Member, Element, PathError, field_error, items_error}
 use Rattle.shared_core_json_reader.specs.FirstError.{given_error, member_error, holds_after, oneof_error, object_error}
 use Rattle.shared_core_json_reader.specs.FirstError.{message_error, offset_of, IsPlace, step_view, path_view}
@@ -37,16 +37,30 @@ pub entered : (old new first : List program.Step) (step : program.Step) → new 
 entered old new first step e q = ap path_view e ∙ map-append step_view old (step ∷ []) ∙ ap
     (λ (steps : List program.Step). path_view steps ++ step_view step ∷ []) q
 
-pub items_error_turn : {A : Type 0} (nested : List Step → ℕ → Json → Option PathError) (f : NamedField)
-    (xs : List (Value A)) (i : ℕ) (x : Value A) (path here : List Step) (all : Option PathError)
-    → drop i xs ≡ x ∷ drop (i + 1) xs → here ≡ path ++ Element i ∷ [] → field_error nested f here (value_view x) ≡ None
-    → items_error nested f path i (items_view (drop i xs)) ≡ all
-    → items_error nested f path (i + 1) (items_view (drop (i + 1) xs)) ≡ all
-items_error_turn {A} nested f xs i x path here all next at none h =
-    let rest = items_error nested f path (i + 1) (items_view (drop (i + 1) xs)) in
-    sym (ap (λ (o : Option PathError). option_or o rest) (ap (λ (w : List Step). field_error nested f w (value_view x))
+pub items_error_turn : (nested : List Step → ℕ → Json → Option PathError) (f : NamedField) (js rest : Items) (i : ℕ)
+    (j : Json) (path here : List Step) (all : Option PathError) → js ≡ item j rest → here ≡ path ++ Element i ∷ [] →
+    field_error nested f here j ≡ None → items_error nested f path i js ≡ all → items_error nested f path (i + 1) rest ≡
+    all
+items_error_turn nested f js rest i j path here all is at none h =
+    let more = items_error nested f path (i + 1) rest in
+    sym (ap (λ (o : Option PathError). option_or o more) (ap (λ (w : List Step). field_error nested f w j)
     (sym at) ∙ none))
-    ∙ sym (ap (λ (ys : List (Value A)). items_error nested f path i (items_view ys)) next) ∙ h
+    ∙ sym (ap (λ (ks : Items). items_error nested f path i ks) is) ∙ h
+
+pub items_error_end : (nested : List Step → ℕ → Json → Option PathError) (f : NamedField) (js : Items) (i : ℕ)
+    (path : List Step) (all : Option PathError) → js ≡ no_items → items_error nested f path i js ≡ all → all ≡ None
+items_error_end nested f js i path all is h = sym h ∙ ap (λ (ks : Items). items_error nested f path i ks) is
+
+pub run_error_turn : (js rest : Items) (i : ℕ) (j : Json) (m : ℕ) (path : List Step) (all : Option PathError) → js ≡
+    item j rest → unsigned_read 4294967296 j ≡ Some m → run_error path i js ≡ all → run_error path (i + 1) rest ≡ all
+run_error_turn js rest i j m path all is number h =
+    let more = run_error path (i + 1) rest in
+    sym (ap (λ (o : Option ℕ). option_or (unread o (number_reason j) (path ++ Element i ∷ [])) more) number)
+    ∙ sym (ap (λ (ks : Items). run_error path i ks) is) ∙ h
+
+pub run_error_end : (js : Items) (i : ℕ) (path : List Step) (all : Option PathError) → js ≡ no_items → run_error path i
+    js ≡ all → all ≡ None
+run_error_end js i path all is h = sym h ∙ ap (λ (ks : Items). run_error path i ks) is
 
 -- the error of a member of a oneof of which none is there before
 one_error : (nested : List Step → ℕ → Json → Option PathError) (ms : Members) (f : NamedField) (fs : List NamedField)
@@ -71,6 +85,18 @@ oneof_error_turn nested ms s xs i x f j held path here all next named found none
     ∙ ap (λ (g : NamedField). oneof_error nested ms path false (g ∷ rest)) named
     ∙ sym (ap (λ (ys : List Field). oneof_error nested ms path false (named_members s ys)) next)
     ∙ sym (ap (λ (b : Bool). oneof_error nested ms path b (named_members s (drop i xs))) none)
+    ∙ h
+
+pub oneof_error_skip : (nested : List Step → ℕ → Json → Option PathError) (ms : Members) (s : ℕ) (xs : List Field)
+    (i : ℕ) (x : Field) (held : Bool) (path : List Step) (all : Option PathError) → drop i xs ≡ x ∷ drop (i + 1) xs →
+    given (in_schema s x) ms ≡ Some None → oneof_error nested ms path held (named_members s (drop i xs)) ≡ all →
+    oneof_error nested ms path held (named_members s (drop (i + 1) xs)) ≡ all
+oneof_error_skip nested ms s xs i x held path all next found h =
+    let rest = named_members s (drop (i + 1) xs) in
+    let f = in_schema s x in
+    sym (ap (λ (o : Option (Option Json)). option_or (given_error (member_error nested held f) f path o)
+    (oneof_error nested ms path (holds_after held o) rest)) found)
+    ∙ sym (ap (λ (ys : List Field). oneof_error nested ms path held (named_members s ys)) next)
     ∙ h
 
 pub not_json_at : (text : List ℕ) (reason : Reason) (offset : Option ℕ) (n : ℕ) → offset ≡ offset_of reason n → reason ≡

@@ -1,9 +1,9 @@
 -- What an object gives a field, by the number of the field.
-use Rattle.std.proofs.Common.{◌≡◌, ◌<◌, ◌≤◌, ℕ, zero, suc, List, [], ◌∷◌, map, length, drop, get_or, Bool, true, false}
+use Rattle.std.proofs.Common.{◌≡◌, ◌<◌, ◌≤◌, ℕ, zero, suc, List, [], ◌∷◌, map, length, drop, get_or, replicate}
+use Rattle.std.proofs.Common.{Bool, true, false}
 use Rattle.std.proofs.Common.{cond, ◌&&◌, ◌||◌, Option, Some, None, refl, sym, ap, subst, ◌∙◌, eqb, eq-eqb, arith}
-use Rattle.std.specs.Borrow.{Bor}
 use Rattle.std.proofs.Math.ListN.{set, length-set}
-use Rattle.std.proofs.lemmas.List.{get_or-set_same, get_or-set_other, drop_more}
+use Rattle.std.proofs.lemmas.List.{get_or-set_same, get_or-set_other, get_or-replicate, length-replicate}
 use Rattle.std.proofs.lemmas.Bool.{eqb-true, ne_eqb}
 use Rattle.std.proofs.Common.{◌≢◌, Result, Ok, Err}
 use Rattle.std.specs.Option.{is_some, option_or}
@@ -13,8 +13,9 @@ use Rattle.shared_core_json_reader.specs.declared.error.Reason.TheVariants.{OutO
 use Rattle.shared_core_json_reader.specs.declared.payload.Step.{Step as ProgramStep}
 use Rattle.shared_core_json_reader.specs.Appended.{both, row_bytes, rows_bytes, after, Appends}
 use Rattle.json.specs.Json.{Json, Members, no_members, member}
-use Rattle.json.specs.Value.{value_view, members_view}
-use Rattle.json.specs.declared.value.Value.{Value}
+use Rattle.json_table.specs.Tails.{members_len, last_members, IsTail}
+use Rattle.json_table.proofs.Tails.{last_whole, last_next}
+use Rattle.shared_core_wire.specs.Schema as schema
 use Rattle.shared_core_wire.specs.Schema.{Kind, Row, OneOf, includes, numbers, all_numbers}
 use Rattle.shared_core_wire.proofs.ReadBack.{includes-append}
 use Rattle.shared_core_codec.specs.Table.{table}
@@ -23,97 +24,100 @@ use Rattle.shared_core_codec.specs.declared.rows.Field.{Field}
 use Rattle.shared_core_codec.specs.declared.rows.Row.{Row as ProgramRow}
 use Rattle.shared_core_json_reader.specs.declared.members.Place.{Place}
 use Rattle.shared_core_json_reader.specs.declared.members.Place.TheVariants.{Absent, Once, Several}
-use Rattle.shared_core_json_reader.specs.Rows.{NamedField, NamedRow, named_field, in_schema, named_rows}
+use Rattle.shared_core_json_reader.specs.Rows.{NamedField, NamedRow, named_field, in_schema, named_row, named_rows}
 use Rattle.shared_core_json_reader.specs.Rows.{row_view as json_row_view, rows_view}
 use Rattle.shared_core_json_reader.specs.Reading.{given, present, the_only, values_named, names_row, are_known}
 use Rattle.shared_core_json_reader.specs.Places.{number_of, is_number, values_numbered, place_after, first_value}
-use Rattle.shared_core_json_reader.specs.Places.{Says, Say, place_count, IsOf, IsRowOf}
+use Rattle.shared_core_json_reader.specs.Places.{Says, Say, place_count, IsOf, IsRowOf, ArePlaces}
+use Rattle.shared_core_json_reader.specs.Places.{IsAbsent, Lacks}
+use Rattle.shared_core_json_reader.specs.declared.members.Places.{Places}
+use Rattle.shared_core_json_reader.specs.Appended.{field_bytes, list_bytes, given_bytes}
+use Rattle.shared_core_json_reader.specs.FirstError.{field_error, list_error, given_error}
 use Rattle.shared_core_json_reader.specs.FirstError.{Step, PathError, path_view, row_error, rows_error, first_unknown}
 use Rattle.shared_core_json_reader.specs.FirstError.{HasError}
 use Rattle.shared_core_json_reader.proofs.NamesApart.{values_same, known_same}
+use Rattle.shared_core_json_reader.proofs.Levels.{nothing_after}
 
 -- what a place says when all was seen
-abbrev pub place_gives : {A : Type 0} → List (Bor (List ℕ) × Value A) → Place → Option (Option Json)
-place_gives xs Absent = Some None
-place_gives xs (Once i) = Some (present (first_value (members_view (drop i xs))))
-place_gives xs Several = None
+abbrev pub place_gives : Members → Place → Option (Option Json)
+place_gives ms Absent = Some None
+place_gives ms (Once n) = Some (present (first_value (last_members n ms)))
+place_gives ms Several = None
 
-said : {A : Type 0} (xs : List (Bor (List ℕ) × Value A)) (p : Place) (all : List Json) → Says xs p [] all → the_only all
-    ≡ place_gives xs p
-said xs Absent all h = ap the_only (sym h)
-said xs (Once i) all h = ap the_only (sym h.1)
-said xs Several all h = h
+said : (ms : Members) (p : Place) (all : List Json) → Says ms p [] all → the_only all ≡ place_gives ms p
+said ms Absent all h = ap the_only (sym h)
+said ms (Once n) all h = ap the_only (sym h.1)
+said ms Several all h = h
 
-pub given_at : {A : Type 0} (s : ℕ) (f : NamedField) (xs : List (Bor (List ℕ) × Value A)) (places : List Place) → IsOf s
-    f → Say s xs no_members places → f.number < place_count → given f (members_view xs) ≡ place_gives xs
-    (get_or places f.number Absent)
-given_at s f xs places o h b =
-    ap (λ (g : NamedField). the_only (values_named g (members_view xs))) o.named
-    ∙ ap the_only (values_same s f.number f.kind (members_view xs) o.listed)
-    ∙ said xs (get_or places f.number Absent) (values_numbered s f.number (members_view xs)) (h f.number b)
+pub given_at : (s : ℕ) (f : NamedField) (ms : Members) (places : List Place) → IsOf s f → Say s ms no_members places →
+    f.number < place_count → given f ms ≡ place_gives ms (get_or places f.number Absent)
+given_at s f ms places o h b =
+    ap (λ (g : NamedField). the_only (values_named g ms)) o.named
+    ∙ ap the_only (values_same s f.number f.kind ms o.listed)
+    ∙ said ms (get_or places f.number Absent) (values_numbered s f.number ms) (h f.number b)
 
--- the index of a place is that of a member
-pub once_within : {A : Type 0} (s n i : ℕ) (xs : List (Bor (List ℕ) × Value A)) (places : List Place) → Say s xs
-    no_members places → n < place_count → get_or places n Absent ≡ Once i → i < length xs
-once_within s n i xs places h b e = (subst (λ (p : Place). Says xs p (values_numbered s n no_members)
-    (values_numbered s n (members_view xs))) e (h n b)).0
+-- a place is that of a member
+pub once_within : (s n left : ℕ) (ms : Members) (places : List Place) → Say s ms no_members places → n < place_count →
+    get_or places n Absent ≡ Once left → IsTail left ms
+once_within s n left ms places h b e = (subst (λ (p : Place). Says ms p (values_numbered s n no_members)
+    (values_numbered s n ms)) e (h n b)).0
 
 -- ---- one more value
 
-says_after : {A : Type 0} (xs : List (Bor (List ℕ) × Value A)) (p : Place) (i : ℕ) (rest all : List Json) → i < length
-    xs → Says xs p (first_value (members_view (drop i xs)) ∷ rest) all → Says xs (place_after p i) rest all
-says_after xs Absent i rest all b h = (b, h)
-says_after xs (Once j) i rest all b h = ap the_only (sym h.1)
-says_after xs Several i rest all b h = h
+says_after : (ms : Members) (p : Place) (n : ℕ) (rest all : List Json) → IsTail n ms → Says ms p
+    (first_value (last_members n ms) ∷ rest) all → Says ms (place_after p n) rest all
+says_after ms Absent n rest all t h = (t, h)
+says_after ms (Once m) n rest all t h = ap the_only (sym h.1)
+says_after ms Several n rest all t h = h
 
-pub placed_more : {A : Type 0} (s number i : ℕ) (xs ys : List (Bor (List ℕ) × Value A)) (x : Bor (List ℕ) × Value A)
-    (places : List Place) → number_of s x.0.now ≡ Some number → drop i xs ≡ x ∷ ys → i < length xs → length places ≡
-    place_count → Say s xs (members_view (drop i xs)) places → number < place_count → Say s xs (members_view ys)
-    (set places number (place_after (get_or places number Absent) i))
-placed_more {A = A} s number i xs ys x places e d b z h g n m = by_test (eqb number n) refl
+pub placed_more : (s number : ℕ) (ms rest : Members) (k : List ℕ) (j : Json) (places : List Place) → number_of s k ≡
+    Some number → last_members (members_len (member k j rest)) ms ≡ member k j rest → length places ≡ place_count → Say
+    s ms (member k j rest) places → number < place_count → Say s ms rest
+    (set places number (place_after (get_or places number Absent) (members_len (member k j rest))))
+placed_more s number ms rest k j places e d z h g n m = by_test (eqb number n) refl
   where
+    left : ℕ
+    left = members_len (member k j rest)
+
     p : Place
     p = get_or places number Absent
 
     all : List Json
-    all = values_numbered s n (members_view xs)
+    all = values_numbered s n ms
 
-    rest : List Json
-    rest = values_numbered s n (members_view ys)
+    later : List Json
+    later = values_numbered s n rest
 
-    one : first_value (members_view (drop i xs)) ≡ value_view x.1
-    one = ap (λ (zs : List (Bor (List ℕ) × Value A)). first_value (members_view zs)) d
+    now : values_numbered s n (member k j rest) ≡ cond (eqb number n) (j ∷ later) later
+    now = ap (λ (o : Option ℕ). cond (is_number o n) (j ∷ later) later) e
 
-    now : values_numbered s n (members_view (drop i xs)) ≡ cond (eqb number n) (value_view x.1 ∷ rest) rest
-    now = ap (λ (zs : List (Bor (List ℕ) × Value A)). values_numbered s n (members_view zs)) d
-        ∙ ap (λ (o : Option ℕ). cond (is_number o n) (value_view x.1 ∷ rest) rest) e
+    one : j ≡ first_value (last_members left ms)
+    one = ap first_value (sym d)
 
-    by_test : (t : Bool) → eqb number n ≡ t → Says xs (get_or (set places number (place_after p i)) n Absent) rest all
+    by_test : (t : Bool) → eqb number n ≡ t → Says ms (get_or (set places number (place_after p left)) n Absent) later
+        all
     by_test true q =
         let same : n ≡ number = sym (eqb-true number n q) in
-        let seen : values_numbered s n (members_view (drop i xs)) ≡ first_value (members_view (drop i xs)) ∷ rest =
-        now ∙ ap (λ (t : Bool). cond t (value_view x.1 ∷ rest) rest) q ∙ ap (λ (j : Json). j ∷ rest) (sym one) in
-        subst (λ (r : Place). Says xs r rest all) (sym (ap (λ (k : ℕ). get_or (set places number (place_after p i)) k
-        Absent) same ∙ get_or-set_same places number (place_after p i) Absent (omega (arith, z, g))))
-        (says_after xs p i rest all b (subst (λ (js : List Json). Says xs p js all) seen (subst (λ (k : ℕ). Says xs
-        (get_or places k Absent) (values_numbered s n (members_view (drop i xs))) all) same (h n m))))
+        let seen : values_numbered s n (member k j rest) ≡ first_value (last_members left ms) ∷ later =
+        now ∙ ap (λ (t : Bool). cond t (j ∷ later) later) q ∙ ap (λ (i : Json). i ∷ later) one in
+        subst (λ (r : Place). Says ms r later all) (sym (ap (λ (i : ℕ). get_or (set places number (place_after p left))
+        i Absent) same ∙ get_or-set_same places number (place_after p left) Absent (omega (arith, z, g))))
+        (says_after ms p left later all (record { len = ap members_len d }) (subst (λ (js : List Json). Says ms p js
+        all) seen (subst (λ (i : ℕ). Says ms (get_or places i Absent) (values_numbered s n (member k j rest)) all) same
+        (h n m))))
     by_test false q =
-        subst (λ (r : Place). Says xs r rest all) (sym (get_or-set_other places number n (place_after p i) Absent
-        (λ w. absurd (let k : eqb number n ≡ true = eq-eqb number n (sym w) in cc))))
-        (subst (λ (js : List Json). Says xs (get_or places n Absent) js all)
-        (now ∙ ap (λ (t : Bool). cond t (value_view x.1 ∷ rest) rest) q) (h n m))
+        subst (λ (r : Place). Says ms r later all) (sym (get_or-set_other places number n (place_after p left) Absent
+        (λ w. absurd (let i : eqb number n ≡ true = eq-eqb number n (sym w) in cc))))
+        (subst (λ (js : List Json). Says ms (get_or places n Absent) js all)
+        (now ∙ ap (λ (t : Bool). cond t (j ∷ later) later) q) (h n m))
 
-pub placed_past : {A : Type 0} (s number i : ℕ) (xs ys : List (Bor (List ℕ) × Value A)) (x : Bor (List ℕ) × Value A)
-    (places : List Place) → number_of s x.0.now ≡ Some number → drop i xs ≡ x ∷ ys → Say s xs (members_view (drop i xs))
-    places → place_count ≤ number → Say s xs (members_view ys) places
-placed_past {A = A} s number i xs ys x places e d h g n m =
+pub placed_past : (s number : ℕ) (ms rest : Members) (k : List ℕ) (j : Json) (places : List Place) → number_of s k ≡
+    Some number → Say s ms (member k j rest) places → place_count ≤ number → Say s ms rest places
+placed_past s number ms rest k j places e h g n m =
     let other : eqb number n ≡ false = ne_eqb number n (λ w. omega (arith, w, g, m)) in
-    subst (λ (js : List Json). Says xs (get_or places n Absent) js (values_numbered s n (members_view xs)))
-    (ap (λ (zs : List (Bor (List ℕ) × Value A)). values_numbered s n (members_view zs)) d
-    ∙ ap (λ (o : Option ℕ). cond (is_number o n) (value_view x.1 ∷ values_numbered s n (members_view ys))
-    (values_numbered s n (members_view ys))) e
-    ∙ ap (λ (t : Bool). cond t (value_view x.1 ∷ values_numbered s n (members_view ys))
-    (values_numbered s n (members_view ys))) other) (h n m)
+    subst (λ (js : List Json). Says ms (get_or places n Absent) js (values_numbered s n ms))
+    (ap (λ (o : Option ℕ). cond (is_number o n) (j ∷ values_numbered s n rest) (values_numbered s n rest)) e
+    ∙ ap (λ (t : Bool). cond t (j ∷ values_numbered s n rest) (values_numbered s n rest)) other) (h n m)
 
 -- ---- the fields of a schema
 
@@ -177,6 +181,49 @@ row_of s i xs ys x t e = record {
   listed = λ n h. ap (λ (rows : List Row). includes (all_numbers rows) n) (sym t) ∙ row_at i xs ys x e n h;
 }
 
+-- ---- rows for which nothing is given
+
+lacks_given : (n : ℕ) (k : Kind) (ms : Members) (places : Places) → ArePlaces ms places → includes
+    (all_numbers (table places.schema)) n ≡ true → IsAbsent places n → given (named_field places.schema n k) ms ≡ Some
+    None
+lacks_given n k ms places h i l =
+    given_at places.schema (named_field places.schema n k) ms places.numbered (record { named = refl; listed = i })
+    h.say l.0
+    ∙ ap (place_gives ms) l.1
+
+pub lacks_row : (nested : ℕ → Json → Option (List ℕ)) (ms : Members) (places : Places) (row : Row) → ArePlaces ms places
+    → IsRowOf places.schema row → Lacks places row → row_bytes nested ms (named_row places.schema row) ≡ Some []
+lacks_row nested ms places (schema.Plain n k) h r l =
+    ap (given_bytes (field_bytes nested true (named_field places.schema n k)))
+    (lacks_given n k ms places h (r.listed n (own_first n)) l)
+lacks_row nested ms places (schema.Optional n k) h r l =
+    ap (given_bytes (field_bytes nested false (named_field places.schema n k)))
+    (lacks_given n k ms places h (r.listed n (own_first n)) l)
+lacks_row nested ms places (schema.Repeated n k) h r l =
+    ap (given_bytes (list_bytes nested (named_field places.schema n k)))
+    (lacks_given n k ms places h (r.listed n (own_first n)) l)
+lacks_row nested ms places (schema.OneOf members) h r l = absurd l
+
+pub lacks_row_error : (nested : List Step → ℕ → Json → Option PathError) (ms : Members) (path : List Step)
+    (places : Places) (row : Row) → ArePlaces ms places → IsRowOf places.schema row → Lacks places row → row_error
+    nested ms path (named_row places.schema row) ≡ None
+lacks_row_error nested ms path places (schema.Plain n k) h r l =
+    let f = named_field places.schema n k in
+    ap (given_error (field_error nested f) f path) (lacks_given n k ms places h (r.listed n (own_first n)) l)
+lacks_row_error nested ms path places (schema.Optional n k) h r l =
+    let f = named_field places.schema n k in
+    ap (given_error (field_error nested f) f path) (lacks_given n k ms places h (r.listed n (own_first n)) l)
+lacks_row_error nested ms path places (schema.Repeated n k) h r l =
+    let f = named_field places.schema n k in
+    ap (given_error (list_error nested f) f path) (lacks_given n k ms places h (r.listed n (own_first n)) l)
+lacks_row_error nested ms path places (schema.OneOf members) h r l = absurd l
+
+pub lacks_member : (i : ℕ) (xs ys : List Field) (x : Field) (ms : Members) (places : Places) → ArePlaces ms places →
+    IsRowOf places.schema (OneOf (map field_view xs)) → drop i xs ≡ x ∷ ys → IsAbsent places x.0 → given
+    (in_schema places.schema x) ms ≡ Some None
+lacks_member i xs ys x ms places h r e l = lacks_given x.0 (kind_view x.1) ms places h
+    (r.listed x.0 (member_at i xs ys x e)) l
+
 -- ---- the keys that are known
 
 pub unknown_here : (s : ℕ) (k : List ℕ) (j : Json) (ms : Members) → number_of s k ≡ None → first_unknown (named_rows s)
@@ -191,37 +238,46 @@ known_here s m k j ms e = ap (λ (b : Bool). cond b (first_unknown (named_rows s
 
 -- ---- one more member
 
-pub record Steps {A : Type 0} (s : ℕ) (xs ys : List (Bor (List ℕ) × Value A)) (new : List Place) : Type 0 where
-  pub count : length new ≡ place_count
-  pub say : Say s xs (members_view ys) new
+-- what is known after some members: the rest of them are at the end
+pub record Steps (s : ℕ) (ms rest : Members) (places : List Place) : Type 0 where
+  pub count : length places ≡ place_count
+  pub say : Say s ms rest places
+  pub last : last_members (members_len rest) ms ≡ rest
+  pub unknown : first_unknown (named_rows s) rest ≡ first_unknown (named_rows s) ms
 
-pub step_placed : {A : Type 0} (s number i : ℕ) (xs ys : List (Bor (List ℕ) × Value A)) (x : Bor (List ℕ) × Value A)
-    (places new : List Place) (p : Place) → number_of s x.0.now ≡ Some number → drop i xs ≡ x ∷ ys → i < length xs →
-    length places ≡ place_count → Say s xs (members_view (drop i xs)) places → number < place_count → p ≡ place_after
-    (get_or places number Absent) i → new ≡ set places number p → Steps s xs ys new
-step_placed s number i xs ys x places new p e d b z h g q r =
-    let same : set places number (place_after (get_or places number Absent) i) ≡ new = ap (λ (o : Place). set places
-    number o) (sym q) ∙ sym r in
-    record {
-      count = ap length (sym same) ∙ length-set places number (place_after (get_or places number Absent) i) ∙ z;
-      say = subst (λ (ps : List Place). Say s xs (members_view ys) ps) same
-          (placed_more s number i xs ys x places e d b z h g);
-    }
-
-pub step_past : {A : Type 0} (s number i : ℕ) (xs ys : List (Bor (List ℕ) × Value A)) (x : Bor (List ℕ) × Value A)
-    (places new : List Place) → number_of s x.0.now ≡ Some number → drop i xs ≡ x ∷ ys → length places ≡ place_count →
-    Say s xs (members_view (drop i xs)) places → place_count ≤ number → new ≡ places → Steps s xs ys new
-step_past s number i xs ys x places new e d z h g r = record {
-  count = ap length r ∙ z;
-  say = subst (λ (ps : List Place). Say s xs (members_view ys) ps) (sym r)
-      (placed_past s number i xs ys x places e d h g);
+pub first_step : (s : ℕ) (ms : Members) (places : List Place) → places ≡ replicate 20 Absent → Steps s ms ms places
+first_step s ms places e = record {
+  count = ap length e ∙ length-replicate 20 Absent;
+  say = λ n h. subst (λ (p : Place). Says ms p (values_numbered s n ms) (values_numbered s n ms))
+      (sym (ap (λ (ps : List Place). get_or ps n Absent) e ∙ get_or-replicate 20 n Absent Absent h)) refl;
+  last = last_whole ms;
+  unknown = refl;
 }
 
-pub once_at : {A : Type 0} (xs : List (Bor (List ℕ) × Value A)) (i : ℕ) (x : Bor (List ℕ) × Value A) → i < length xs →
-    x ≡ get_or xs i x → first_value (members_view (drop i xs)) ≡ value_view x.1
-once_at {A = A} xs i x h e =
-    ap (λ (ys : List (Bor (List ℕ) × Value A)). first_value (members_view ys)) (drop_more xs i x h)
-    ∙ ap (λ (y : Bor (List ℕ) × Value A). value_view y.1) (sym e)
+pub step_placed : (s number : ℕ) (ms rest : Members) (k : List ℕ) (j : Json) (places new : List Place) (p : Place)
+    (left : ℕ) → number_of s k ≡ Some number → Steps s ms (member k j rest) places → number < place_count → left ≡
+    members_len (member k j rest) → p ≡ place_after (get_or places number Absent) left → new ≡ set places number p →
+    Steps s ms rest new
+step_placed s number ms rest k j places new p left e h g l q r =
+    let same : set places number (place_after (get_or places number Absent) (members_len (member k j rest))) ≡ new =
+    ap (λ (n : ℕ). set places number (place_after (get_or places number Absent) n)) (sym l)
+    ∙ ap (λ (o : Place). set places number o) (sym q) ∙ sym r in
+    record {
+      count = ap length r ∙ length-set places number p ∙ h.count;
+      say = subst (λ (ps : List Place). Say s ms rest ps) same
+          (placed_more s number ms rest k j places e h.last h.count h.say g);
+      last = last_next ms rest k j h.last;
+      unknown = sym (known_here s number k j rest e) ∙ h.unknown;
+    }
+
+pub step_past : (s number : ℕ) (ms rest : Members) (k : List ℕ) (j : Json) (places new : List Place) → number_of s k ≡
+    Some number → Steps s ms (member k j rest) places → place_count ≤ number → new ≡ places → Steps s ms rest new
+step_past s number ms rest k j places new e h g r = record {
+  count = ap length r ∙ h.count;
+  say = subst (λ (ps : List Place). Say s ms rest ps) (sym r) (placed_past s number ms rest k j places e h.say g);
+  last = last_next ms rest k j h.last;
+  unknown = sym (known_here s number k j rest e) ∙ h.unknown;
+}
 
 -- ---- objects whose keys are known
 
@@ -257,10 +313,6 @@ pub stops_error : {T : Type 0} (r : Result T Reason) (x : Reason) (error : List 
 stops_error (Ok y) x error old new a e = absurd a
 stops_error (Err y) x error old new a e =
     λ n. e (λ z. n (a ∙ z)) ∙ ap (λ (z : Reason). Some (z, path_view new)) (sym a)
-
-nothing_after : (old : List ℕ) (o : Option (List ℕ)) → None ≡ after old o → o ≡ None
-nothing_after old None e = refl
-nothing_after old (Some bytes) e = absurd cc
 
 pub rows_stop : (nested : ℕ → Json → Option (List ℕ)) (ms : Members) (s : ℕ) (xs : List ProgramRow) (i : ℕ)
     (x : ProgramRow) (ys : List ProgramRow) (out old : List ℕ) (all : Option (List ℕ)) → drop i xs ≡ x ∷ ys → after out

@@ -1,16 +1,18 @@
 -- A message at each level, and one more element of a list.
-use Rattle.std.proofs.Common.{◌≡◌, ℕ, zero, suc, ◌+◌, ◌-◌, ◌<◌, List, [], ◌∷◌, ◌++◌, drop, map, Bool, true, false}
-use Rattle.std.proofs.Common.{Option, Some, None, option_and_then, refl, sym, ap, ◌∙◌, append_assoc, arith}
+use Rattle.std.proofs.Common.{◌≡◌, ℕ, zero, suc, ◌+◌, ◌-◌, ◌<◌, ◌≤◌, List, [], ◌∷◌, ◌++◌, drop, map, Bool, true, false}
+use Rattle.std.proofs.Common.{Option, Some, None, option_and_then, refl, sym, ap, ◌∙◌, append_assoc}
+use Rattle.std.proofs.Common.{append-nil, option_map, arith}
 use Rattle.json.specs.Token.{Token}
-use Rattle.json.specs.Json.{Json, Members, if_last, value}
-use Rattle.json.specs.Value.{value_view, items_view}
-use Rattle.json.specs.declared.value.Value.{Value}
+use Rattle.json.specs.Json.{Json, Items, no_items, item, Members, if_last, value}
+use Rattle.json_table.specs.Counts.{items_count}
+use Rattle.shared_core_wire.specs.Encoding.{shortest_varint}
+use Rattle.shared_core_json_reader.specs.Scalars.{unsigned_read}
 use Rattle.shared_core_wire.specs.Schema.{Row}
 use Rattle.shared_core_codec.specs.Table.{table}
 use Rattle.shared_core_codec.specs.declared.rows.Field.{Field}
 use Rattle.shared_core_json_reader.specs.Rows.{NamedField, in_schema, named_members, named_row, named_rows}
 use Rattle.shared_core_json_reader.specs.Reading.{given, only_value, or_absent}
-use Rattle.shared_core_json_reader.specs.Appended.{both, field_bytes, items_bytes, member_bytes, held_after}
+use Rattle.shared_core_json_reader.specs.Appended.{both, field_bytes, items_bytes, run_bytes, member_bytes, held_after}
 use Rattle.shared_core_json_reader.specs.Appended.{oneof_bytes, object_bytes, message_bytes, after}
 
 pub no_level : (levels s : ℕ) (j : Json) → levels ≡ 0 → message_bytes levels s j ≡ None
@@ -39,15 +41,39 @@ after_both old new (Some xs) None e = refl
 after_both old new (Some xs) (Some ys) e = let q : old ++ xs ≡ new = cc in ap (λ (zs : List ℕ). Some zs)
     (sym (append_assoc old xs ys) ∙ ap (λ (zs : List ℕ). zs ++ ys) q)
 
-pub items_turn : {A : Type 0} (nested : ℕ → Json → Option (List ℕ)) (f : NamedField) (xs : List (Value A)) (i : ℕ)
-    (x : Value A) (old new : List ℕ) (all : Option (List ℕ))
-    → drop i xs ≡ x ∷ drop (i + 1) xs → after old (field_bytes nested false f (value_view x)) ≡ Some new → after old
-    (items_bytes nested f (items_view (drop i xs))) ≡ all
-    → after new (items_bytes nested f (items_view (drop (i + 1) xs))) ≡ all
-items_turn {A} nested f xs i x old new all here e h =
-    sym (after_both old new (field_bytes nested false f (value_view x))
-    (items_bytes nested f (items_view (drop (i + 1) xs))) e)
-    ∙ sym (ap (λ (ys : List (Value A)). after old (items_bytes nested f (items_view ys))) here) ∙ h
+pub items_turn : (nested : ℕ → Json → Option (List ℕ)) (f : NamedField) (js rest : Items) (j : Json)
+    (old new : List ℕ) (all : Option (List ℕ)) → js ≡ item j rest → after old (field_bytes nested false f j) ≡ Some new
+    → after old (items_bytes nested f js) ≡ all → after new (items_bytes nested f rest) ≡ all
+items_turn nested f js rest j old new all is e h =
+    sym (after_both old new (field_bytes nested false f j) (items_bytes nested f rest) e)
+    ∙ sym (ap (λ (ks : Items). after old (items_bytes nested f ks)) is) ∙ h
+
+pub items_end : (nested : ℕ → Json → Option (List ℕ)) (f : NamedField) (js : Items) (old : List ℕ)
+    (all : Option (List ℕ)) → js ≡ no_items → after old (items_bytes nested f js) ≡ all → all ≡ Some old
+items_end nested f js old all is h =
+    sym h ∙ ap (λ (ks : Items). after old (items_bytes nested f ks)) is ∙ ap (λ (xs : List ℕ). Some xs) (append-nil old)
+
+pub run_turn : (js rest : Items) (j : Json) (m : ℕ) (old new : List ℕ) (all : Option (List ℕ)) → js ≡ item j rest →
+    unsigned_read 4294967296 j ≡ Some m → new ≡ old ++ shortest_varint m → after old (run_bytes js) ≡ all → after new
+    (run_bytes rest) ≡ all
+run_turn js rest j m old new all is number e h =
+    sym (after_both old new (option_map shortest_varint (unsigned_read 4294967296 j)) (run_bytes rest)
+    (ap (λ (o : Option ℕ). after old (option_map shortest_varint o)) number ∙ ap (λ (xs : List ℕ). Some xs) (sym e)))
+    ∙ sym (ap (λ (ks : Items). after old (run_bytes ks)) is) ∙ h
+
+pub run_end : (js : Items) (old : List ℕ) (all : Option (List ℕ)) → js ≡ no_items → after old (run_bytes js) ≡ all → all
+    ≡ Some old
+run_end js old all is h =
+    sym h ∙ ap (λ (ks : Items). after old (run_bytes ks)) is ∙ ap (λ (xs : List ℕ). Some xs) (append-nil old)
+
+-- no items are left where none may be
+pub none_left : (js : Items) → items_count js ≤ 0 → js ≡ no_items
+none_left no_items h = refl
+none_left (item j js) h = absurd (omega (arith, h))
+
+-- one item fewer
+pub one_fewer : (js rest : Items) (j : Json) → js ≡ item j rest → items_count js ≡ items_count rest + 1
+one_fewer js rest j is = ap items_count is ∙ omega arith
 
 -- what is appended for a member of a oneof that holds none before
 one_held : (nested : ℕ → Json → Option (List ℕ)) (ms : Members) (f : NamedField) (fs : List NamedField) (j : Json) →
@@ -69,6 +95,49 @@ oneof_turn nested ms s xs i x f j held old new all here named found none e h =
     ∙ ap (λ (g : NamedField). after old (oneof_bytes nested ms false (g ∷ rest))) named
     ∙ sym (ap (λ (ys : List Field). after old (oneof_bytes nested ms false (named_members s ys))) here)
     ∙ sym (ap (λ (b : Bool). after old (oneof_bytes nested ms b (named_members s (drop i xs)))) none)
+    ∙ h
+
+-- ---- an element or a member that has an error
+
+pub nothing_after : (old : List ℕ) (o : Option (List ℕ)) → None ≡ after old o → o ≡ None
+nothing_after old None e = refl
+nothing_after old (Some bytes) e = absurd cc
+
+pub items_stop : (nested : ℕ → Json → Option (List ℕ)) (f : NamedField) (js rest : Items) (j : Json)
+    (out old : List ℕ) (all : Option (List ℕ)) → js ≡ item j rest → after out (items_bytes nested f js) ≡ after old all
+    → field_bytes nested false f j ≡ None → all ≡ None
+items_stop nested f js rest j out old all is h e =
+    nothing_after old all (sym (ap (λ (ks : Items). after out (items_bytes nested f ks)) is
+    ∙ ap (λ (o : Option (List ℕ)). after out (both o (items_bytes nested f rest))) e) ∙ h)
+
+pub oneof_stop : (nested : ℕ → Json → Option (List ℕ)) (ms : Members) (s : ℕ) (xs ys : List Field) (i : ℕ) (x : Field)
+    (f : NamedField) (j : Json) (held : Bool) (out old : List ℕ) (all : Option (List ℕ)) → drop i xs ≡ x ∷ ys → f ≡
+    in_schema s x → given f ms ≡ Some (Some j) → held ≡ false → after out
+    (oneof_bytes nested ms held (named_members s (drop i xs))) ≡ after old all → field_bytes nested false f j ≡ None →
+    all ≡ None
+oneof_stop nested ms s xs ys i x f j held out old all here named found none h e =
+    let rest = named_members s ys in
+    nothing_after old all (sym (ap (λ (b : Bool). after out (oneof_bytes nested ms b (named_members s (drop i xs))))
+    none ∙ ap (λ (zs : List Field). after out (oneof_bytes nested ms false (named_members s zs))) here
+    ∙ ap (λ (g : NamedField). after out (oneof_bytes nested ms false (g ∷ rest))) (sym named)
+    ∙ ap (after out) (one_held nested ms f rest j found)
+    ∙ ap (λ (o : Option (List ℕ)). after out (both o (oneof_bytes nested ms true rest))) e) ∙ h)
+
+with_none : (o : Option (List ℕ)) → both (Some []) o ≡ o
+with_none None = refl
+with_none (Some xs) = refl
+
+-- a member of a oneof that is not there
+pub oneof_skip : (nested : ℕ → Json → Option (List ℕ)) (ms : Members) (s : ℕ) (xs : List Field) (i : ℕ) (x : Field)
+    (held : Bool) (out : List ℕ) (all : Option (List ℕ)) → drop i xs ≡ x ∷ drop (i + 1) xs → given (in_schema s x) ms ≡
+    Some None → after out (oneof_bytes nested ms held (named_members s (drop i xs))) ≡ all → after out
+    (oneof_bytes nested ms held (named_members s (drop (i + 1) xs))) ≡ all
+oneof_skip nested ms s xs i x held out all here found h =
+    let rest = named_members s (drop (i + 1) xs) in
+    let f = in_schema s x in
+    sym (ap (after out) (ap (option_and_then (λ o. both (or_absent [] (member_bytes nested held f) o)
+    (oneof_bytes nested ms (held_after held o) rest))) found ∙ with_none (oneof_bytes nested ms held rest)))
+    ∙ sym (ap (λ (ys : List Field). after out (oneof_bytes nested ms held (named_members s ys))) here)
     ∙ h
 
 -- ---- one value and no more

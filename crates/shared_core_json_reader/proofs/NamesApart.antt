@@ -1,5 +1,6 @@
 -- The names of a schema's fields differ, and each key has the number of the field of which it is a name.
-use Rattle.std.proofs.Common.{◌≡◌, ℕ, List, [], ◌∷◌, ◌++◌, zero, suc, map, Bool, true, false, cond, not, ◌&&◌, ◌||◌}
+use Rattle.std.proofs.Common.{◌≡◌, ◌<◌, ℕ, List, length, get_or, arith, [], ◌∷◌, ◌++◌, zero, suc, map}
+use Rattle.std.proofs.Common.{Bool, true, false, cond, not, ◌&&◌, ◌||◌}
 use Rattle.std.proofs.Common.{Option, Some, None, refl, sym, ap, ap₂, ◌∙◌, eqb, eq-eqb}
 use Rattle.std.specs.Option.{option_or, is_some}
 use Rattle.std.specs.List.{list_all}
@@ -12,11 +13,13 @@ use Rattle.shared_core_wire.specs.Schema as schema
 use Rattle.shared_core_wire.proofs.Runs.{and_split}
 use Rattle.shared_core_codec.specs.Table.{schemas, table}
 use Rattle.shared_core_json.specs.Names.{names}
-use Rattle.shared_core_json.specs.Fields.{names_at, names_of, name_of}
+use Rattle.shared_core_json.specs.Fields.{names_at, names_of, name_of, name_view}
+use Rattle.shared_core_json.specs.declared.names.Name.{Name}
 use Rattle.shared_core_json_reader.specs.Rows.{named_field, named_row, named_rows}
 use Rattle.shared_core_json_reader.specs.Reading.{original_name, is_named, names_field, row_names, names_row}
 use Rattle.shared_core_json_reader.specs.Reading.{values_named}
 use Rattle.shared_core_json_reader.specs.Places.{number_by, as_it_is, number_of, is_number, values_numbered}
+use Rattle.shared_core_json_reader.specs.Places.{IsNameAt}
 
 abbrev same_test : Bool → Bool → Bool
 same_test true b = b
@@ -219,6 +222,69 @@ pub values_same : (s n : ℕ) (kind : Kind) (ms : Members) → includes (all_num
 values_same s n kind no_members h = refl
 values_same s n kind (member k j ms) h = ap₂ (λ (b : Bool) (js : List Json). cond b (j ∷ js) js)
     (named_same s n kind k h) (values_same s n kind ms h)
+
+-- ---- a name at an index
+
+record At (ns xs : List (ℕ × List ℕ)) (x : ℕ × List ℕ) : Type 0 where
+  listed : includes (numbers_of xs) x.0 ≡ true
+  found : bytes_eq x.1 (name_of ns x.0) ≡ true
+
+at_index : (i : ℕ) (ns xs : List (ℕ × List ℕ)) → i < length xs → are_found ns xs ≡ true → At ns xs
+    (get_or xs i (0, []))
+at_index i ns [] h f = absurd (omega (arith, h))
+at_index zero ns (x ∷ xs) h f = record {
+  listed = ap (λ (b : Bool). b || includes (numbers_of xs) x.0) (eq-eqb x.0 x.0 refl);
+  found = (and_split _ _ f).0;
+}
+at_index (suc i) ns (x ∷ xs) h f =
+    let r = at_index i ns xs (omega (arith, h)) (and_split _ _ f).1 in
+    record {
+      listed = or_right (eqb (get_or xs i (0, [])).0 x.0) (includes (numbers_of xs) (get_or xs i (0, [])).0) r.listed;
+      found = r.found;
+    }
+
+-- a key that is the name at an index finds the number there
+pub named_at : (s i : ℕ) (k : List ℕ) → IsNameAt (names_of s) i k → number_of s k ≡ Some
+    (get_or (names_of s) i (0, [])).0
+unfolding number_of
+named_at s i k h = by_name (number_by as_it_is ns k) refl
+  where
+    ns : List (ℕ × List ℕ)
+    ns = names_of s
+
+    x : ℕ × List ℕ
+    x = get_or ns i (0, [])
+
+    here : At ns ns x
+    here = at_index i ns ns h.within (names_are s).found
+
+    key : k ≡ name_of ns x.0
+    key = equal_bytes k x.1 h.is ∙ equal_bytes x.1 (name_of ns x.0) here.found
+
+    own : (m : ℕ) → includes (numbers_of ns) m ≡ true → includes (all_numbers (table s)) m ≡ true
+    own m g = one_of_all (includes (all_numbers (table s))) (numbers_of ns) m (names_are s).own g
+
+    by_name : (o : Option ℕ) → number_by as_it_is ns k ≡ o → option_or o (number_by original_name ns k) ≡ Some x.0
+    by_name (Some m) e =
+        let f = finds as_it_is ns ns k m (names_are s).found e in
+        let same : eqb m x.0 ≡ true =
+        sym (names_apart s m x.0 (own m f.listed) (own x.0 here.listed))
+        ∙ ap (λ (name : List ℕ). names_key name (name_of ns x.0)) (sym f.key ∙ key)
+        ∙ ap (λ (b : Bool). b || bytes_eq (name_of ns x.0) (original_name (name_of ns x.0)))
+        (same_bytes (name_of ns x.0)) in
+        ap (λ (n : ℕ). Some n) (eqb-true m x.0 same)
+    by_name None e =
+        let none : bytes_eq k (name_of ns x.0) ≡ false =
+        finds_none as_it_is ns ns k x.0 (names_are s).found e here.listed in
+        let yes : bytes_eq k (name_of ns x.0) ≡ true =
+        ap (λ (w : List ℕ). bytes_eq w (name_of ns x.0)) key ∙ same_bytes (name_of ns x.0) in
+        absurd cc
+
+pub number_at : (names : List Name) (i : ℕ) (d : Name) → i < length (map name_view names) →
+    (get_or (map name_view names) i (0, [])).0 ≡ (get_or names i d).0
+number_at [] i d h = absurd (omega (arith, h))
+number_at (y ∷ ys) zero d h = refl
+number_at (y ∷ ys) (suc i) d h = number_at ys i d (omega (arith, h))
 
 -- ---- the keys that are known
 

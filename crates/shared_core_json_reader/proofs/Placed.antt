@@ -1,10 +1,12 @@
 -- The length of a message or a run, put before its bytes.
-use Rattle.std.proofs.Common.{◌≡◌, ℕ, ◌-◌, ◌<◌, List, [], ◌∷◌, ◌++◌, length, take, drop, Bool, true, false, cond}
-use Rattle.std.proofs.Common.{Option, Some, None, option_map, refl, ap, sym, ◌∙◌, inl, inr, arith, nat_eq}
+use Rattle.std.proofs.Common.{◌≡◌, ◌≢◌, ℕ, ◌-◌, ◌<◌, List, [], ◌++◌, length, take, drop, Bool, true, false, cond}
+use Rattle.std.proofs.Common.{Option, Some, None, option_map, refl, ap, sym, ◌∙◌, inl, inr, arith, nat_eq, ◌&&◌}
+use Rattle.std.proofs.Common.{append_assoc, append-nil, eq-eqb}
 use Rattle.std.proofs.Common.{length-append}
-use Rattle.std.proofs.lemmas.Bool.{cases_lt, ne_eqb}
-use Rattle.json.specs.Value.{value_view, items_view}
-use Rattle.json.specs.declared.value.Value.{Value}
+use Rattle.std.proofs.lemmas.Bool.{cases_lt, ne_eqb, eqb-true, eqb-false}
+use Rattle.std.proofs.lemmas.List.{take-append-drop}
+use Rattle.std.proofs.Math.Seq.{take-append_seam}
+use Rattle.json.specs.Json.{Items, no_items, item}
 use Rattle.shared_core_wire.specs.Encoding.{shortest_varint, key_bytes}
 use Rattle.shared_core_wire.proofs.Shortest.{shortest_small, shortest_large}
 use Rattle.shared_core_record_writer.specs.Records.{content_record}
@@ -47,22 +49,73 @@ run_there : (number : Option ℕ) (more : Option (List ℕ)) (bytes : List ℕ) 
 run_there None more bytes h = absurd cc
 run_there (Some m) more bytes h = there (Some (shortest_varint m)) more m refl bytes h
 
-full_run : {A : Type 0} (xs : List (Value A)) (bytes : List ℕ) → 0 < length xs → run_bytes (items_view xs) ≡ Some bytes
-    → nat_eq (length bytes) 0 ≡ false
-full_run [] bytes h e = absurd (omega (arith, h))
-full_run (x ∷ xs) bytes h e = run_there (unsigned_read 4294967296 (value_view x)) (run_bytes (items_view xs)) bytes e
+full_run : (js : Items) (bytes : List ℕ) → js ≢ no_items → run_bytes js ≡ Some bytes → nat_eq (length bytes) 0 ≡ false
+full_run no_items bytes h e = absurd (h refl)
+full_run (item j js) bytes h e = run_there (unsigned_read 4294967296 j) (run_bytes js) bytes e
 
-written_run : {A : Type 0} (n : ℕ) (xs : List (Value A)) (o : Option (List ℕ)) → 0 < length xs → run_bytes
-    (items_view xs) ≡ o → option_map (content_record true n) o ≡ option_map (content_record false n) o
-written_run n xs None h e = refl
-written_run n xs (Some bytes) h e = ap (λ (b : Bool). Some (cond b [] (key_bytes n 2 ++ (shortest_varint (length bytes)
-    ++ bytes)))) (full_run xs bytes h e)
+written_run : (n : ℕ) (js : Items) (o : Option (List ℕ)) → js ≢ no_items → run_bytes js ≡ o → option_map
+    (content_record true n) o ≡ option_map (content_record false n) o
+written_run n js None h e = refl
+written_run n js (Some bytes) h e = ap (λ (b : Bool). Some (cond b [] (key_bytes n 2 ++ (shortest_varint (length bytes)
+    ++ bytes)))) (full_run js bytes h e)
 
-pub run_put : {A : Type 0} (n place end : ℕ) (old out room begun new all : List ℕ) (xs : List (Value A)) → 0 < length xs
-    → out ≡ old ++ key_bytes n 2 → place ≡ length out → begun ≡ out ++ room → end ≡ length begun → after begun
-    (run_bytes (items_view xs)) ≡ Some all → new ≡ take place all ++
-    (shortest_varint (length all - end) ++ drop end all) → after old (option_map (content_record true n) (run_bytes
-    (items_view xs))) ≡ Some new
-run_put n place end old out room begun new all xs h k p b q a e =
-    ap (after old) (written_run n xs (run_bytes (items_view xs)) h refl)
-    ∙ nested_put n place end old out room begun new all (run_bytes (items_view xs)) k p b q a e
+pub run_put : (n place end : ℕ) (old out room begun new all : List ℕ) (js : Items) → js ≢ no_items → out ≡ old ++
+    key_bytes n 2 → place ≡ length out → begun ≡ out ++ room → end ≡ length begun → after begun (run_bytes js) ≡ Some
+    all → new ≡ take place all ++ (shortest_varint (length all - end) ++ drop end all) → after old (option_map
+    (content_record true n) (run_bytes js)) ≡ Some new
+run_put n place end old out room begun new all js h k p b q a e =
+    ap (after old) (written_run n js (run_bytes js) h refl)
+    ∙ nested_put n place end old out room begun new all (run_bytes js) k p b q a e
+
+-- ---- bytes that are appended before their length is known
+
+pub appended_bytes : (n : ℕ) (old new : List ℕ) (o : Option (List ℕ)) → o ≡ Some (drop n new) → take n new ≡ old → after
+    old o ≡ Some new
+appended_bytes n old new o e f = ap (after old) e ∙ ap (λ (xs : List ℕ). Some (xs ++ drop n new)) (sym f) ∙ ap
+    (λ (xs : List ℕ). Some xs) (take-append-drop n new)
+
+not_left_out : (plain : Bool) (end : ℕ) (begun bytes all : List ℕ) → all ≡ begun ++ bytes → end ≡ length begun →
+    (plain && nat_eq (length all) end) ≡ false → (plain && nat_eq (length bytes) 0) ≡ false
+not_left_out false end begun bytes all a q e = refl
+not_left_out true end begun bytes all a q e =
+    ne_eqb (length bytes) 0 (λ z. eqb-false (length all) end e
+    (omega (arith, q, z, ap length a, length-append begun bytes)))
+
+-- as `nested_put`, of a field that may be plain
+pub bytes_put : (plain : Bool) (n place end : ℕ) (old out room begun new all : List ℕ) (o : Option (List ℕ)) → out ≡ old
+    ++ key_bytes n 2 → place ≡ length out → begun ≡ out ++ room → end ≡ length begun → after begun o ≡ Some all →
+    (plain && nat_eq (length all) end) ≡ false → new ≡ take place all ++
+    (shortest_varint (length all - end) ++ drop end all) → after old (option_map (content_record plain n) o) ≡ Some new
+bytes_put plain n place end old out room begun new all None k p b q a l e = absurd cc
+bytes_put plain n place end old out room begun new all (Some bytes) k p b q a l e =
+    let same : all ≡ begun ++ bytes = cc in
+    ap (λ (t : Bool). Some (old ++ cond t [] (key_bytes n 2 ++ (shortest_varint (length bytes) ++ bytes))))
+    (not_left_out plain end begun bytes all same q l)
+    ∙ nested_put n place end old out room begun new all (Some bytes) k p b q a e
+
+left_out : (plain : Bool) (end : ℕ) (begun bytes all : List ℕ) → all ≡ begun ++ bytes → end ≡ length begun →
+    (plain && nat_eq (length all) end) ≡ true → (plain && nat_eq (length bytes) 0) ≡ true
+left_out false end begun bytes all a q e = absurd cc
+left_out true end begun bytes all a q e =
+    eq-eqb (length bytes) 0 (omega (arith, q, eqb-true (length all) end e, ap length a, length-append begun bytes))
+
+-- no bytes, of a plain field
+pub bytes_left_out : (plain : Bool) (n start end : ℕ) (old out room begun new all : List ℕ) (o : Option (List ℕ)) →
+    start ≡ length old → out ≡ old ++ key_bytes n 2 → begun ≡ out ++ room → end ≡ length begun → after begun o ≡ Some
+    all → (plain && nat_eq (length all) end) ≡ true → new ≡ take start all → after old
+    (option_map (content_record plain n) o) ≡ Some new
+bytes_left_out plain n start end old out room begun new all None s k b q a l e = absurd cc
+bytes_left_out plain n start end old out room begun new all (Some bytes) s k b q a l e =
+    let same : all ≡ begun ++ bytes = cc in
+    let whole : all ≡ old ++ (key_bytes n 2 ++ (room ++ bytes)) =
+    same ∙ ap (λ (xs : List ℕ). xs ++ bytes) b ∙ append_assoc out room bytes
+    ∙ ap (λ (xs : List ℕ). xs ++ (room ++ bytes)) k ∙ append_assoc old (key_bytes n 2) (room ++ bytes) in
+    ap (λ (t : Bool). Some (old ++ cond t [] (key_bytes n 2 ++ (shortest_varint (length bytes) ++ bytes))))
+    (left_out plain end begun bytes all same q l)
+    ∙ ap (λ (xs : List ℕ). Some xs) (append-nil old ∙ sym (e ∙ ap (λ (i : ℕ). take i all) s
+    ∙ ap (λ (xs : List ℕ). take (length old) xs) whole ∙ take-append_seam old (key_bytes n 2 ++ (room ++ bytes))))
+
+-- what is appended to nothing
+pub from_nothing : (o : Option (List ℕ)) (old new : List ℕ) → old ≡ [] → after old o ≡ Some new → o ≡ Some new
+from_nothing None old new z e = absurd cc
+from_nothing (Some bytes) old new z e = ap (λ (xs : List ℕ). Some (xs ++ bytes)) (sym z) ∙ e

@@ -1,5 +1,5 @@
 -- Base64 read, and the bytes of original names.
-use Rattle.std.proofs.Common.{◌≡◌, ◌≢◌, Bor, length, ℕ, List, [], ◌∷◌, Bool, true, false}
+use Rattle.std.proofs.Common.{◌≡◌, ℕ, List, [], ◌∷◌, Bool, true, false}
 use Rattle.std.proofs.Common.{cond, ◌&&◌, Option, Some, None, option_and_then, Result, Ok, Err, refl, sym, ap, subst}
 use Rattle.std.proofs.Common.{◌∙◌, eqb}
 use Rattle.std.specs.Result.{result_ok}
@@ -12,9 +12,7 @@ use Rattle.base64.specs.declared.decode.DecodeAllocError.{DecodeAllocError}
 use Rattle.base64.specs.declared.decode.DecodeAllocError.TheVariants.{DecodeError as Failed}
 use Rattle.json.specs.Json.{Json}
 use Rattle.json.specs.Find.{as_str}
-use Rattle.json.specs.Value.{members_view}
-use Rattle.json.specs.declared.value.Value.{Value}
-use Rattle.shared_core_json_reader.specs.Scalars.{utf8_text, text_read, only_text, base64_bytes}
+use Rattle.shared_core_json_reader.specs.Scalars.{utf8_text, text_read, base64_bytes}
 use Rattle.shared_core_json_reader.specs.Original.{after_byte}
 
 pub standard_bytes : (s b : List ℕ) → decode_of standard_pad_indifferent s ≡ Ok b → base64_bytes s ≡ Some b
@@ -46,10 +44,3 @@ byte_then (x ∷ xs) b bs = by_test (eqb x b)
 pub text_is : (j : Json) (s t : List ℕ) → Some s ≡ as_str j → t ≡ s → is_utf8 t ≡ true → text_read j ≡ Some t
 text_is j s t e q u = ap (λ (o : Option (List ℕ)). option_and_then utf8_text o) (sym e) ∙ ap utf8_text (sym q) ∙ ap
     (λ (b : Bool). cond b (Some t) None) u
-
--- the members of an object that has none, or several
-pub other_members : {A : Type 0} (ms : List (Bor (List ℕ) × Value A)) → length ms ≢ 1 → only_text (members_view ms) ≡
-    None
-other_members [] h = refl
-other_members (x ∷ []) h = absurd (h refl)
-other_members (x ∷ (y ∷ ms)) h = refl

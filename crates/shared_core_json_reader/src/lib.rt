@@ -1,10 +1,11 @@
 //! JSON read as payloads: the canonical payload that a text of proto3's JSON form means, by the names of
 //! proto/journal.proto.
 //!
-//! A text is parsed as a tree of JSON, and the tree is gone over once, by the rows of schemas that `shared_core_codec`
-//! has: what each row is given is appended as records, in the order of the schema (`payload`).
+//! A text is read into a table of JSON (`json_table`), and the table is gone over once, by the rows of schemas that
+//! `shared_core_codec` has: what each row is given is appended as records, in the order of the schema (`payload`).
 #![tactic(auto)]
 
+mod bytes;
 mod enum_values;
 mod error;
 pub mod laws;
@@ -15,6 +16,7 @@ mod read;
 mod rows;
 mod scalars;
 
+pub use bytes::read_bytes;
 pub use error::{JsonReadError, Reason};
-pub use read::{payload_of, payload_of_value, value_of_text};
-pub use scalars::{read_bytes, read_u32, read_u64};
+pub use read::{payload_of, payload_of_node, table_of_text};
+pub use scalars::{read_u32, read_u64};

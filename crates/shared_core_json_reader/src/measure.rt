@@ -3,10 +3,13 @@
 //! The lengths only say how much room to leave, so nothing is proved of them: the writer puts the length of what it has
 //! written, and moves it where the room was another one. Values that are rejected are measured as if they were absent.
 
+ghost use Rattle.shared_core_json_reader.specs.Places.{ArePlaces};
+
+use crate::bytes::decoded_len;
 use crate::members::{Places, likely, places_of};
 use crate::rows::{Field, named, rows_of};
 use crate::scalars::{extended, marked_text, read_boolean, read_enumeration, read_u32, read_u64};
-use json::Value;
+use json_table::{Items, Members, Node, Shape};
 use shared_core_codec::rows::{self, Kind, Row};
 use shared_core_record_writer::{content_len, number_len};
 use shared_core_wire::records::LEVELS;
@@ -15,9 +18,6 @@ use std::alloc::{AllocError, Global};
 
 /// How deep messages may be nested before they are measured: then few bytes are moved more than once.
 const SHALLOW: u32 = 3;
-
-/// The members of an object.
-type Members<'a> = Vec<(&'a str, Value<'a>)>;
 
 /// The lengths that were measured, in the order in which the messages are written.
 #[derive(Drop)]
@@ -38,7 +38,12 @@ impl Lengths {
 
     /// Returns how long the content of the message that is written next is likely to be: 0, if it is not nested deep.
     /// Messages may be nested `left` deep, itself included.
-    pub fn next(&mut self, schema: u32, value: &Value<'_>, left: u32) -> Result<u64, AllocError> {
+    pub fn next<'t, 'a>(
+        &mut self,
+        schema: u32,
+        value: &Node<'t, 'a>,
+        left: u32,
+    ) -> Result<u64, AllocError> {
         if left > LEVELS - SHALLOW {
             return Ok(0);
         }
@@ -58,10 +63,10 @@ impl Lengths {
 
 /// Measures a message and those within it. Returns the length of its content.
 #[cycle(measure)]
-fn measure_message(
+fn measure_message<'t, 'a>(
     lengths: &mut Vec<u64>,
     schema: u32,
-    value: &Value<'_>,
+    value: &Node<'t, 'a>,
     levels: u32,
 ) -> Result<u64, AllocError> {
     let index = lengths.len();
@@ -69,10 +74,10 @@ fn measure_message(
     if levels == 0 {
         return Ok(0);
     }
-    let Value::Object(members) = value else {
+    let Shape::Object(members) = value.shape() else {
         return Ok(0);
     };
-    let length = measure_members(lengths, schema, members, levels - 1)?;
+    let length = measure_members(lengths, schema, &members, levels - 1)?;
     if index < lengths.len() {
         lengths[index] = length;
     }
@@ -81,10 +86,10 @@ fn measure_message(
 
 /// Measures the members of an object of a schema.
 #[cycle(measure)]
-fn measure_members(
+fn measure_members<'t, 'a>(
     lengths: &mut Vec<u64>,
     schema: u32,
-    members: &Members<'_>,
+    members: &Members<'t, 'a>,
     left: u32,
 ) -> Result<u64, AllocError> {
     let Ok(places) = places_of(schema, members) else {
@@ -99,13 +104,15 @@ fn measure_members(
 
 /// Measures what an object gives a row of its schema.
 #[cycle(measure)]
-fn measure_row(
+fn measure_row<'t, 'a>(
     lengths: &mut Vec<u64>,
     row: &Row,
-    members: &Members<'_>,
+    members: &Members<'t, 'a>,
     places: &Places,
     left: u32,
-) -> Result<u64, AllocError> {
+) -> Result<u64, AllocError>
+    requires { ArePlaces members.now places.now }
+{
     match row {
         Row::Plain(field) => {
             measure_given(
@@ -143,13 +150,15 @@ fn measure_row(
 
 /// Measures what an object gives a oneof of its schema.
 #[cycle(measure)]
-fn measure_oneof(
+fn measure_oneof<'t, 'a>(
     lengths: &mut Vec<u64>,
     fields: &[rows::Field],
-    members: &Members<'_>,
+    members: &Members<'t, 'a>,
     places: &Places,
     left: u32,
-) -> Result<u64, AllocError> {
+) -> Result<u64, AllocError>
+    requires { ArePlaces members.now places.now }
+{
     let mut length: u64 = 0;
     for field in fields {
         let own = measure_given(
@@ -167,26 +176,28 @@ fn measure_oneof(
 
 /// Measures what an object gives a field.
 #[cycle(measure)]
-fn measure_given(
+fn measure_given<'t, 'a>(
     lengths: &mut Vec<u64>,
     plain: bool,
     field: &Field,
-    members: &Members<'_>,
+    members: &Members<'t, 'a>,
     places: &Places,
     left: u32,
-) -> Result<u64, AllocError> {
+) -> Result<u64, AllocError>
+    requires { ArePlaces members.now places.now }
+{
     let Some(value) = likely(members, places, field) else {
         return Ok(0);
     };
-    let Value::Array(items) = value else {
-        return measure_value(lengths, plain, field, value, left);
+    let Shape::Array(mut items) = value.shape() else {
+        return measure_value(lengths, plain, field, &value, left);
     };
     if let Kind::U32 = field.kind {
-        return Ok(content_len(true, field.number, run_len(items)));
+        return Ok(content_len(true, field.number, run_len(&mut items)));
     }
     let mut length: u64 = 0;
-    for item in items {
-        let own = measure_value(lengths, false, field, item, left)?;
+    while let Some(item) = items.next() {
+        let own = measure_value(lengths, false, field, &item, left)?;
         length = length.saturating_add(own);
     }
     Ok(length)
@@ -194,11 +205,11 @@ fn measure_given(
 
 /// Measures the record of a value.
 #[cycle(measure)]
-fn measure_value(
+fn measure_value<'t, 'a>(
     lengths: &mut Vec<u64>,
     plain: bool,
     field: &Field,
-    value: &Value<'_>,
+    value: &Node<'t, 'a>,
     left: u32,
 ) -> Result<u64, AllocError> {
     if let Kind::Message(schema) = field.kind {
@@ -209,7 +220,7 @@ fn measure_value(
 }
 
 /// The length of the record of a value that is no message.
-fn single_len(plain: bool, field: &Field, value: &Value<'_>) -> u64 {
+fn single_len<'t, 'a>(plain: bool, field: &Field, value: &Node<'t, 'a>) -> u64 {
     match field.kind {
         Kind::Text => content_len(plain, field.number, text_len(value)),
         Kind::ByteString => content_len(plain, field.number, bytes_len(value)),
@@ -221,7 +232,7 @@ fn single_len(plain: bool, field: &Field, value: &Value<'_>) -> u64 {
 }
 
 /// The number that is written for a value.
-fn read_number(field: &Field, value: &Value<'_>) -> Option<u64> {
+fn read_number<'t, 'a>(field: &Field, value: &Node<'t, 'a>) -> Option<u64> {
     match field.kind {
         Kind::U32 => Some(u64::from(read_u32(value).ok()?)),
         Kind::U64 => read_u64(value).ok(),
@@ -232,7 +243,7 @@ fn read_number(field: &Field, value: &Value<'_>) -> Option<u64> {
 }
 
 /// The length of a text.
-fn text_len(value: &Value<'_>) -> u64 {
+fn text_len<'t, 'a>(value: &Node<'t, 'a>) -> u64 {
     match value.as_str() {
         Some(text) => text.len() as u64,
         None => 0,
@@ -240,7 +251,7 @@ fn text_len(value: &Value<'_>) -> u64 {
 }
 
 /// The length of bytes, which are base64 or a text.
-fn bytes_len(value: &Value<'_>) -> u64 {
+fn bytes_len<'t, 'a>(value: &Node<'t, 'a>) -> u64 {
     if let Some(text) = value.as_str() {
         return decoded_len(text.as_bytes());
     }
@@ -250,20 +261,11 @@ fn bytes_len(value: &Value<'_>) -> u64 {
     }
 }
 
-/// How many bytes a text of base64 encodes.
-fn decoded_len(text: &[u8]) -> u64 {
-    let mut digits = text.len();
-    while digits > 0 && text[digits - 1] == b'=' {
-        digits -= 1;
-    }
-    (digits / 4 * 3 + digits % 4 * 3 / 4) as u64
-}
-
 /// The length of the varints of the numbers of an array.
-fn run_len(items: &Vec<Value<'_>>) -> u64 {
+fn run_len<'t, 'a>(items: &mut Items<'t, 'a>) -> u64 {
     let mut length: u64 = 0;
-    for item in items {
-        if let Ok(number) = read_u32(item) {
+    while let Some(item) = items.next() {
+        if let Ok(number) = read_u32(&item) {
             length = length.saturating_add(varint_len(u64::from(number)));
         }
     }

@@ -1,30 +1,36 @@
 //! The members of an object, by the names of fields.
 //!
-//! Each key is looked up once, in the table of names: it is the name of one field at most. What the fields are given is
-//! then found by their numbers (`Places`).
+//! Each key is looked up once, in the table of names: it is the name of one field at most. Where the values of the
+//! fields are is then found by their numbers (`Places`).
 //!
 //! The original name of a field is defined by that in lower camel case: for a capital letter an underscore and the
 //! small letter. So one table of names serves for both.
 
-ghost use Rattle.std.specs.Prelude.{◌≡◌, true, false, Some, None, map, option_map, IfOk, IfErr, MatchResult};
+ghost use Rattle.std.specs.Prelude.{◌≡◌, true, false, Some, None, map, option_map, IfOk, IfErr, IfSome, IsTrue};
+ghost use Rattle.std.specs.Prelude.{MatchResult};
 ghost use Rattle.std.specs.Str.{bytes_eq};
-ghost use Rattle.json.specs.Value.{value_view as json_view, members_view};
+ghost use Rattle.json_table.specs.Tails.{last_members, IsTail};
+ghost use Rattle.shared_core_codec.specs.ProgramRows as codec;
 ghost use Rattle.shared_core_json.specs.Fields.{name_view};
 ghost use Rattle.shared_core_json_reader.specs.Rows.{field_view, named_rows};
 ghost use Rattle.shared_core_json_reader.specs.Original.{after_byte, after_original};
 ghost use Rattle.shared_core_json_reader.specs.Reading.{original_name, is_named, are_known, given, present};
-ghost use Rattle.shared_core_json_reader.specs.Places.{number_by, as_it_is, number_of, place_after, ArePlaces, IsOf};
+ghost use Rattle.shared_core_json_reader.specs.Places.{number_by, as_it_is, number_of, place_after};
+ghost use Rattle.shared_core_json_reader.specs.Places.{first_value, ArePlaces, IsOf, IsNameAt};
+ghost use Rattle.shared_core_json_reader.specs.Places.{IsAbsent, Lacks};
 ghost use Rattle.shared_core_json_reader.specs.FirstError.{first_unknown};
 
 use crate::error::Reason;
 use crate::rows::Field;
-use json::Value;
+use json_table::{Members, Node};
+use shared_core_codec::rows::{self, Row};
 use shared_core_json::names::{Name, names_of};
 
 /// How many numbers of fields have a place: those below it.
 const PLACES: usize = 20;
 
-/// Where the value of a field is among the members of an object: nowhere, at an index, or at several.
+/// Where the value of a field is among the members of an object: nowhere, once or several times. Once: with how many
+/// entries the members end that begin with it.
 #[derive(Clone, Copy)]
 pub enum Place {
     Absent,
@@ -117,53 +123,88 @@ fn number_of(schema: u32, key: &str) -> Option<u32>
     }
 }
 
-/// The place of a field that has one more value, at an index.
-fn place_after(place: Place, index: usize) -> Place
-    ensures { result ≡ place_after place index }
+/// The index of the first of some names, from an index on, that is a key.
+#[inline(always)]
+fn index_from(names: &[Name], from: usize, key: &str) -> Option<usize>
+    ensures { IfSome result (λ index. IsNameAt (map name_view names.now) index key.now) }
+{
+    let mut index = from;
+    while index < names.len() {
+        if key == names[index].1 {
+            return Some(index);
+        }
+        index += 1;
+    }
+    None
+}
+
+/// The number of the field of a schema of which a key is a name. The names from `next` on are tried first, and `next`
+/// is set behind the key's: most objects have their members in the order of the names.
+#[inline(always)]
+fn next_number(schema: u32, next: &mut usize, key: &str) -> Option<u32>
+    ensures { result ≡ number_of schema key.now }
+{
+    let names = names_of(schema);
+    match index_from(names, *next, key) {
+        Some(index) => {
+            *next = index + 1;
+            Some(names[index].0)
+        }
+        None => number_of(schema, key),
+    }
+}
+
+/// The place of a field that has one more value, with which the members begin that have this many entries.
+fn place_after(place: Place, left: usize) -> Place
+    ensures { result ≡ place_after place left }
 {
     match place {
-        Place::Absent => Place::Once(index),
+        Place::Absent => Place::Once(left),
         _ => Place::Several,
     }
 }
 
 /// Where an object of a schema has the values of its fields, or the first key that is no name of a field.
 #[inline(always)]
-pub fn places_of<'a>(schema: u32, members: &Vec<(&'a str, Value<'a>)>) -> Result<Places, &'a str>
+pub fn places_of<'t, 'a>(schema: u32, members: &Members<'t, 'a>) -> Result<Places, &'a str>
     ensures schema { IfOk result (λ places. places.schema ≡ schema) }
-    ensures places { IfOk result (λ places. ArePlaces members.now.items places) }
+    ensures places { IfOk result (λ places. ArePlaces members.now places) }
     ensures known { MatchResult result
-        (λ _. are_known (named_rows schema) (members_view members.now.items) ≡ true)
-        (λ _. are_known (named_rows schema) (members_view members.now.items) ≡ false) }
+        (λ _. are_known (named_rows schema) members.now ≡ true)
+        (λ _. are_known (named_rows schema) members.now ≡ false) }
     ensures unknown { MatchResult result
-        (λ _. first_unknown (named_rows schema) (members_view members.now.items) ≡ None)
-        (λ key. first_unknown (named_rows schema) (members_view members.now.items) ≡ Some key.now) }
+        (λ _. first_unknown (named_rows schema) members.now ≡ None)
+        (λ key. first_unknown (named_rows schema) members.now ≡ Some key.now) }
 {
     let mut numbered = [Place::Absent; 20];
-    for (index, member) in members.iter().enumerate() {
-        let Some(number) = number_of(schema, member.0) else {
-            return Err(member.0);
+    let mut rest = members.copy();
+    let mut next = 0;
+    loop {
+        let left = rest.left();
+        let Some((key, _)) = rest.next() else {
+            return Ok(Places { schema, numbered });
+        };
+        let Some(number) = next_number(schema, &mut next, key) else {
+            return Err(key);
         };
         let number = number as usize;
         if number < PLACES {
-            numbered[number] = place_after(numbered[number], index);
+            numbered[number] = place_after(numbered[number], left);
         }
     }
-    Ok(Places { schema, numbered })
 }
 
 /// The value that an object gives a field of its schema, if it is there and not null. An error if it comes twice.
-pub fn given<'v, 'a>(
-    members: &'v Vec<(&'a str, Value<'a>)>,
+pub fn given<'t, 'a>(
+    members: &Members<'t, 'a>,
     places: &Places,
     field: &Field,
-) -> Result<Option<&'v Value<'a>>, Reason>
-    requires places { ArePlaces members.now.items places.now }
+) -> Result<Option<Node<'t, 'a>>, Reason>
+    requires places { ArePlaces members.now places.now }
     requires field { IsOf places.now.schema (field_view field.now) }
     ensures given { MatchResult result
-        (λ found. given (field_view field.now) (members_view members.now.items)
-        ≡ Some (option_map (λ v. json_view v.now) found))
-        (λ _. given (field_view field.now) (members_view members.now.items) ≡ None) }
+        (λ found. given (field_view field.now) members.now ≡ Some found)
+        (λ _. given (field_view field.now) members.now ≡ None) }
     ensures repeated { IfErr result (λ reason. reason ≡ Reason.RepeatedMember) }
 {
     let number = field.number as usize;
@@ -172,17 +213,39 @@ pub fn given<'v, 'a>(
     }
     match places.numbered[number] {
         Place::Absent => Ok(None),
-        Place::Once(index) => Ok(present(&members[index].1)),
+        Place::Once(left) => Ok(first_present(members, left)),
         Place::Several => Err(Reason::RepeatedMember),
     }
 }
 
+/// Whether an object gives a row of its schema nothing, as can be seen without the names of its fields.
+#[inline(always)]
+pub fn lacks(places: &Places, row: &Row) -> bool
+    ensures { IsTrue result → Lacks places.now (codec.row_view row.now) }
+{
+    match row {
+        Row::Plain(field) | Row::Optional(field) | Row::Repeated(field) => is_absent(places, field),
+        Row::OneOf(_) => false,
+    }
+}
+
+/// Whether an object gives a field of its schema nothing, as can be seen without the field's names.
+#[inline(always)]
+pub fn is_absent(places: &Places, field: &rows::Field) -> bool
+    ensures { IsTrue result → IsAbsent places.now field.now.0 }
+{
+    let number = field.0 as usize;
+    number < PLACES && matches!(places.numbered[number], Place::Absent)
+}
+
 /// The value that an object most likely gives a field, for one that only wants to know how long it is.
-pub fn likely<'v, 'a>(
-    members: &'v Vec<(&'a str, Value<'a>)>,
+pub fn likely<'t, 'a>(
+    members: &Members<'t, 'a>,
     places: &Places,
     field: &Field,
-) -> Option<&'v Value<'a>> {
+) -> Option<Node<'t, 'a>>
+    requires { ArePlaces members.now places.now }
+{
     let number = field.number as usize;
     if number >= PLACES {
         return match given_by_name(members, field) {
@@ -191,46 +254,51 @@ pub fn likely<'v, 'a>(
         };
     }
     match places.numbered[number] {
-        Place::Once(index) => {
-            if index < members.len() {
-                present(&members[index].1)
-            } else {
-                None
-            }
-        }
+        Place::Once(left) => first_present(members, left),
         _ => None,
     }
 }
 
+/// The value of the first of those of the members, at the end, that have this many entries, unless it is null.
+fn first_present<'t, 'a>(members: &Members<'t, 'a>, left: usize) -> Option<Node<'t, 'a>>
+    requires { IsTail left members.now }
+    ensures { result ≡ present (first_value (last_members left members.now)) }
+{
+    match members.last(left).next() {
+        Some((_, value)) => present(value),
+        None => None,
+    }
+}
+
 /// A value, unless it is null.
-fn present<'v, 'a>(value: &'v Value<'a>) -> Option<&'v Value<'a>>
-    ensures { option_map (λ v. json_view v.now) result ≡ present (json_view value.now) }
+fn present<'t, 'a>(value: Node<'t, 'a>) -> Option<Node<'t, 'a>>
+    ensures { result ≡ present value.entry }
 {
     if value.is_null() { None } else { Some(value) }
 }
 
 /// The value that members give a field, by its names, if it is there and not null. An error if it comes twice.
-fn given_by_name<'v, 'a>(
-    members: &'v Vec<(&'a str, Value<'a>)>,
+fn given_by_name<'t, 'a>(
+    members: &Members<'t, 'a>,
     field: &Field,
-) -> Result<Option<&'v Value<'a>>, Reason>
+) -> Result<Option<Node<'t, 'a>>, Reason>
     ensures given { MatchResult result
-        (λ found. given (field_view field.now) (members_view members.now.items)
-        ≡ Some (option_map (λ v. json_view v.now) found))
-        (λ _. given (field_view field.now) (members_view members.now.items) ≡ None) }
+        (λ found. given (field_view field.now) members.now ≡ Some found)
+        (λ _. given (field_view field.now) members.now ≡ None) }
     ensures repeated { IfErr result (λ reason. reason ≡ Reason.RepeatedMember) }
 {
-    let mut found: Option<&'v Value<'a>> = None;
-    for member in members {
-        if is_named(field, member.0) {
+    let mut found: Option<Node<'t, 'a>> = None;
+    let mut rest = members.copy();
+    while let Some((key, value)) = rest.next() {
+        if is_named(field, key) {
             if found.is_some() {
                 return Err(Reason::RepeatedMember);
             }
-            found = Some(&member.1);
+            found = Some(value);
         }
     }
-    let Some(value) = found else {
-        return Ok(None);
-    };
-    Ok(present(value))
+    match found {
+        Some(value) => Ok(present(value)),
+        None => Ok(None),
+    }
 }

@@ -8,7 +8,6 @@
 
 ghost use Rattle.std.specs.Prelude.{◌≡◌, ◌≢◌, ◌++◌, [], ◌∷◌, Some, None, true, false, option_map, MatchOption};
 ghost use Rattle.std.specs.Prelude.{MatchResult, map};
-ghost use Rattle.json.specs.Value.{value_view as json_view, items_view, members_view};
 ghost use Rattle.shared_core_wire.specs.Schema.{OneOf};
 ghost use Rattle.shared_core_codec.specs.ProgramRows as codec;
 ghost use Rattle.shared_core_json_reader.specs.Rows.{field_view, row_view, named_members, named_rows};
@@ -23,22 +22,18 @@ ghost use Rattle.shared_core_json_reader.specs.FirstError.{field_error, items_er
 ghost use Rattle.shared_core_json_reader.specs.FirstError.{given_error, oneof_error, row_error, rows_error};
 ghost use Rattle.shared_core_json_reader.specs.FirstError.{members_error, object_error, message_error};
 
+use crate::bytes::append_bytes;
 use crate::error::Reason;
 use crate::measure::Lengths;
-use crate::members::{Places, given, places_of};
+use crate::members::{Places, given, is_absent, lacks, places_of};
 use crate::rows::{Field, named, rows_of};
-use crate::scalars::{
-    extended, read_boolean, read_bytes, read_enumeration, read_text, read_u32, read_u64,
-};
-use json::Value;
+use crate::scalars::{extended, read_boolean, read_enumeration, read_text, read_u32, read_u64};
+use json_table::{Items, Members, Node, Shape};
 use shared_core_codec::rows::{self, Kind, Row};
 use shared_core_record_writer::{
     LENGTH, append_content, append_key, append_number, append_varint, put_length,
 };
 use std::alloc::Global;
-
-/// The members of an object.
-type Members<'a> = Vec<(&'a str, Value<'a>)>;
 
 /// A step of the path to a value: a member by its name, or an element by its index.
 #[derive(Clone, Copy, Drop)]
@@ -81,11 +76,11 @@ pub fn append_message<'a>(
     walk: &mut Walk<'a>,
     out: &mut Vec<u8>,
     schema: u32,
-    value: &Value<'a>,
+    value: &Node<'_, 'a>,
     levels: u32,
 ) -> Result<(), Reason>
-    ensures appended { Appends result (message_bytes levels schema (json_view value.now)) out.old.items out.new.items }
-    ensures error { HasError result (λ path. message_error levels path schema (json_view value.now))
+    ensures appended { Appends result (message_bytes levels schema value.now) out.old.items out.new.items }
+    ensures error { HasError result (λ path. message_error levels path schema value.now)
         walk.old.path.items walk.new.path.items }
 {
     if levels == 0 {
@@ -100,19 +95,19 @@ fn append_object<'a>(
     walk: &mut Walk<'a>,
     out: &mut Vec<u8>,
     schema: u32,
-    value: &Value<'a>,
+    value: &Node<'_, 'a>,
     left: u32,
 ) -> Result<(), Reason>
-    ensures appended { Appends result (object_bytes (message_bytes left) (named_rows schema) (json_view value.now))
+    ensures appended { Appends result (object_bytes (message_bytes left) (named_rows schema) value.now)
         out.old.items out.new.items }
     ensures error { HasError result
-        (λ path. object_error (message_error left) (named_rows schema) path (json_view value.now))
+        (λ path. object_error (message_error left) (named_rows schema) path value.now)
         walk.old.path.items walk.new.path.items }
 {
-    let Value::Object(members) = value else {
+    let Shape::Object(members) = value.shape() else {
         return Err(Reason::WrongKind);
     };
-    append_members(walk, out, schema, members, left)
+    append_members(walk, out, schema, &members, left)
 }
 
 /// Appends the records of the members of an object of a schema.
@@ -121,13 +116,13 @@ fn append_members<'a>(
     walk: &mut Walk<'a>,
     out: &mut Vec<u8>,
     schema: u32,
-    members: &Members<'a>,
+    members: &Members<'_, 'a>,
     left: u32,
 ) -> Result<(), Reason>
     ensures appended { Appends result (members_bytes (message_bytes left) (named_rows schema)
-        (members_view members.now.items)) out.old.items out.new.items }
+        members.now) out.old.items out.new.items }
     ensures error { HasError result
-        (λ path. members_error (message_error left) (named_rows schema) path (members_view members.now.items))
+        (λ path. members_error (message_error left) (named_rows schema) path members.now)
         walk.old.path.items walk.new.path.items }
 {
     let places = match places_of(schema, members) {
@@ -142,18 +137,18 @@ fn append_members<'a>(
 
 /// Appends the records of the rows of an object's schema.
 #[cycle(message)]
-fn append_rows<'a>(
+fn append_rows<'t, 'a>(
     walk: &mut Walk<'a>,
     out: &mut Vec<u8>,
-    members: &Members<'a>,
+    members: &Members<'t, 'a>,
     places: &Places,
     left: u32,
 ) -> Result<(), Reason>
-    requires places { ArePlaces members.now.items places.now }
-    ensures appended { Appends result (rows_bytes (message_bytes left) (members_view members.now.items)
+    requires places { ArePlaces members.now places.now }
+    ensures appended { Appends result (rows_bytes (message_bytes left) members.now
         (named_rows places.now.schema)) out.old.items out.new.items }
     ensures error { HasError result
-        (λ path. rows_error (message_error left) (members_view members.now.items) path (named_rows places.now.schema))
+        (λ path. rows_error (message_error left) members.now path (named_rows places.now.schema))
         walk.old.path.items walk.new.path.items }
 {
     let rows = rows_of(places.schema);
@@ -165,24 +160,27 @@ fn append_rows<'a>(
 
 /// Appends the records of a row of an object's schema.
 #[cycle(message)]
-fn append_row<'a>(
+fn append_row<'t, 'a>(
     walk: &mut Walk<'a>,
     out: &mut Vec<u8>,
     row: &Row,
-    members: &Members<'a>,
+    members: &Members<'t, 'a>,
     places: &Places,
     left: u32,
 ) -> Result<(), Reason>
-    requires places { ArePlaces members.now.items places.now }
+    requires places { ArePlaces members.now places.now }
     requires row { IsRowOf places.now.schema (codec.row_view row.now) }
-    ensures appended { Appends result (row_bytes (message_bytes left) (members_view members.now.items)
+    ensures appended { Appends result (row_bytes (message_bytes left) members.now
         (row_view places.now.schema row.now))
         out.old.items out.new.items }
     ensures error { HasError result
-        (λ path. row_error (message_error left) (members_view members.now.items) path
+        (λ path. row_error (message_error left) members.now path
         (row_view places.now.schema row.now))
         walk.old.path.items walk.new.path.items }
 {
+    if lacks(places, row) {
+        return Ok(());
+    }
     match row {
         Row::Plain(field) => append_given(
             walk,
@@ -217,18 +215,17 @@ fn append_row<'a>(
 }
 
 /// The value that an object gives a field, to which the path leads then.
-fn enter_given<'v, 'a>(
+fn enter_given<'t, 'a>(
     walk: &mut Walk<'a>,
     field: &Field,
-    members: &'v Members<'a>,
+    members: &Members<'t, 'a>,
     places: &Places,
-) -> Result<Option<&'v Value<'a>>, Reason>
-    requires places { ArePlaces members.now.items places.now }
+) -> Result<Option<Node<'t, 'a>>, Reason>
+    requires places { ArePlaces members.now places.now }
     requires field { IsOf places.now.schema (field_view field.now) }
     ensures given { MatchResult result
-        (λ found. given (field_view field.now) (members_view members.now.items)
-        ≡ Some (option_map (λ v. json_view v.now) found))
-        (λ reason. reason ≢ Reason.OutOfMemory → given (field_view field.now) (members_view members.now.items) ≡ None) }
+        (λ found. given (field_view field.now) members.now ≡ Some found)
+        (λ reason. reason ≢ Reason.OutOfMemory → given (field_view field.now) members.now ≡ None) }
     ensures path { MatchResult result
         (λ found. MatchOption found (walk.new.path.items ≡ walk.old.path.items)
         (λ _. walk.new.path.items ≡ walk.old.path.items ++ Step.Member field.now.name ∷ []))
@@ -245,54 +242,57 @@ fn enter_given<'v, 'a>(
 
 /// Appends the record of a field that is not repeated; a default is left out if the field is plain.
 #[cycle(message)]
-fn append_given<'a>(
+fn append_given<'t, 'a>(
     walk: &mut Walk<'a>,
     out: &mut Vec<u8>,
     plain: bool,
     field: &Field,
-    members: &Members<'a>,
+    members: &Members<'t, 'a>,
     places: &Places,
     left: u32,
 ) -> Result<(), Reason>
-    requires places { ArePlaces members.now.items places.now }
+    requires places { ArePlaces members.now places.now }
     requires field { IsOf places.now.schema (field_view field.now) }
     ensures appended { Appends result (given_bytes (field_bytes (message_bytes left) plain (field_view field.now))
-        (given (field_view field.now) (members_view members.now.items)))
+        (given (field_view field.now) members.now))
         out.old.items out.new.items }
     ensures error { HasError result
         (λ path. given_error (field_error (message_error left) (field_view field.now)) (field_view field.now) path
-        (given (field_view field.now) (members_view members.now.items)))
+        (given (field_view field.now) members.now))
         walk.old.path.items walk.new.path.items }
 {
     let Some(value) = enter_given(walk, field, members, places)? else {
         return Ok(());
     };
-    append_value(walk, out, plain, field, value, left)?;
+    append_value(walk, out, plain, field, &value, left)?;
     walk.leave();
     Ok(())
 }
 
 /// Appends the record of a oneof of an object's schema.
 #[cycle(message)]
-fn append_oneof<'a>(
+fn append_oneof<'t, 'a>(
     walk: &mut Walk<'a>,
     out: &mut Vec<u8>,
     fields: &[rows::Field],
-    members: &Members<'a>,
+    members: &Members<'t, 'a>,
     places: &Places,
     left: u32,
 ) -> Result<(), Reason>
-    requires places { ArePlaces members.now.items places.now }
+    requires places { ArePlaces members.now places.now }
     requires row { IsRowOf places.now.schema (OneOf (map codec.field_view fields.now)) }
-    ensures appended { Appends result (oneof_bytes (message_bytes left) (members_view members.now.items) false
+    ensures appended { Appends result (oneof_bytes (message_bytes left) members.now false
         (named_members places.now.schema fields.now)) out.old.items out.new.items }
     ensures error { HasError result
-        (λ path. oneof_error (message_error left) (members_view members.now.items) path false
+        (λ path. oneof_error (message_error left) members.now path false
         (named_members places.now.schema fields.now))
         walk.old.path.items walk.new.path.items }
 {
     let mut held = false;
     for member in fields {
+        if is_absent(places, member) {
+            continue;
+        }
         let field = named(places.schema, member);
         let Some(value) = enter_given(walk, &field, members, places)? else {
             continue;
@@ -300,7 +300,7 @@ fn append_oneof<'a>(
         if held {
             return Err(Reason::SeveralMembers);
         }
-        append_value(walk, out, false, &field, value, left)?;
+        append_value(walk, out, false, &field, &value, left)?;
         walk.leave();
         held = true;
     }
@@ -309,37 +309,54 @@ fn append_oneof<'a>(
 
 /// Appends the records of a repeated field.
 #[cycle(message)]
-fn append_list<'a>(
+fn append_list<'t, 'a>(
     walk: &mut Walk<'a>,
     out: &mut Vec<u8>,
     field: &Field,
-    members: &Members<'a>,
+    members: &Members<'t, 'a>,
     places: &Places,
     left: u32,
 ) -> Result<(), Reason>
-    requires places { ArePlaces members.now.items places.now }
+    requires places { ArePlaces members.now places.now }
     requires field { IsOf places.now.schema (field_view field.now) }
     ensures appended { Appends result (given_bytes (list_bytes (message_bytes left) (field_view field.now))
-        (given (field_view field.now) (members_view members.now.items)))
+        (given (field_view field.now) members.now))
         out.old.items out.new.items }
     ensures error { HasError result
         (λ path. given_error (list_error (message_error left) (field_view field.now)) (field_view field.now) path
-        (given (field_view field.now) (members_view members.now.items)))
+        (given (field_view field.now) members.now))
         walk.old.path.items walk.new.path.items }
 {
     let Some(value) = enter_given(walk, field, members, places)? else {
         return Ok(());
     };
-    let Value::Array(items) = value else {
+    append_array(walk, out, field, &value, left)?;
+    walk.leave();
+    Ok(())
+}
+
+/// Appends the records of a value of a repeated field, which has to be an array.
+#[cycle(message)]
+fn append_array<'a>(
+    walk: &mut Walk<'a>,
+    out: &mut Vec<u8>,
+    field: &Field,
+    value: &Node<'_, 'a>,
+    left: u32,
+) -> Result<(), Reason>
+    ensures appended { Appends result (list_bytes (message_bytes left) (field_view field.now) value.now)
+        out.old.items out.new.items }
+    ensures error { HasError result
+        (λ path. list_error (message_error left) (field_view field.now) path value.now)
+        walk.old.path.items walk.new.path.items }
+{
+    let Shape::Array(mut items) = value.shape() else {
         return Err(Reason::WrongKind);
     };
     if let Kind::U32 = field.kind {
-        append_run(walk, out, field.number, items)?;
-    } else {
-        append_items(walk, out, field, items, left)?;
+        return append_run(walk, out, field.number, &mut items);
     }
-    walk.leave();
-    Ok(())
+    append_items(walk, out, field, &mut items, left)
 }
 
 /// Appends the records of the elements of an array.
@@ -348,19 +365,22 @@ fn append_items<'a>(
     walk: &mut Walk<'a>,
     out: &mut Vec<u8>,
     field: &Field,
-    items: &Vec<Value<'a>>,
+    items: &mut Items<'_, 'a>,
     left: u32,
 ) -> Result<(), Reason>
     ensures appended { Appends result
-        (items_bytes (message_bytes left) (field_view field.now) (items_view items.now.items))
+        (items_bytes (message_bytes left) (field_view field.now) items.old)
         out.old.items out.new.items }
     ensures error { HasError result
-        (λ path. items_error (message_error left) (field_view field.now) path 0 (items_view items.now.items))
+        (λ path. items_error (message_error left) (field_view field.now) path 0 items.old)
         walk.old.path.items walk.new.path.items }
 {
-    for (index, item) in items.iter().enumerate() {
+    for index in 0..items.at_most() {
+        let Some(item) = items.next() else {
+            return Ok(());
+        };
         walk.enter(Step::Element(index))?;
-        append_value(walk, out, false, field, item, left)?;
+        append_value(walk, out, false, field, &item, left)?;
         walk.leave();
     }
     Ok(())
@@ -371,11 +391,11 @@ fn append_run<'a>(
     walk: &mut Walk<'a>,
     out: &mut Vec<u8>,
     number: u32,
-    items: &Vec<Value<'a>>,
+    items: &mut Items<'_, 'a>,
 ) -> Result<(), Reason>
-    ensures appended { Appends result (option_map (content_record true number) (run_bytes (items_view items.now.items)))
+    ensures appended { Appends result (option_map (content_record true number) (run_bytes items.old))
         out.old.items out.new.items }
-    ensures error { HasError result (λ path. run_error path 0 (items_view items.now.items))
+    ensures error { HasError result (λ path. run_error path 0 items.old)
         walk.old.path.items walk.new.path.items }
 {
     if items.is_empty() {
@@ -394,15 +414,18 @@ fn append_run<'a>(
 fn append_numbers<'a>(
     walk: &mut Walk<'a>,
     out: &mut Vec<u8>,
-    items: &Vec<Value<'a>>,
+    items: &mut Items<'_, 'a>,
 ) -> Result<(), Reason>
-    ensures appended { Appends result (run_bytes (items_view items.now.items)) out.old.items out.new.items }
-    ensures error { HasError result (λ path. run_error path 0 (items_view items.now.items))
+    ensures appended { Appends result (run_bytes items.old) out.old.items out.new.items }
+    ensures error { HasError result (λ path. run_error path 0 items.old)
         walk.old.path.items walk.new.path.items }
 {
-    for (index, item) in items.iter().enumerate() {
+    for index in 0..items.at_most() {
+        let Some(item) = items.next() else {
+            return Ok(());
+        };
         walk.enter(Step::Element(index))?;
-        append_varint(out, u64::from(read_u32(item)?))?;
+        append_varint(out, u64::from(read_u32(&item)?))?;
         walk.leave();
     }
     Ok(())
@@ -415,14 +438,14 @@ fn append_value<'a>(
     out: &mut Vec<u8>,
     plain: bool,
     field: &Field,
-    value: &Value<'a>,
+    value: &Node<'_, 'a>,
     left: u32,
 ) -> Result<(), Reason>
     ensures appended { Appends result
-        (field_bytes (message_bytes left) plain (field_view field.now) (json_view value.now))
+        (field_bytes (message_bytes left) plain (field_view field.now) value.now)
         out.old.items out.new.items }
     ensures error { HasError result
-        (λ path. field_error (message_error left) (field_view field.now) path (json_view value.now))
+        (λ path. field_error (message_error left) (field_view field.now) path value.now)
         walk.old.path.items walk.new.path.items }
 {
     match field.kind {
@@ -436,12 +459,7 @@ fn append_value<'a>(
             extended(read_enumeration(field.values, value)?),
         )?,
         Kind::Text => append_content(out, plain, field.number, read_text(value)?)?,
-        Kind::ByteString => append_content(
-            out,
-            plain,
-            field.number,
-            read_bytes(walk.alloc, value)?.as_slice(),
-        )?,
+        Kind::ByteString => append_bytes(out, plain, field.number, value)?,
         Kind::Message(schema) => {
             append_key(out, field.number, LENGTH)?;
             let place = out.len();

@@ -1,9 +1,8 @@
-//! Reading a text: it is parsed as a tree of JSON, and the payload is appended by the tree. Each step is a call of its
-//! own, for a text of which a message is a part.
+//! Reading a text: its JSON value is read into a table, and the payload is appended by the table. Each step is a call
+//! of its own, for a text of which a message is a part.
 
 ghost use Rattle.std.specs.Prelude.{◌≡◌, ◌≢◌, ◌++◌, [], true, Some, None, IfOk, IfErr, OnOk, MatchOption, MatchResult};
 ghost use Rattle.std.specs.String.{string_bytes};
-ghost use Rattle.json.specs.Value.{value_view as json_view};
 ghost use Rattle.shared_core_codec.specs.Payloads.{IsAccepted, payload_meaning};
 ghost use Rattle.shared_core_json_reader.specs.Reading.{only_value, json_of_text, message_read};
 ghost use Rattle.shared_core_json_reader.specs.Reading.{value_payload, text_meaning, text_payload};
@@ -13,28 +12,35 @@ ghost use Rattle.shared_core_json_reader.specs.FirstError.{value_error, SaysErro
 use crate::error::{JsonReadError, Reason};
 use crate::measure::Lengths;
 use crate::payload::{Step, Walk, append_message};
-use json::{Reader, Scratch, Value};
+use json::{Reader, Scratch};
+use json_table::{Node, Table};
 use shared_core_wire::records::LEVELS;
 use std::alloc::{AllocError, Global};
 
 /// How deep arrays and objects may be nested in a text; a message one hundred levels deep needs 202 at most.
 const MAX_DEPTH: usize = 1000;
 
+/// How many bytes of a payload there is room for before it grows: most have fewer.
+const ROOM: usize = 256;
+
+/// Room for an entry of the table is made for each eight bytes of a text; a table with more entries grows.
+const BYTES_OF_ENTRY: usize = 8;
+
 /// The one value of a text.
-fn parse<'a>(alloc: Global, reader: &mut Reader<'a>) -> Result<Value<'a>, Reason>
-    ensures value { MatchResult result (λ value. only_value reader.old ≡ Some (json_view value))
+fn parse<'a>(alloc: Global, reader: &mut Reader<'a>, room: usize) -> Result<Table<'a>, Reason>
+    ensures value { MatchResult result (λ table. only_value reader.old ≡ Some table)
         (λ reason. reason ≢ Reason.OutOfMemory → only_value reader.old ≡ None) }
     ensures reason { IfErr result (λ reason. reason ≢ Reason.OutOfMemory → reason ≡ Reason.NotJson) }
 {
-    let value = match Value::read(alloc, reader, MAX_DEPTH) {
-        Ok(value) => value,
+    let table = match Table::read(alloc, reader, MAX_DEPTH, room) {
+        Ok(table) => table,
         Err(json::Error::Invalid) => return Err(Reason::NotJson),
         // its other errors do not come here
         Err(_) => return Err(Reason::OutOfMemory),
     };
     match reader.next() {
         Some(_) => Err(Reason::NotJson),
-        None => Ok(value),
+        None => Ok(table),
     }
 }
 
@@ -97,14 +103,14 @@ fn error_on(alloc: Global, reason: Reason, path: &Vec<Step<'_>>) -> JsonReadErro
     }
 }
 
-/// Returns the JSON value that a text is, which borrows from the text and from the buffers. The only errors are
-/// `NotJson`, with the offset at which the text stops being JSON, and `OutOfMemory`.
-pub fn value_of_text<'a>(
+/// Returns the table of the JSON value that a text is, which borrows from the text and from the buffers. The only
+/// errors are `NotJson`, with the offset at which the text stops being JSON, and `OutOfMemory`.
+pub fn table_of_text<'a>(
     alloc: Global,
     text: &'a [u8],
     scratch: &'a mut Scratch,
-) -> Result<Value<'a>, JsonReadError>
-    ensures ok { IfOk result (λ value. json_of_text text.now ≡ Some (json_view value)) }
+) -> Result<Table<'a>, JsonReadError>
+    ensures ok { IfOk result (λ table. json_of_text text.now ≡ Some table) }
     ensures rejected { IfErr result (λ error. error.reason ≢ Reason.OutOfMemory → json_of_text text.now ≡ None) }
     ensures place { IfErr result (λ error. error.reason ≢ Reason.OutOfMemory → IsNotJson error text.now) }
 {
@@ -115,37 +121,39 @@ pub fn value_of_text<'a>(
     let Ok(mut reader) = Reader::new(text, scratch) else {
         return Err(error_at(alloc, Reason::OutOfMemory, 0));
     };
-    match parse(alloc, &mut reader) {
-        Ok(value) => Ok(value),
+    match parse(alloc, &mut reader, text.len() / BYTES_OF_ENTRY) {
+        Ok(table) => Ok(table),
         Err(reason) => Err(error_at(alloc, reason, reader.offset().min(text.len()))),
     }
 }
 
-/// Returns the canonical payload of what a JSON value means for the schema at this index of the table, as `payload_of`
-/// does for a text. Its errors are those of `Reason` but for `NotJson`, with a path that begins in the value.
-pub fn payload_of_value(
+/// Returns the canonical payload of what a JSON value means for a schema, by its index, as `payload_of` does for a
+/// text. Its errors are those of `Reason` but for `NotJson`, with a path that begins in the value.
+pub fn payload_of_node(
     alloc: Global,
     schema: u32,
-    value: &Value<'_>,
+    node: &Node<'_, '_>,
 ) -> Result<Vec<u8>, JsonReadError>
-    ensures ok { IfOk result (λ payload. value_payload schema (json_view value.now) ≡ Some payload.items) }
+    ensures ok { IfOk result (λ payload. value_payload schema node.now ≡ Some payload.items) }
     // the payload is accepted, and means what the value means
     ensures means { IfOk result (λ payload. IsAccepted schema payload.items
-        × (message_read 101 schema (json_view value.now) ≡ Some (payload_meaning schema payload.items))) }
+        × (message_read 101 schema node.now ≡ Some (payload_meaning schema payload.items))) }
     ensures rejected { IfErr result (λ error. error.reason ≢ Reason.OutOfMemory
-        → value_payload schema (json_view value.now) ≡ None) }
+        → value_payload schema node.now ≡ None) }
     // the first error of the value, and the path to the rejected value
-    ensures error { MatchResult result (λ _. value_error schema (json_view value.now) ≡ None)
+    ensures error { MatchResult result (λ _. value_error schema node.now ≡ None)
         (λ error. error.reason ≢ Reason.OutOfMemory
-        → SaysError error (value_error schema (json_view value.now))) }
+        → SaysError error (value_error schema node.now)) }
 {
     let mut walk = Walk {
         alloc,
         path: Vec::new(alloc),
         lengths: Lengths::new(alloc),
     };
-    let mut payload = Vec::new(alloc);
-    match append_message(&mut walk, &mut payload, schema, value, LEVELS + 1) {
+    let Ok(mut payload) = Vec::with_capacity(alloc, ROOM) else {
+        return Err(error_at(alloc, Reason::OutOfMemory, 0));
+    };
+    match append_message(&mut walk, &mut payload, schema, node, LEVELS + 1) {
         Ok(()) => Ok(payload),
         Err(reason) => Err(error_on(alloc, reason, &walk.path)),
     }
@@ -169,6 +177,9 @@ pub fn payload_of(alloc: Global, schema: u32, text: &[u8]) -> Result<Vec<u8>, Js
         (λ value. SaysError error (value_error schema value))) }
 {
     let mut scratch = Scratch::new(alloc);
-    let value = value_of_text(alloc, text, &mut scratch)?;
-    payload_of_value(alloc, schema, &value)
+    let table = match table_of_text(alloc, text, &mut scratch) {
+        Ok(table) => table,
+        Err(error) => return Err(error),
+    };
+    payload_of_node(alloc, schema, &table.root())
 }

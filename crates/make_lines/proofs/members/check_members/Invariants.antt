@@ -1,7 +1,10 @@
-use Rattle.std.proofs.Common.{◌≡◌, drop}
-use Rattle.json.specs.Value.{members_view}
+use Rattle.std.proofs.Common.{◌≡◌}
+use Rattle.json_table.specs.Counts.{members_count}
 use Rattle.make_lines.specs.Members.{members_fault}
 use Rattle.make_lines.proofs.members.check_members.Given as goal
 
-abbrev pub invariant-loop-index : goal.invariant-loop-index
-invariant-loop-index l = members_fault (members_view (drop l.index l.members)) ≡ members_fault (members_view l.members)
+abbrev pub invariant-loop-key : goal.invariant-loop-key
+invariant-loop-key l = members_fault l.rest ≡ members_fault l.members
+
+abbrev pub decreases-loop-key : goal.decreases-loop-key
+decreases-loop-key l = members_count l.rest

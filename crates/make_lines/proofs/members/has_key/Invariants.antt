@@ -1,8 +1,10 @@
-use Rattle.std.proofs.Common.{◌≡◌, drop}
-use Rattle.json.specs.Value.{members_view}
+use Rattle.std.proofs.Common.{◌≡◌}
+use Rattle.json_table.specs.Counts.{members_count}
 use Rattle.make_lines.specs.Members.{has_key}
 use Rattle.make_lines.proofs.members.has_key.Given as goal
 
-abbrev pub invariant-loop-member : goal.invariant-loop-member
-invariant-loop-member l = has_key l.key (members_view (drop l.member-index l.members)) ≡ has_key l.key
-    (members_view l.members)
+abbrev pub invariant-loop-other : goal.invariant-loop-other
+invariant-loop-other l = has_key l.key l.rest ≡ has_key l.key l.members
+
+abbrev pub decreases-loop-other : goal.decreases-loop-other
+decreases-loop-other l = members_count l.rest

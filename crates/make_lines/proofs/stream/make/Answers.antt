@@ -22,7 +22,7 @@ pub returns-then-count-eq0 : goal.returns-then-count-eq0
 returns-then-count-eq0 g c =
     let (written, wrote, is) = c.finish.ensures in
     let (came, end) = rw c.if-count-eq0.true at c.in-Ok.ensures.bytes in
-    let some : 0 < length c.read.new.buf = search rules in
+    let some : 0 < length c.read_some.new.buffer = search rules in
     ended_finish c.args.version _ _ _ _ _ _ c.loop.invariant.so_far _ _ written c.loop.lines came (end refl some) wrote
     refl refl _ is
 

@@ -1,3 +1,4 @@
+use Rattle.json_table.specs.Counts.{items_count}
 use Rattle.std.proofs.Common.{◌+◌, ◌*◌}
 use Rattle.shared_core_json_reader.proofs.measure.+measure.Given as goal
 
@@ -18,3 +19,6 @@ decreases-measure_given l = 6 * l.left + 2
 
 abbrev pub decreases-measure_value : goal.decreases-measure_value
 decreases-measure_value l = 6 * l.left + 1
+
+abbrev pub decreases-measure_given-loop-item : goal.decreases-measure_given-loop-item
+decreases-measure_given-loop-item l = items_count l.items

@@ -1,82 +1,48 @@
-use Rattle.std.proofs.Common.{◌≡◌, ◌<◌, [], ◌∷◌, subst, ◌+◌, ◌∙◌, length, drop, get_or, sym, ap, arith, None, Some}
-use Rattle.std.proofs.lemmas.List.{drop_more, drop_all}
-use Rattle.json.specs.Value.{value_view, members_view}
+use Rattle.std.proofs.Common.{◌≡◌, ◌∙◌, subst, sym, ap, refl, None, Some}
+use Rattle.json.specs.Json.{Members}
+use Rattle.json_table.specs.Tails.{members_len}
 use Rattle.shared_core_json_reader.specs.Rows.{named_rows}
-use Rattle.shared_core_json_reader.specs.Places.{number_of, Say}
+use Rattle.shared_core_json_reader.specs.Places.{number_of}
 use Rattle.shared_core_json_reader.specs.FirstError.{first_unknown}
-use Rattle.shared_core_json_reader.proofs.Givens.{known_true, known_false, unknown_here, known_here, step_placed}
-use Rattle.shared_core_json_reader.proofs.Givens.{step_past}
+use Rattle.shared_core_json_reader.proofs.Givens.{Steps, known_true, known_false, unknown_here, first_step}
+use Rattle.shared_core_json_reader.proofs.Givens.{step_placed, step_past}
 use Rattle.shared_core_json_reader.proofs.members.places_of.Goals as goal
-use Rattle.shared_core_json_reader.proofs.members.places_of.Goals.{then-number-lt-PLACES, else-number-lt-PLACES}
 
-pub returns-in_default-clause-unknown : goal.returns-in_default-clause-unknown
-returns-in_default-clause-unknown c =
-    let xs = c.args.members.now.items in
-    let x = c.member-item.result in
-    let i = c.loop-index.index in
-    let size : length c.deref-member-items.result.now ≡ length xs = cc in
-    let within : i < length xs = omega arith in
-    let is : x ≡ get_or xs i x = cc in
-    let here = drop_more xs i x within ∙ ap (λ y. y ∷ drop (i + 1) xs) (sym is) in
-    let e : number_of c.args.schema x.0.now ≡ None = cc in
-    sym c.loop-index.invariant.2
-    ∙ ap (λ ys. first_unknown (named_rows c.args.schema) (members_view ys)) here
-    ∙ unknown_here c.args.schema x.0.now (value_view x.1) (members_view (drop (i + 1) xs)) e
-
-pub loop-index-preserved : goal.loop-index-preserved
-loop-index-preserved c =
-    let xs = c.args.members.now.items in
-    let x = c.member-item.result in
-    let i = c.loop-index.index in
-    let size : length c.deref-member-items.result.now ≡ length xs = cc in
-    let within : i < length xs = omega arith in
-    let is : x ≡ get_or xs i x = cc in
-    let here = drop_more xs i x within ∙ ap (λ y. y ∷ drop (i + 1) xs) (sym is) in
-    let e : number_of c.args.schema x.0.now ≡ Some c.in-Some.number = cc in
-    let known = sym (known_here c.args.schema c.in-Some.number x.0.now (value_view x.1)
-    (members_view (drop (i + 1) xs)) e) ∙ sym
-    (ap (λ ys. first_unknown (named_rows c.args.schema) (members_view ys)) here) ∙ c.loop-index.invariant.2 in
-    elim c.if-number-lt-PLACES.branch [
-      | then-number-lt-PLACES w ↦
-          let r = step_placed c.args.schema c.in-Some.number i xs (drop (i + 1) xs) x c.loop-index.numbered
-          c.if-number-lt-PLACES.numbered w.place_after.result e here within c.loop-index.invariant.0
-          c.loop-index.invariant.1 w.if-number-lt-PLACES.true w.place_after.ensures w.numbered-is in
-          (r.count, r.say, known)
-      | else-number-lt-PLACES w ↦
-          let r = step_past c.args.schema c.in-Some.number i xs (drop (i + 1) xs) x c.loop-index.numbered
-          c.if-number-lt-PLACES.numbered e here c.loop-index.invariant.0 c.loop-index.invariant.1
-          w.if-number-lt-PLACES.false w.numbered-is in
-          (r.count, r.say, known)
-    ]
+pub loop-next-init : goal.loop-next-init
+loop-next-init c =
+    subst (λ (ms : Members). Steps c.args.schema c.args.members.now ms _) (sym c.copy-rest.ensures)
+    (first_step c.args.schema c.args.members.now _ refl)
 
 pub returns-in_default-clause-known : goal.returns-in_default-clause-known
 returns-in_default-clause-known c =
-    let xs = c.args.members.now.items in
-    let x = c.member-item.result in
-    let i = c.loop-index.index in
-    let size : length c.deref-member-items.result.now ≡ length xs = cc in
-    let within : i < length xs = omega arith in
-    let is : x ≡ get_or xs i x = cc in
-    let here = drop_more xs i x within ∙ ap (λ y. y ∷ drop (i + 1) xs) (sym is) in
-    let e : number_of c.args.schema x.0.now ≡ None = cc in
-    known_false (named_rows c.args.schema) (members_view xs) x.0.now (sym c.loop-index.invariant.2
-    ∙ ap (λ ys. first_unknown (named_rows c.args.schema) (members_view ys)) here
-    ∙ unknown_here c.args.schema x.0.now (value_view x.1) (members_view (drop (i + 1) xs)) e)
+    known_true (named_rows c.args.schema) c.args.members.now
+    (sym c.loop-next.invariant.unknown ∙ ap (first_unknown (named_rows c.args.schema)) c.in_default.ensures.0)
 
-pub returns-clause-known : goal.returns-clause-known
-returns-clause-known c =
-    let xs = c.args.members.now.items in
-    let size : length c.deref-member-items.result.now ≡ length xs = cc in
-    let end : drop c.loop-index.index xs ≡ [] = drop_all c.loop-index.index xs (omega arith) in
-    known_true (named_rows c.args.schema) (members_view xs) (sym c.loop-index.invariant.2
-    ∙ ap (λ ys. first_unknown (named_rows c.args.schema) (members_view ys)) end)
+pub returns-in_default-next_number-clause-unknown : goal.returns-in_default-next_number-clause-unknown
+returns-in_default-next_number-clause-unknown c =
+    let e : number_of c.args.schema c.in-Some.key.now ≡ None = cc in
+    sym c.loop-next.invariant.unknown
+    ∙ ap (first_unknown (named_rows c.args.schema)) c.in-Some.ensures
+    ∙ unknown_here c.args.schema c.in-Some.key.now c.in-Some.field-0-1 c.next.new.self e
 
-pub returns-clause-places : goal.returns-clause-places
-returns-clause-places c =
-    let xs = c.args.members.now.items in
-    let size : length c.deref-member-items.result.now ≡ length xs = cc in
-    let end : drop c.loop-index.index xs ≡ [] = drop_all c.loop-index.index xs (omega arith) in
-    record {
-      say = subst (λ ys. Say c.args.schema xs (members_view ys) c.loop-index.numbered) end
-          c.loop-index.invariant.1;
-    }
+pub returns-in_default-next_number-clause-known : goal.returns-in_default-next_number-clause-known
+returns-in_default-next_number-clause-known c =
+    known_false (named_rows c.args.schema) c.args.members.now c.in-Some.key.now
+    (returns-in_default-next_number-clause-unknown c)
+
+pub loop-next-preserved-then-number-lt-PLACES : goal.loop-next-preserved-then-number-lt-PLACES
+loop-next-preserved-then-number-lt-PLACES c =
+    let e : number_of c.args.schema c.in-Some.key.now ≡ Some c.in-Some-next_number.number = cc in
+    step_placed c.args.schema c.in-Some-next_number.number c.args.members.now c.next.new.self c.in-Some.key.now
+    c.in-Some.field-0-1 c.loop-next.numbered _ c.place_after.result c.left-left.result e
+    (subst (λ (ms : Members). Steps c.args.schema c.args.members.now ms c.loop-next.numbered) c.in-Some.ensures
+    c.loop-next.invariant) c.if-number-lt-PLACES.true (c.left-left.ensures ∙ ap members_len c.in-Some.ensures)
+    c.place_after.ensures refl
+
+pub loop-next-preserved : goal.loop-next-preserved
+loop-next-preserved c =
+    let e : number_of c.args.schema c.in-Some.key.now ≡ Some c.in-Some-next_number.number = cc in
+    step_past c.args.schema c.in-Some-next_number.number c.args.members.now c.next.new.self c.in-Some.key.now
+    c.in-Some.field-0-1 c.loop-next.numbered _ e
+    (subst (λ (ms : Members). Steps c.args.schema c.args.members.now ms c.loop-next.numbered) c.in-Some.ensures
+    c.loop-next.invariant) c.if-number-lt-PLACES.false refl

@@ -1,71 +1,72 @@
-use Rattle.std.proofs.Common.{◌≡◌, ◌+◌, ◌*◌, drop, false}
-use Rattle.json.specs.Value.{items_view, members_view}
+use Rattle.std.proofs.Common.{◌≡◌, ◌≤◌, ◌+◌, ◌*◌, drop, false}
+use Rattle.json_table.specs.Counts.{items_count}
 use Rattle.shared_core_json_reader.specs.Rows.{field_view, named_members, rows_view, named_rows}
 use Rattle.shared_core_json_reader.specs.Appended.{items_bytes, oneof_bytes, rows_bytes, message_bytes, after}
 use Rattle.shared_core_json_reader.specs.FirstError.{items_error, oneof_error, rows_error, message_error, path_view}
 use Rattle.shared_core_json_reader.proofs.payload.+message.Given as goal
 
 abbrev pub decreases-append_message : goal.decreases-append_message
-decreases-append_message l = 8 * l.levels
+decreases-append_message l = 9 * l.levels
 
 abbrev pub decreases-append_object : goal.decreases-append_object
-decreases-append_object l = 8 * l.left + 7
+decreases-append_object l = 9 * l.left + 8
 
 abbrev pub decreases-append_members : goal.decreases-append_members
-decreases-append_members l = 8 * l.left + 6
+decreases-append_members l = 9 * l.left + 7
 
 abbrev pub decreases-append_rows : goal.decreases-append_rows
-decreases-append_rows l = 8 * l.left + 5
+decreases-append_rows l = 9 * l.left + 6
 
 abbrev pub decreases-append_row : goal.decreases-append_row
-decreases-append_row l = 8 * l.left + 4
+decreases-append_row l = 9 * l.left + 5
 
 abbrev pub decreases-append_given : goal.decreases-append_given
-decreases-append_given l = 8 * l.left + 3
+decreases-append_given l = 9 * l.left + 4
 
 abbrev pub decreases-append_oneof : goal.decreases-append_oneof
-decreases-append_oneof l = 8 * l.left + 3
+decreases-append_oneof l = 9 * l.left + 4
 
 abbrev pub decreases-append_list : goal.decreases-append_list
-decreases-append_list l = 8 * l.left + 3
+decreases-append_list l = 9 * l.left + 4
+
+abbrev pub decreases-append_array : goal.decreases-append_array
+decreases-append_array l = 9 * l.left + 3
 
 abbrev pub decreases-append_items : goal.decreases-append_items
-decreases-append_items l = 8 * l.left + 2
+decreases-append_items l = 9 * l.left + 2
 
 abbrev pub decreases-append_value : goal.decreases-append_value
-decreases-append_value l = 8 * l.left + 1
+decreases-append_value l = 9 * l.left + 1
 
 abbrev pub invariant-append_rows-loop-row : goal.invariant-append_rows-loop-row
 invariant-append_rows-loop-row l =
-    (after l.out.items (rows_bytes (message_bytes l.left) (members_view l.members.items)
+    (after l.out.items (rows_bytes (message_bytes l.left) l.members
     (rows_view l.places.schema (drop l.row-index l.rows)))
-    ≡ after l.initial.out.items (rows_bytes (message_bytes l.left) (members_view l.members.items)
+    ≡ after l.initial.out.items (rows_bytes (message_bytes l.left) l.members
     (named_rows l.places.schema)))
-    × (rows_error (message_error l.left) (members_view l.members.items) (path_view l.initial.walk.path.items)
+    × (rows_error (message_error l.left) l.members (path_view l.initial.walk.path.items)
     (rows_view l.places.schema (drop l.row-index l.rows))
-    ≡ rows_error (message_error l.left) (members_view l.members.items) (path_view l.initial.walk.path.items)
+    ≡ rows_error (message_error l.left) l.members (path_view l.initial.walk.path.items)
     (named_rows l.places.schema))
     × (l.walk.path.items ≡ l.initial.walk.path.items)
 
 abbrev pub invariant-append_oneof-loop-member : goal.invariant-append_oneof-loop-member
 invariant-append_oneof-loop-member l =
-    (after l.out.items (oneof_bytes (message_bytes l.left) (members_view l.members.items) l.held
+    (after l.out.items (oneof_bytes (message_bytes l.left) l.members l.held
     (named_members l.places.schema (drop l.member-index l.fields)))
-    ≡ after l.initial.out.items (oneof_bytes (message_bytes l.left) (members_view l.members.items) false
+    ≡ after l.initial.out.items (oneof_bytes (message_bytes l.left) l.members false
     (named_members l.places.schema l.fields)))
-    × (oneof_error (message_error l.left) (members_view l.members.items) (path_view l.initial.walk.path.items) l.held
+    × (oneof_error (message_error l.left) l.members (path_view l.initial.walk.path.items) l.held
     (named_members l.places.schema (drop l.member-index l.fields))
-    ≡ oneof_error (message_error l.left) (members_view l.members.items) (path_view l.initial.walk.path.items) false
+    ≡ oneof_error (message_error l.left) l.members (path_view l.initial.walk.path.items) false
     (named_members l.places.schema l.fields))
     × (l.walk.path.items ≡ l.initial.walk.path.items)
 
 abbrev pub invariant-append_items-loop-index : goal.invariant-append_items-loop-index
 invariant-append_items-loop-index l =
-    (after l.out.items (items_bytes (message_bytes l.left) (field_view l.field)
-    (items_view (drop l.index l.item-items)))
-    ≡ after l.initial.out.items (items_bytes (message_bytes l.left) (field_view l.field) (items_view l.item-items)))
-    × (items_error (message_error l.left) (field_view l.field) (path_view l.initial.walk.path.items) l.index
-    (items_view (drop l.index l.item-items))
-    ≡ items_error (message_error l.left) (field_view l.field) (path_view l.initial.walk.path.items) 0
-    (items_view l.item-items))
+    (after l.out.items (items_bytes (message_bytes l.left) (field_view l.field) l.items)
+    ≡ after l.initial.out.items (items_bytes (message_bytes l.left) (field_view l.field) l.initial.items))
+    × (items_error (message_error l.left) (field_view l.field) (path_view l.initial.walk.path.items) l.index l.items
+    ≡ items_error (message_error l.left) (field_view l.field) (path_view l.initial.walk.path.items) 0 l.initial.items)
     × (l.walk.path.items ≡ l.initial.walk.path.items)
+    × (items_count l.items + l.index ≤ l.index-end)

@@ -4,7 +4,7 @@ use Rattle.json.specs.Lex.{tokens}
 use Rattle.shared_core_codec.proofs.FieldElements.{not_utf8}
 use Rattle.shared_core_json_reader.proofs.FirstErrors.{not_json_at}
 use Rattle.shared_core_json_reader.proofs.Whole.{IsText, not_a_text, of_tokens}
-use Rattle.shared_core_json_reader.proofs.read.value_of_text.Goals as goal
+use Rattle.shared_core_json_reader.proofs.read.table_of_text.Goals as goal
 
 pub returns-in-Err-clause-rejected : goal.returns-in-Err-clause-rejected
 returns-in-Err-clause-rejected c n = not_a_text c.args.text.now (not_utf8 c.args.text.now c.in-Err.ensures.cases.0)

@@ -1,0 +1,9 @@
+pub mod Entries
+pub mod Back
+pub mod Codes
+pub mod Counts
+pub mod Views
+pub mod Shapes
+pub mod Splits
+pub mod Tails
+pub mod Reads

@@ -1,0 +1,45 @@
+-- The members of a line by the places of their names.
+use Rattle.std.specs.Prelude.{◌≡◌, ℕ, suc, ◌<◌, List, [], ◌∷◌, get_or, codes, if◌then◌else◌, Option, Some, None}
+use Rattle.std.specs.Str.{bytes_eq}
+use Rattle.json.specs.Json.{Json, Members, no_members, member}
+use Rattle.json.specs.Find.{get_member}
+use Rattle.json_table.specs.Tails.{last_members, IsTail}
+
+-- The names of the members that are asked for, by their places.
+abbrev pub names : List (List ℕ)
+names =
+    codes "type" ∷ codes "code" ∷ codes "message" ∷ codes "unknown" ∷ codes "header" ∷ codes "requestedAck" ∷
+    codes "ack" ∷ codes "bytes" ∷ codes "payload" ∷ codes "rest" ∷ []
+
+-- How many places there are.
+abbrev pub place_count : ℕ
+place_count = 10
+
+-- The name of a place.
+abbrev pub name_at : ℕ → List ℕ
+name_at place = get_or names place []
+
+-- The index of the first of these names that a key is, from a number on.
+abbrev pub index_in : List (List ℕ) → ℕ → List ℕ → Option ℕ
+index_in [] n key = None
+index_in (name ∷ names) n key = if bytes_eq key name then Some n else index_in names (suc n) key
+
+-- The place of a key, if it is one of these names.
+unfoldable pub place_of : List ℕ → Option ℕ
+place_of key = index_in names 0 key
+
+-- The value of the first member.
+abbrev pub first_value : Members → Option Json
+first_value no_members = None
+first_value (member k j ms) = Some j
+
+-- The value with which those of the members begin, at the end, that have this many entries.
+abbrev pub value_at : Members → Option ℕ → Option Json
+value_at ms None = None
+value_at ms (Some n) = first_value (last_members n ms)
+
+-- Each place says where the last member of its name is.
+pub record ArePlaces (ms : Members) (places : List (Option ℕ)) : Type 0 where
+  pub tails : (place n : ℕ) → place < place_count → get_or places place None ≡ Some n → IsTail n ms
+  pub values : (place : ℕ) → place < place_count → get_member (name_at place) ms ≡ value_at ms (get_or places place
+      None)
