@@ -791,10 +791,31 @@ static void put_table_of(struct request *request, int kind) {
     switch (kind) {
     case JOURNAL_ENTRY_UNKNOWN_FIELD: put_field(table, 1, UINT64_C(1) << 29, JOURNAL_FIELD_STRING, 0, 0, 0); break;
     case JOURNAL_ENTRY_WRONG_KIND: put_field(table, 1, FIELD_HEADER_KEY, JOURNAL_FIELD_BYTES, 0, 0, 0); break;
-    case JOURNAL_ENTRY_NOT_UTF8: put_field(table, 1, FIELD_HEADER_KEY, JOURNAL_FIELD_STRING, 0, sizeof A_CALL - 1, 1); break;
-    case JOURNAL_ENTRY_OUT_OF_BOUNDS: put_field(table, 1, FIELD_HEADER_KEY, JOURNAL_FIELD_STRING, 0, sizeof A_CALL, 1); break;
+    case JOURNAL_ENTRY_NOT_UTF8:
+        put_field(table, 1, FIELD_HEADER_KEY, JOURNAL_FIELD_STRING, 0, sizeof A_CALL - 1, 1);
+        break;
+    case JOURNAL_ENTRY_OUT_OF_BOUNDS:
+        put_field(table, 1, FIELD_HEADER_KEY, JOURNAL_FIELD_STRING, 0, sizeof A_CALL, 1);
+        break;
     case JOURNAL_ENTRY_WRONG_LEVEL: put_field(table, 2, FIELD_HEADER_KEY, JOURNAL_FIELD_STRING, 0, 0, 0); break;
     default: put_field(table, 1, FIELD_HEADER_KEY, JOURNAL_FIELD_STRING, 0, sizeof A_CALL - 2, 1); break;
+    }
+}
+
+/* A table of futures that are nested so deep, with so many names in the last one, that the lengths of the messages are
+   measured before they are written, in memory that is allocated. */
+static void put_measured_table(struct request *request) {
+    struct source *table = &request->source[1];
+
+    PUT(&request->source[0], "a name of a signal");
+    request->schema = FUTURE_SCHEMA;
+    table->length = 0;
+    for (uint64_t level = 0; level < 8; level++) {
+        put_field(table, level, FIELD_FUTURE_NESTED_FUTURES, JOURNAL_FIELD_MESSAGE, FUTURE_SCHEMA, 0, 0);
+    }
+    for (int names = 0; names < 32; names++) {
+        put_field(table, 8, FIELD_FUTURE_WAITING_NAMED_SIGNALS, JOURNAL_FIELD_STRING, 0, 0,
+                  sizeof "a name of a signal" - 1);
     }
 }
 
@@ -840,7 +861,11 @@ static void make_wanted(struct work *work, struct request *request, int kind, en
         put_text_of(request, kind);
         break;
     case PAYLOAD_OF_FIELDS:
-        put_table_of(request, kind);
+        if (error == OUT_OF_MEMORY) {
+            put_measured_table(request);
+        } else {
+            put_table_of(request, kind);
+        }
         break;
     default:
         break;

@@ -4,15 +4,17 @@ use Rattle.std.specs.Prelude.{Option, Some, None, Result, Ok, Err}
 use Rattle.shared_core_codec.specs.Table.{schema_count}
 use Rattle.shared_core_codec.specs.Canonicity.{IsCanonical}
 use Rattle.shared_core_fields.specs.declared.table.FieldEntry.{FieldEntry}
-use Rattle.shared_core_fields_writer.specs.declared.error.FieldsError.{FieldsError}
 use Rattle.shared_core_fields_writer.specs.declared.error.Reason.{Reason}
 use Rattle.shared_core_fields_writer.specs.declared.error.Reason.TheVariants as reasons
 use Rattle.shared_core_fields_writer.specs.Walk.{entries_payload}
 use Rattle.journal_c_api.specs.declared.outcome.CallError.{CallError}
 use Rattle.journal_c_api.specs.declared.outcome.CallError.TheVariants.{OutOfMemory, NoRoom, TooLong, UnknownSchema}
-use Rattle.journal_c_api.specs.declared.field_payloads.Writing.{Writing}
-use Rattle.journal_c_api.specs.declared.field_payloads.Writing.TheVariants.{Payload, Rejected}
 use Rattle.journal_c_api.specs.Outcomes.{written_over}
+
+-- What a table is written as: its payload, or the number of a kind and the index of the first entry that may not come.
+pub data Writing : Type 0 where
+  Payload : List ℕ → Writing
+  Rejected : ℕ → ℕ → Writing
 
 -- The two numbers of a writing: its kind, and which entry is the first that may not come.
 abbrev pub writing_numbers : Writing → List ℕ
@@ -21,7 +23,7 @@ writing_numbers (Rejected kind index) = kind ∷ index ∷ []
 
 -- The bytes of a writing: the payload, or nothing.
 abbrev pub writing_bytes : Writing → List ℕ
-writing_bytes (Payload payload) = payload.items
+writing_bytes (Payload payload) = payload
 writing_bytes (Rejected kind index) = []
 
 -- The kind of a reason for which an entry may not come; the last two are reasons of whole tables.
@@ -41,7 +43,7 @@ rejected_kind reasons.OutOfMemory = None
 -- A table is written as this for a schema: as the payload that its entries give, which is canonical; or as the kind of
 -- the reason for which one of them may not come, and the index of that entry.
 abbrev pub IsWriting : ℕ → List FieldEntry → List ℕ → Writing → Type 0
-IsWriting s es bytes (Payload payload) = (entries_payload s es bytes ≡ Ok payload.items) × IsCanonical s payload.items
+IsWriting s es bytes (Payload payload) = (entries_payload s es bytes ≡ Ok payload) × IsCanonical s payload
 IsWriting s es bytes (Rejected kind index) =
     (reason : Reason) × (entries_payload s es bytes ≡ Err (reason, length es - index)) × (index ≤ length es)
     × (rejected_kind reason ≡ Some kind)
@@ -50,21 +52,18 @@ IsWriting s es bytes (Rejected kind index) =
 abbrev pub GivesTooLong : ℕ → List FieldEntry → List ℕ → Type 0
 GivesTooLong s es bytes = (left : ℕ) × (entries_payload s es bytes ≡ Err (reasons.TooLong, left))
 
--- The result is what a table is written as, or that its payload is too long. An allocation may fail.
-abbrev pub WritesTable : ℕ → List FieldEntry → List ℕ → Result Writing CallError → Type 0
-WritesTable s es bytes (Ok writing) = IsWriting s es bytes writing
-WritesTable s es bytes (Err TooLong) = GivesTooLong s es bytes
-WritesTable s es bytes (Err OutOfMemory) = Unit {0}
-WritesTable s es bytes (Err failure) = ⊥
+-- Why nothing is written for a table: its payload is too long, or an allocation failed.
+abbrev pub FailsTable : ℕ → List FieldEntry → List ℕ → CallError → Type 0
+FailsTable s es bytes TooLong = GivesTooLong s es bytes
+FailsTable s es bytes OutOfMemory = Unit {0}
+FailsTable s es bytes failure = ⊥
 
--- The result for the error of a table.
-abbrev pub SaysRejected : FieldsError → Result Writing CallError → Type 0
-SaysRejected error (Ok (Rejected kind index)) =
-    (error.reason ≢ reasons.OutOfMemory) × (rejected_kind error.reason ≡ Some kind) × (index ≡ error.index)
-SaysRejected error (Ok writing) = ⊥
-SaysRejected error (Err TooLong) = error.reason ≡ reasons.TooLong
-SaysRejected error (Err OutOfMemory) = error.reason ≡ reasons.OutOfMemory
-SaysRejected error (Err failure) = ⊥
+-- The number of the kind of a reason for which an entry may not come, or the error for one of the whole table.
+abbrev pub SaysKind : Reason → Result ℕ CallError → Type 0
+SaysKind reason (Ok kind) = (reason ≢ reasons.OutOfMemory) × (rejected_kind reason ≡ Some kind)
+SaysKind reason (Err TooLong) = reason ≡ reasons.TooLong
+SaysKind reason (Err OutOfMemory) = reason ≡ reasons.OutOfMemory
+SaysKind reason (Err failure) = ⊥
 
 -- Why the call is rejected: UnknownSchema if no schema has the number, otherwise NoRoom if there is room for fewer than
 -- two numbers, otherwise for the reason for which no payload of the table can be written.
@@ -72,7 +71,7 @@ abbrev pub RejectsTable : ℕ → ℕ → List FieldEntry → List ℕ → CallE
 RejectsTable s room es bytes UnknownSchema = nat_lt s schema_count ≡ false
 RejectsTable s room es bytes NoRoom = (nat_lt s schema_count ≡ true) × (room < 2)
 RejectsTable s room es bytes failure =
-    (nat_lt s schema_count ≡ true) × (2 ≤ room) × WritesTable s es bytes (Err failure)
+    (nat_lt s schema_count ≡ true) × (2 ≤ room) × FailsTable s es bytes failure
 
 -- The result of journal_payload_of_fields, and what it writes: the numbers and the bytes of what the table is written
 -- as. An error leaves both slices unchanged.

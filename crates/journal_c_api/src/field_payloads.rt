@@ -1,13 +1,11 @@
 //! Tables of fields, written as payloads of any schema.
 
-ghost use Rattle.std.specs.Prelude.{◌≡◌};
-ghost use Rattle.journal_c_api.specs.FieldPayloads.{SaysRejected, WritesPayload, WritesTable};
-ghost use Rattle.journal_c_api.specs.FieldPayloads.{writing_bytes, writing_numbers};
+ghost use Rattle.journal_c_api.specs.FieldPayloads.{SaysKind, WritesPayload};
 
 use crate::outcome::{CallError, write_over};
 use shared_core_codec::check::is_schema;
 use shared_core_fields::table::FieldEntry;
-use shared_core_fields_writer::{FieldsError, Reason, payload_of_entries};
+use shared_core_fields_writer::{Reason, write_payload};
 use std::alloc::Global;
 
 /// The number of numbers that are written for a table.
@@ -36,62 +34,24 @@ pub fn write_payload_of_fields(
     if numbers.len() < WRITING_NUMBERS {
         return Err(CallError::NoRoom);
     }
-    let writing = write(alloc, schema, fields, bytes)?;
-    write_over(&numbers_of(&writing), numbers);
-    let payload = bytes_of(&writing);
-    write_over(payload, out);
-    Ok(payload.len())
-}
-
-/// What a table is written as.
-#[derive(Drop)]
-enum Writing {
-    /// The canonical payload whose fields it has.
-    Payload(Vec<u8>),
-    /// The number of the kind, and the index of the first entry that may not come.
-    Rejected { kind: u64, index: usize },
-}
-
-/// The two numbers of a writing.
-fn numbers_of(writing: &Writing) -> [u64; WRITING_NUMBERS]
-    ensures { result ≡ writing_numbers writing.now }
-{
-    match writing {
-        Writing::Payload(_) => [0, 0],
-        Writing::Rejected { kind, index } => [*kind, *index as u64],
+    match write_payload(alloc, schema, fields, bytes, out) {
+        Ok(length) => {
+            write_over(&[0, 0], numbers);
+            Ok(length)
+        }
+        Err(error) => {
+            let kind = rejected_kind(error.reason)?;
+            write_over(&[kind, error.index as u64], numbers);
+            Ok(0)
+        }
     }
 }
 
-/// The bytes of a writing.
-fn bytes_of(writing: &Writing) -> &[u8]
-    ensures { result.now ≡ writing_bytes writing.now }
+/// The number of the kind of a reason for which an entry may not come; the error, if it is one of the whole table.
+fn rejected_kind(reason: Reason) -> Result<u64, CallError>
+    ensures { SaysKind reason result }
 {
-    match writing {
-        Writing::Payload(payload) => payload.as_slice(),
-        Writing::Rejected { .. } => &[],
-    }
-}
-
-/// Writes a table for a schema.
-fn write(
-    alloc: Global,
-    schema: u32,
-    fields: &[FieldEntry],
-    bytes: &[u8],
-) -> Result<Writing, CallError>
-    ensures { WritesTable schema fields.now bytes.now result }
-{
-    match payload_of_entries(alloc, schema, fields, bytes) {
-        Ok(payload) => Ok(Writing::Payload(payload)),
-        Err(error) => rejected(error),
-    }
-}
-
-/// The writing of a table that is rejected, by the error.
-fn rejected(error: FieldsError) -> Result<Writing, CallError>
-    ensures { SaysRejected error result }
-{
-    let kind = match error.reason {
+    Ok(match reason {
         Reason::UnknownField => 1,
         Reason::OutOfOrder => 2,
         Reason::SeveralMembers => 3,
@@ -103,7 +63,5 @@ fn rejected(error: FieldsError) -> Result<Writing, CallError>
         Reason::TooDeep => 9,
         Reason::TooLong => return Err(CallError::TooLong),
         Reason::OutOfMemory => return Err(CallError::OutOfMemory),
-    };
-    let index = error.index;
-    Ok(Writing::Rejected { kind, index })
+    })
 }

@@ -1,7 +1,10 @@
+mod ShortRecords
+mod Rooms
 mod Walking
 mod Stepping
 mod Whole
 mod Canonical
+mod Bytes
 mod FieldsCome
 mod Tables
 mod TableBack

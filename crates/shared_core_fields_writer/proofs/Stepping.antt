@@ -1,11 +1,13 @@
 -- One step of the walk: the entry at an index, and what was appended for it.
-use Rattle.std.proofs.Common.{◌≡◌, ◌≢◌, length, ℕ, zero, suc, ◌+◌, ◌-◌, ◌<◌, ◌≤◌, List, [], ◌∷◌, ◌++◌, true, false}
-use Rattle.std.proofs.Common.{◌&&◌, Option, Some, None, Result, Ok, Err, refl, sym, ap, ◌∙◌, append_assoc, eqb, take}
+use Rattle.std.proofs.Common.{◌≡◌, length, ℕ, zero, suc, ◌+◌, ◌-◌, ◌<◌, ◌≤◌, List, [], ◌∷◌, ◌++◌, true, false}
+use Rattle.std.proofs.Common.{◌&&◌, Option, Some, None, Result, Ok, Err, refl, sym, ap, ◌∙◌, eqb, take}
 use Rattle.std.proofs.Common.{drop}
-use Rattle.std.proofs.Common.{arith, inl, inr, append-nil}
+use Rattle.std.proofs.Common.{arith, inl, inr, append-nil, ◌⊎◌, length-append, subst}
+use Rattle.std.proofs.lemmas.List.{drop_at, length-take-le}
 use Rattle.std.specs.Result.{IsErrAnd}
 use Rattle.std.proofs.lemmas.Bool.{eqb-true, lt-ltb, le-ltb, cases_lt}
-use Rattle.shared_core_wire.specs.Encoding.{shortest_varint, key_bytes}
+use Rattle.shared_core_wire.specs.Encoding.{shortest_varint}
+use Rattle.shared_core_wire.proofs.Shortest.{shortest_small, shortest_large}
 use Rattle.shared_core_wire.specs.Schema.{Row, U32}
 use Rattle.shared_core_wire.proofs.Runs.{and_split}
 use Rattle.shared_core_codec.specs.Table.{table}
@@ -13,14 +15,16 @@ use Rattle.shared_core_codec.specs.RowEncoding.{length_record}
 use Rattle.shared_core_codec.specs.Canonicity.{Next}
 use Rattle.shared_core_fields.specs.declared.table.FieldEntry.{FieldEntry}
 use Rattle.shared_core_fields_writer.specs.declared.error.Reason.{Reason}
-use Rattle.shared_core_fields_writer.specs.declared.error.Reason.TheVariants.{WrongLevel, TooDeep, OutOfMemory}
+use Rattle.shared_core_fields_writer.specs.declared.error.Reason.TheVariants.{WrongLevel, TooDeep}
 use Rattle.shared_core_fields_writer.specs.Given.{Given, Number, Content, Opens, given, field_next}
 use Rattle.shared_core_record_writer.specs.Records.{number_record, content_record}
-use Rattle.shared_core_record_writer.proofs.Contents.{content_put}
+use Rattle.shared_core_record_writer.specs.Records.{at_most_64_bits}
+use Rattle.shared_core_fields_writer.specs.Room.{Wrote, WroteLength}
+use Rattle.shared_core_fields_writer.proofs.Rooms.{less_stays, wrote_both}
 use Rattle.shared_core_fields_writer.specs.Walk.{Walked, onto, nested_onto, is_packed}
 use Rattle.shared_core_fields_writer.specs.Walk.{Nothing, Within, Numbers, run_numbers, varints, rest_of, walk, Goes}
-use Rattle.shared_core_fields_writer.specs.Walk.{Continues, Appends}
-use Rattle.shared_core_fields_writer.proofs.Walking.{onto_error, onto_more, stops, too_deep, no_field, no_value}
+use Rattle.shared_core_fields_writer.specs.Walk.{Continues, Writes, Nests}
+use Rattle.shared_core_fields_writer.proofs.Walking.{onto_more, stops, too_deep, no_field, no_value}
 use Rattle.shared_core_fields_writer.proofs.Walking.{of_number}
 use Rattle.shared_core_fields_writer.proofs.Walking.{of_run, of_content, of_last, of_message, past_within, past_number}
 use Rattle.shared_core_fields_writer.proofs.Walking.{no_number, after_numbers, no_numbers}
@@ -28,56 +32,110 @@ use Rattle.shared_core_fields_writer.proofs.Walking.{no_number, after_numbers, n
 -- ---- errors that are handed on
 
 pub continues_error : {T : Type 0} (r : Result T Reason) (x : Reason) (w next : Walked) (left : List FieldEntry) →
-    IsErrAnd r
-    (λ y. y ≡ x) → w ≡ Err (x, length left) → Continues r w next left
+    IsErrAnd r (λ y. y ≡ x) → w ≡ Err (x, length left) → Continues r w next left
 continues_error (Ok y) x w next left a e = absurd a
-continues_error (Err y) x w next left a e = λ n. e ∙ ap (λ (z : Reason). Err (z, length left)) (sym a)
+continues_error (Err y) x w next left a e = e ∙ ap (λ (z : Reason). Err (z, length left)) (sym a)
 
-pub goes_error : {T : Type 0} (r : Result T Reason) (x : Reason) (w next : Walked) (old new : List ℕ)
-    (left : List FieldEntry) → IsErrAnd r (λ y. y ≡ x) → (x ≢ OutOfMemory → w ≡ Err (x, length left)) → Goes r w next
-    old new
+pub goes_error : {T : Type 0} (r : Result T Reason) (x : Reason) (w next : Walked) (old : List ℕ) (from : ℕ)
+    (new : List ℕ) (to : ℕ) (left : List FieldEntry) → IsErrAnd r (λ y. y ≡ x) → w ≡ Err (x, length left) → Goes r w
+    next old from new to left
+goes_error (Ok y) x w next old from new to left a e = absurd a
+goes_error (Err y) x w next old from new to left a e = e ∙ ap (λ (z : Reason). Err (z, length left)) (sym a)
+
+pub writes_error : {T : Type 0} (r : Result T Reason) (x : Reason) (w : Walked) (old : List ℕ) (from : ℕ) (new : List ℕ)
+    (to : ℕ) (left : List FieldEntry) → IsErrAnd r (λ y. y ≡ x) → w ≡ Err (x, length left) → Writes r w old from new to
     left
-goes_error (Ok y) x w next old new left a e = absurd a
-goes_error (Err y) x w next old new left a e =
-    λ n. e (λ z. n (a ∙ z)) ∙ ap (λ (z : Reason). Err (z, length left)) (sym a)
-
-pub appends_error : {T : Type 0} (r : Result T Reason) (x : Reason) (w : Walked) (old new : List ℕ) (left : List
-    FieldEntry) →
-    IsErrAnd r (λ y. y ≡ x) → (x ≢ OutOfMemory → w ≡ Err (x, length left)) → Appends r w old new left
-appends_error (Ok y) x w old new left a e = absurd a
-appends_error (Err y) x w old new left a e =
-    λ n. e (λ z. n (a ∙ z)) ∙ ap (λ (z : Reason). Err (z, length left)) (sym a)
+writes_error (Ok y) x w old from new to left a e = absurd a
+writes_error (Err y) x w old from new to left a e = e ∙ ap (λ (z : Reason). Err (z, length left)) (sym a)
 
 -- ---- a message's length, put before its bytes
 
--- `begun` has the key, and the bytes that leave room for the length
-pub message_put : (n place end : ℕ) (old out room begun new after : List ℕ) (inner next : Walked) → out ≡ old ++
-    key_bytes n 2 → place ≡ length out → begun ≡ out ++ room → end ≡ length begun → onto begun inner ≡ Ok after → new ≡
-    take place after ++ (shortest_varint (length after - end) ++ drop end after) → onto old (nested_onto n inner next) ≡
-    onto new next
-message_put n place end old out room begun new after (Err x) next k p b q i e = absurd cc
-message_put n place end old out room begun new after (Ok content) next k p b q i e =
-    let same : begun ++ content ≡ after = cc in
-    onto_more old (length_record n content) next
-    ∙ ap (λ (xs : List ℕ). onto xs next) (sym (content_put n place end old out room begun content new after k p b q
-    (sym same) e))
+pub some_bytes : (n : ℕ) → 1 ≤ length (shortest_varint n)
+some_bytes n = elim (cases_lt n 128) [
+  | inl less ↦ omega (arith, ap length (shortest_small n less))
+  | inr more ↦ omega (arith, ap length (shortest_large n more))
+]
+
+-- bytes that are written again, over those that were written before
+pub nests_over : {T : Type 0} (r : Result T Reason) (w : Walked) (a b c : List ℕ) (i k : ℕ) (left : List FieldEntry) →
+    length b ≡ length a → take i b ≡ take i a → Nests r w b i c k left → Nests r w a i c k left
+nests_over (Ok y) w a b c i k left s t n = (
+  n.0,
+  n.1,
+  record {
+    same_length = n.2.same_length ∙ s;
+    before = n.2.before ∙ t;
+    up = n.2.up;
+    count = n.2.count;
+    written =
+        λ h.
+        n.2.written (omega (arith, h, s))
+        ∙ ap (λ (xs : List ℕ). xs ++ (shortest_varint (length n.0) ++ n.0)) t;
+  },
+)
+nests_over (Err y) w a b c i k left s t n = n
+
+-- the room is that of a short length, or was compared with the length
+pub few_bytes : (place start end likely : ℕ) → place ≤ start → start ≡ at_most_64_bits (place + length (shortest_varint
+    likely)) → (likely < 128) ⊎ ((start - place ≤ length (shortest_varint (end - start))) × (end <
+    18446744073709551615)) → start - place ≤ length (shortest_varint (end - start))
+few_bytes place start end likely u e (inl less) = omega
+    (arith, u, e, ap length (shortest_small likely less), some_bytes (end - start))
+few_bytes place start end likely u e (inr fits) = fits.0
+
+pub one_or_less : (place start end likely : ℕ) → (likely < 128) ⊎ ((start - place ≤ length (shortest_varint (end -
+    start))) × (end < 18446744073709551615)) → (length (shortest_varint likely) ≡ 1) ⊎ (end < 18446744073709551615)
+one_or_less place start end likely (inl less) = inl (ap length (shortest_small likely less))
+one_or_less place start end likely (inr fits) = inr fits.1
+
+-- the content is there, after room for its length
+module _ (a b c d : List ℕ) (place start end to : ℕ) (room content : List ℕ) (v : Wrote a place b start room)
+    (w : Wrote b start c end content) (p : WroteLength c place start end d to)
+    (f : start - place ≤ length (shortest_varint (end - start))) (o : 1 ≤ length room)
+    (g : (length room ≡ 1) ⊎ (end < 18446744073709551615)) (big : length a < 18446744073709551615) where
+  put_size : to ≡ at_most_64_bits (place + length (shortest_varint (length content) ++ content))
+  put_size =
+      let size : length (shortest_varint (length content) ++ content) ≡ length (shortest_varint (length content))
+      + length content = length-append (shortest_varint (length content)) content in
+      let some : 1 ≤ length (shortest_varint (length content)) = some_bytes (length content) in
+      let one : 1 ≤ length (shortest_varint (end - start)) = some_bytes (end - start) in
+      elim (cases_lt end 18446744073709551615) [
+        | inl less ↦
+            let exact : end - start ≡ length content = omega (arith, w.count, less) in
+            omega (arith, p.count, size, exact, ap (λ (n : ℕ). length (shortest_varint n)) exact)
+        | inr most ↦
+            elim g [
+              | inl short ↦ omega (arith, p.count, size, some, one, v.count, w.count, short, most)
+              | inr below ↦ absurd (omega (arith, below, most))
+            ]
+      ]
+
+  pub put_nested : Wrote a place d to (shortest_varint (length content) ++ content)
+  put_nested = record {
+    same_length = p.same_length ∙ w.same_length ∙ v.same_length;
+    before = p.before ∙ less_stays place start c b v.up w.before ∙ v.before;
+    up = omega (arith, p.count, v.up, v.count);
+    count = put_size;
+    written =
+        λ h.
+        let whole : end ≤ to = omega (arith, p.count, h, big, f, v.up, w.up) in
+        let inside : end ≤ length b = omega (arith, whole, h, v.same_length) in
+        let exact : end - start ≡ length content = omega (arith, w.count, whole, h, big) in
+        let begun : start ≤ length b = omega (arith, inside, w.up) in
+        let back : drop start (take end c) ≡ content = ap (drop start) (w.written inside)
+        ∙ drop_at (take start b) content start (length-take-le start b begun) in
+        let last : to ≤ length c = omega (arith, h, w.same_length, v.same_length) in
+        p.written last
+        ∙ ap (λ (xs : List ℕ). xs ++ (shortest_varint (end - start) ++ drop start (take end c)))
+        (less_stays place start c b v.up w.before ∙ v.before)
+        ∙ ap (λ (n : ℕ). take place a ++ (shortest_varint n ++ drop start (take end c))) exact
+        ∙ ap (λ (xs : List ℕ). take place a ++ (shortest_varint (length content) ++ xs)) back;
+  }
 
 pub nested_error : (n : ℕ) (inner next : Walked) (x : Reason) (m : ℕ) → inner ≡ Err (x, m) → nested_onto n inner next ≡
     Err
     (x, m)
 nested_error n inner next x m e = ap (λ (w : Walked). nested_onto n w next) e
-
-pub run_put : (n value place end : ℕ) (run old out room begun first new after : List ℕ) (w next : Walked) → out ≡ old ++
-    key_bytes n 2 → place ≡ length out → begun ≡ out ++ room → end ≡ length begun → first ≡ begun ++ shortest_varint
-    value → after ≡ first ++ varints run → new ≡ take place after ++ (shortest_varint (length after - end) ++ drop end
-    after) → w ≡ next → onto old (onto (length_record n (varints (value ∷ run))) w) ≡ onto new next
-run_put n value place end run old out room begun first new after w next k p b q f a e s =
-    let whole : after ≡ begun ++ varints (value ∷ run) = a ∙ ap (λ (xs : List ℕ). xs ++ varints run) f ∙ append_assoc
-    begun (shortest_varint value) (varints run) in
-    onto_more old (length_record n (varints (value ∷ run))) w
-    ∙ ap (λ (xs : List ℕ). onto xs w) (sym (content_put n place end old out room begun (varints (value ∷ run)) new after
-    k p b q whole e))
-    ∙ ap (onto new) s
 
 pub run_error : (bytes : List ℕ) (w next : Walked) (x : Reason) (m : ℕ) → w ≡ Err (x, m) → onto bytes w ≡ Err (x, m)
 run_error bytes w next x m e = ap (onto bytes) e
@@ -115,17 +173,10 @@ numbers_end bytes s left n level depth now i =
     ap (walk bytes s left (Some n) Numbers level depth) i ∙ no_numbers bytes s left n level depth
     ∙ ap (walk bytes s left (Some n) Nothing level depth) (sym i)
 
-pub number_more : (level n : ℕ) (now es : List FieldEntry) (e : FieldEntry) (out new all : List ℕ) → now ≡ e ∷ es → true
-    ≡
-    (eqb e.level level && eqb e.number n) → new ≡ out ++ shortest_varint e.value
-    → out ++ varints (run_numbers level n now) ≡ all → new ++ varints (run_numbers level n es) ≡ all
-number_more level n now es e out new all i t k h =
-    ap (λ (xs : List ℕ). xs ++ varints (run_numbers level n es)) k
-    ∙ append_assoc out (shortest_varint e.value) (varints (run_numbers level n es))
-    ∙ ap (λ (xs : List ℕ). out ++ xs) (sym (ap (λ (ys : List FieldEntry). varints (run_numbers level n ys)) i ∙ rw (sym
-    t)
-    refl))
-    ∙ h
+pub number_more : (level n : ℕ) (now es : List FieldEntry) (e : FieldEntry) → now ≡ e ∷ es → true ≡ (eqb e.level
+    level &&
+    eqb e.number n) → varints (run_numbers level n now) ≡ shortest_varint e.value ++ varints (run_numbers level n es)
+number_more level n now es e i t = ap (λ (ys : List FieldEntry). varints (run_numbers level n ys)) i ∙ rw (sym t) refl
 
 rest_at : (level : ℕ) (e : FieldEntry) (es : List FieldEntry) → level ≤ e.level → rest_of level (e ∷ es) ≡ rest_of level
     es
@@ -166,32 +217,23 @@ module _ (bytes : List ℕ) (s : ℕ) (left : List Row) (last : Option ℕ) (n l
       ap (walk bytes s left last Nothing level depth) i ∙ no_value bytes s left last level depth e es h next r own_next
       (sym v) ∙ ap (λ (ys : List FieldEntry). Err (r, length ys)) (sym i)
 
-  pub field_number : (value : ℕ) (old new : List ℕ) → Ok (Number value) ≡ given bytes next.field.0 e → false ≡ is_packed
-      next.field → new ≡ old ++ number_record next.is_plain n value → onto old (walk bytes s left last Nothing level
-      depth now)
-      ≡ onto new (walk bytes s next.rows (Some n) Nothing level depth es)
-  field_number value old new v p a =
-      ap (λ (w : Walked). onto old w) (ap (walk bytes s left last Nothing level depth) i ∙ of_number bytes s left last
-      level
-      depth e es h next value own_next (sym v) (sym p)
+  pub field_number : (value : ℕ) → Ok (Number value) ≡ given bytes next.field.0 e → false ≡ is_packed next.field → walk
+      bytes s left last Nothing level depth now ≡ onto (number_record next.is_plain n value) (walk bytes s next.rows
+      (Some n) Nothing level depth es)
+  field_number value v p =
+      ap (walk bytes s left last Nothing level depth) i ∙ of_number bytes s left last level depth e es h next value
+      own_next (sym v) (sym p)
       ∙ ap (λ (m : ℕ). onto (number_record next.is_plain m value) (walk bytes s next.rows (Some m) Nothing level depth
-      es)) k)
-      ∙ onto_more old (number_record next.is_plain n value) (walk bytes s next.rows (Some n) Nothing level depth es)
-      ∙ ap (λ (xs : List ℕ). onto xs (walk bytes s next.rows (Some n) Nothing level depth es)) (sym a)
+      es)) k
 
-  pub field_content : (content old new : List ℕ) → Ok (Content content) ≡ given bytes next.field.0 e → new ≡ old ++
-      content_record next.is_plain n content → onto old (walk bytes s left last Nothing level depth now) ≡ onto new
-      (walk bytes
-      s next.rows (Some n) Nothing level depth es)
-  field_content content old new v a =
-      ap (λ (w : Walked). onto old w) (ap (walk bytes s left last Nothing level depth) i ∙ of_content bytes s left last
-      level
-      depth e es h next content own_next (sym v)
+  pub field_content : (content : List ℕ) → Ok (Content content) ≡ given bytes next.field.0 e → walk bytes s left last
+      Nothing level depth now ≡ onto (content_record next.is_plain n content) (walk bytes s next.rows (Some n) Nothing
+      level depth es)
+  field_content content v =
+      ap (walk bytes s left last Nothing level depth) i ∙ of_content bytes s left last level depth e es h next content
+      own_next (sym v)
       ∙ ap (λ (m : ℕ). onto (content_record next.is_plain m content) (walk bytes s next.rows (Some m) Nothing level
-      depth es))
-      k)
-      ∙ onto_more old (content_record next.is_plain n content) (walk bytes s next.rows (Some n) Nothing level depth es)
-      ∙ ap (λ (xs : List ℕ). onto xs (walk bytes s next.rows (Some n) Nothing level depth es)) (sym a)
+      depth es)) k
 
   pub field_run : (value : ℕ) → Ok (Number value) ≡ given bytes next.field.0 e → true ≡ is_packed next.field → onto
       (length_record n (varints (value ∷ run_numbers level n es))) (walk bytes s next.rows (Some n) Numbers level depth
@@ -243,43 +285,67 @@ field_message bytes s left last n level (suc below) now es rest e next i h k f t
 -- ---- the entries of a message
 
 module _ (bytes : List ℕ) (s : ℕ) (left : List Row) (last : Option ℕ) (level depth : ℕ) (now es : List FieldEntry)
-    (e : FieldEntry) (i : now ≡ e ∷ es) (out old : List ℕ) (start : Walked) (j : onto out (walk bytes s left last
-    Nothing level
-    depth now) ≡ onto old start) where
-  pub message_stops : e.level < level → onto old start ≡ Ok out
+    (e : FieldEntry) (i : now ≡ e ∷ es) (out : List ℕ) (start : Walked) (j : start ≡ onto out (walk bytes s left last
+    Nothing level depth now)) where
+  pub message_stops : e.level < level → start ≡ Ok out
   message_stops h =
-      sym j ∙ ap (λ (ys : List FieldEntry). onto out (walk bytes s left last Nothing level depth ys)) i
+      j ∙ ap (λ (ys : List FieldEntry). onto out (walk bytes s left last Nothing level depth ys)) i
       ∙ ap (onto out) (stops bytes s left last Nothing level depth e es h) ∙ ap (λ (xs : List ℕ). Ok xs) (append-nil
       out)
 
   pub message_deeper : level < e.level → start ≡ Err (WrongLevel, length now)
-  message_deeper h = onto_error old start WrongLevel (length now) (sym j
-      ∙ ap (λ (ys : List FieldEntry). onto out (walk bytes s left last Nothing level depth ys)) i
+  message_deeper h =
+      j ∙ ap (λ (ys : List FieldEntry). onto out (walk bytes s left last Nothing level depth ys)) i
       ∙ ap (onto out) (too_deep bytes s left last level depth e es h)
-      ∙ ap (λ (ys : List FieldEntry). Err (WrongLevel, length ys)) (sym i))
+      ∙ ap (λ (ys : List FieldEntry). Err (WrongLevel, length ys)) (sym i)
 
   pub message_unknown : (r : Reason) → level ≤ e.level → e.level ≤ level → Err r ≡ field_next (table s) left last
-      e.number →
-      start ≡ Err (r, length now)
+      e.number → start ≡ Err (r, length now)
   message_unknown r a b f =
       let h : e.level ≡ level = omega (arith, a, b) in
-      onto_error old start r (length now) (sym j
-      ∙ ap (λ (ys : List FieldEntry). onto out (walk bytes s left last Nothing level depth ys)) i
+      j ∙ ap (λ (ys : List FieldEntry). onto out (walk bytes s left last Nothing level depth ys)) i
       ∙ ap (onto out) (no_field bytes s left last level depth e es h r (sym f))
-      ∙ ap (λ (ys : List FieldEntry). Err (r, length ys)) (sym i))
+      ∙ ap (λ (ys : List FieldEntry). Err (r, length ys)) (sym i)
+
+pub message_fails : (out : List ℕ) (start w : Walked) (r : Reason) (n : ℕ) → start ≡ onto out w → w ≡ Err (r, n) → start
+    ≡ Err (r, n)
+message_fails out start w r n j e = j ∙ ap (onto out) e
+
+pub message_more : (out more : List ℕ) (start w next : Walked) → start ≡ onto out w → w ≡ onto more next → start ≡ onto
+    (out ++ more) next
+message_more out more start w next j e = j ∙ ap (onto out) e ∙ onto_more out more next
 
 pub walk_none : (bytes : List ℕ) (s : ℕ) (left : List Row) (last : Option ℕ) (level depth : ℕ) → walk bytes s left last
     Nothing level depth [] ≡ Ok []
 unfolding walk
 walk_none bytes s left last level depth = refl
 
+-- one entry more, at the level of the message
+pub message_step : (bytes : List ℕ) (s : ℕ) (left rows : List Row) (last : Option ℕ) (n level at depth : ℕ) (now rest :
+    List FieldEntry) (start : Walked) (a b c : List ℕ) (i j k : ℕ) → level ≤ at → at ≤ level → ((x : List ℕ) × (start ≡
+    onto x (walk bytes s left last Nothing level depth now)) × Wrote a i b j x) → ((y : List ℕ) × (walk bytes s left
+    last Nothing at depth now ≡ onto y (walk bytes s rows (Some n) Nothing at depth rest)) × Wrote b j c k y) →
+    (z : List ℕ) × (start ≡ onto z (walk bytes s rows (Some n) Nothing level depth rest)) × Wrote a i c k z
+message_step bytes s left rows last n level at depth now rest start a b c i j k h g v w =
+    let same : at ≡ level = omega (arith, h, g) in (
+      v.0 ++ w.0,
+      message_more v.0 w.0 start (walk bytes s left last Nothing level depth now) (walk bytes s rows (Some n) Nothing
+          level depth rest) v.1 (subst (λ (l : ℕ). walk bytes s left last Nothing l depth now ≡ onto w.0 (walk bytes s
+          rows (Some n) Nothing l depth rest)) same w.1),
+      wrote_both a b c i j k v.0 w.0 v.2 w.2,
+    )
+
+pub rest_level : (level at : ℕ) (xs ys : List FieldEntry) → level ≤ at → at ≤ level → rest_of at xs ≡ rest_of at ys →
+    rest_of level xs ≡ rest_of level ys
+rest_level level at xs ys h g e =
+    let same : at ≡ level = omega (arith, h, g) in
+    subst (λ (l : ℕ). rest_of l xs ≡ rest_of l ys) same e
+
 pub message_ends : (bytes : List ℕ) (s : ℕ) (left : List Row) (last : Option ℕ) (level depth : ℕ) (now : List
-    FieldEntry)
-    (out old : List ℕ) (start : Walked) → onto out (walk bytes s left last Nothing level depth now) ≡ onto old start →
-    now ≡
-    [] → onto old start ≡ Ok out
-message_ends bytes s left last level depth now out old start j i =
-    sym j ∙ ap (λ (ys : List FieldEntry). onto out (walk bytes s left last Nothing level depth ys)) i
+    FieldEntry) (out : List ℕ) (start : Walked) → start ≡ onto out (walk bytes s left last Nothing level depth now) →
+    now ≡ [] → start ≡ Ok out
+message_ends bytes s left last level depth now out start j i =
+    j ∙ ap (λ (ys : List FieldEntry). onto out (walk bytes s left last Nothing level depth ys)) i
     ∙ ap (onto out) (walk_none bytes s left last level depth) ∙ ap (λ (xs : List ℕ). Ok xs) (append-nil out)
 
 pub rest_none : (es : List FieldEntry) → rest_of 0 es ≡ []

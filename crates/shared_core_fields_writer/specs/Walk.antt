@@ -1,16 +1,17 @@
 -- The records of the entries of a message, level by level, up to the first entry that may not come.
-use Rattle.std.specs.Prelude.{◌≡◌, ◌≢◌, ℕ, zero, suc, Bool, true, false, ◌&&◌, List, [], ◌∷◌, ◌++◌, length, drop}
+use Rattle.std.specs.Prelude.{◌≡◌, ◌≤◌, ℕ, zero, suc, Bool, true, false, ◌&&◌, List, [], ◌∷◌, ◌++◌, length, take, drop}
 use Rattle.std.specs.Prelude.{nat_lt, nat_eq, flat_map, if◌then◌else◌, Option, Some, None, Result, Ok, Err, MatchResult}
 use Rattle.shared_core_wire.specs.Encoding.{shortest_varint}
 use Rattle.shared_core_wire.specs.Schema.{Kind, Row, U32, U64, Boolean, Enumeration, Text, ByteString, Message}
 use Rattle.shared_core_record_writer.specs.Records.{number_record, content_record}
+use Rattle.shared_core_fields_writer.specs.Room.{Wrote}
 use Rattle.shared_core_codec.specs.Table.{table}
 use Rattle.shared_core_codec.specs.RowEncoding.{length_record}
 use Rattle.shared_core_codec.specs.Canonicity.{Next}
 use Rattle.shared_core_fields_writer.specs.declared.walk.Source.{Source}
 use Rattle.shared_core_fields.specs.declared.table.FieldEntry.{FieldEntry}
 use Rattle.shared_core_fields_writer.specs.declared.error.Reason.{Reason}
-use Rattle.shared_core_fields_writer.specs.declared.error.Reason.TheVariants.{WrongLevel, TooDeep, TooLong, OutOfMemory}
+use Rattle.shared_core_fields_writer.specs.declared.error.Reason.TheVariants.{WrongLevel, TooDeep, TooLong}
 use Rattle.shared_core_fields_writer.specs.Given.{Given, Number, Content, Opens, given, field_next}
 
 -- The bytes that entries give, or why one of them may not come and how many there are from it on.
@@ -142,31 +143,42 @@ entries_payload s es bytes = short_enough (walk bytes s (table s) None Nothing 0
 abbrev pub entries_from : Source → ℕ → List FieldEntry
 entries_from source at = drop at source.entries.now
 
--- How a function ended that appends these bytes: with them, or with this error; these entries are left.
--- It may fail too if an allocation fails.
-abbrev pub Appends : {T : Type 0} → Result T Reason → Walked → List ℕ → List ℕ → List FieldEntry → Type 0
-Appends result walked old new left =
-    MatchResult result (λ _. onto old walked ≡ Ok new)
-    (λ reason. reason ≢ OutOfMemory → walked ≡ Err (reason, length left))
+-- How a function ended that writes these bytes into a slice, from an index up to another one: with them, or with this
+-- error; these entries are left.
+abbrev pub Writes : {T : Type 0} → Result T Reason → Walked → List ℕ → ℕ → List ℕ → ℕ → List FieldEntry → Type 0
+Writes result walked old from new to left =
+    MatchResult result (λ _. (bytes : List ℕ) × (walked ≡ Ok bytes) × Wrote old from new to bytes)
+    (λ reason. walked ≡ Err (reason, length left))
 
--- How a function ended that appends some of these bytes, so that those of what is left come after them: or with this
--- error. It may fail too if an allocation fails.
-abbrev pub Goes : {T : Type 0} → Result T Reason → Walked → Walked → List ℕ → List ℕ → List FieldEntry → Type 0
-Goes result walked next old new left =
-    MatchResult result (λ _. onto old walked ≡ onto new next)
-    (λ reason. reason ≢ OutOfMemory → walked ≡ Err (reason, length left))
+-- The same of a function that writes their length before them.
+abbrev pub Nests : {T : Type 0} → Result T Reason → Walked → List ℕ → ℕ → List ℕ → ℕ → List FieldEntry → Type 0
+Nests result walked old from new to left =
+    MatchResult result
+    (λ _. (bytes : List ℕ) × (walked ≡ Ok bytes) × Wrote old from new to (shortest_varint (length bytes) ++ bytes))
+    (λ reason. walked ≡ Err (reason, length left))
 
--- How a function ended that goes over entries which give nothing more: or with this error. It may fail too if an
--- allocation fails.
+-- The same of a function that writes some of these bytes, so that those of what is left come after them.
+abbrev pub Goes : {T : Type 0} → Result T Reason → Walked → Walked → List ℕ → ℕ → List ℕ → ℕ → List FieldEntry → Type 0
+Goes result walked next old from new to left =
+    MatchResult result (λ _. (bytes : List ℕ) × (walked ≡ onto bytes next) × Wrote old from new to bytes)
+    (λ reason. walked ≡ Err (reason, length left))
+
+-- How a function ended that goes over entries which give nothing more: or with this error.
 abbrev pub Continues : {T : Type 0} → Result T Reason → Walked → Walked → List FieldEntry → Type 0
 Continues result walked next left =
-    MatchResult result (λ _. walked ≡ next) (λ reason. reason ≢ OutOfMemory → walked ≡ Err (reason, length left))
+    MatchResult result (λ _. walked ≡ next) (λ reason. walked ≡ Err (reason, length left))
 
 -- The same of the entry of a field of the number n, in a message of any schema where the field may come next.
-abbrev pub GoesOn : {T : Type 0} → Result T Reason → List ℕ → ℕ → Next → More → ℕ → ℕ → List ℕ → List ℕ → List
+abbrev pub GoesOn : {T : Type 0} → Result T Reason → List ℕ → ℕ → Next → More → ℕ → ℕ → List ℕ → ℕ → List ℕ → ℕ → List
     FieldEntry
     → List FieldEntry → Type 0
-GoesOn result bytes n next more level depth old new before left =
+GoesOn result bytes n next more level depth old from new to before left =
     (s : ℕ) (rows : List Row) (last : Option ℕ) → field_next (table s) rows last n ≡ Ok next
     → Goes result (walk bytes s rows last more level depth before)
-    (walk bytes s next.rows (Some n) Nothing level depth left) old new left
+    (walk bytes s next.rows (Some n) Nothing level depth left) old from new to left
+
+-- A table gives this payload, which has this length and is at the front of a slice, if that is as long.
+pub record Fills (s : ℕ) (es : List FieldEntry) (bytes new : List ℕ) (size : ℕ) (payload : List ℕ) : Type 0 where
+  pub gives : entries_payload s es bytes ≡ Ok payload
+  pub has : size ≡ length payload
+  pub written : size ≤ length new → take size new ≡ payload

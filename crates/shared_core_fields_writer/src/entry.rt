@@ -41,6 +41,7 @@ fn kind_number(kind: Kind) -> u64
 }
 
 /// The bytes of an entry.
+#[inline(always)]
 fn content_of<'a>(entry: &FieldEntry, bytes: &'a [u8]) -> Result<&'a [u8], Reason>
     ensures { ok_view (λ b. b.now) result ≡ content bytes.now entry.now }
 {
@@ -53,6 +54,7 @@ fn content_of<'a>(entry: &FieldEntry, bytes: &'a [u8]) -> Result<&'a [u8], Reaso
 }
 
 /// The text of an entry.
+#[inline(always)]
 fn text_of<'a>(entry: &FieldEntry, bytes: &'a [u8]) -> Result<&'a [u8], Reason>
     ensures { ok_view (λ b. Content b.now) result ≡ text_given (content bytes.now entry.now) }
 {
@@ -75,6 +77,7 @@ fn is_text(bytes: &[u8]) -> bool
 }
 
 /// What an entry gives to a field of a kind.
+#[inline(always)]
 pub(crate) fn given_value<'a>(
     kind: Kind,
     entry: &FieldEntry,
@@ -107,6 +110,7 @@ pub(crate) fn given_value<'a>(
 
 /// The number of an entry's field, and that field, which may come next in a message of the schema where these rows are
 /// left, after the last field.
+#[inline(always)]
 pub(crate) fn next_of(
     schema: u32,
     rows: &'static [Row],

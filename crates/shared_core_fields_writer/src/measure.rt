@@ -16,15 +16,20 @@ use std::alloc::{AllocError, Global};
 /// How deep messages may be nested in a table that is not measured: then few bytes are moved more than once.
 const SHALLOW: u64 = 3;
 
-/// Measures a table whose entries are in a message of a schema. Returns the length of the content of each message and
-/// run, at the index of its entry; none at all, if no message is nested deep.
+/// How long the payload of a table that is not measured may be: then few bytes are moved at all.
+const SHORT: usize = 4096;
+
+/// Measures a table whose entries are in a message of a schema, and whose payload is this long. Returns the length of
+/// the content of each message and run, at the index of its entry; none at all, if the payload is short and no message
+/// is nested deep.
 pub(crate) fn lengths_of(
     alloc: Global,
     schema: u32,
     entries: &[FieldEntry],
+    length: usize,
 ) -> Result<Vec<u64>, AllocError> {
     let mut lengths = Vec::new(alloc);
-    if is_deep(entries) {
+    if length > SHORT || is_deep(entries) {
         lengths.resize(entries.len(), 0)?;
         let mut at = 0;
         let source = Source {

@@ -1,34 +1,46 @@
-//! The records of the entries of a message, level by level.
+//! The records of the entries of a message, level by level, written into a slice as far as there is room.
 //!
-//! Each function goes on from an index, which it leaves at the first entry that is not its own, or at the one that may
-//! not come. After an error part of the records may be there.
+//! Each function goes on from a place, which it leaves at the first entry that is not its own and after its bytes, or
+//! at the entry that may not come. After an error part of the records may be there.
 
-ghost use Rattle.std.specs.Prelude.{◌≡◌, ◌+◌, ◌<◌, ◌≤◌, ◌++◌, ◌∷◌, ℕ, List, Option, Some, None, OnOk, length, nat_eq};
-ghost use Rattle.std.specs.Prelude.{◌&&◌};
+ghost use Rattle.std.specs.Prelude.{◌≡◌, ◌+◌, ◌-◌, ◌<◌, ◌≤◌, ◌⊎◌, ◌∷◌, ℕ, List, Option, Some, None, IsTrue, OnOk};
+ghost use Rattle.std.specs.Prelude.{◌&&◌, length, nat_eq};
+ghost use Rattle.shared_core_wire.specs.Encoding.{shortest_varint};
 ghost use Rattle.shared_core_wire.specs.Schema as schema;
 ghost use Rattle.shared_core_codec.specs.Table.{table};
 ghost use Rattle.shared_core_codec.specs.Canonicity.{next_view};
 ghost use Rattle.shared_core_codec.specs.ProgramRows.{found_view};
 ghost use Rattle.shared_core_codec.specs.RowEncoding.{length_record};
+ghost use Rattle.shared_core_fields_writer.specs.Room.{Wrote};
 ghost use Rattle.shared_core_fields_writer.specs.Walk.{Nothing, Numbers, walk, entries_from, rest_of, varints};
-ghost use Rattle.shared_core_fields_writer.specs.Walk.{run_numbers, onto, is_packed, Appends, Goes, GoesOn, Continues};
+ghost use Rattle.shared_core_fields_writer.specs.Walk.{run_numbers, onto, is_packed, Writes, Nests, Goes, GoesOn};
+ghost use Rattle.shared_core_fields_writer.specs.Walk.{Continues};
 
 use crate::entry::{Given, given_value, next_of};
 use crate::error::Reason;
+use crate::room::{write_content, write_key, write_length, write_number, write_varint};
 use shared_core_codec::canonical::NextField;
 use shared_core_codec::rows::{Found, Kind, rows_of};
 use shared_core_fields::table::FieldEntry;
-use shared_core_record_writer::{
-    LENGTH, append_content, append_key, append_number, append_varint, put_length,
-};
+use shared_core_record_writer::LENGTH;
+use shared_core_wire::varint::varint_len;
 
-/// The entries of a table, the bytes that they point to, and how long the content of their messages and runs was
-/// measured to be, by their index: then room is left for that many, and otherwise for less than 128 bytes.
+/// The entries of a table, the bytes that they point to, and how long the content of their messages was measured to be,
+/// by their index: then room is left for that many, and otherwise for less than 128 bytes.
 #[derive(Clone, Copy)]
 pub(crate) struct Source<'a> {
     pub entries: &'a [FieldEntry],
     pub bytes: &'a [u8],
     pub lengths: &'a [u64],
+}
+
+/// A place in a table and in its payload.
+#[derive(Clone, Copy)]
+pub(crate) struct Place {
+    /// The index of the next entry.
+    pub entry: usize,
+    /// The index of the next byte.
+    pub byte: usize,
 }
 
 /// The length that the content of the entry at an index was measured to have, or 0.
@@ -40,28 +52,30 @@ fn measured(source: &Source<'_>, index: usize) -> u64 {
     }
 }
 
-/// Appends the records of the entries of a message, which are at a level; messages may be nested `depth` deep in it.
+/// Writes the records of the entries of a message, which are at a level; messages may be nested `depth` deep in it.
 #[cycle(message)]
-pub(crate) fn append_message(
-    out: &mut Vec<u8>,
-    at: &mut usize,
+pub(crate) fn write_message(
+    out: &mut [u8],
+    at: &mut Place,
     source: &Source<'_>,
     schema: u32,
     level: u64,
     depth: u32,
 ) -> Result<(), Reason>
-    requires start { at.old ≤ length source.now.entries.now }
+    requires start { at.old.entry ≤ length source.now.entries.now }
     requires levels { level + depth ≤ 100 }
-    ensures appended { Appends result (walk source.now.bytes.now schema (table schema) None Nothing level depth
-        (entries_from source.now at.old)) out.old.items out.new.items (entries_from source.now at.new) }
-    ensures rest { OnOk result (entries_from source.now at.new ≡ rest_of level (entries_from source.now at.old)) }
-    ensures end { at.new ≤ length source.now.entries.now }
-    ensures more { OnOk result (at.old ≤ at.new) }
+    ensures written { Writes result (walk source.now.bytes.now schema (table schema) None Nothing level depth
+        (entries_from source.now at.old.entry)) out.old at.old.byte out.new at.new.byte
+        (entries_from source.now at.new.entry) }
+    ensures rest { OnOk result (entries_from source.now at.new.entry
+        ≡ rest_of level (entries_from source.now at.old.entry)) }
+    ensures end { at.new.entry ≤ length source.now.entries.now }
+    ensures more { OnOk result (at.old.entry ≤ at.new.entry) }
 {
     let mut rows = rows_of(schema);
     let mut last = None;
-    while *at < source.entries.len() {
-        let entry = &source.entries[*at];
+    while at.entry < source.entries.len() {
+        let entry = &source.entries[at.entry];
         if entry.level < level {
             return Ok(());
         }
@@ -69,61 +83,142 @@ pub(crate) fn append_message(
             return Err(Reason::WrongLevel);
         }
         let (number, next) = next_of(schema, rows, last, entry.number)?;
-        append_field(out, at, source, entry, number, next, depth)?;
+        write_field(out, at, source, entry, number, next, depth)?;
         rows = next.rows;
         last = Some(number);
     }
     Ok(())
 }
 
-/// Appends the records of an entry, which is at the index, for its field, with those of the entries that belong to it.
+/// Writes the records of an entry, which is at the place, for its field, with those of the entries that belong to it.
 #[cycle(message)]
-fn append_field(
-    out: &mut Vec<u8>,
-    at: &mut usize,
+#[inline(always)]
+fn write_field(
+    out: &mut [u8],
+    at: &mut Place,
     source: &Source<'_>,
     entry: &FieldEntry,
     number: u32,
     next: NextField<'_>,
     depth: u32,
 ) -> Result<(), Reason>
-    requires start { at.old < length source.now.entries.now }
-    requires entry { entries_from source.now at.old ≡ entry.now ∷ entries_from source.now (at.old + 1) }
+    requires start { at.old.entry < length source.now.entries.now }
+    requires entry { entries_from source.now at.old.entry ≡ entry.now ∷ entries_from source.now (at.old.entry + 1) }
     requires number { entry.now.number ≡ number }
     requires levels { entry.now.level + depth ≤ 100 }
-    ensures appended { GoesOn result source.now.bytes.now number (next_view next.entry) Nothing entry.now.level depth
-        out.old.items out.new.items (entries_from source.now at.old) (entries_from source.now at.new) }
-    ensures rest { OnOk result (rest_of entry.now.level (entries_from source.now at.new)
-        ≡ rest_of entry.now.level (entries_from source.now at.old)) }
-    ensures end { at.new ≤ length source.now.entries.now }
-    ensures more { OnOk result (at.old < at.new) }
+    ensures written { GoesOn result source.now.bytes.now number (next_view next.entry) Nothing entry.now.level depth
+        out.old at.old.byte out.new at.new.byte (entries_from source.now at.old.entry)
+        (entries_from source.now at.new.entry) }
+    ensures rest { OnOk result (rest_of entry.now.level (entries_from source.now at.new.entry)
+        ≡ rest_of entry.now.level (entries_from source.now at.old.entry)) }
+    ensures end { at.new.entry ≤ length source.now.entries.now }
+    ensures more { OnOk result (at.old.entry < at.new.entry) }
 {
     match given_value(next.field.kind, entry, source.bytes)? {
         Given::Number(value) => {
             if is_packed(next.field) {
-                return append_run(out, at, source, number, value, entry.level);
+                return write_run(out, at, source, number, value, entry.level);
             }
-            append_number(out, next.is_plain, number, value)?;
-            *at += 1;
+            at.byte = write_number(out, at.byte, next.is_plain, number, value);
+            at.entry += 1;
         }
         Given::Content(content) => {
-            append_content(out, next.is_plain, number, content)?;
-            *at += 1;
+            at.byte = write_content(out, at.byte, next.is_plain, number, content);
+            at.entry += 1;
         }
         Given::Message(inner) => {
             if depth == 0 {
                 return Err(Reason::TooDeep);
             }
-            append_key(out, number, LENGTH)?;
-            let place = out.len();
-            append_varint(out, measured(source, *at))?;
-            let end = out.len();
-            *at += 1;
-            append_message(out, at, source, inner, entry.level + 1, depth - 1)?;
-            put_length(out, place, end)?;
+            let likely = measured(source, at.entry);
+            at.byte = write_key(out, at.byte, number, LENGTH);
+            at.entry += 1;
+            write_nested(out, at, source, inner, entry.level + 1, depth - 1, likely)?;
         }
     }
     Ok(())
+}
+
+/// Writes the length of a message, which is most likely this, and the records of its entries.
+#[cycle(message)]
+#[inline(always)]
+fn write_nested(
+    out: &mut [u8],
+    at: &mut Place,
+    source: &Source<'_>,
+    schema: u32,
+    level: u64,
+    depth: u32,
+    likely: u64,
+) -> Result<(), Reason>
+    requires start { at.old.entry ≤ length source.now.entries.now }
+    requires levels { level + depth ≤ 100 }
+    ensures written { Nests result (walk source.now.bytes.now schema (table schema) None Nothing level depth
+        (entries_from source.now at.old.entry)) out.old at.old.byte out.new at.new.byte
+        (entries_from source.now at.new.entry) }
+    ensures rest { OnOk result (entries_from source.now at.new.entry
+        ≡ rest_of level (entries_from source.now at.old.entry)) }
+    ensures end { at.new.entry ≤ length source.now.entries.now }
+    ensures more { OnOk result (at.old.entry ≤ at.new.entry) }
+{
+    let place = *at;
+    let start = write_varint(out, place.byte, likely);
+    at.byte = start;
+    write_message(out, at, source, schema, level, depth)?;
+    if !is_room(likely, place.byte, start, at.byte) {
+        *at = place;
+        return write_again(out, at, source, schema, level, depth);
+    }
+    at.byte = write_length(out, place.byte, start, at.byte);
+    Ok(())
+}
+
+/// Writes a message again that is shorter than it was measured to be, and looks at no length of what was measured.
+#[cycle(message)]
+#[cold]
+fn write_again(
+    out: &mut [u8],
+    at: &mut Place,
+    source: &Source<'_>,
+    schema: u32,
+    level: u64,
+    depth: u32,
+) -> Result<(), Reason>
+    requires start { at.old.entry ≤ length source.now.entries.now }
+    requires levels { level + depth ≤ 100 }
+    ensures written { Nests result (walk source.now.bytes.now schema (table schema) None Nothing level depth
+        (entries_from source.now at.old.entry)) out.old at.old.byte out.new at.new.byte
+        (entries_from source.now at.new.entry) }
+    ensures rest { OnOk result (entries_from source.now at.new.entry
+        ≡ rest_of level (entries_from source.now at.old.entry)) }
+    ensures end { at.new.entry ≤ length source.now.entries.now }
+    ensures more { OnOk result (at.old.entry ≤ at.new.entry) }
+{
+    let source = Source {
+        lengths: &[],
+        ..*source
+    };
+    let place = at.byte;
+    let start = write_varint(out, place, 0);
+    at.byte = start;
+    write_message(out, at, &source, schema, level, depth)?;
+    at.byte = write_length(out, place, start, at.byte);
+    Ok(())
+}
+
+/// Whether the room between `place` and `start`, which was left for a length, is no more than the length of what is
+/// from there to `end` takes.
+#[inline(always)]
+fn is_room(likely: u64, place: usize, start: usize, end: usize) -> bool
+    requires start { place ≤ start }
+    requires end { start ≤ end }
+    ensures { IsTrue result → (likely < 128) ⊎ ((start - place ≤ length (shortest_varint (end - start)))
+        × (end < 18446744073709551615)) }
+{
+    if likely < 128 {
+        return true;
+    }
+    end < usize::MAX && start - place <= varint_len((end - start) as u64) as usize
 }
 
 /// Whether a field is a repeated uint32, which is packed.
@@ -136,35 +231,34 @@ pub(crate) fn is_packed(field: Found) -> bool
     }
 }
 
-/// Appends the packed run of a number, whose entry is at the index, and of those whose entries come after it.
-fn append_run(
-    out: &mut Vec<u8>,
-    at: &mut usize,
+/// Writes the packed run of a number, whose entry is at the place, and of those whose entries come after it.
+fn write_run(
+    out: &mut [u8],
+    at: &mut Place,
     source: &Source<'_>,
     number: u32,
     value: u64,
     level: u64,
 ) -> Result<(), Reason>
-    requires start { at.old < length source.now.entries.now }
-    ensures appended { (s : ℕ) (rows : List schema.Row) (depth : ℕ) → Goes result
+    requires start { at.old.entry < length source.now.entries.now }
+    ensures written { (s : ℕ) (rows : List schema.Row) (depth : ℕ) → Goes result
         (onto (length_record number
-        (varints (value ∷ run_numbers level number (entries_from source.now (at.old + 1)))))
-        (walk source.now.bytes.now s rows (Some number) Numbers level depth (entries_from source.now (at.old + 1))))
-        (walk source.now.bytes.now s rows (Some number) Nothing level depth (entries_from source.now at.new))
-        out.old.items out.new.items (entries_from source.now at.new) }
-    ensures rest { OnOk result (rest_of level (entries_from source.now at.new)
-        ≡ rest_of level (entries_from source.now (at.old + 1))) }
-    ensures end { at.new ≤ length source.now.entries.now }
-    ensures more { OnOk result (at.old < at.new) }
+        (varints (value ∷ run_numbers level number (entries_from source.now (at.old.entry + 1)))))
+        (walk source.now.bytes.now s rows (Some number) Numbers level depth
+        (entries_from source.now (at.old.entry + 1))))
+        (walk source.now.bytes.now s rows (Some number) Nothing level depth (entries_from source.now at.new.entry))
+        out.old at.old.byte out.new at.new.byte (entries_from source.now at.new.entry) }
+    ensures rest { OnOk result (rest_of level (entries_from source.now at.new.entry)
+        ≡ rest_of level (entries_from source.now (at.old.entry + 1))) }
+    ensures end { at.new.entry ≤ length source.now.entries.now }
+    ensures more { OnOk result (at.old.entry < at.new.entry) }
 {
-    append_key(out, number, LENGTH)?;
-    let place = out.len();
-    append_varint(out, measured(source, *at))?;
-    let end = out.len();
-    append_varint(out, value)?;
-    *at += 1;
-    append_numbers(out, at, source, number, level)?;
-    put_length(out, place, end)?;
+    let place = write_key(out, at.byte, number, LENGTH);
+    let start = write_varint(out, place, 0);
+    at.byte = write_varint(out, start, value);
+    at.entry += 1;
+    write_numbers(out, at, source, number, level)?;
+    at.byte = write_length(out, place, start, at.byte);
     Ok(())
 }
 
@@ -175,34 +269,34 @@ pub(crate) fn is_number_of(entry: &FieldEntry, number: u32, level: u64) -> bool
     entry.level == level && entry.number == u64::from(number)
 }
 
-/// Appends the varints of the numbers of a run.
-fn append_numbers(
-    out: &mut Vec<u8>,
-    at: &mut usize,
+/// Writes the varints of the numbers of a run.
+fn write_numbers(
+    out: &mut [u8],
+    at: &mut Place,
     source: &Source<'_>,
     number: u32,
     level: u64,
 ) -> Result<(), Reason>
-    requires start { at.old ≤ length source.now.entries.now }
-    ensures numbers { OnOk result (out.new.items ≡ out.old.items
-        ++ varints (run_numbers level number (entries_from source.now at.old))) }
+    requires start { at.old.entry ≤ length source.now.entries.now }
+    ensures numbers { OnOk result (Wrote out.old at.old.byte out.new at.new.byte
+        (varints (run_numbers level number (entries_from source.now at.old.entry)))) }
     ensures walked { (s : ℕ) (rows : List schema.Row) (depth : ℕ) → Continues result
-        (walk source.now.bytes.now s rows (Some number) Numbers level depth (entries_from source.now at.old))
-        (walk source.now.bytes.now s rows (Some number) Nothing level depth (entries_from source.now at.new))
-        (entries_from source.now at.new) }
-    ensures rest { OnOk result (rest_of level (entries_from source.now at.new)
-        ≡ rest_of level (entries_from source.now at.old)) }
-    ensures end { at.new ≤ length source.now.entries.now }
-    ensures more { at.old ≤ at.new }
+        (walk source.now.bytes.now s rows (Some number) Numbers level depth (entries_from source.now at.old.entry))
+        (walk source.now.bytes.now s rows (Some number) Nothing level depth (entries_from source.now at.new.entry))
+        (entries_from source.now at.new.entry) }
+    ensures rest { OnOk result (rest_of level (entries_from source.now at.new.entry)
+        ≡ rest_of level (entries_from source.now at.old.entry)) }
+    ensures end { at.new.entry ≤ length source.now.entries.now }
+    ensures more { at.old.entry ≤ at.new.entry }
 {
-    while *at < source.entries.len() {
-        let entry = &source.entries[*at];
+    while at.entry < source.entries.len() {
+        let entry = &source.entries[at.entry];
         if !is_number_of(entry, number, level) {
             return Ok(());
         }
         given_value(Kind::U32, entry, source.bytes)?;
-        append_varint(out, entry.value)?;
-        *at += 1;
+        at.byte = write_varint(out, at.byte, entry.value);
+        at.entry += 1;
     }
     Ok(())
 }

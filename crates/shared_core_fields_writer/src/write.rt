@@ -1,31 +1,38 @@
 //! The canonical payload of a table.
 
-ghost use Rattle.std.specs.Prelude.{◌≡◌, ◌≢◌, ◌+◌, ◌-◌, ◌≤◌, [], length, drop, map, Ok, Err, OnOk, IfOk, IfErr};
+ghost use Rattle.std.specs.Prelude.{◌≡◌, ◌≢◌, ◌-◌, ◌≤◌, ℕ, List, length, map, Ok, Err, OnOk, OnErr, IfOk, IfErr};
 ghost use Rattle.shared_core_codec.specs.Canonicity.{IsCanonical};
 ghost use Rattle.shared_core_codec.specs.Payloads.{payload_meaning};
 ghost use Rattle.shared_core_fields.specs.Rows.{table_rows};
 ghost use Rattle.shared_core_fields_writer.specs.Tables.{given_row, given_rows};
-ghost use Rattle.shared_core_fields_writer.specs.Walk.{entries_payload};
+ghost use Rattle.shared_core_fields_writer.specs.Walk.{Fills, entries_payload};
+ghost use Rattle.shared_core_fields_writer.specs.Written.{WritesPayload};
 ghost use Rattle.shared_core_fields_writer.specs.declared.error.Reason.TheVariants.{OutOfMemory};
 
 use crate::error::{FieldsError, Reason};
 use crate::measure::lengths_of;
-use crate::walk::{Source, append_message};
+use crate::walk::{Place, Source, write_message};
 use shared_core_codec::size::Size;
 use shared_core_fields::table::FieldEntry;
 use shared_core_wire::records::LEVELS;
-use std::alloc::Global;
+use std::alloc::{AllocError, Global};
 
-/// The bytes that are reserved for each entry beside its text: a key, and a length or a small number.
-const ENTRY_LENGTH: usize = 4;
+/// How many bytes of a payload are kept until its table is known to be accepted.
+const KEPT: usize = 256;
+
+/// An allocation failed before the payload was written.
+const OUT_OF_MEMORY: FieldsError = FieldsError {
+    reason: Reason::OutOfMemory,
+    index: 0,
+};
 
 /// Returns the canonical payload of the value of a schema whose fields of all levels are these entries, which come in
 /// the order of the canonical payload; texts and bytes are at their offsets in `bytes`. The value and the bytes of a
 /// message's entry are its fields, which come next; its offset and length are not looked at. A plain field that is the
 /// default may come, and is left out.
 ///
-/// The error says which entry is the first that may not come, and why. If entries are deeper than level 3, a number for
-/// each entry is allocated besides the payload.
+/// The error says which entry is the first that may not come, and why. If the payload has more than 4,096 bytes, or has
+/// more than 256 and entries are deeper than level 3, a number for each entry is allocated besides it for a while.
 pub fn payload_of_entries(
     alloc: Global,
     schema: u32,
@@ -40,60 +47,118 @@ pub fn payload_of_entries(
         ≡ Err (error.reason, length entries.now - error.index)) }
     ensures index { IfErr result (λ error. error.index ≤ length entries.now) }
 {
-    let mut index = 0;
-    let Ok(mut out) = Vec::with_capacity(alloc, likely_length(entries, bytes.len())) else {
-        return Err(FieldsError {
-            reason: Reason::OutOfMemory,
-            index,
-        });
+    let mut kept = [0; KEPT];
+    let length = check(&mut kept, schema, entries, bytes)?;
+    let mut payload = Vec::new(alloc);
+    let Ok(()) = payload.resize(length, 0) else {
+        return Err(OUT_OF_MEMORY);
     };
-    if let Err(reason) = append_payload(alloc, &mut out, &mut index, schema, entries, bytes) {
-        return Err(FieldsError { reason, index });
-    }
-    Ok(out)
+    let Ok(()) = put(alloc, payload.as_mut_slice(), &kept, schema, entries, bytes) else {
+        return Err(OUT_OF_MEMORY);
+    };
+    Ok(payload)
 }
 
-/// How long the payload of a table most likely is: its texts and bytes, and some bytes more for each entry. Lengths
-/// that are not within the bytes that are given count no more than these.
-fn likely_length(entries: &[FieldEntry], most: usize) -> usize {
-    let mut texts: u64 = 0;
-    for entry in entries {
-        if entry.kind == FieldEntry::TEXT || entry.kind == FieldEntry::BYTE_STRING {
-            texts = texts.saturating_add(entry.length);
-        }
-    }
-    let texts = texts.min(most as u64) as usize;
-    texts.saturating_add(entries.len().saturating_mul(ENTRY_LENGTH))
-}
-
-/// Appends the canonical payload of a table.
-fn append_payload(
+/// Writes the payload that `payload_of_entries` returns at the front of a slice, if it has room for all of it,
+/// otherwise nothing. Returns the length of the payload. An error leaves the slice unchanged.
+///
+/// The errors are those of `payload_of_entries`. It allocates nothing but the number for each entry that is allocated
+/// there too, and that only if there is room.
+pub fn write_payload(
     alloc: Global,
-    out: &mut Vec<u8>,
-    index: &mut usize,
     schema: u32,
     entries: &[FieldEntry],
     bytes: &[u8],
-) -> Result<(), Reason>
-    requires empty { out.old.items ≡ [] }
-    requires start { index.old ≡ 0 }
-    ensures payload { OnOk result (entries_payload schema entries.now bytes.now ≡ Ok out.new.items) }
-    ensures canonical { OnOk result (IsCanonical schema out.new.items) }
-    ensures meaning { OnOk result (given_rows bytes.now schema 0 entries.now
-        ≡ map given_row (table_rows schema (payload_meaning schema out.new.items))) }
-    ensures error { IfErr result (λ reason. reason ≢ OutOfMemory
-        → entries_payload schema entries.now bytes.now ≡ Err (reason, length (drop index.new entries.now))) }
-    ensures end { index.new ≤ length entries.now }
+    out: &mut [u8],
+) -> Result<usize, FieldsError>
+    ensures payload { IfOk result (λ length. (payload : List ℕ)
+        × WritesPayload schema entries.now bytes.now out.old out.new length payload) }
+    ensures error { IfErr result (λ error. error.reason ≢ OutOfMemory → entries_payload schema entries.now bytes.now
+        ≡ Err (error.reason, length entries.now - error.index)) }
+    ensures index { IfErr result (λ error. error.index ≤ length entries.now) }
+    ensures unchanged { IfErr result (λ error. out.new ≡ out.old) }
 {
-    let lengths = lengths_of(alloc, schema, entries)?;
+    let mut kept = [0; KEPT];
+    let length = check(&mut kept, schema, entries, bytes)?;
+    if length <= out.len() {
+        let Ok(()) = put(alloc, &mut out[..length], &kept, schema, entries, bytes) else {
+            return Err(OUT_OF_MEMORY);
+        };
+    }
+    Ok(length)
+}
+
+/// Checks a table, and keeps its payload as far as there is room. Returns the length of the payload.
+fn check(
+    kept: &mut [u8],
+    schema: u32,
+    entries: &[FieldEntry],
+    bytes: &[u8],
+) -> Result<usize, FieldsError>
+    ensures payload { IfOk result (λ length. (payload : List ℕ)
+        × Fills schema entries.now bytes.now kept.new length payload) }
+    ensures error { IfErr result (λ error. entries_payload schema entries.now bytes.now
+        ≡ Err (error.reason, length entries.now - error.index)) }
+    ensures index { IfErr result (λ error. error.index ≤ length entries.now) }
+{
+    let source = Source {
+        entries,
+        bytes,
+        lengths: &[],
+    };
+    fill(kept, schema, &source)
+}
+
+/// Writes the payload of a table that was accepted, and of which this was kept, into a slice that is as long as it is.
+fn put(
+    alloc: Global,
+    out: &mut [u8],
+    kept: &[u8],
+    schema: u32,
+    entries: &[FieldEntry],
+    bytes: &[u8],
+) -> Result<(), AllocError>
+    requires { (payload : List ℕ) × Fills schema entries.now bytes.now kept.now (length out.old) payload }
+    ensures payload { OnOk result (entries_payload schema entries.now bytes.now ≡ Ok out.new) }
+    ensures unchanged { OnErr result (out.new ≡ out.old) }
+{
+    let length = out.len();
+    if length <= kept.len() {
+        out.copy_from_slice(&kept[..length]);
+        return Ok(());
+    }
+    let lengths = lengths_of(alloc, schema, entries, length)?;
     let source = Source {
         entries,
         bytes,
         lengths: lengths.as_slice(),
     };
-    append_message(out, index, &source, schema, 0, LEVELS)?;
-    if out.len() as u64 >= Size::LIMIT {
-        return Err(Reason::TooLong);
-    }
+    let Ok(_length) = fill(out, schema, &source) else {
+        unreachable!();
+    };
     Ok(())
+}
+
+/// Writes the payload of a table at the front of a slice, as far as there is room. Returns the length of the payload.
+fn fill(out: &mut [u8], schema: u32, source: &Source<'_>) -> Result<usize, FieldsError>
+    ensures payload { IfOk result (λ length. (payload : List ℕ)
+        × Fills schema source.now.entries.now source.now.bytes.now out.new length payload) }
+    ensures error { IfErr result (λ error. entries_payload schema source.now.entries.now source.now.bytes.now
+        ≡ Err (error.reason, length source.now.entries.now - error.index)) }
+    ensures index { IfErr result (λ error. error.index ≤ length source.now.entries.now) }
+{
+    let mut at = Place { entry: 0, byte: 0 };
+    if let Err(reason) = write_message(out, &mut at, source, schema, 0, LEVELS) {
+        return Err(FieldsError {
+            reason,
+            index: at.entry,
+        });
+    }
+    if at.byte as u64 >= Size::LIMIT {
+        return Err(FieldsError {
+            reason: Reason::TooLong,
+            index: at.entry,
+        });
+    }
+    Ok(at.byte)
 }

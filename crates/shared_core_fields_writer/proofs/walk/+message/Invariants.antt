@@ -1,22 +1,31 @@
-use Rattle.std.proofs.Common.{◌≡◌, ◌+◌, ◌*◌, ◌-◌, ◌≤◌, None, map, length}
+use Rattle.std.proofs.Common.{◌≡◌, ◌+◌, ◌*◌, ◌-◌, ◌≤◌, ℕ, List, None, map, length}
 use Rattle.shared_core_codec.specs.Table.{table}
 use Rattle.shared_core_codec.specs.ProgramRows.{row_view}
+use Rattle.shared_core_fields_writer.specs.Room.{Wrote}
 use Rattle.shared_core_fields_writer.specs.Walk.{Nothing, onto, walk, entries_from, rest_of}
 use Rattle.shared_core_fields_writer.proofs.walk.+message.Given as goal
 
-abbrev pub decreases-append_message : goal.decreases-append_message
-decreases-append_message l = 2 * l.depth + 1
+abbrev pub decreases-write_message : goal.decreases-write_message
+decreases-write_message l = 4 * l.depth + 2
 
-abbrev pub decreases-append_field : goal.decreases-append_field
-decreases-append_field l = 2 * l.depth
+abbrev pub decreases-write_field : goal.decreases-write_field
+decreases-write_field l = 4 * l.depth + 1
 
-abbrev pub invariant-append_message-loop-at : goal.invariant-append_message-loop-at
-invariant-append_message-loop-at l =
-    (l.initial.at ≤ l.at) × (l.at ≤ length l.source.entries.now)
-    × (onto l.out.items (walk l.source.bytes.now l.schema (map row_view l.rows) l.last Nothing l.level l.depth
-    (entries_from l.source l.at)) ≡ onto l.initial.out.items (walk l.source.bytes.now l.schema (table l.schema) None
-    Nothing l.level l.depth (entries_from l.source l.initial.at)))
-    × (rest_of l.level (entries_from l.source l.at) ≡ rest_of l.level (entries_from l.source l.initial.at))
+abbrev pub decreases-write_nested : goal.decreases-write_nested
+decreases-write_nested l = 4 * l.depth + 4
 
-abbrev pub decreases-append_message-loop-at : goal.decreases-append_message-loop-at
-decreases-append_message-loop-at l = length l.source.entries.now - l.at
+abbrev pub decreases-write_again : goal.decreases-write_again
+decreases-write_again l = 4 * l.depth + 3
+
+abbrev pub invariant-write_message-loop-at : goal.invariant-write_message-loop-at
+invariant-write_message-loop-at l =
+    (l.initial.at.entry ≤ l.at.entry) × (l.at.entry ≤ length l.source.entries.now)
+    × ((bytes : List ℕ) × (walk l.source.bytes.now l.schema (table l.schema) None Nothing l.level l.depth
+    (entries_from l.source l.initial.at.entry) ≡ onto bytes (walk l.source.bytes.now l.schema (map row_view l.rows)
+    l.last Nothing l.level l.depth (entries_from l.source l.at.entry))) × Wrote l.initial.out l.initial.at.byte l.out
+    l.at.byte bytes)
+    × (rest_of l.level (entries_from l.source l.at.entry) ≡ rest_of l.level (entries_from l.source
+    l.initial.at.entry))
+
+abbrev pub decreases-write_message-loop-at : goal.decreases-write_message-loop-at
+decreases-write_message-loop-at l = length l.source.entries.now - l.at.entry

@@ -1,0 +1,178 @@
+//! Records written into a slice, from an index on, as far as there is room: what has none is only counted.
+//!
+//! Each function returns the index after what it writes, or would write, at most the greatest number of 64 bits. So one
+//! pass over the parts of a payload says how long it is, and has written it if there is room for all of it.
+
+ghost use Rattle.std.specs.Prelude.{◌≡◌, ◌-◌, ◌<◌, ◌≤◌, ◌∷◌, [], length, drop};
+ghost use Rattle.shared_core_wire.specs.Encoding.{shortest_varint, key_bytes};
+ghost use Rattle.shared_core_record_writer.specs.Records.{number_record, content_record};
+ghost use Rattle.shared_core_fields_writer.specs.Room.{Wrote, WroteLength};
+
+use shared_core_record_writer::LENGTH;
+use shared_core_wire::varint::varint_len;
+
+/// The wire type of a varint.
+const VARINT: u32 = 0;
+
+/// The field numbers below this one have a key of one byte.
+const SHORT_KEYS: u32 = 16;
+
+/// Writes a byte.
+#[inline(always)]
+fn write_byte(out: &mut [u8], at: usize, byte: u8) -> usize
+    ensures written { Wrote out.old at out.new result (byte ∷ []) }
+    ensures after { drop result out.new ≡ drop result out.old }
+{
+    if at < out.len() {
+        out[at] = byte;
+    }
+    at.saturating_add(1)
+}
+
+/// Writes the shortest varint of a number.
+#[inline(always)]
+pub(crate) fn write_varint(out: &mut [u8], at: usize, number: u64) -> usize
+    ensures written { Wrote out.old at out.new result (shortest_varint number) }
+    ensures after { drop result out.new ≡ drop result out.old }
+{
+    if number < 128 {
+        return write_byte(out, at, number as u8);
+    }
+    write_long_varint(out, at, number)
+}
+
+/// Writes the shortest varint of a number of any length.
+fn write_long_varint(out: &mut [u8], at: usize, number: u64) -> usize
+    ensures written { Wrote out.old at out.new result (shortest_varint number) }
+    ensures after { drop result out.new ≡ drop result out.old }
+{
+    if number < 128 {
+        return write_byte(out, at, number as u8);
+    }
+    let next = write_byte(out, at, (number % 128) as u8 + 128);
+    write_long_varint(out, next, number / 128)
+}
+
+/// Writes the key of a record.
+#[inline(always)]
+pub(crate) fn write_key(out: &mut [u8], at: usize, number: u32, wire: u32) -> usize
+    requires { wire < 8 }
+    ensures { Wrote out.old at out.new result (key_bytes number wire) }
+{
+    write_varint(out, at, 8 * u64::from(number) + u64::from(wire))
+}
+
+/// How many bytes there is room for from an index on.
+#[inline(always)]
+fn room(out: &[u8], at: usize) -> usize
+    ensures { result ≡ length out.now - at }
+{
+    out.len().saturating_sub(at)
+}
+
+/// Writes the record of a number; 0 is left out in a plain field.
+#[inline(always)]
+pub(crate) fn write_number(out: &mut [u8], at: usize, plain: bool, number: u32, value: u64) -> usize
+    ensures { Wrote out.old at out.new result (number_record plain number value) }
+{
+    if number >= SHORT_KEYS || value >= 128 || plain && value == 0 || room(out, at) < 2 {
+        return write_long_number(out, at, plain, number, value);
+    }
+    out[at] = 8 * number as u8;
+    out[at + 1] = value as u8;
+    at + 2
+}
+
+/// Writes the record of a number whose key or value is long.
+fn write_long_number(out: &mut [u8], at: usize, plain: bool, number: u32, value: u64) -> usize
+    ensures { Wrote out.old at out.new result (number_record plain number value) }
+{
+    if plain && value == 0 {
+        return at;
+    }
+    let start = write_key(out, at, number, VARINT);
+    write_varint(out, start, value)
+}
+
+/// Writes the record of some bytes; no bytes are left out in a plain field.
+#[inline(always)]
+pub(crate) fn write_content(
+    out: &mut [u8],
+    at: usize,
+    plain: bool,
+    number: u32,
+    content: &[u8],
+) -> usize
+    ensures { Wrote out.old at out.new result (content_record plain number content.now) }
+{
+    let len = content.len();
+    if number >= SHORT_KEYS || len >= 128 || plain && len == 0 || room(out, at) < len + 2 {
+        return write_long_content(out, at, plain, number, content);
+    }
+    let start = at + 2;
+    let end = start + len;
+    out[at] = 8 * number as u8 + 2;
+    out[at + 1] = len as u8;
+    out[start..end].copy_from_slice(content);
+    end
+}
+
+/// Writes the record of some bytes whose key or length is long.
+fn write_long_content(out: &mut [u8], at: usize, plain: bool, number: u32, content: &[u8]) -> usize
+    ensures { Wrote out.old at out.new result (content_record plain number content.now) }
+{
+    let len = content.len();
+    if plain && len == 0 {
+        return at;
+    }
+    let key = write_key(out, at, number, LENGTH);
+    let start = write_varint(out, key, len as u64);
+    write_bytes(out, start, content)
+}
+
+/// Writes bytes.
+fn write_bytes(out: &mut [u8], at: usize, bytes: &[u8]) -> usize
+    ensures { Wrote out.old at out.new result bytes.now }
+{
+    let end = at.saturating_add(bytes.len());
+    if end <= out.len() {
+        out[at..end].copy_from_slice(bytes);
+    }
+    end
+}
+
+/// Writes the length of the bytes from `start` to `end` at `at`, and these bytes after it. Between `at` and `start` is
+/// room for a byte of it at least, and for no more than it has.
+#[inline(always)]
+pub(crate) fn write_length(out: &mut [u8], at: usize, start: usize, end: usize) -> usize
+    requires before { at ≤ start }
+    requires room { at < 18446744073709551615 → at < start }
+    requires after { start ≤ end }
+    requires few { start - at ≤ length (shortest_varint (end - start)) }
+    ensures { WroteLength out.old at start end out.new result }
+{
+    let len = end - start;
+    if len >= 128 || end > out.len() {
+        return write_long_length(out, at, start, end);
+    }
+    out[at] = len as u8;
+    end
+}
+
+/// Writes the length of any bytes, and these after it.
+fn write_long_length(out: &mut [u8], at: usize, start: usize, end: usize) -> usize
+    requires before { at ≤ start }
+    requires room { at < 18446744073709551615 → at < start }
+    requires after { start ≤ end }
+    requires few { start - at ≤ length (shortest_varint (end - start)) }
+    ensures { WroteLength out.old at start end out.new result }
+{
+    let len = end - start;
+    let moved = at.saturating_add(varint_len(len as u64) as usize);
+    let last = moved.saturating_add(len);
+    if last <= out.len() {
+        out.copy_within(start..end, moved);
+    }
+    write_varint(out, at, len as u64);
+    last
+}
