@@ -40,8 +40,14 @@ pub(crate) enum Refusal {
 pub(crate) type Result<T> = std::result::Result<T, Refusal>;
 
 /// What a call returned, if it is not negative.
+#[inline]
 fn count(returned: i64) -> Result<usize> {
-    usize::try_from(returned).map_err(|_| Refusal::from(returned))
+    usize::try_from(returned).map_err(|_| refused(returned))
+}
+
+#[cold]
+fn refused(returned: i64) -> Refusal {
+    Refusal::from(returned)
 }
 
 /// The bytes that a call writes. It is made once if they fit into the room that is guessed, and otherwise again with

@@ -1,7 +1,7 @@
 //! Records and the table of fields: a record is read from the fields that the library finds in a payload, and written
 //! as those of which the library makes one. Nothing is known here of how a payload is encoded.
 
-use std::cell::Cell;
+use std::cell::RefCell;
 use std::collections::TryReserveError;
 use std::error;
 use std::fmt;
@@ -61,13 +61,9 @@ pub trait Record<'a>: Fields<'a> {
     /// Appends the canonical payload of the record, and returns its length. The errors are those of [`Record::encode`],
     /// and leave the vector as it was.
     fn append_to(&self, out: &mut Vec<u8>) -> Result<usize, Error> {
-        let mut writer = Writer::taken();
-        let appended = match self.write(&mut writer, 0) {
-            Ok(()) => writer.append_to(Self::SCHEMA.number(), out),
-            Err(NoMemory) => Err(Error::OutOfMemory),
-        };
-        writer.put_back();
-        appended
+        let appended = WRITER.try_with(|kept| append(self, &mut kept.borrow_mut(), out));
+        // there is none while the thread ends
+        appended.unwrap_or_else(|_| append(self, &mut Writer::empty(), out))
     }
 }
 
@@ -128,8 +124,8 @@ pub struct Writer {
 }
 
 thread_local! {
-    /// The memory of the last table of this thread.
-    static WRITER: Cell<Writer> = const { Cell::new(Writer::empty()) };
+    /// The memory of the last table of this thread. Nothing that fills a table makes another.
+    static WRITER: RefCell<Writer> = const { RefCell::new(Writer::empty()) };
 }
 
 /// The most bytes of a table, and of those beside it, that are kept.
@@ -143,20 +139,11 @@ impl Writer {
         }
     }
 
-    /// An empty table, in memory that an earlier one had.
-    fn taken() -> Writer {
-        let kept = WRITER.try_with(|kept| kept.replace(Writer::empty()));
-        // there is none while the thread ends
-        let mut writer = kept.unwrap_or_else(|_| Writer::empty());
-        writer.entries.clear();
-        writer.bytes.clear();
-        writer
-    }
-
-    /// Keeps the memory for the next table, unless it is much.
-    fn put_back(self) {
-        if self.bytes.capacity() <= KEPT && self.entries.capacity() <= KEPT / size_of::<Entry>() {
-            let _ = WRITER.try_with(|kept| kept.set(self));
+    /// Frees the memory if it is much.
+    #[inline]
+    fn keep_little(&mut self) {
+        if self.bytes.capacity() > KEPT || self.entries.capacity() > KEPT / size_of::<Entry>() {
+            *self = Writer::empty();
         }
     }
 
@@ -230,6 +217,22 @@ impl Writer {
         let path = path(schema as usize, &self.entries[..=index]);
         Error::Field(FieldError { path, reason })
     }
+}
+
+/// Appends the canonical payload of a record, by a table in memory that an earlier one had.
+fn append<'a, R: Record<'a>>(
+    record: &R,
+    writer: &mut Writer,
+    out: &mut Vec<u8>,
+) -> Result<usize, Error> {
+    writer.entries.clear();
+    writer.bytes.clear();
+    let appended = match record.write(writer, 0) {
+        Ok(()) => writer.append_to(R::SCHEMA.number(), out),
+        Err(NoMemory) => Err(Error::OutOfMemory),
+    };
+    writer.keep_little();
+    appended
 }
 
 /// What leads to the last of these entries, as `headers[2].key`.

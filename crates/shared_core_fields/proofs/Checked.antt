@@ -3,7 +3,7 @@ use Rattle.std.proofs.Common.{◌≡◌, ℕ, zero, suc, ◌+◌, ◌-◌, ◌*�
 use Rattle.std.proofs.Common.{List, [], ◌∷◌, ◌++◌, map, take, drop, set, length, Option, Some, None, Result, Ok}
 use Rattle.std.proofs.Common.{refl, sym, ap, ◌∙◌, subst, arith, append-nil, min, ltb, eqb, inl, inr, get_or}
 use Rattle.std.proofs.lemmas.Bool.{cases_lt, ltb-true, ltb-false, lt-ltb, le-ltb}
-use Rattle.std.proofs.lemmas.List.{length-append, length-map, take_all, drop_all, take-append-le}
+use Rattle.std.proofs.lemmas.List.{length-append, length-map, length-set, take_all, drop_all, take-append-le}
 use Rattle.std.specs.Prelude.{flat_map, option_map, IfSome, not}
 use Rattle.shared_core_wire.specs.Grammar.{RecordValue, Varint, Length, FieldRecord, content}
 use Rattle.shared_core_wire.specs.Encoding.{shortest_varint, key_bytes}
@@ -31,7 +31,7 @@ use Rattle.shared_core_fields.specs.Rows.{TableRow, entry_row, run_rows, bytes_r
 use Rattle.shared_core_fields.specs.Rows.{bytes_entry, fields_rows, table_rows, kind_number, IsPlaced}
 use Rattle.shared_core_fields.specs.Rows.{written_at, WritesRows}
 use Rattle.shared_core_fields.specs.Views.{IsAt, unplaced, item_fields, placed_record, content_offset}
-use Rattle.shared_core_fields.specs.Checked.{WritesTo, record_rows, room_after, room_if}
+use Rattle.shared_core_fields.specs.Checked.{WritesNext, WritesTo, record_rows, room_after, room_if}
 use Rattle.shared_core_fields.specs.declared.table.FieldEntry.{FieldEntry}
 use Rattle.shared_core_fields.proofs.FewRows.{whole_rows}
 use Rattle.shared_core_fields.proofs.Reading.{content_at}
@@ -320,54 +320,75 @@ comes_after nested rows room r next e =
     ∙ some_field (is_written_field nested next.is_plain next.field r.value) (ltb room (written_size r)) next.rows
     (room - written_size r)
 
-pub comes_on : (nested : NestedAcceptance) (rows : List Row) (room still : ℕ) (r : PlacedRecord) (next : Next)
-    (items : List (Result PlacedRecord WireError)) → next_field rows r.field_record.number ≡ Some next
-    → Some still ≡ room_if (is_written_field nested next.is_plain next.field r.field_record.value) r.field_record room
-    → all_come_read nested (rows, room) (Ok r ∷ items) ≡ all_come_read nested (next.rows, still) items
-comes_on nested rows room still r next items e h =
-    ap (λ (o : Option Coming). elim o [ None ↦ false | Some next ↦ all_come_read nested next items ])
-    (comes_after nested rows room r.field_record next e ∙ ap (option_map (λ m. with_room m next.rows)) (sym h))
+pub not_found : (nested : NestedAcceptance) (rows : List Row) (room : ℕ) (r : FieldRecord) → None ≡ next_field rows
+    r.number → None ≡ coming_after nested (rows, room) r
+not_found nested rows room r e =
+    ap (λ (o : Option Next). (o >>= rows_after_field nested r.value) >>= λ rs. cond (ltb room (written_size r)) None
+    (Some (with_room (room - written_size r) rs))) e
 
-pub comes_not : (nested : NestedAcceptance) (rows : List Row) (room : ℕ) (r : PlacedRecord) (next : Next)
-    (items : List (Result PlacedRecord WireError)) → next_field rows r.field_record.number ≡ Some next
-    → None ≡ room_if (is_written_field nested next.is_plain next.field r.field_record.value) r.field_record room
+unless_room : (b : Bool) (o : Option ℕ) → None ≡ o → None ≡ cond b o None
+unless_room true o e = e
+unless_room false o e = refl
+
+pub no_room : (nested : NestedAcceptance) (rows : List Row) (room : ℕ) (r : FieldRecord) (next : Next)
+    → Some next ≡ next_field rows r.number → None ≡ room_after r room → None ≡ coming_after nested (rows, room) r
+no_room nested rows room r next e h =
+    ap (option_map (λ m. with_room m next.rows))
+    (unless_room (is_written_field nested next.is_plain next.field r.value) (room_after r room) h)
+    ∙ sym (comes_after nested rows room r next (sym e))
+
+pub not_written : (nested : NestedAcceptance) (rows : List Row) (room : ℕ) (r : FieldRecord) (next : Next)
+    → Some next ≡ next_field rows r.number → false ≡ is_written_field nested next.is_plain next.field r.value → None ≡
+    coming_after nested (rows, room) r
+not_written nested rows room r next e h =
+    ap (λ (b : Bool). option_map (λ m. with_room m next.rows) (room_if b r room)) h
+    ∙ sym (comes_after nested rows room r next (sym e))
+
+pub comes_then : (nested : NestedAcceptance) (rows : List Row) (room still : ℕ) (r : FieldRecord) (next : Next)
+    → Some next ≡ next_field rows r.number → Some still ≡ room_after r room
+    → true ≡ is_written_field nested next.is_plain next.field r.value → Some (next.rows, still) ≡ coming_after nested
+    (rows, room) r
+comes_then nested rows room still r next e room_is h =
+    ap (option_map (λ m. with_room m next.rows)) room_is
+    ∙ ap (λ (b : Bool). option_map (λ m. with_room m next.rows) (room_if b r room)) h
+    ∙ sym (comes_after nested rows room r next (sym e))
+
+pub comes_on : (nested : NestedAcceptance) (rows : List Row) (room : ℕ) (then : Coming) (r : PlacedRecord)
+    (items : List (Result PlacedRecord WireError)) → Some then ≡ coming_after nested (rows, room) r.field_record
+    → all_come_read nested (rows, room) (Ok r ∷ items) ≡ all_come_read nested then items
+comes_on nested rows room then r items h =
+    ap (λ (o : Option Coming). elim o [ None ↦ false | Some next ↦ all_come_read nested next items ]) (sym h)
+
+pub comes_not : (nested : NestedAcceptance) (rows : List Row) (room : ℕ) (r : PlacedRecord)
+    (items : List (Result PlacedRecord WireError)) → None ≡ coming_after nested (rows, room) r.field_record
     → all_come_read nested (rows, room) (Ok r ∷ items) ≡ false
-comes_not nested rows room r next items e h =
-    ap (λ (o : Option Coming). elim o [ None ↦ false | Some next ↦ all_come_read nested next items ])
-    (comes_after nested rows room r.field_record next e ∙ ap (option_map (λ m. with_room m next.rows)) (sym h))
-
-pub no_field : (nested : NestedAcceptance) (rows : List Row) (room : ℕ) (r : PlacedRecord)
-    (items : List (Result PlacedRecord WireError)) → next_field rows r.field_record.number ≡ None → all_come_read nested
-    (rows, room) (Ok r ∷ items) ≡ false
-no_field nested rows room r items e =
-    ap (λ (o : Option Next). elim ((o >>= rows_after_field nested r.field_record.value) >>= λ rs. cond
-    (ltb room (written_size r.field_record)) None (Some (with_room (room - written_size r.field_record) rs))) [
-      | None ↦ false
-      | Some next ↦ all_come_read nested next items
-    ]) e
+comes_not nested rows room r items h =
+    ap (λ (o : Option Coming). elim o [ None ↦ false | Some next ↦ all_come_read nested next items ]) (sym h)
 
 pub record_step : (whole : List ℕ) (left at count after : ℕ) (start old mid : List FieldEntry) (all : List TableRow)
-    (rows : List Row) (r : PlacedRecord) (next : Next) (items : List (Result PlacedRecord WireError)) → next_field rows
-    r.field_record.number ≡ Some next
-    → WritesTo whole (record_rows left r.field_record.number next.field r.field_record.value) count old mid after
+    (rows rest : List Row) (r : PlacedRecord) (items : List (Result PlacedRecord WireError))
+    → WritesNext whole left rows r.field_record count old mid after rest
     → ((new : List FieldEntry) (n : ℕ) → WritesTo whole (fields_rows left (100 - left)
     (map unplaced (item_fields rows (Ok r ∷ items)))) count old new n → WritesTo whole all at start new n)
     → (new : List FieldEntry) (n : ℕ) → WritesTo whole (fields_rows left (100 - left)
-    (map unplaced (item_fields next.rows items))) after mid new n → WritesTo whole all at start new n
-record_step whole left at count after start old mid all rows r next items e a goes new n w =
+    (map unplaced (item_fields rest items))) after mid new n → WritesTo whole all at start new n
+record_step whole left at count after start old mid all rows rest r items a goes new n w =
+    let next = a.next in
     let f : FieldPart = (r.field_record.number, next.field, record_part next.field r.field_record.value) in
-    let rest = map unplaced (item_fields next.rows items) in
+    let later = map unplaced (item_fields next.rows items) in
     let turn = ap (λ (o : Option Next). fields_rows left (100 - left) (map unplaced (elim o [
       | None ↦ []
       | Some m ↦ placed_record (r.field_record.number, m.field, record_part m.field r.field_record.value) r
           ∷ item_fields m.rows items
-    ]))) e ∙ rows_more left (100 - left) f rest in
+    ]))) a.found ∙ rows_more left (100 - left) f later in
     let many = ap length turn ∙ length-append (level_rows (field_entries left (100 - left) f))
-    (fields_rows left (100 - left) rest) in
+    (fields_rows left (100 - left) later) in
+    let more = subst (λ (rs : List Row). WritesTo whole (fields_rows left (100 - left)
+    (map unplaced (item_fields rs items))) after mid new n) a.rest_is w in
     goes new n (
-      omega (arith, many, a.0, w.0),
-      joined whole (level_rows (field_entries left (100 - left) f)) (fields_rows left (100 - left) rest) _ count after
-          old mid new turn a.0 a.1 w.1,
+      omega (arith, many, a.written.0, more.0),
+      joined whole (level_rows (field_entries left (100 - left) f)) (fields_rows left (100 - left) later) _ count after
+          old mid new turn a.written.0 a.written.1 more.1,
     )
 
 pub content_place : (whole : List ℕ) (offset : ℕ) (bytes : List ℕ) (to : ℕ) (w : RecordValue) → IsAt whole offset bytes
@@ -395,6 +416,10 @@ front_written [] (y ∷ ys) = none_written 1 ys
 front_written (x ∷ xs) (y ∷ ys) =
     after_first y xs 0 ys ∙ ap (λ (zs : List FieldEntry). y ∷ zs) (front_written xs ys)
 
+written_length : (xs : List FieldEntry) (at : ℕ) (ys : List FieldEntry) → length (written_at xs at ys) ≡ length xs
+written_length xs at [] = refl
+written_length xs at (y ∷ ys) = written_length (set xs at y) (at + 1) ys ∙ length-set xs at y
+
 shown_front : (es old : List FieldEntry) (count : ℕ) → length es ≡ count → take (min count (length old)) es ++ drop
     (min count (length old)) old ≡ take (length old) es ++ drop (length es) old
 shown_front es old count many =
@@ -414,14 +439,15 @@ shown_front es old count many =
     ]
 
 pub kept_first : (payload : List ℕ) (rows : List TableRow) (start kept old front : List FieldEntry) (count : ℕ)
-    → WritesTo payload rows 0 start kept count → count ≤ length start → front ≡ take (min count (length old)) kept
+    → WritesTo payload rows 0 start kept count → count ≤ length kept → front ≡ take (min count (length old)) kept
     → WritesTo payload rows 0 old (front ++ drop (min count (length old)) old) count
 kept_first payload rows start kept old front count w room is =
     let shown = min count (length old) in
     let es = w.1.entries in
     let as_many : length es ≡ length rows = sym (length-map es (entry_row payload)) ∙ ap length w.1.are in
     let many : length es ≡ count = omega (arith, as_many, w.0) in
-    let all : take (length start) es ≡ es = take_all (length start) es (omega (arith, many, room)) in
+    let same : length kept ≡ length start = ap length w.1.written ∙ written_length start 0 es in
+    let all : take (length start) es ≡ es = take_all (length start) es (omega (arith, many, same, room)) in
     let less : shown ≤ length es = omega (arith, many) in
     let kept_is : kept ≡ es ++ drop (length es) start = w.1.written ∙ front_written start es ∙ ap
     (λ (zs : List FieldEntry). zs ++ drop (length es) start) all in

@@ -6,9 +6,10 @@ ghost use Rattle.shared_core_codec.specs.ProgramRows.{rows_view};
 ghost use Rattle.shared_core_wire.specs.RecordsLeft.{records_left};
 ghost use Rattle.shared_core_fields.specs.Coming.{are_coming};
 
+use crate::next::find_next;
 use crate::runs::Run;
 use crate::typed::{content_offset, typed_value};
-use shared_core_codec::canonical::{is_canonical, next_field};
+use shared_core_codec::canonical::is_canonical;
 use shared_core_codec::rows::{Row, rows_of};
 use shared_core_wire::records::Records;
 
@@ -127,6 +128,8 @@ impl<'a> Iterator for Fields<'a> {
 
     ghost remaining = { item_count places_left };
 
+    // so that a field need not be put together in memory
+    #[inline(always)]
     fn next(&mut self) -> Option<Field<'a>> {
         let Some(item) = self.records.next() else {
             return None;
@@ -134,7 +137,7 @@ impl<'a> Iterator for Fields<'a> {
         let Ok(record) = item else {
             unreachable!();
         };
-        let Some(next) = next_field(self.rows, record.number) else {
+        let Some(next) = find_next(self.rows, record.number) else {
             unreachable!();
         };
         self.rows = next.rows;

@@ -4,6 +4,7 @@
 
 pub mod fields;
 pub mod laws;
+mod next;
 pub mod runs;
 pub mod table;
 mod typed;

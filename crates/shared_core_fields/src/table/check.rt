@@ -1,34 +1,38 @@
 //! Checking a payload and writing its entries, in one pass.
 
-ghost use Rattle.std.specs.Prelude.{◌≡◌, ◌↔◌, ◌+◌, ◌-◌, ◌<◌, ◌≤◌, ◌^◌, ℕ, List, length, true, is_some, option_map};
+ghost use Rattle.std.specs.Prelude.{◌≡◌, ◌↔◌, ◌+◌, ◌-◌, ◌<◌, ◌≤◌, ◌^◌, ℕ, List, length, map, true, is_some, option_map};
 ghost use Rattle.std.specs.Prelude.{IfSome, IfNone};
 ghost use Rattle.std.specs.Str.{is_utf8};
 ghost use Rattle.shared_core_wire.specs.Grammar.{Varint, Length, content};
 ghost use Rattle.shared_core_wire.specs.View.{value_of};
 ghost use Rattle.shared_core_codec.specs.Canonicity.{IsCanonical, is_canonical_payload, is_canonical_message};
-ghost use Rattle.shared_core_codec.specs.Canonicity.{is_written_field};
+ghost use Rattle.shared_core_codec.specs.Canonicity.{coming_after, is_written_field};
 ghost use Rattle.shared_core_codec.specs.Checking.{field_record_of};
 ghost use Rattle.shared_core_codec.specs.Payloads.{payload_meaning};
-ghost use Rattle.shared_core_codec.specs.ProgramRows.{found_view, kind_view};
+ghost use Rattle.shared_core_codec.specs.ProgramRows.{found_view, kind_view, row_view, rows_view};
 ghost use Rattle.shared_core_codec.specs.Table.{table};
-ghost use Rattle.shared_core_fields.specs.Checked.{WritesTo, record_rows, room_after, room_if};
+ghost use Rattle.shared_core_fields.specs.Checked.{WritesNext, WritesTo, record_rows, room_after};
 ghost use Rattle.shared_core_fields.specs.Fields.{message_fields};
 ghost use Rattle.shared_core_fields.specs.Rows.{fields_rows, kind_number, table_rows};
 ghost use Rattle.shared_core_fields.specs.Views.{IsAt, content_offset};
 
 use super::FieldEntry;
 use super::write::{bytes_entry, number_entry, put, write_payload, write_run};
+use crate::next::find_next;
 use crate::runs::Run;
 use crate::typed::content_offset;
-use shared_core_codec::canonical::{
-    NextField, is_written_number, is_written_run, next_field, written_size,
-};
-use shared_core_codec::rows::{Kind, rows_of};
+use shared_core_codec::canonical::{NextField, is_written_number, is_written_run, written_size};
+use shared_core_codec::rows::{Kind, Row, rows_of};
 use shared_core_codec::size::Size;
 use shared_core_wire::record::WireValue;
 use shared_core_wire::records::{LEVELS, Record, Records};
 
-/// How many entries are kept until a payload is known to be canonical.
+/// How many entries are kept until a payload is known to be canonical, of one of fewer than 32 bytes, of one of fewer
+/// than 64, and of another one. The room for them is set first, at each call.
+const KEPT_TINY: usize = 5;
+
+const KEPT_SHORT: usize = 8;
+
 const KEPT: usize = 24;
 
 /// No entry.
@@ -44,7 +48,8 @@ const NOTHING: FieldEntry = FieldEntry {
 /// Checks a payload for the schema at an index of the table, and writes the entries of the fields of all levels, in
 /// order, at the front of a slice: as many as there is room for. Returns how many the payload has, at most as many as
 /// it has bytes; or `None` if it is not canonical, and then the slice is unchanged. Does not allocate, and makes one
-/// pass over the bytes, and a second one if there are more than twenty-four entries.
+/// pass over the bytes, and a second one if there are more than twenty-four entries, more than eight in fewer than 64
+/// bytes, or more than five in fewer than 32.
 pub fn write_checked(out: &mut [FieldEntry], schema: u32, payload: &[u8]) -> Option<usize>
     ensures canonical { (is_some result ≡ true) ↔ IsCanonical schema payload.now }
     ensures rows { IfSome result (λ n. WritesTo payload.now (table_rows schema (payload_meaning schema payload.now)) 0
@@ -52,9 +57,30 @@ pub fn write_checked(out: &mut [FieldEntry], schema: u32, payload: &[u8]) -> Opt
     ensures few { IfSome result (λ n. n ≤ length payload.now) }
     ensures unchanged { IfNone result (out.new ≡ out.old) }
 {
-    let mut kept = [NOTHING; KEPT];
-    let count = check_payload(&mut kept, schema, payload)?;
-    if count <= KEPT {
+    if payload.len() < 32 {
+        write_kept(out, &mut [NOTHING; KEPT_TINY], schema, payload)
+    } else if payload.len() < 64 {
+        write_kept(out, &mut [NOTHING; KEPT_SHORT], schema, payload)
+    } else {
+        write_kept(out, &mut [NOTHING; KEPT], schema, payload)
+    }
+}
+
+/// The same, where entries are kept in another slice first. If it has too little room, the bytes are read again.
+fn write_kept(
+    out: &mut [FieldEntry],
+    kept: &mut [FieldEntry],
+    schema: u32,
+    payload: &[u8],
+) -> Option<usize>
+    ensures canonical { (is_some result ≡ true) ↔ IsCanonical schema payload.now }
+    ensures rows { IfSome result (λ n. WritesTo payload.now (table_rows schema (payload_meaning schema payload.now)) 0
+        out.old out.new n) }
+    ensures few { IfSome result (λ n. n ≤ length payload.now) }
+    ensures unchanged { IfNone result (out.new ≡ out.old) }
+{
+    let count = check_payload(kept, schema, payload)?;
+    if count <= kept.len() {
         let shown = count.min(out.len());
         out[..shown].copy_from_slice(&kept[..shown]);
     } else {
@@ -106,57 +132,59 @@ fn check_message(
         let Ok(found) = item else {
             return None;
         };
-        let Some(next) = next_field(rows, found.number) else {
-            return None;
-        };
-        let Some((after, still)) = check_record(out, count, &found, next, room, whole, offset, left)
-        else {
+        let Some((after, rest, still)) = check_record(
+            out, count, &found, rows, room, whole, offset, left,
+        ) else {
             return None;
         };
         count = after;
-        rows = next.rows;
+        rows = rest;
         room = still;
     }
     // more bytes than the records take when they are written
     if room == 0 { Some(count) } else { None }
 }
 
-/// The same of a record of a message, for the field of which it may be one. Returns also how many bytes the records
-/// after it have to have, of `room` bytes with it. The offset is that of the message.
+/// The same of a record of a message, of which one of these rows may come next. Returns also the rows that may come
+/// after it, and how many bytes the records after it have to have, of `room` bytes with it. The offset is that of the
+/// message.
 #[cycle(check)]
 #[inline(always)]
-fn check_record(
+fn check_record<'a>(
     out: &mut [FieldEntry],
     at: usize,
     found: &Record<'_>,
-    next: NextField<'_>,
+    rows: &'a [Row],
     room: u64,
     whole: &[u8],
     offset: usize,
     left: u32,
-) -> Option<(usize, u64)>
+) -> Option<(usize, &'a [Row], u64)>
     requires short { length (content (value_of found.now.value)) < 4294967296 }
     requires place { IsAt whole.now (offset + content_offset (value_of found.now.value) found.now.span.1)
         (content (value_of found.now.value)) }
     requires levels { left ≤ 100 }
     requires few { at + room < 2 ^ 63 }
-    ensures canonical { option_map (λ x. x.1) result ≡ room_if (is_written_field (is_canonical_message left)
-        next.entry.is_plain (found_view next.entry.field) (value_of found.now.value)) (field_record_of found.now) room }
-    ensures rows { IfSome result (λ x. WritesTo whole.now (record_rows left found.now.number
-        (found_view next.entry.field) (value_of found.now.value)) at out.old out.new x.0) }
-    ensures few { IfSome result (λ x. x.0 + x.1 ≤ at + room) }
+    ensures canonical { option_map (λ x. (rows_view x.1, x.2)) result
+        ≡ coming_after (is_canonical_message left) (map row_view rows.now, room) (field_record_of found.now) }
+    ensures rows { IfSome result (λ x. WritesNext whole.now left (map row_view rows.now) (field_record_of found.now)
+        at out.old out.new x.0 (rows_view x.1)) }
+    ensures few { IfSome result (λ x. x.0 + x.2 ≤ at + room) }
 {
+    // the wire type first, so that each is compiled on its own
     match found.value {
         WireValue::Varint(number) => {
+            let next = find_next(rows, found.number)?;
             let still = room_after(found, room)?;
             let count = check_number(out, at, found.number, next, number, left)?;
-            Some((count, still))
+            Some((count, next.rows, still))
         }
         WireValue::Length(content) => {
+            let next = find_next(rows, found.number)?;
             let still = room_after(found, room)?;
             let start = offset + content_offset(found.value, found.span.1);
             let count = check_content(out, at, found.number, next, content, whole, start, left)?;
-            Some((count, still))
+            Some((count, next.rows, still))
         }
         _ => None,
     }

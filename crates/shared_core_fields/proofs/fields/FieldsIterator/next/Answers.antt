@@ -28,14 +28,14 @@ returns-clause-steps c =
     let r = placed_of c.in-Ok.record in
     let left = records_left c.next.new.self in
     let value = c.typed_value.result in
-    let found = found_view c.in-Some-next_field.next.field in
-    let rest = item_fields (rows_view c.in-Some-next_field.next.rows) left in
+    let found = found_view c.in-Some-find_next.next.field in
+    let rest = item_fields (rows_view c.in-Some-find_next.next.rows) left in
     ap (item_fields (rows_view c.args.self.now.rows)) (c.in-Some.ensures.steps ∙ ap (λ x. placed_result x ∷ left)
     c.in-Ok.is)
     ∙ ap (λ (o : Option Next). elim o [
       | None ↦ []
       | Some next ↦ placed_record (n, next.field, record_part next.field w) r ∷ item_fields next.rows left
-    ]) (sym c.in-Some-next_field.ensures)
+    ]) (sym c.in-Some-find_next.ensures)
     ∙ ap (λ (p : Part). placed_record (n, found, p) r ∷ rest) (sym c.typed_value.ensures.part)
     ∙ ap (λ (k : Kind). placed_record (n, (k, found.1), value_part value) r ∷ rest) (sym c.typed_value.ensures.kind)
     ∙ ap
@@ -57,6 +57,6 @@ returns-clause-goes c =
     ∙ ap (λ (o : Option Next). elim o [
       | None ↦ []
       | Some next ↦ placed_record (n, next.field, record_part next.field w) r ∷ item_fields next.rows left
-    ]) (sym c.in-Some-next_field.ensures) in
+    ]) (sym c.in-Some-find_next.ensures) in
     let more = ap length steps in
     search rules

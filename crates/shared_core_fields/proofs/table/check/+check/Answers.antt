@@ -1,5 +1,5 @@
 use Rattle.std.proofs.Common.{◌≡◌, ◌<◌, ◌≤◌, ◌+◌, ◌-◌, ◌*◌, ℕ, List, [], ◌∷◌, map, Result, length, true, false, eqb}
-use Rattle.std.proofs.Common.{is_some, sym, ap, ◌∙◌, subst}
+use Rattle.std.proofs.Common.{is_some, refl, sym, ap, ◌∙◌, subst}
 use Rattle.std.proofs.Common.{arith, rules}
 use Rattle.shared_core_wire.specs.Grammar.{RecordValue, content}
 use Rattle.shared_core_wire.specs.View.{value_of}
@@ -10,7 +10,7 @@ use Rattle.shared_core_wire.specs.declared.error.WireError.{WireError}
 use Rattle.shared_core_codec.specs.Table.{table}
 use Rattle.shared_core_codec.specs.Canonicity.{is_canonical_message, is_canonical_payload, all_come_read, next_view}
 use Rattle.shared_core_codec.specs.Checking.{field_record_of}
-use Rattle.shared_core_codec.specs.ProgramRows.{kind_view, found_view, row_view}
+use Rattle.shared_core_codec.specs.ProgramRows.{kind_view, row_view}
 use Rattle.shared_core_codec.proofs.Canonicity.{all_come_is, canonical_zero, canonical_below}
 use Rattle.shared_core_wire.specs.Schema.{Row, Text, ByteString, Message}
 use Rattle.shared_core_fields.specs.Checked.{WritesTo, record_rows}
@@ -163,10 +163,16 @@ check_record-check_content-requires t c =
 
 pub check_record-returns-in_ok-count-in-Varint-clause-rows : goal.check_record-returns-in_ok-count-in-Varint-clause-rows
 check_record-returns-in_ok-count-in-Varint-clause-rows t c =
-    subst (λ (w : RecordValue). WritesTo c.args.whole.now
-    (record_rows c.args.left c.args.found.now.number (found_view c.args.next.field) w) c.args.at c.args.out.now
-    c.check_number.new.out c.in_ok-count-in-Varint.count) (sym (ap value_of c.in-Varint.is))
-    (c.in_ok-count-in-Varint.ensures.rows c.args.whole.now)
+    let next = next_view c.in_ok-next-in-Varint.next in
+    record {
+      next = next;
+      found = sym c.in_ok-next-in-Varint.ensures;
+      rest_is = refl;
+      written = subst (λ (w : RecordValue). WritesTo c.args.whole.now
+          (record_rows c.args.left c.args.found.now.number next.field w) c.args.at c.args.out.now c.check_number.new.out
+          c.in_ok-count-in-Varint.count) (sym (ap value_of c.in-Varint.is))
+          (c.in_ok-count-in-Varint.ensures.rows c.args.whole.now);
+    }
 
 pub check_record-returns-in_ok-count-in-Varint-clause-few : goal.check_record-returns-in_ok-count-in-Varint-clause-few
 check_record-returns-in_ok-count-in-Varint-clause-few t c =
@@ -229,8 +235,8 @@ check_message-returns-in_default-check_record-clause-canonical t c =
     let rows = map row_view c.loop-item.rows.now in
     let left = records_left c.next.new.self in
     let is = c.in-Some.ensures.steps ∙ ap (λ x. placed_result x ∷ left) c.in-Ok.is in
-    sym (comes_not nested rows c.loop-item.room (placed_of c.in-Ok.found) (next_view c.in-Some-next_field.next) left
-    (sym c.in-Some-next_field.ensures) c.in_default-check_record.ensures.canonical)
+    sym (comes_not nested rows c.loop-item.room (placed_of c.in-Ok.found) left
+    c.in_default-check_record.ensures.canonical)
     ∙ ap (all_come_read nested (rows, c.loop-item.room)) (sym is) ∙ c.loop-item.invariant.canonical
 
 pub check_message-loop-item-preserved : goal.check_message-loop-item-preserved
@@ -239,19 +245,19 @@ check_message-loop-item-preserved t c =
     let level = 100 - c.args.left in
     let rows = map row_view c.loop-item.rows.now in
     let left = records_left c.next.new.self in
-    let next = next_view c.in-Some-next_field.next in
     let found = placed_of c.in-Ok.found in
     let is = c.in-Some.ensures.steps ∙ ap (λ x. placed_result x ∷ left) c.in-Ok.is in
     let here = subst (EachLies c.args.bytes.now) is c.loop-item.invariant.lies in
     let after = c.in-Some-check_record.after in
     record {
-      canonical = sym (comes_on nested rows c.loop-item.room c.in-Some-check_record.still found next left
-          (sym c.in-Some-next_field.ensures) c.in-Some-check_record.ensures.canonical)
+      canonical = sym (comes_on nested rows c.loop-item.room
+          (map row_view c.in-Some-check_record.rest.now, c.in-Some-check_record.still) found left
+          c.in-Some-check_record.ensures.canonical)
           ∙ ap (all_come_read nested (rows, c.loop-item.room)) (sym is) ∙ c.loop-item.invariant.canonical;
       lies = here.1;
       few = omega (arith, c.in-Some-check_record.ensures.few, c.loop-item.invariant.few);
       rows = record_step c.args.whole.now c.args.left c.args.at c.loop-item.count after c.args.out.now c.loop-item.out
-          c.check_record.new.out _ rows found next left (sym c.in-Some-next_field.ensures)
+          c.check_record.new.out _ rows (map row_view c.in-Some-check_record.rest.now) found left
           c.in-Some-check_record.ensures.rows
           (λ new n w. c.loop-item.invariant.rows new n (subst (λ (xs : List (Result PlacedRecord WireError)). WritesTo
           c.args.whole.now (fields_rows c.args.left level (map unplaced (item_fields rows xs))) c.loop-item.count
