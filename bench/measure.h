@@ -29,14 +29,16 @@ int64_t measure_item_refs(uint32_t version, const uint8_t *stream, size_t stream
  * As measure_items, but decodes every message of a named type to its record and writes nothing. Returns the number of
  * these messages; JOURNAL_MALFORMED where a payload is not well-formed for its type.
  */
-int64_t measure_messages(uint32_t version, const uint8_t *stream, size_t stream_length, size_t chunk_size, size_t rounds);
+int64_t measure_messages(uint32_t version, const uint8_t *stream, size_t stream_length, size_t chunk_size,
+                         size_t rounds);
 
 /*
  * Decodes each command of a stream of a version from 5 to 9 twice, and compares the two `rounds` times (0: not at all),
  * with their payloads where `ignore_payloads` is 0. Returns the number of comparisons that hold, which are all:
  * `rounds` for each command.
  */
-int64_t measure_compare(uint32_t version, const uint8_t *stream, size_t stream_length, uint32_t ignore_payloads, size_t rounds);
+int64_t measure_compare(uint32_t version, const uint8_t *stream, size_t stream_length, uint32_t ignore_payloads,
+                        size_t rounds);
 
 /* As journal_frame. The payload is decoded once and the message encoded `rounds` times (0 counts as 1). */
 int64_t measure_frame(uint32_t version, uint16_t code, const uint8_t *payload, size_t payload_length, size_t rounds,
@@ -50,8 +52,8 @@ int64_t measure_frame_vec(uint32_t version, uint16_t code, const uint8_t *payloa
  * As measure_frame, but all rounds append the frame to one buffer, which is cleared before each: only the first
  * allocates.
  */
-int64_t measure_frame_into(uint32_t version, uint16_t code, const uint8_t *payload, size_t payload_length, size_t rounds,
-                           uint8_t *out, size_t room);
+int64_t measure_frame_into(uint32_t version, uint16_t code, const uint8_t *payload, size_t payload_length,
+                           size_t rounds, uint8_t *out, size_t room);
 
 /* As measure_frame_into, but the buffer's spare room is initialized, so that no byte is written twice. */
 int64_t measure_frame_spare(uint32_t version, uint16_t code, const uint8_t *payload, size_t payload_length,
@@ -67,6 +69,10 @@ int64_t measure_frame_shared(uint32_t version, uint16_t code, const uint8_t *pay
  */
 int64_t measure_frame_chunks(uint32_t version, uint16_t code, const uint8_t *payload, size_t payload_length,
                              size_t rounds, uint8_t *out, size_t room);
+
+/* As measure_frame_vec, but long bytes are copied into room that is not filled with zeros before. */
+int64_t measure_frame_owned(uint32_t version, uint16_t code, const uint8_t *payload, size_t payload_length,
+                            size_t rounds, uint8_t *out, size_t room);
 
 /* As journal_is_well_formed, but `rounds` times over (0 counts as 1): beside as many calls, it says what one costs. */
 int64_t measure_well_formed(uint32_t schema, const uint8_t *payload, size_t payload_length, size_t rounds);

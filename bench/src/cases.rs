@@ -201,7 +201,8 @@ impl File {
         File {
             name,
             text: format!(
-                "# {what}\n# Random cases with the results of prost and of the rules, written by bench/src/bin/vectors.rs; see README.md.\n"
+                "# {what}\n# Random cases with the results of prost and of the rules, written by \
+                 bench/src/bin/vectors.rs; see README.md.\n"
             ),
             departures: 0,
             seen: HashSet::new(),

@@ -3,6 +3,7 @@ from a type to the one of its record, of crates/bench_ffi, which measures them."
 import shutil
 
 from . import laid_out
+from .dispatch import arms_by_type
 from .forms import bound
 from .proto import OneOf, camel, fields_of, messages, snake, typed
 from .records import crate_of, shared_oneofs
@@ -115,10 +116,11 @@ def records_text():
 def messages_text():
     uses = {
         "crate::chunks::FrameChunks",
-        "crate::frame::append_frame",
+        "crate::frame::{append_frame, owned_frame}",
         "crate::message::ChunkMessage",
         "shared_core_base::version::Version",
         "shared_core_codec::error::EncodingError",
+        "std::alloc::Global",
     }
     code = []
     for message in written():
@@ -133,20 +135,24 @@ def messages_text():
         code.append(
             f"impl ChunkMessage for {name} {{\n"
             "    fn append_chunks(&self, _version: Version, out: &mut FrameChunks) -> Result<(), EncodingError> {\n"
-            "        append_frame(self, None, out)\n    }\n}\n"
+            "        append_frame(self, None, out)\n    }\n\n"
+            "    fn owned_frame(&self, alloc: Global, _version: Version) -> Result<Vec<u8>, EncodingError> {\n"
+            "        owned_frame(self, None, alloc)\n    }\n}\n"
         )
-    return heading("Messages, whose frames are appended as chunks.", uses) + "\n".join(code)
+    title = "Messages, whose frames are appended as chunks, or in a buffer of their own."
+    return heading(title, uses) + "\n".join(code)
 
 
 def dispatch_text():
-    """From a message's type to its record."""
+    """From a message's type to its record. `visit_message` cannot lead there, since of what a visitor is given it is
+    not known that it is a `ChunkMessage`."""
     uses = {
         "crate::chunks::Chunking",
         "journal_c_api::outcome::CallError",
         "shared_core::header::MessageType",
         f"shared_core::messages::{{{', '.join(sorted(message.name for message in typed()))}}}",
     }
-    arms = "".join(f"        MessageType::{message.type_name()} => chunking.frame::<{message.name}>(),\n" for message in typed())
+    arms = arms_by_type(typed(), lambda record: f"chunking.frame::<{record}>()")
     return (
         heading("From a message's type to its record, which is encoded as chunks.", uses)
         + "/// The frame of the record of a type; a custom entry has none.\n"

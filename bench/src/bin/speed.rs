@@ -1,6 +1,7 @@
 //! Measures the library and the peer side by side, and prints a table in Markdown: speed [--check] [--only WORKLOAD]
 //! [--side ours|peer]
-//! [--what items|item_refs|messages|encode|encode_to_vec|encode_into|encode_spare|encode_shared|encode_held|encode_chunks|payloads|headers]
+//! [--what items|item_refs|messages|encode|encode_to_vec|encode_owned|encode_into|encode_spare|encode_shared|
+//! encode_held|encode_chunks|payloads|headers]
 //! [--chunk N] [--row NAME] [--size N] [--rounds N] [--protocol 5..9]
 //!
 //! With --side nothing is compared or printed: that side alone goes over the workload that many times, for a profiler.
@@ -84,6 +85,8 @@ enum What {
     Encode,
     /// Each frame is a `Vec` of its own; the peer's too.
     EncodeVec,
+    /// The same, but the library copies long bytes into room that is not filled before.
+    EncodeOwned,
     /// Frames are made in one buffer that is used again.
     EncodeInto,
     EncodeSpare,
@@ -101,12 +104,13 @@ enum What {
 
 impl What {
     /// What is done to a stream of messages.
-    const STREAM: [What; 10] = [
+    const STREAM: [What; 11] = [
         What::Items,
         What::ItemRefs,
         What::Messages,
         What::Encode,
         What::EncodeVec,
+        What::EncodeOwned,
         What::EncodeInto,
         What::EncodeSpare,
         What::EncodeShared,
@@ -115,9 +119,10 @@ impl What {
     ];
 
     /// What is done to messages that are only written.
-    const FRAMES: [What; 7] = [
+    const FRAMES: [What; 8] = [
         What::Encode,
         What::EncodeVec,
+        What::EncodeOwned,
         What::EncodeInto,
         What::EncodeSpare,
         What::EncodeShared,
@@ -139,6 +144,7 @@ impl What {
             What::Items | What::ItemRefs | What::Messages => 1,
             What::Encode
             | What::EncodeVec
+            | What::EncodeOwned
             | What::EncodeInto
             | What::EncodeSpare
             | What::EncodeShared
@@ -155,6 +161,7 @@ impl What {
             What::Messages => "messages",
             What::Encode => "encode",
             What::EncodeVec => "encode_to_vec",
+            What::EncodeOwned => "encode_owned",
             What::EncodeInto => "encode_into",
             What::EncodeSpare => "encode_spare",
             What::EncodeShared => "encode_shared",
@@ -339,6 +346,9 @@ impl<'a> Bench<'a> {
                 (Side::Ours, What::EncodeVec) => {
                     ours::frame_vec(version, *code, payload, rounds, &mut self.out)?;
                 }
+                (Side::Ours, What::EncodeOwned) => {
+                    ours::frame_owned(version, *code, payload, rounds, &mut self.out)?;
+                }
                 (Side::Ours, What::EncodeInto) => {
                     ours::frame_into(version, *code, payload, rounds, &mut self.out)?;
                 }
@@ -354,7 +364,7 @@ impl<'a> Bench<'a> {
                 (Side::Ours, _) => {
                     ours::frame_to(version, *code, payload, rounds, &mut self.out)?;
                 }
-                (Side::Peer, What::EncodeVec) => {
+                (Side::Peer, What::EncodeVec | What::EncodeOwned) => {
                     let frame = peer::frame_vec(version, *code, payload, rounds)?;
                     self.out[..frame.len()].copy_from_slice(&frame);
                 }
@@ -531,7 +541,8 @@ impl Growing {
                 let length = bench.workload.stream.len() as f64;
                 if further != 3 * of_a_round || of_a_round as f64 > most * length {
                     return Err(Failed(format!(
-                        "{name}, {side:?}: {of_a_round} allocations in a round, {further} in three, at most {most:.3} for a byte"
+                        "{name}, {side:?}: {of_a_round} allocations in a round, {further} in three, \
+                         at most {most:.3} for a byte"
                     )));
                 }
                 // a list of elements that grows by doubling allocates some times more
@@ -945,7 +956,10 @@ fn measure_workloads(options: &Options, workloads: &[Workload]) -> Result<(), Fa
         );
     }
     println!();
-    println!("| workload | what | chunks | ours a second | peer a second | ours / peer | requests a frame, ours | peer |");
+    println!(
+        "| workload | what | chunks | ours a second | peer a second | ours / peer \
+         | requests a frame, ours | peer |"
+    );
     println!("|---|---|---|---|---|---|---|---|");
     workloads
         .iter()
@@ -961,7 +975,10 @@ fn measure_hostile(hostile: &[Growing]) -> Result<(), Failed> {
     println!();
     println!("hostile: messages of {} elements", sizes.join(", "));
     println!();
-    println!("| hostile | ns an element, ours | peer | time, ours / peer | ours grows | peer grows | requests an element, ours | peer |");
+    println!(
+        "| hostile | ns an element, ours | peer | time, ours / peer | ours grows | peer grows \
+         | requests an element, ours | peer |"
+    );
     println!("|---|---|---|---|---|---|---|---|");
     hostile.iter().try_for_each(Growing::row)
 }
@@ -979,7 +996,9 @@ fn measure_calls(crossings: &[Crossing]) -> Result<(), Failed> {
 fn main() -> ExitCode {
     let Some(options) = Options::read(env::args().skip(1)) else {
         eprintln!(
-            "usage: speed [--check] [--only WORKLOAD] [--side ours|peer] [--what items|item_refs|messages|encode|encode_to_vec|encode_into|encode_spare|encode_shared|encode_held|payloads|headers] [--chunk N] [--row NAME] [--size N] [--rounds N] [--protocol 5..9]"
+            "usage: speed [--check] [--only WORKLOAD] [--side ours|peer] [--what items|item_refs|messages\
+             |encode|encode_to_vec|encode_owned|encode_into|encode_spare|encode_shared|encode_held\
+             |encode_chunks|payloads|headers] [--chunk N] [--row NAME] [--size N] [--rounds N] [--protocol 5..9]"
         );
         return ExitCode::from(2);
     };

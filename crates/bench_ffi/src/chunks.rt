@@ -1,12 +1,21 @@
-//! Benchmark work: encoding messages to frames that are chunks.
+//! Benchmark work: encoding messages to frames that are chunks, or in buffers of their own.
 
 use crate::chunk_dispatch::frame_of;
 use bytes::Bytes;
 use journal_c_api::outcome::{CallError, version_of, write_over};
 use shared_core::header::MessageType;
 use shared_core::version::Version;
-use shared_core_chunks::{ChunkMessage, FrameChunks, encode_chunks};
+use shared_core_chunks::{ChunkMessage, FrameChunks, encode_chunks, encode_to_vec};
 use std::alloc::Global;
+
+/// What a round makes of a message.
+#[derive(Clone, Copy, Debug, PartialEq, Eq)]
+pub enum Form {
+    /// Chunks, in a list that is cleared before each.
+    Chunks,
+    /// A `Vec` each, into which long bytes are copied once.
+    Owned,
+}
 
 /// Writes the frame, at a version, of the message of a named type that a payload encodes. It is encoded this many times
 /// (0 counts as 1), and the chunks of the last are joined.
@@ -16,6 +25,7 @@ pub fn write_frame(
     code: u16,
     payload: &[u8],
     rounds: usize,
+    form: Form,
     out: &mut [u8],
 ) -> Result<usize, CallError> {
     let chunking = Chunking {
@@ -23,6 +33,7 @@ pub fn write_frame(
         version: version_of(version)?,
         payload,
         rounds,
+        form,
     };
     let frame = frame_of(MessageType::try_from(code)?, chunking)?;
     write_over(&frame, out);
@@ -36,22 +47,49 @@ pub struct Chunking<'a> {
     version: Version,
     payload: &'a [u8],
     rounds: usize,
+    form: Form,
 }
 
 impl<'a> Chunking<'a> {
-    /// The frame of the record, which was encoded as chunks.
+    /// The frame of the record, in the form that was asked for.
     pub fn frame<M: ChunkMessage>(self) -> Result<Vec<u8>, CallError> {
         let payload = Bytes::copy_from_slice(self.alloc, self.payload)?;
         let message = M::decode(self.alloc, payload)?;
-        let mut frames = FrameChunks::new(self.alloc);
-        for _round in 1..self.rounds {
-            frames.clear();
-            encode_chunks(self.version, &message, &mut frames)?;
+        match self.form {
+            Form::Chunks => encode_joined(self.alloc, self.version, &message, self.rounds),
+            Form::Owned => encode_owned(self.alloc, self.version, &message, self.rounds),
         }
-        frames.clear();
-        encode_chunks(self.version, &message, &mut frames)?;
-        joined(self.alloc, &mut frames)
     }
+}
+
+/// The frame of a message, which was encoded as chunks.
+fn encode_joined<M: ChunkMessage>(
+    alloc: Global,
+    version: Version,
+    message: &M,
+    rounds: usize,
+) -> Result<Vec<u8>, CallError> {
+    let mut frames = FrameChunks::new(alloc);
+    for _round in 1..rounds {
+        frames.clear();
+        encode_chunks(version, message, &mut frames)?;
+    }
+    frames.clear();
+    encode_chunks(version, message, &mut frames)?;
+    joined(alloc, &mut frames)
+}
+
+/// The same, where each round has a buffer of its own.
+fn encode_owned<M: ChunkMessage>(
+    alloc: Global,
+    version: Version,
+    message: &M,
+    rounds: usize,
+) -> Result<Vec<u8>, CallError> {
+    for _round in 1..rounds {
+        encode_to_vec(alloc, version, message)?;
+    }
+    Ok(encode_to_vec(alloc, version, message)?)
 }
 
 /// The bytes of all chunks.

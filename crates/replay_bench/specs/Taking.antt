@@ -4,6 +4,10 @@ use Rattle.std.specs.Option.{option_map}
 use Rattle.std.specs.Io.KnownBytes.{Consumes, IsAtEnd}
 use Rattle.shared_core_base.specs.declared.version.Version.{Version}
 use Rattle.shared_core_stream.specs.declared.encoding.raw_message.RawMessage.{RawMessage}
+use Rattle.shared_core_io.specs.declared.chunk.ChunkError.{ChunkError}
+use Rattle.shared_core_io.specs.declared.chunk.ChunkError.TheVariants as chunk
+use Rattle.replay_bench.specs.declared.sources.SourceError.{SourceError}
+use Rattle.replay_bench.specs.declared.sources.SourceError.TheVariants as source
 use Rattle.replay_bench.specs.declared.verdicts.Side.{Side}
 use Rattle.replay_bench.specs.declared.verdicts.BenchError.{BenchError}
 use Rattle.replay_bench.specs.declared.verdicts.BenchError.TheVariants.{TooLong, OutOfMemory}
@@ -16,6 +20,11 @@ use Rattle.replay_bench.specs.Journals.{IsJournal, with_first}
 abbrev pub GivesChunk : Option (List ℕ) → Option (List ℕ) → Option (List ℕ) → Type 0
 GivesChunk old (Some chunk) new = Consumes old new chunk
 GivesChunk old None new = IsAtEnd old
+
+-- Why a source gives no chunk, where its reader gave none.
+abbrev pub source_error : ChunkError → SourceError
+source_error (chunk.Failed reason) = source.Failed
+source_error chunk.OutOfMemory = source.OutOfMemory
 
 -- Whatever follows, a journal of the new bytes is one of the old bytes with this command in front, if there is any.
 pub record LeadsTo (version : Version) (old : List ℕ) (first : Option RawMessage) (new : List ℕ) : Type 0 where

@@ -4,6 +4,7 @@ ghost use Rattle.std.specs.Prelude.{◌<◌, vec_len};
 
 use crate::sources::{Source, SourceError};
 use bytes::Bytes;
+use shared_core_io::read_chunk;
 use std::alloc::{AllocError, Global};
 use std::io::Read;
 
@@ -53,12 +54,10 @@ impl<R: Read + Drop> Source for ReaderChunks<R> {
             return Err(SourceError::Failed);
         }
         self.reads_left -= 1;
-        let Ok(count) = self.reader.read(&mut self.buffer[..]) else {
-            return Err(SourceError::Failed);
-        };
-        if count == 0 {
+        let chunk = read_chunk(self.alloc, &mut self.reader, &mut self.buffer)?;
+        if chunk.is_empty() {
             return Ok(None);
         }
-        Ok(Some(Bytes::copy_from_slice(self.alloc, &self.buffer[..count])?))
+        Ok(Some(chunk))
     }
 }

@@ -5,6 +5,7 @@ ghost use Rattle.std.specs.List.{concat};
 ghost use Rattle.replay_bench.specs.Taking.{GivesChunk};
 
 use bytes::Bytes;
+use shared_core_io::ChunkError;
 use std::alloc::AllocError;
 use std::error::Error;
 use std::fmt;
@@ -12,7 +13,7 @@ use std::fmt;
 /// Why a source gave no chunk. It is not read again.
 #[derive(Clone, Copy, Debug, PartialEq, Eq)]
 pub enum SourceError {
-    /// It could not be read.
+    /// It could not be read, for another reason than that a read was interrupted.
     Failed,
     /// An allocation failed.
     OutOfMemory,
@@ -41,6 +42,20 @@ impl From<AllocError> for SourceError {
 
     fn from(_error: AllocError) -> SourceError {
         SourceError::OutOfMemory
+    }
+}
+
+impl From<ChunkError> for SourceError {
+    ghost use Rattle.std.specs.Prelude.{◌≡◌};
+    ghost use Rattle.replay_bench.specs.Taking.{source_error};
+
+    ghost from_gives = { λ error source. source ≡ source_error error };
+
+    fn from(error: ChunkError) -> SourceError {
+        match error {
+            ChunkError::Failed(_) => SourceError::Failed,
+            ChunkError::OutOfMemory => SourceError::OutOfMemory,
+        }
     }
 }
 

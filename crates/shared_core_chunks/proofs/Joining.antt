@@ -1,7 +1,8 @@
 -- The bytes of chunks.
 use Rattle.std.proofs.Common.{◌≡◌, ℕ, ◌+◌, ◌≤◌, List, [], ◌∷◌, ◌++◌, length, take, drop, append_assoc, append-nil}
 use Rattle.std.proofs.Common.{refl, ap, sym, ◌∙◌, arith, take-append-drop, true, false}
-use Rattle.std.proofs.lemmas.List.{drop_all}
+use Rattle.std.proofs.lemmas.Grind.{take_at_read}
+use Rattle.std.proofs.lemmas.List.{drop_all, take_all}
 use Rattle.std.proofs.lemmas.List.Folds.{concat-append}
 use Rattle.std.specs.List.{concat}
 use Rattle.std.specs.Prelude.{Result, Ok, Err, OnOk, is_ok, if◌then◌else◌, ◌<◌, ◌^◌, get_or}
@@ -54,6 +55,29 @@ after_all (Ok t) cs new more small none old frame is here before there other =
     let others : concat more ≡ frame = sym (append-nil (concat more)) ∙ rw there at other in
     rw here (append-nil (concat new) ∙ ap concat is ∙ concat-append cs more ∙ rw (alone, others) refl)
 after_all (Err e) cs new more small none old frame is here before there other = tt
+
+-- ---- a copy of all
+
+-- all of the first chunks are copied after what was there, and then the next one
+pub copied_next : (kept : List ℕ) (cs : List (List ℕ)) (i : ℕ) (c copied next : List ℕ) → i < length cs
+    → c ≡ get_or cs i c → copied ≡ kept ++ concat (take i cs) → next ≡ copied ++ c
+    → next ≡ kept ++ concat (take (i + 1) cs)
+copied_next kept cs i c copied next below is before more =
+    let joined : concat (take (i + 1) cs) ≡ concat (take i cs) ++ c =
+    ap concat (take_at_read cs i c below).1 ∙ concat_push (take i cs) (get_or cs i c)
+    ∙ ap (λ (l : List ℕ). concat (take i cs) ++ l) (sym is) in
+    more ∙ ap (λ (l : List ℕ). l ++ c) before ∙ append_assoc kept (concat (take i cs)) c
+    ∙ ap (λ (l : List ℕ). kept ++ l) (sym joined)
+
+-- and last what is small
+pub copied_last : {T E : Type 0} (result : Result T E) (kept : List ℕ) (cs : List (List ℕ)) (i : ℕ)
+    (small copied new : List ℕ) → length cs ≤ i → copied ≡ kept ++ concat (take i cs)
+    → new ≡ (if is_ok result then copied ++ small else copied)
+    → OnOk result (new ≡ kept ++ (concat cs ++ small))
+copied_last (Ok t) kept cs i small copied new past before is =
+    is ∙ ap (λ (l : List ℕ). l ++ small) (before ∙ ap (λ (l : List (List ℕ)). kept ++ concat l) (take_all i cs past))
+    ∙ append_assoc kept (concat cs) small
+copied_last (Err e) kept cs i small copied new past before is = tt
 
 -- ---- the first chunk
 

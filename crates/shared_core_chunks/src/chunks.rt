@@ -78,6 +78,17 @@ impl FrameChunks {
         self.tail.clear();
     }
 
+    /// Appends a copy of all bytes.
+    #[tactic(auto, using(crate::proofs::Joining::copied_last))]
+    pub fn copy_to(&self, bytes: &mut Vec<u8>) -> Result<(), AllocError>
+        ensures { OnOk result (bytes.new.items ≡ bytes.old.items ++ self.now) }
+    {
+        for i in 0..self.chunks.len() {
+            bytes.extend_from_slice(self.chunks[i].as_slice())?;
+        }
+        bytes.extend_from_slice(self.tail.as_slice())
+    }
+
     /// Appends bytes, which are copied. After an error nothing is appended.
     #[tactic(auto, using(crate::proofs::Joining::after_tail))]
     pub(crate) fn put(&mut self, bytes: &[u8]) -> Result<(), AllocError>

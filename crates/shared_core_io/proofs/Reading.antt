@@ -29,7 +29,7 @@ joined first loop next new read more before same after =
 -- an error that takes nothing
 pub failed : (old new : Limited) (left : Option (List ℕ)) (error : ReadError) → TakesNothing error → new ≡ old → IsRead
     old left (Err error) new
-failed old new left (Failed reason) nothing same = same
+failed old new left (Failed reason) nothing same = (same, nothing)
 failed old new left (TooLong message) nothing same = absurd nothing
 failed old new left (Truncated count) nothing same = absurd nothing
 failed old new left OutOfMemory nothing same = same

@@ -1,13 +1,24 @@
--- What reading items from a reader does.
-use Rattle.std.specs.Prelude.{◌≡◌, ℕ, ◌+◌, ◌<◌, ◌≤◌, List, [], ◌∷◌, ◌++◌, length}
+-- What reading chunks and items from a reader does.
+use Rattle.std.specs.Prelude.{◌≡◌, ◌≢◌, ℕ, ◌+◌, ◌<◌, ◌≤◌, List, [], ◌∷◌, ◌++◌, length}
 use Rattle.std.specs.Prelude.{Result, Ok, Err, Option, Some, None}
-use Rattle.std.specs.Io.KnownBytes.{IsAtEnd}
+use Rattle.std.specs.Io.KnownBytes.{Consumes, IsAtEnd, Keeps}
+use Rattle.std.specs.IoError.{error_kind}
+use Rattle.std.specs.declared.io.ErrorKind.TheVariants.{Interrupted}
 use Rattle.bytes.specs.Filled.{Filled}
 use Rattle.shared_core_stream.specs.Items.{NoItemBegins}
 use Rattle.shared_core_stream.specs.Limits.{Limited, TakesWithin, rejection, after_item, after_rejection}
 use Rattle.shared_core_stream.specs.declared.encoding.item.Item.{Item}
+use Rattle.shared_core_io.specs.declared.chunk.ChunkError.{ChunkError}
+use Rattle.shared_core_io.specs.declared.chunk.ChunkError.TheVariants as chunk
 use Rattle.shared_core_io.specs.declared.error.ReadError.{ReadError}
-use Rattle.shared_core_io.specs.declared.error.ReadError.TheVariants.{TooLong, Truncated, OutOfMemory}
+use Rattle.shared_core_io.specs.declared.error.ReadError.TheVariants.{Failed, TooLong, Truncated, OutOfMemory}
+
+-- What one read took of the reader's bytes, by its result: a chunk, which is empty only at the end; nothing if it
+-- failed, which no interrupted read does; or bytes that could not be copied.
+abbrev pub IsChunk : Result (List ℕ) ChunkError → Option (List ℕ) → Option (List ℕ) → Type 0
+IsChunk (Ok bytes) old new = Consumes old new bytes × (length bytes ≡ 0 → IsAtEnd new)
+IsChunk (Err (chunk.Failed reason)) old new = Keeps old new × (error_kind reason ≢ Interrupted)
+IsChunk (Err chunk.OutOfMemory) old new = (lost : List ℕ) × Consumes old new lost
 
 -- A decoder to which more bytes have come.
 abbrev pub with_more : Limited → List ℕ → Limited
@@ -20,7 +31,7 @@ held decoder chunk buffer = with_more decoder (chunk ++ buffer.items)
 -- What the next item is, by what was held or read, what the reader has left, and what is held afterwards: the item at
 -- the front, if it is within the limit; none, if there are no bytes at the end; an error that the message at the front
 -- is too long, after which nothing is held; an error with the number of bytes, if they are those of a part of an item
--- and the stream has ended; and an error that takes nothing.
+-- and the stream has ended; and an error that takes nothing, which no interrupted read is.
 abbrev pub IsRead : Limited → Option (List ℕ) → Result (Option Item) ReadError → Limited → Type 0
 IsRead old left (Ok (Some item)) new =
     (rejection old ≡ None) × TakesWithin old.unread.version old.limit old.unread.bytes item new.unread.bytes
@@ -30,7 +41,8 @@ IsRead old left (Err (TooLong message)) new = (rejection old ≡ Some message) �
 IsRead old left (Err (Truncated count)) new =
     IsAtEnd left × (rejection old ≡ None) × NoItemBegins old.unread.version old.unread.bytes
     × (count ≡ length old.unread.bytes) × (0 < count) × (new ≡ old)
-IsRead old left (Err error) new = new ≡ old
+IsRead old left (Err (Failed reason)) new = (new ≡ old) × (error_kind reason ≢ Interrupted)
+IsRead old left (Err OutOfMemory) new = new ≡ old
 
 -- What was taken of a decoder, and of the bytes outside it, which are dropped with a message that is too long: the item
 -- at the front; nothing, since no whole item is there or an allocation failed.
@@ -64,8 +76,9 @@ abbrev pub result_at_end : List ℕ → Result (Option Item) ReadError
 result_at_end [] = Ok None
 result_at_end (byte ∷ bytes) = Err (Truncated (length (byte ∷ bytes)))
 
--- The error takes nothing, whatever there is.
+-- The error takes nothing, whatever there is, and is no interrupted read.
 abbrev pub TakesNothing : ReadError → Type 0
+TakesNothing (Failed reason) = error_kind reason ≢ Interrupted
 TakesNothing (TooLong message) = ⊥
 TakesNothing (Truncated count) = ⊥
-TakesNothing error = Unit {0}
+TakesNothing OutOfMemory = Unit {0}

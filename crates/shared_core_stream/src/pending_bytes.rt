@@ -117,6 +117,9 @@ impl PendingBytes {
         if MessageHeader::SIZE <= self.chunks.len() {
             return self.chunks.take_head();
         }
+        if self.chunks.len() == 0 {
+            return take_head_of(&mut self.block);
+        }
         let mut head = [0; 8];
         self.copy_to_slice(&mut head);
         head
@@ -138,6 +141,20 @@ impl PendingBytes {
         }
         self.chunks.split_to(count)
     }
+}
+
+/// Takes the first eight bytes of the block.
+fn take_head_of(block: &mut BytesMut) -> [u8; 8]
+    requires { 8 ≤ length block.old.items }
+    ensures head { result ≡ take 8 block.old.items }
+    ensures rest { block.new.items ≡ drop 8 block.old.items }
+{
+    let Some(head) = block.as_slice().first_chunk::<8>() else {
+        unreachable!();
+    };
+    let head = *head;
+    block.advance(MessageHeader::SIZE);
+    head
 }
 
 /// Takes the first `count` bytes, of which not all are shared: cut from the block if none are, otherwise joined in one

@@ -17,6 +17,9 @@ use Rattle.std.proofs.lemmas.List.{drop-drop}
 use Rattle.shared_core_stream.proofs.Items.{drop_exact, front_word_more, item_is_long, nothing_begins_with_none}
 use Rattle.shared_core_stream.proofs.Items.{then_start, then_join, then_more, split_of, split_begins}
 use Rattle.std.specs.Option.{option_or}
+use Rattle.shared_core_io.specs.Reading.{IsChunk}
+use Rattle.shared_core_io.specs.declared.chunk.ChunkError.{ChunkError}
+use Rattle.shared_core_io.specs.declared.chunk.ChunkError.TheVariants as chunk
 use Rattle.stream_lines.specs.declared.report.Report.{Report}
 use Rattle.stream_lines.specs.declared.report.Trouble.{Trouble}
 use Rattle.stream_lines.specs.declared.error.PrintError.{PrintError}
@@ -25,7 +28,8 @@ use Rattle.stream_lines.specs.declared.error.PrintError.TheVariants.{MessageTooL
 use Rattle.shared_core_stream.specs.declared.encoding.limit_error.MessageTooLong.{MessageTooLong as Longer}
 use Rattle.shared_core_stream.specs.Limits.{offset_after, payload_length, too_long_at}
 use Rattle.stream_lines.specs.Printing.{item_size, items_size, lines, trouble_at, first_trouble, ArePrinted, IsReport}
-use Rattle.stream_lines.specs.Printing.{AreWithin, Begins, IsLack, IsLongIn, IsRead, IsWrittenFor, too_long_after}
+use Rattle.stream_lines.specs.Printing.{AreWithin, Begins, IsLack, IsLongIn, IsWrittenFor, reading_error}
+use Rattle.stream_lines.specs.Printing.{too_long_after}
 
 pub lines_join : (line : ℕ → ℕ → Item → List ℕ) (at : ℕ) (bytes : List ℕ) (items others : List Item)
     → lines line at bytes items ++ lines line (at + items_size items) (drop (items_size items) bytes) others ≡ lines
@@ -467,19 +471,16 @@ module _ (line : ℕ → ℕ → Item → List ℕ) (last : ℕ → List ℕ →
         ))
 
     -- a read failed
-    pub ended_read : (now : Option (List ℕ)) (error : PrintError) → IsRead (Err error) left now → HasEnded line last
-        is_long trouble version limit first start now out (Err error)
-    ended_read now Input kept = (
+    pub ended_read : (now : Option (List ℕ)) (error : ChunkError) → IsChunk (Err error) left now → HasEnded line last
+        is_long trouble version limit first start now out (Err (reading_error error))
+    ended_read now (chunk.Failed reason) (kept, other) = (
       so_far.read,
       written_so_far,
       Consumes-kept first left now so_far.read so_far.came kept,
       so_far.wrote,
       record { items = so_far.items; rest = pending; split = so_far.split; written_for = (refl, so_far.within) },
     )
-    ended_read now Output is = absurd is
-    ended_read now OutOfMemory (lost, taken) = ended_lack now lost taken OutOfMemory tt
-    ended_read now TooLong is = absurd is
-    ended_read now (MessageTooLong longer) is = absurd is
+    ended_read now chunk.OutOfMemory (lost, taken) = ended_lack now lost taken OutOfMemory tt
 
 -- the offset of the pending bytes stays if a chunk is appended to them
 pub still_there : (size total : ℕ) (pending chunk : List ℕ) → total ≡ size + length pending → (total + length chunk) -

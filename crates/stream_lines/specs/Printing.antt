@@ -3,7 +3,7 @@
 use Rattle.std.specs.Prelude.{◌≡◌, ◌⊎◌, ◌≤◌, ℕ, ◌+◌, All, Some, List, [], ◌∷◌, ◌++◌, length, drop, codes}
 use Rattle.std.specs.Prelude.{Result, Ok, Err, Option, None}
 use Rattle.std.specs.Option.{option_map, option_or}
-use Rattle.std.specs.Io.KnownBytes.{Consumes, Keeps, IsAtEnd}
+use Rattle.std.specs.Io.KnownBytes.{IsAtEnd}
 use Rattle.shared_core_base.specs.declared.version.Version.{Version}
 use Rattle.shared_core_stream.specs.declared.encoding.item.Item.{Item}
 use Rattle.shared_core_stream.specs.declared.encoding.item.Item.TheVariants.{Message, Unknown, Skipped}
@@ -11,6 +11,8 @@ use Rattle.shared_core_stream.specs.declared.encoding.limit_error.MessageTooLong
 use Rattle.shared_core_stream.specs.Errors.{message_too_long_text}
 use Rattle.shared_core_stream.specs.Items.{front_word, IsItemsThen, SplitsInto}
 use Rattle.shared_core_stream.specs.Limits.{offset_after, payload_length, too_long_at}
+use Rattle.shared_core_io.specs.declared.chunk.ChunkError.{ChunkError}
+use Rattle.shared_core_io.specs.declared.chunk.ChunkError.TheVariants as chunk
 use Rattle.stream_lines.specs.declared.report.Report.{Report}
 use Rattle.stream_lines.specs.declared.report.Trouble.{Trouble}
 use Rattle.stream_lines.specs.declared.error.PrintError.{PrintError}
@@ -122,13 +124,10 @@ pub record ArePrinted (line : ℕ → ℕ → Item → List ℕ) (last : ℕ →
   pub split : SplitsInto version read items rest
   pub written_for : IsWrittenFor version limit line last is_long trouble result read items rest written left
 
--- What one read took of the reader's bytes, by its result: a chunk, which is empty only at the end; nothing if it
--- failed; or bytes that could not be stored.
-abbrev pub IsRead : Result (List ℕ) PrintError → Option (List ℕ) → Option (List ℕ) → Type 0
-IsRead (Ok chunk) old new = Consumes old new chunk × (length chunk ≡ 0 → IsAtEnd new)
-IsRead (Err Input) old new = Keeps old new
-IsRead (Err OutOfMemory) old new = (lost : List ℕ) × Consumes old new lost
-IsRead (Err error) old new = ⊥
+-- The error by which printing ends where no chunk was read.
+abbrev pub reading_error : ChunkError → PrintError
+reading_error (chunk.Failed reason) = Input
+reading_error chunk.OutOfMemory = OutOfMemory
 
 -- The text of an error.
 abbrev pub error_text : PrintError → List ℕ

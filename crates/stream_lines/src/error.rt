@@ -1,6 +1,7 @@
 //! The error of `print_lines`.
 
 use crate::output::OutputFailed;
+use shared_core_io::ChunkError;
 use shared_core_stream::encoding::MessageTooLong;
 use std::alloc::AllocError;
 use std::error::Error;
@@ -9,7 +10,7 @@ use std::fmt;
 /// Why printing ended before the last line.
 #[derive(Clone, Copy, Debug, PartialEq, Eq, Drop)]
 pub enum PrintError {
-    /// A read failed, or 2^64 - 1 reads met no end.
+    /// A read failed, for another reason than that it was interrupted, or 2^64 - 1 reads met no end.
     Input,
     /// A write failed, or wrote no byte.
     Output,
@@ -59,5 +60,19 @@ impl From<OutputFailed> for PrintError {
 
     fn from(_error: OutputFailed) -> PrintError {
         PrintError::Output
+    }
+}
+
+impl From<ChunkError> for PrintError {
+    ghost use Rattle.std.specs.Prelude.{◌≡◌};
+    ghost use Rattle.stream_lines.specs.Printing.{reading_error};
+
+    ghost from_gives = { λ error print. print ≡ reading_error error };
+
+    fn from(error: ChunkError) -> PrintError {
+        match error {
+            ChunkError::Failed(_) => PrintError::Input,
+            ChunkError::OutOfMemory => PrintError::OutOfMemory,
+        }
     }
 }

@@ -15,7 +15,7 @@ ghost use Rattle.shared_core_stream.specs.Items.{front_word, IsItemsThen, NoItem
 ghost use Rattle.shared_core_stream.specs.Limits.{offset_after, payload_length, too_long_at, TakesWithin};
 ghost use Rattle.shared_core_stream.specs.declared.encoding.item.Item.{Item as AnyItem};
 ghost use Rattle.std.specs.Option.{option_or};
-ghost use Rattle.stream_lines.specs.Printing.{lines, most_pending, ArePrinted, IsLack, IsLongIn, IsRead};
+ghost use Rattle.stream_lines.specs.Printing.{lines, most_pending, ArePrinted, IsLack, IsLongIn};
 ghost use Rattle.stream_lines.specs.Printing.{trouble_at, first_trouble};
 
 use crate::error::PrintError;
@@ -24,6 +24,7 @@ use crate::output::write_whole;
 use crate::report::{Report, Trouble};
 use bytes::Bytes;
 use shared_core_base::version::Version;
+use shared_core_io::read_chunk;
 use shared_core_stream::encoding::{Decoder, Item, MessageTooLong, PushError};
 use std::alloc::{AllocError, Global};
 use std::io::{Read, Write};
@@ -93,18 +94,6 @@ pub fn print_lines<P: LinePrinter, R: Read, W: Write>(
         }
     }
     Err(PrintError::Input)
-}
-
-/// Reads once, at most as much as the buffer has room for. No byte means the end of the input.
-fn read_chunk<R: Read>(alloc: Global, input: &mut R, buffer: &mut [u8]) -> Result<Bytes, PrintError>
-    requires { 0 < length buffer.old }
-    ensures taken { IsRead result (R.remaining input.old) (R.remaining input.new) }
-    ensures fits { IfOk result (λ chunk. length chunk ≤ length buffer.old) }
-{
-    let Ok(count) = input.read(buffer) else {
-        return Err(PrintError::Input);
-    };
-    Ok(Bytes::copy_from_slice(alloc, &buffer[..count])?)
 }
 
 /// Pushes a chunk. A decoder that holds no whole item has room for it, so none is too long.
