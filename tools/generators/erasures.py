@@ -1,9 +1,11 @@
-"""What is not compared of each command, erased: the impls of `Erase`, and what leads from a command's type to its record
-there. It is said as shared_core_compare has it, by the options of proto/journal.proto.
+"""What is not compared of each command, erased: the impls of `Erase`, what leads from a command's type to its record
+there, and of which types nothing is erased. It is said as shared_core_compare has it, by the options of
+proto/journal.proto.
 """
 from . import laid_out
+from .dispatch import arms_by_type
 from .forms import bound
-from .proto import OneOf, camel, messages, numbers, snake
+from .proto import OneOf, camel, messages, snake
 from .records import EMPTY, missing  # noqa: F401
 
 ABOUT = "What is not compared of a command, erased."
@@ -14,8 +16,9 @@ PATH = "crates/replay_bench/src/erasures.rt"
 HEAD = """\
 //! Commands without what is not compared of them, and from a command's type to its form.
 
-ghost use Rattle.std.specs.Prelude.{IfOk, refl};
-ghost use Rattle.replay_bench.specs.Forms.{HasForm};
+ghost use Rattle.std.specs.Prelude.{IfOk, IfSome, IsTrue, refl};
+ghost use Rattle.shared_core_message.specs.Messages.{message_schema};
+ghost use Rattle.replay_bench.specs.Forms.{ErasesNothing, HasForm};
 
 """
 
@@ -32,6 +35,17 @@ pub(crate) fn erased_form(
 %s        _ => Ok(Form::Unknown),
     }
 }
+"""
+
+WHOLE = """
+/// Whether all of a command of this type is compared.
+pub(crate) fn is_compared_whole(ty: MessageType, ignore: bool) -> bool
+    ensures {{ IsTrue result → IfSome (message_schema ty) (ErasesNothing ignore) }}
+{{
+    match ty {{
+{arms}        _ => false,
+    }}
+}}
 """
 
 IMPL = """
@@ -56,6 +70,20 @@ def is_erased(row):
 def is_payload(row):
     """Whether a row is erased if payloads are ignored; its presence stays."""
     return not is_erased(row) and any(field.payload for field in members(row))
+
+
+def whole():
+    """Of which types of commands all is compared, in any case or unless payloads are ignored."""
+    found = {"true": [], "!ignore": []}
+    for message in commands():
+        if not any(is_erased(row) for row in message.rows):
+            found["!ignore" if any(is_payload(row) for row in message.rows) else "true"].append(message)
+    arms = (
+        f"        {' | '.join(f'MessageType::{message.type_name()}' for message in those)} => {answer},\n"
+        for answer, those in found.items()
+        if those
+    )
+    return WHOLE.format(arms="".join(arms))
 
 
 def members(row):
@@ -152,11 +180,8 @@ def uses(code):
 
 def texts():
     """The file, not yet laid out."""
-    arms = "".join(
-        f"        MessageType::{message.type_name()} => form_as::<{message.name}>(alloc, command, ignore),\n"
-        for message in commands()
-    )
-    code = FORM % arms + "".join(impl(message) for message in commands())
+    arms = arms_by_type(commands(), lambda record: f"form_as::<{record}>(alloc, command, ignore)")
+    code = FORM % arms + whole() + "".join(impl(message) for message in commands())
     return {PATH: HEAD + uses(code) + code}
 
 

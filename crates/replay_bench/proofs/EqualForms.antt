@@ -1,5 +1,5 @@
 -- Forms of commands: what they are made of, and that they are the same if and only if the commands are.
-use Rattle.std.proofs.Common.{◌≡◌, ◌↔◌, ◌≤◌, ℕ, zero, suc, max, Bool, true, false, ◌&&◌, List, [], ◌∷◌, map, IsTrue}
+use Rattle.std.proofs.Common.{◌≡◌, ◌↔◌, ◌≤◌, ℕ, zero, suc, Bool, true, false, ◌&&◌, List, [], ◌∷◌, map, IsTrue}
 use Rattle.std.proofs.Common.{Option, Some, None, IfSome, sym, ap, ◌∙◌, subst, refl, arith, if◌then◌else◌}
 use Rattle.std.proofs.Common.{◌<◌, ◌+◌, ◌++◌, length, get_or, take, subst₂}
 use Rattle.std.proofs.lemmas.List.{take_more}

@@ -210,14 +210,13 @@ module _ (version : Version) (is_strict : Bool) where
       on.has_read.gave on.has_read.has.items_then on.has_read.has.is counted last
 
 -- the survey of a journal that was read on, and then to its end
-pub finished : (version own : Version) (is_strict strict : Bool) (first start left : Option (List ℕ))
+pub finished : (version own : Version) (is_strict : Bool) (first left : Option (List ℕ))
     (has_ended ended : Bool) (held : List ℕ) (taken : ℕ) (before after : Survey)
-    → own ≡ version → strict ≡ is_strict → start ≡ first → ended ≡ has_ended
-    → HasReadOn version strict start has_ended left held taken before
+    → own ≡ version → ended ≡ has_ended
+    → HasReadOn version is_strict first has_ended left held taken before
     → ((is_strict : Bool) (first : Option (List ℕ)) → HasReadOn own is_strict first ended left held taken before
     → IsKnownSurvey own is_strict first after)
     → IsKnownSurvey version is_strict first after
-finished version own is_strict strict first start left has_ended ended held taken before after owns stricts starts ends
-    on then =
-    let known : IsKnownSurvey own strict start after = then strict start (rw (owns, ends) on) in
-    rw (owns, stricts, starts) at known
+finished version own is_strict first left has_ended ended held taken before after owns ends on then =
+    let known : IsKnownSurvey own is_strict first after = then is_strict first (rw (owns, ends) on) in
+    rw owns at known

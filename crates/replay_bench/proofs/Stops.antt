@@ -96,27 +96,27 @@ offsets_more version first number offsets at has last = λ i within.
     i (omega (arith, within, length-append offsets (at ∷ [])))
 
 -- what is held of a journal, as it is of the version and the source that were given
-pub held_of : (version own : Version) (is_strict strict : Bool) (first start coming : Option (List ℕ)) (index seen : ℕ)
+pub held_of : (version own : Version) (is_strict : Bool) (first coming : Option (List ℕ)) (index seen : ℕ)
     (has_ended : Bool) (next : Option RawMessage) (bytes : List ℕ) (taken : ℕ) (survey : Survey) (held : HeldCommands)
-    → own ≡ version → strict ≡ is_strict → start ≡ first
-    → IsStopped version start index has_ended next (prepend_known bytes coming)
-    → HasReadOn version strict start has_ended coming bytes taken survey → survey.commands ≡ seen
+    → own ≡ version
+    → IsStopped version first index has_ended next (prepend_known bytes coming)
+    → HasReadOn version is_strict first has_ended coming bytes taken survey → survey.commands ≡ seen
     → ((from : Option (List ℕ)) (at : ℕ) → IsHeld own from at [] next (prepend_known bytes coming)
     → IfSome from (λ journal. HasAfter own journal at held.commands.items))
     → length held.offsets.items ≡ length held.commands.items
     → ((is_strict : Bool) (from : Option (List ℕ)) → HasReadOn own is_strict from (is_none next) coming bytes taken
     survey → HasOffsets own from survey.commands held.offsets.items)
     → IsHeldOf version first index seen held
-held_of version own is_strict strict first start coming index seen has_ended next bytes taken survey held owns stricts
-    starts stopped on counted commands long offsets =
-    let known : IfSome start (λ journal. HasAfter own journal index held.commands.items) =
-    commands start index (rw owns stopped.held) in
-    let placed : HasOffsets own start survey.commands held.offsets.items =
-    offsets strict start (rw (owns, stopped.ended) on) in
+held_of version own is_strict first coming index seen has_ended next bytes taken survey held owns stopped on counted
+    commands long offsets =
+    let known : IfSome first (λ journal. HasAfter own journal index held.commands.items) =
+    commands first index (rw owns stopped.held) in
+    let placed : HasOffsets own first survey.commands held.offsets.items =
+    offsets is_strict first (rw (owns, stopped.ended) on) in
     record {
-      commands = rw (owns, starts) at known;
+      commands = rw owns at known;
       long = long;
-      offsets = rw (owns, starts, counted) at placed;
+      offsets = rw (owns, counted) at placed;
     }
 
 -- one more command is counted

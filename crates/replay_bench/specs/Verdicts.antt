@@ -154,7 +154,7 @@ ComparesKnown version ignore (Some recorded) (Some replayed) result = ComparesRe
 ComparesKnown version ignore recorded replayed result = Unit {0}
 
 -- The verdict of a comparison that stopped.
-abbrev pub verdict_alone : Result Stopped ReaderError → Result Verdict ReaderError
+abbrev pub verdict_alone : {A B : Type 0} → Result (Stopped A B) ReaderError → Result Verdict ReaderError
 verdict_alone (Ok stopped) = Ok stopped.found.verdict
 verdict_alone (Err error) = Err error
 

@@ -6,11 +6,11 @@ ghost use Rattle.replay_bench.specs.Holding.{AlignsKnown};
 ghost use Rattle.replay_bench.specs.Verdicts.{MayFailOn};
 
 use crate::alignment::align_commands;
-use crate::commands::{Commands, HeldCommands};
+use crate::commands::HeldCommands;
 use crate::comparison::find_verdict;
 use crate::reader_chunks::ReaderChunks;
 use crate::sources::Source;
-use crate::verdicts::{Comparison, ReaderError, Side};
+use crate::verdicts::{Comparison, ReaderError};
 use edit_script::Alignment;
 use shared_core::version::Version;
 use std::alloc::Global;
@@ -77,20 +77,19 @@ pub fn align_sources<A: Source, B: Source>(
         (A.coming recorded) (B.coming replayed) result }
     ensures failed { MayFailOn A.may_fail B.may_fail result }
 {
-    let mut recorded = Commands::new(alloc, version, Side::Recorded, recorded, is_strict);
-    let mut replayed = Commands::new(alloc, version, Side::Replayed, replayed, is_strict);
     let stopped = find_verdict(
         alloc,
         version,
-        &mut recorded,
-        &mut replayed,
+        recorded,
+        replayed,
         ignore_payload_equality,
+        is_strict,
         true,
     )?;
-    let recorded_at = recorded.last_command();
-    let replayed_at = replayed.last_command();
-    let (recorded_held, recorded) = recorded.hold(alloc, stopped.recorded)?;
-    let (replayed_held, replayed) = replayed.hold(alloc, stopped.replayed)?;
+    let recorded_at = stopped.recorded.last_command();
+    let replayed_at = stopped.replayed.last_command();
+    let (recorded_held, recorded) = stopped.recorded.hold(alloc, stopped.recorded_next)?;
+    let (replayed_held, replayed) = stopped.replayed.hold(alloc, stopped.replayed_next)?;
     let alignment = align_commands(
         alloc,
         recorded_held.commands.as_slice(),

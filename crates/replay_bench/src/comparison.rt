@@ -5,7 +5,7 @@ ghost use Rattle.std.specs.Io.KnownBytes.{prepend_known};
 ghost use Rattle.std.specs.List.{concat};
 ghost use Rattle.shared_core_base.specs.Version.{version_number};
 ghost use Rattle.replay_bench.specs.declared.verdicts.Side.TheVariants.{Recorded, Replayed};
-ghost use Rattle.replay_bench.specs.Reading.{IsNew, IsReading};
+ghost use Rattle.replay_bench.specs.Reading.{IsReading};
 ghost use Rattle.replay_bench.specs.Held.{IsStopped};
 ghost use Rattle.replay_bench.specs.Verdicts.{Compares, ComparesKnown, HasFieldsOn, MayFailOn, Surveys, verdict_alone};
 ghost use Rattle.replay_bench.specs.Verdicts.{recorded_ended, recorded_seen, replayed_ended, replayed_seen};
@@ -90,62 +90,66 @@ pub fn compare_sources<A: Source, B: Source>(
     ensures compared { ComparesKnown version ignore_payload_equality (A.coming recorded) (B.coming replayed) result }
     ensures failed { MayFailOn A.may_fail B.may_fail result }
 {
-    let mut recorded = Commands::new(alloc, version, Side::Recorded, recorded, false);
-    let mut replayed = Commands::new(alloc, version, Side::Replayed, replayed, false);
     let stopped = find_verdict(
         alloc,
         version,
-        &mut recorded,
-        &mut replayed,
+        recorded,
+        replayed,
         ignore_payload_equality,
+        false,
         false,
     )?;
     Ok(stopped.found.verdict)
 }
 
-/// A verdict, and the commands at which it stopped: the next one of each journal that has not ended.
+/// A verdict, and the journals as they were read for it.
 #[derive(Drop)]
-pub(crate) struct Stopped {
+pub(crate) struct Stopped<A, B> {
     pub found: Found,
-    pub recorded: Option<RawMessage>,
-    pub replayed: Option<RawMessage>,
+    pub recorded: Commands<A>,
+    pub replayed: Commands<B>,
+    /// The recorded command at which it stopped, unless that journal has ended.
+    pub recorded_next: Option<RawMessage>,
+    /// The replayed one.
+    pub replayed_next: Option<RawMessage>,
 }
 
-/// Compares the commands of two journals of which nothing was read yet. If `is_listed`, the fields in which two of them
-/// differ come with the verdict.
+/// Compares the commands of two journals. Their surveys find faults if they are strict. If `is_listed`, the fields in
+/// which two commands differ come with the verdict.
 pub(crate) fn find_verdict<A: Source, B: Source>(
     alloc: Global,
     version: Version,
-    recorded: &mut Commands<A>,
-    replayed: &mut Commands<B>,
+    recorded: A,
+    replayed: B,
     ignore_payload_equality: bool,
+    is_strict: bool,
     is_listed: bool,
-) -> Result<Stopped, ReaderError>
-    requires recorded { IsNew version Recorded recorded.old.side recorded.old.version
-        recorded.old.decoder.version recorded.old.decoder.bytes recorded.old.taken recorded.old.survey }
-    requires replayed { IsNew version Replayed replayed.old.side replayed.old.version
-        replayed.old.decoder.version replayed.old.decoder.bytes replayed.old.taken replayed.old.survey }
+) -> Result<Stopped<A, B>, ReaderError>
+    requires { 5 ≤ version_number version }
     ensures compared { ComparesKnown version ignore_payload_equality
-        (A.coming recorded.old.source) (B.coming replayed.old.source) (verdict_alone result) }
+        (A.coming recorded) (B.coming replayed) (verdict_alone result) }
     ensures failed { MayFailOn A.may_fail B.may_fail result }
     ensures fields { IfOk result (λ stopped. IsTrue is_listed → HasFieldsOn version
-        (A.coming recorded.old.source) (B.coming replayed.old.source)
-        stopped.found.verdict stopped.found.fields.items) }
-    ensures recorded { IfOk result (λ stopped. IsReading version Recorded recorded.old.survey.is_strict
-        (A.coming recorded.old.source) (recorded_ended stopped.found.verdict) (recorded_seen stopped.found.verdict)
-        recorded.new.side recorded.new.version recorded.new.decoder.version
-        (A.coming recorded.new.source) recorded.new.decoder.bytes recorded.new.taken recorded.new.survey) }
-    ensures replayed { IfOk result (λ stopped. IsReading version Replayed replayed.old.survey.is_strict
-        (B.coming replayed.old.source) (replayed_ended stopped.found.verdict) (replayed_seen stopped.found.verdict)
-        replayed.new.side replayed.new.version replayed.new.decoder.version
-        (B.coming replayed.new.source) replayed.new.decoder.bytes replayed.new.taken replayed.new.survey) }
-    ensures stopped { IfOk result (λ stopped. IsStopped version (A.coming recorded.old.source)
-        (stopped_index stopped.found.verdict) (recorded_ended stopped.found.verdict) stopped.recorded
-        (prepend_known recorded.new.decoder.bytes (A.coming recorded.new.source))) }
-    ensures other_stopped { IfOk result (λ stopped. IsStopped version (B.coming replayed.old.source)
-        (stopped_index stopped.found.verdict) (replayed_ended stopped.found.verdict) stopped.replayed
-        (prepend_known replayed.new.decoder.bytes (B.coming replayed.new.source))) }
+        (A.coming recorded) (B.coming replayed) stopped.found.verdict stopped.found.fields.items) }
+    ensures recorded { IfOk result (λ stopped. IsReading version Recorded is_strict
+        (A.coming recorded) (recorded_ended stopped.found.verdict) (recorded_seen stopped.found.verdict)
+        stopped.recorded.side stopped.recorded.version stopped.recorded.decoder.version
+        (A.coming stopped.recorded.source) stopped.recorded.decoder.bytes stopped.recorded.taken
+        stopped.recorded.survey) }
+    ensures replayed { IfOk result (λ stopped. IsReading version Replayed is_strict
+        (B.coming replayed) (replayed_ended stopped.found.verdict) (replayed_seen stopped.found.verdict)
+        stopped.replayed.side stopped.replayed.version stopped.replayed.decoder.version
+        (B.coming stopped.replayed.source) stopped.replayed.decoder.bytes stopped.replayed.taken
+        stopped.replayed.survey) }
+    ensures stopped { IfOk result (λ stopped. IsStopped version (A.coming recorded)
+        (stopped_index stopped.found.verdict) (recorded_ended stopped.found.verdict) stopped.recorded_next
+        (prepend_known stopped.recorded.decoder.bytes (A.coming stopped.recorded.source))) }
+    ensures other_stopped { IfOk result (λ stopped. IsStopped version (B.coming replayed)
+        (stopped_index stopped.found.verdict) (replayed_ended stopped.found.verdict) stopped.replayed_next
+        (prepend_known stopped.replayed.decoder.bytes (B.coming stopped.replayed.source))) }
 {
+    let mut recorded = Commands::new(alloc, version, Side::Recorded, recorded, is_strict);
+    let mut replayed = Commands::new(alloc, version, Side::Replayed, replayed, is_strict);
     let mut index: u64 = 0;
     loop {
         let recorded_command = recorded.next_command()?;
@@ -157,8 +161,10 @@ pub(crate) fn find_verdict<A: Source, B: Source>(
                         verdict: Verdict::RecordedEnded(index),
                         fields: Vec::new(alloc),
                     },
-                    recorded: None,
-                    replayed: replayed_command,
+                    recorded,
+                    replayed,
+                    recorded_next: None,
+                    replayed_next: replayed_command,
                 });
             }
             return Ok(Stopped {
@@ -166,8 +172,10 @@ pub(crate) fn find_verdict<A: Source, B: Source>(
                     verdict: Verdict::Same(index),
                     fields: Vec::new(alloc),
                 },
-                recorded: None,
-                replayed: None,
+                recorded,
+                replayed,
+                recorded_next: None,
+                replayed_next: None,
             });
         };
         let Some(replayed_command) = replayed_command else {
@@ -176,8 +184,10 @@ pub(crate) fn find_verdict<A: Source, B: Source>(
                     verdict: Verdict::ReplayedEnded(index),
                     fields: Vec::new(alloc),
                 },
-                recorded: Some(recorded_command),
-                replayed: None,
+                recorded,
+                replayed,
+                recorded_next: Some(recorded_command),
+                replayed_next: None,
             });
         };
         let pair = Pair {
@@ -192,8 +202,10 @@ pub(crate) fn find_verdict<A: Source, B: Source>(
         if let Some(found) = found {
             return Ok(Stopped {
                 found,
-                recorded: Some(recorded_command),
-                replayed: Some(replayed_command),
+                recorded,
+                replayed,
+                recorded_next: Some(recorded_command),
+                replayed_next: Some(replayed_command),
             });
         }
         index += 1;
@@ -246,20 +258,23 @@ pub fn survey_sources<A: Source, B: Source>(
         (A.coming recorded) (B.coming replayed) result }
     ensures failed { MayFailOn A.may_fail B.may_fail result }
 {
-    let mut recorded = Commands::new(alloc, version, Side::Recorded, recorded, is_strict);
-    let mut replayed = Commands::new(alloc, version, Side::Replayed, replayed, is_strict);
     let stopped = find_verdict(
         alloc,
         version,
-        &mut recorded,
-        &mut replayed,
+        recorded,
+        replayed,
         ignore_payload_equality,
+        is_strict,
         true,
     )?;
-    let recorded_at = recorded.last_command();
-    let replayed_at = replayed.last_command();
-    let recorded = recorded.finish(stopped.found.verdict.has_recorded_ended())?;
-    let replayed = replayed.finish(stopped.found.verdict.has_replayed_ended())?;
+    let recorded_at = stopped.recorded.last_command();
+    let replayed_at = stopped.replayed.last_command();
+    let recorded = stopped
+        .recorded
+        .finish(stopped.found.verdict.has_recorded_ended())?;
+    let replayed = stopped
+        .replayed
+        .finish(stopped.found.verdict.has_replayed_ended())?;
     Ok(Comparison {
         verdict: stopped.found.verdict,
         fields: stopped.found.fields,

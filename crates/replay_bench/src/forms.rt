@@ -4,18 +4,17 @@
 //! The form of a command is the canonical payload of what of it is compared. Mostly that is its own payload, which is
 //! shared. Otherwise it is decoded and encoded again: where it is not canonical, or something of it is not compared.
 
-ghost use Rattle.std.specs.Prelude.{IfOk, IfSome, IsTrue};
+ghost use Rattle.std.specs.Prelude.{IfOk, IsTrue};
 ghost use Rattle.std.specs.Option.{IsSomeAnd};
 ghost use Rattle.shared_core_codec.specs.Canonicity.{IsCanonical};
 ghost use Rattle.shared_core_message.specs.Messages.{message_schema};
-ghost use Rattle.replay_bench.specs.Forms.{ErasesNothing, HasForm, HaveForms, IsForm};
+ghost use Rattle.replay_bench.specs.Forms.{HasForm, HaveForms, IsForm};
 
-use crate::erasures::erased_form;
+use crate::erasures::{erased_form, is_compared_whole};
 use bytes::Bytes;
 use shared_core::encoding::RawMessage;
 use shared_core::messages::schema_at;
 use shared_core::version::Version;
-use shared_core_base::header::MessageType;
 use shared_core_codec::canonical::is_canonical;
 use std::alloc::{AllocError, Global};
 
@@ -76,31 +75,5 @@ fn is_canonical_command(command: &RawMessage) -> bool
     match schema_at(Version::V7, command.ty()) {
         Some(schema) => is_canonical(schema, command.payload().as_slice()),
         None => false,
-    }
-}
-
-/// Whether all of a command of this type is compared.
-fn is_compared_whole(ty: MessageType, ignore: bool) -> bool
-    ensures { IsTrue result → IfSome (message_schema ty) (ErasesNothing ignore) }
-{
-    match ty {
-        MessageType::GetLazyStateCommand
-        | MessageType::ClearStateCommand
-        | MessageType::ClearAllStateCommand
-        | MessageType::GetLazyStateKeysCommand
-        | MessageType::GetEagerStateKeysCommand
-        | MessageType::GetPromiseCommand
-        | MessageType::PeekPromiseCommand
-        | MessageType::SendSignalCommand
-        | MessageType::RunCommand
-        | MessageType::AttachInvocationCommand
-        | MessageType::GetInvocationOutputCommand => true,
-        MessageType::OutputCommand
-        | MessageType::SetStateCommand
-        | MessageType::GetEagerStateCommand
-        | MessageType::CompletePromiseCommand
-        | MessageType::CallCommand
-        | MessageType::CompleteAwakeableCommand => !ignore,
-        _ => false,
     }
 }

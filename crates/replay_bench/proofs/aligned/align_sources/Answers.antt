@@ -1,6 +1,7 @@
-use Rattle.std.proofs.Common.{ℕ, List, Option, ap, refl, subst}
-use Rattle.replay_bench.specs.Reading.{IsKnownLast}
-use Rattle.replay_bench.specs.Verdicts.{recorded_ended, recorded_seen, replayed_ended, replayed_seen, stopped_index}
+use Rattle.std.proofs.Common.{refl}
+use Rattle.std.proofs.lemmas.Result.{err_from_is_err_and}
+use Rattle.replay_bench.specs.Verdicts.{recorded_ended, replayed_ended, stopped_index}
+use Rattle.replay_bench.proofs.Endings.{returns_out_of_memory}
 use Rattle.replay_bench.proofs.Readings.{finished, on_last}
 use Rattle.replay_bench.proofs.Stops.{held_of}
 use Rattle.replay_bench.proofs.aligned.align_sources.Goals as goal
@@ -13,38 +14,36 @@ returns-clause-aligned g c =
     let replayed = c.in_ok-stopped.ensures.replayed in
     let stopped = c.in_ok-stopped.ensures.stopped in
     let other_stopped = c.in_ok-stopped.ensures.other_stopped in
-    let recorded_is = ap g.A.Source.coming c.new-recorded.ensures.source in
-    let replayed_is = ap g.B.Source.coming c.new-replayed.ensures.source in
     record {
       compared = record {
-        verdict = rw (c.new-recorded.ensures.source, c.new-replayed.ensures.source)
-            at c.in_ok-stopped.ensures.compared;
-        fields = rw (c.new-recorded.ensures.source, c.new-replayed.ensures.source)
-            at c.in_ok-stopped.ensures.fields refl;
-        recorded_survey = finished v _ c.args.is_strict _ (g.A.Source.coming c.args.recorded) _ _
-            (recorded_ended verdict) _ _ _ _ c.in_ok-recorded_held.recorded
-            recorded.noted_is c.new-recorded.ensures.strict recorded_is stopped.ended recorded.read_on
-            c.in_ok-recorded_held.ensures.survey;
-        replayed_survey = finished v _ c.args.is_strict _ (g.B.Source.coming c.args.replayed) _ _
-            (replayed_ended verdict) _ _ _ _ c.in_ok-replayed_held.replayed
-            replayed.noted_is c.new-replayed.ensures.strict replayed_is other_stopped.ended replayed.read_on
-            c.in_ok-replayed_held.ensures.survey;
-        recorded_last = subst (λ (first : Option (List ℕ)). IsKnownLast v first (recorded_seen verdict)
-            c.last_command-recorded_at.result) recorded_is
-            (on_last v _ _ _ _ _ _ _ _ _ recorded.read_on recorded.counted c.last_command-recorded_at.ensures);
-        replayed_last = subst (λ (first : Option (List ℕ)). IsKnownLast v first (replayed_seen verdict)
-            c.last_command-replayed_at.result) replayed_is
-            (on_last v _ _ _ _ _ _ _ _ _ replayed.read_on replayed.counted c.last_command-replayed_at.ensures);
+        verdict = c.in_ok-stopped.ensures.compared;
+        fields = c.in_ok-stopped.ensures.fields refl;
+        recorded_survey = finished v _ c.args.is_strict _ _ (recorded_ended verdict) _ _ _ _
+            c.in_ok-recorded_held.recorded
+            recorded.noted_is stopped.ended recorded.read_on c.in_ok-recorded_held.ensures.survey;
+        replayed_survey = finished v _ c.args.is_strict _ _ (replayed_ended verdict) _ _ _ _
+            c.in_ok-replayed_held.replayed
+            replayed.noted_is other_stopped.ended replayed.read_on c.in_ok-replayed_held.ensures.survey;
+        recorded_last = on_last v _ _ _ _ _ _ _ _ _ recorded.read_on recorded.counted
+            c.last_command-recorded_at.ensures;
+        replayed_last = on_last v _ _ _ _ _ _ _ _ _ replayed.read_on replayed.counted
+            c.last_command-replayed_at.ensures;
       };
-      recorded_held = held_of v _ c.args.is_strict _ (g.A.Source.coming c.args.recorded) _ _ (stopped_index verdict)
-          _ _ _ _ _ _ c.in_ok-recorded_held.recorded_held
-          recorded.noted_is c.new-recorded.ensures.strict recorded_is stopped recorded.read_on recorded.counted
+      recorded_held = held_of v _ c.args.is_strict _ _ (stopped_index verdict) _ _ _ _ _ _
+          c.in_ok-recorded_held.recorded_held
+          recorded.noted_is stopped recorded.read_on recorded.counted
           c.in_ok-recorded_held.ensures.held c.in_ok-recorded_held.ensures.long
           c.in_ok-recorded_held.ensures.offsets;
-      replayed_held = held_of v _ c.args.is_strict _ (g.B.Source.coming c.args.replayed) _ _ (stopped_index verdict)
-          _ _ _ _ _ _ c.in_ok-replayed_held.replayed_held
-          replayed.noted_is c.new-replayed.ensures.strict replayed_is other_stopped replayed.read_on replayed.counted
+      replayed_held = held_of v _ c.args.is_strict _ _ (stopped_index verdict) _ _ _ _ _ _
+          c.in_ok-replayed_held.replayed_held
+          replayed.noted_is other_stopped replayed.read_on replayed.counted
           c.in_ok-replayed_held.ensures.held c.in_ok-replayed_held.ensures.long
           c.in_ok-replayed_held.ensures.offsets;
       alignment = rw (c.as_slice.ensures.value, c.as_slice-2.ensures.value) at c.in_ok-alignment.ensures;
     }
+
+pub returns-in_err-alignment-clause-aligned : goal.returns-in_err-alignment-clause-aligned
+returns-in_err-alignment-clause-aligned g c =
+    let from = err_from_is_err_and c.from_residual-in_err-alignment.result
+    c.from_residual-in_err-alignment.ensures.1 in
+    rw (from.1, from.2) (returns_out_of_memory _ _ _ _)

@@ -12,7 +12,7 @@ use Rattle.replay_bench.proofs.comparison.find_verdict.Goals as goal
 
 pub returns-then-is_some-clause-compared : goal.returns-then-is_some-clause-compared
 returns-then-is_some-clause-compared g c =
-    let inv = c.loop-recorded_command.invariant in
+    let inv = c.loop-replayed.invariant in
     let none = rw (c.in_default.is, inv.version) at c.in_ok-recorded_command.ensures.taken in
     let next = rw inv.other_version at c.in_ok-replayed_command.ensures.taken in
     returns_verdict _ _ _ _ (RecordedEnded _) (ends_first _ _ _ _ _ _ _ _ _ inv.goes_on none
@@ -20,7 +20,7 @@ returns-then-is_some-clause-compared g c =
 
 pub returns-in_default-clause-compared : goal.returns-in_default-clause-compared
 returns-in_default-clause-compared g c =
-    let inv = c.loop-recorded_command.invariant in
+    let inv = c.loop-replayed.invariant in
     let none = rw (c.in_default.is, inv.version) at c.in_ok-recorded_command.ensures.taken in
     let next = rw inv.other_version at c.in_ok-replayed_command.ensures.taken in
     returns_verdict _ _ _ _ (Same _) (ends_together _ _ _ _ _ _ _ _ _ inv.goes_on none
@@ -28,7 +28,7 @@ returns-in_default-clause-compared g c =
 
 pub returns-in_default-replayed_command-clause-compared : goal.returns-in_default-replayed_command-clause-compared
 returns-in_default-replayed_command-clause-compared g c =
-    let inv = c.loop-recorded_command.invariant in
+    let inv = c.loop-replayed.invariant in
     let one = rw (c.in-Some.is, inv.version) at c.in_ok-recorded_command.ensures.taken in
     let none = rw (c.in_default-replayed_command.is, inv.other_version) at c.in_ok-replayed_command.ensures.taken in
     returns_verdict _ _ _ _ (ReplayedEnded _) (ends_replayed _ _ _ _ _ _ _ _ _ inv.goes_on one none)
@@ -36,11 +36,11 @@ returns-in_default-replayed_command-clause-compared g c =
 pub compare_commands-requires-clause-index : goal.compare_commands-requires-clause-index
 compare_commands-requires-clause-index g c =
     let shorter = rw c.in-Some.is at c.in_ok-recorded_command.ensures.shorter in
-    omega (arith, c.loop-recorded_command.invariant.held, shorter, c.in_ok-recorded_command.ensures.fits)
+    omega (arith, c.loop-replayed.invariant.held, shorter, c.in_ok-recorded_command.ensures.fits)
 
 pub returns-in_err-found-clause-compared : goal.returns-in_err-found-clause-compared
 returns-in_err-found-clause-compared g c =
-    let inv = c.loop-recorded_command.invariant in
+    let inv = c.loop-replayed.invariant in
     let one = rw (c.in-Some.is, inv.version) at c.in_ok-recorded_command.ensures.taken in
     let other = rw (c.in-Some-replayed_command.is, inv.other_version) at c.in_ok-replayed_command.ensures.taken in
     let from = err_from_is_err_and c.from_residual-in_err-found.result c.from_residual-in_err-found.ensures.1 in
@@ -48,7 +48,7 @@ returns-in_err-found-clause-compared g c =
 
 pub returns-in-Some-found-clause-compared : goal.returns-in-Some-found-clause-compared
 returns-in-Some-found-clause-compared g c =
-    let inv = c.loop-recorded_command.invariant in
+    let inv = c.loop-replayed.invariant in
     let one = rw (c.in-Some.is, inv.version) at c.in_ok-recorded_command.ensures.taken in
     let other = rw (c.in-Some-replayed_command.is, inv.other_version) at c.in_ok-replayed_command.ensures.taken in
     let found = is_found c.args.version _ _ _ _ _ _ (rw c.in-Some-found.is at c.in_ok-found.ensures) in
@@ -57,7 +57,7 @@ returns-in-Some-found-clause-compared g c =
 
 pub returns-in-Some-found-clause-fields : goal.returns-in-Some-found-clause-fields
 returns-in-Some-found-clause-fields g c is_listed =
-    let inv = c.loop-recorded_command.invariant in
+    let inv = c.loop-replayed.invariant in
     let one = rw (c.in-Some.is, inv.version) at c.in_ok-recorded_command.ensures.taken in
     let other = rw (c.in-Some-replayed_command.is, inv.other_version) at c.in_ok-replayed_command.ensures.taken in
     let found = is_found c.args.version _ _ _ _ _ _ (rw c.in-Some-found.is at c.in_ok-found.ensures) in
@@ -68,11 +68,11 @@ returns-in-Some-found-clause-fields g c is_listed =
 pub overflow_add-index : goal.overflow_add-index
 overflow_add-index g c =
     let shorter = rw c.in-Some.is at c.in_ok-recorded_command.ensures.shorter in
-    omega (arith, c.loop-recorded_command.invariant.held, shorter, c.in_ok-recorded_command.ensures.fits)
+    omega (arith, c.loop-replayed.invariant.held, shorter, c.in_ok-recorded_command.ensures.fits)
 
-pub loop-recorded_command-preserved-in_default-found : goal.loop-recorded_command-preserved-in_default-found
-loop-recorded_command-preserved-in_default-found g c =
-    let inv = c.loop-recorded_command.invariant in
+pub loop-replayed-preserved-in_default-found : goal.loop-replayed-preserved-in_default-found
+loop-replayed-preserved-in_default-found g c =
+    let inv = c.loop-replayed.invariant in
     let one = rw (c.in-Some.is, inv.version) at c.in_ok-recorded_command.ensures.taken in
     let other = rw (c.in-Some-replayed_command.is, inv.other_version) at c.in_ok-replayed_command.ensures.taken in
     let shorter = rw c.in-Some.is at c.in_ok-recorded_command.ensures.shorter in
@@ -106,9 +106,9 @@ loop-recorded_command-preserved-in_default-found g c =
       goes_on = goes_after _ _ _ _ _ _ _ _ _ _ _ inv.goes_on one other alike;
     }
 
-pub loop-recorded_command-preserved : goal.loop-recorded_command-preserved
-loop-recorded_command-preserved g c =
-    let inv = c.loop-recorded_command.invariant in
+pub loop-replayed-preserved : goal.loop-replayed-preserved
+loop-replayed-preserved g c =
+    let inv = c.loop-replayed.invariant in
     let one = rw (c.in-Some.is, inv.version) at c.in_ok-recorded_command.ensures.taken in
     let other = rw (c.in-Some-replayed_command.is, inv.other_version) at c.in_ok-replayed_command.ensures.taken in
     let shorter = rw c.in-Some.is at c.in_ok-recorded_command.ensures.shorter in
@@ -144,7 +144,7 @@ loop-recorded_command-preserved g c =
 
 pub returns-in_default-clause-recorded : goal.returns-in_default-clause-recorded
 returns-in_default-clause-recorded g c =
-    let inv = c.loop-recorded_command.invariant in
+    let inv = c.loop-replayed.invariant in
     let reads = rw (inv.same, c.in_default.is) at c.in_ok-recorded_command.ensures.read in
     let commands = rw c.in_default.is at c.in_ok-recorded_command.ensures.commands in
     record {
@@ -158,7 +158,7 @@ returns-in_default-clause-recorded g c =
 
 pub returns-then-is_some-clause-recorded : goal.returns-then-is_some-clause-recorded
 returns-then-is_some-clause-recorded g c =
-    let inv = c.loop-recorded_command.invariant in
+    let inv = c.loop-replayed.invariant in
     let reads = rw (inv.same, c.in_default.is) at c.in_ok-recorded_command.ensures.read in
     let commands = rw c.in_default.is at c.in_ok-recorded_command.ensures.commands in
     record {
@@ -172,7 +172,7 @@ returns-then-is_some-clause-recorded g c =
 
 pub returns-in_default-replayed_command-clause-recorded : goal.returns-in_default-replayed_command-clause-recorded
 returns-in_default-replayed_command-clause-recorded g c =
-    let inv = c.loop-recorded_command.invariant in
+    let inv = c.loop-replayed.invariant in
     let reads = rw (inv.same, c.in-Some.is) at c.in_ok-recorded_command.ensures.read in
     let commands = rw c.in-Some.is at c.in_ok-recorded_command.ensures.commands in
     record {
@@ -186,7 +186,7 @@ returns-in_default-replayed_command-clause-recorded g c =
 
 pub returns-in_default-replayed_command-clause-replayed : goal.returns-in_default-replayed_command-clause-replayed
 returns-in_default-replayed_command-clause-replayed g c =
-    let inv = c.loop-recorded_command.invariant in
+    let inv = c.loop-replayed.invariant in
     let reads = rw (inv.other_same, c.in_default-replayed_command.is) at c.in_ok-replayed_command.ensures.read in
     let commands = rw c.in_default-replayed_command.is at c.in_ok-replayed_command.ensures.commands in
     record {
@@ -200,7 +200,7 @@ returns-in_default-replayed_command-clause-replayed g c =
 
 pub returns-in-Some-found-clause-recorded : goal.returns-in-Some-found-clause-recorded
 returns-in-Some-found-clause-recorded g c =
-    let inv = c.loop-recorded_command.invariant in
+    let inv = c.loop-replayed.invariant in
     let reads = rw (inv.same, c.in-Some.is) at c.in_ok-recorded_command.ensures.read in
     let commands = rw c.in-Some.is at c.in_ok-recorded_command.ensures.commands in
     let found = is_found c.args.version _ _ _ _ _ _ (rw c.in-Some-found.is at c.in_ok-found.ensures) in
@@ -217,7 +217,7 @@ returns-in-Some-found-clause-recorded g c =
 
 pub returns-in-Some-found-clause-replayed : goal.returns-in-Some-found-clause-replayed
 returns-in-Some-found-clause-replayed g c =
-    let inv = c.loop-recorded_command.invariant in
+    let inv = c.loop-replayed.invariant in
     let reads = rw (inv.other_same, c.in-Some-replayed_command.is) at c.in_ok-replayed_command.ensures.read in
     let commands = rw c.in-Some-replayed_command.is at c.in_ok-replayed_command.ensures.commands in
     let found = is_found c.args.version _ _ _ _ _ _ (rw c.in-Some-found.is at c.in_ok-found.ensures) in
@@ -234,7 +234,7 @@ returns-in-Some-found-clause-replayed g c =
 
 pub returns-then-is_some-clause-replayed : goal.returns-then-is_some-clause-replayed
 returns-then-is_some-clause-replayed g c =
-    let inv = c.loop-recorded_command.invariant in
+    let inv = c.loop-replayed.invariant in
     let some = sym c.is_some.ensures ∙ c.if-is_some.true in
     let reads = rw (inv.other_same, some_where_not_none c.in_ok-replayed_command.replayed_command some)
     at c.in_ok-replayed_command.ensures.read in
@@ -250,7 +250,7 @@ returns-then-is_some-clause-replayed g c =
 
 pub returns-in_default-clause-replayed : goal.returns-in_default-clause-replayed
 returns-in_default-clause-replayed g c =
-    let inv = c.loop-recorded_command.invariant in
+    let inv = c.loop-replayed.invariant in
     let some = sym c.is_some.ensures ∙ c.if-is_some.false in
     let reads = rw (inv.other_same, none_where_not_some c.in_ok-replayed_command.replayed_command some)
     at c.in_ok-replayed_command.ensures.read in
@@ -266,26 +266,26 @@ returns-in_default-clause-replayed g c =
 
 pub returns-in_default-clause-stopped : goal.returns-in_default-clause-stopped
 returns-in_default-clause-stopped g c =
-    let inv = c.loop-recorded_command.invariant in
+    let inv = c.loop-replayed.invariant in
     let none = rw (c.in_default.is, inv.version) at c.in_ok-recorded_command.ensures.taken in
     stops_at_end c.args.version _ _ _ _ inv.after none
 
 pub returns-then-is_some-clause-stopped : goal.returns-then-is_some-clause-stopped
 returns-then-is_some-clause-stopped g c =
-    let inv = c.loop-recorded_command.invariant in
+    let inv = c.loop-replayed.invariant in
     let none = rw (c.in_default.is, inv.version) at c.in_ok-recorded_command.ensures.taken in
     stops_at_end c.args.version _ _ _ _ inv.after none
 
 pub returns-in_default-replayed_command-clause-stopped : goal.returns-in_default-replayed_command-clause-stopped
 returns-in_default-replayed_command-clause-stopped g c =
-    let inv = c.loop-recorded_command.invariant in
+    let inv = c.loop-replayed.invariant in
     let one = rw (c.in-Some.is, inv.version) at c.in_ok-recorded_command.ensures.taken in
     let command = rw c.in-Some.is at c.in_ok-recorded_command.ensures.command in
     stops_at c.args.version _ _ _ _ _ inv.after one command
 
 pub returns-in-Some-found-clause-stopped : goal.returns-in-Some-found-clause-stopped
 returns-in-Some-found-clause-stopped g c =
-    let inv = c.loop-recorded_command.invariant in
+    let inv = c.loop-replayed.invariant in
     let one = rw (c.in-Some.is, inv.version) at c.in_ok-recorded_command.ensures.taken in
     let command = rw c.in-Some.is at c.in_ok-recorded_command.ensures.command in
     let found = is_found c.args.version _ _ _ _ _ _ (rw c.in-Some-found.is at c.in_ok-found.ensures) in
@@ -295,7 +295,7 @@ returns-in-Some-found-clause-stopped g c =
 
 pub returns-in_default-clause-other_stopped : goal.returns-in_default-clause-other_stopped
 returns-in_default-clause-other_stopped g c =
-    let inv = c.loop-recorded_command.invariant in
+    let inv = c.loop-replayed.invariant in
     let some = none_where_not_some c.in_ok-replayed_command.replayed_command
     (sym c.is_some.ensures ∙ c.if-is_some.false) in
     let next = rw (inv.other_version) at c.in_ok-replayed_command.ensures.taken in
@@ -303,7 +303,7 @@ returns-in_default-clause-other_stopped g c =
 
 pub returns-then-is_some-clause-other_stopped : goal.returns-then-is_some-clause-other_stopped
 returns-then-is_some-clause-other_stopped g c =
-    let inv = c.loop-recorded_command.invariant in
+    let inv = c.loop-replayed.invariant in
     let some = some_where_not_none c.in_ok-replayed_command.replayed_command
     (sym c.is_some.ensures ∙ c.if-is_some.true) in
     let next = rw (inv.other_version) at c.in_ok-replayed_command.ensures.taken in
@@ -312,13 +312,13 @@ returns-then-is_some-clause-other_stopped g c =
 pub returns-in_default-replayed_command-clause-other_stopped :
     goal.returns-in_default-replayed_command-clause-other_stopped
 returns-in_default-replayed_command-clause-other_stopped g c =
-    let inv = c.loop-recorded_command.invariant in
+    let inv = c.loop-replayed.invariant in
     let none = rw (c.in_default-replayed_command.is, inv.other_version) at c.in_ok-replayed_command.ensures.taken in
     stops_at_end c.args.version _ _ _ _ inv.other_after none
 
 pub returns-in-Some-found-clause-other_stopped : goal.returns-in-Some-found-clause-other_stopped
 returns-in-Some-found-clause-other_stopped g c =
-    let inv = c.loop-recorded_command.invariant in
+    let inv = c.loop-replayed.invariant in
     let other = rw (c.in-Some-replayed_command.is, inv.other_version) at c.in_ok-replayed_command.ensures.taken in
     let command = rw c.in-Some-replayed_command.is at c.in_ok-replayed_command.ensures.command in
     let found = is_found c.args.version _ _ _ _ _ _ (rw c.in-Some-found.is at c.in_ok-found.ensures) in

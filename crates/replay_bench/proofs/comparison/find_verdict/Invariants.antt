@@ -7,15 +7,15 @@ use Rattle.replay_bench.proofs.Endings.{GoesOn}
 use Rattle.replay_bench.proofs.Places.{IsKnownAfter}
 use Rattle.replay_bench.proofs.comparison.find_verdict.Given as goal
 
-abbrev pub invariant-loop-recorded_command : goal.invariant-loop-recorded_command
-invariant-loop-recorded_command g l = record {
+abbrev pub invariant-loop-replayed : goal.invariant-loop-replayed
+invariant-loop-replayed g l = record {
   version : l.recorded.decoder.version ≡ l.fn.version;
   other_version : l.replayed.decoder.version ≡ l.fn.version;
   same : l.recorded.version ≡ l.fn.version;
   other_same : l.replayed.version ≡ l.fn.version;
-  read : HasRead l.fn.version l.fn.recorded.survey.is_strict (g.A.Source.coming l.fn.recorded.source)
+  read : HasRead l.fn.version l.fn.is_strict (g.A.Source.coming l.fn.recorded)
       (g.A.Source.coming l.recorded.source) l.recorded.decoder.bytes l.recorded.taken l.recorded.survey;
-  other_read : HasRead l.fn.version l.fn.replayed.survey.is_strict (g.B.Source.coming l.fn.replayed.source)
+  other_read : HasRead l.fn.version l.fn.is_strict (g.B.Source.coming l.fn.replayed)
       (g.B.Source.coming l.replayed.source) l.replayed.decoder.bytes l.replayed.taken l.replayed.survey;
   commands : l.recorded.survey.commands ≡ l.index;
   other_commands : l.replayed.survey.commands ≡ l.index;
@@ -25,19 +25,19 @@ invariant-loop-recorded_command g l = record {
   other_held : length l.replayed.decoder.bytes ≤ l.replayed.taken;
   fits : l.recorded.taken < 2 ^ 64;
   other_fits : l.replayed.taken < 2 ^ 64;
-  counted : KeepsLength (known_length 0 (g.A.Source.coming l.fn.recorded.source))
+  counted : KeepsLength (known_length 0 (g.A.Source.coming l.fn.recorded))
       (known_length l.recorded.taken (g.A.Source.coming l.recorded.source));
-  other_counted : KeepsLength (known_length 0 (g.B.Source.coming l.fn.replayed.source))
+  other_counted : KeepsLength (known_length 0 (g.B.Source.coming l.fn.replayed))
       (known_length l.replayed.taken (g.B.Source.coming l.replayed.source));
-  after : IsKnownAfter l.fn.version (g.A.Source.coming l.fn.recorded.source) l.index
+  after : IsKnownAfter l.fn.version (g.A.Source.coming l.fn.recorded) l.index
       (prepend_known l.recorded.decoder.bytes (g.A.Source.coming l.recorded.source));
-  other_after : IsKnownAfter l.fn.version (g.B.Source.coming l.fn.replayed.source) l.index
+  other_after : IsKnownAfter l.fn.version (g.B.Source.coming l.fn.replayed) l.index
       (prepend_known l.replayed.decoder.bytes (g.B.Source.coming l.replayed.source));
-  goes_on : GoesOn l.fn.version l.ignore_payload_equality (g.A.Source.coming l.fn.recorded.source)
-      (g.B.Source.coming l.fn.replayed.source) l.index
+  goes_on : GoesOn l.fn.version l.ignore_payload_equality (g.A.Source.coming l.fn.recorded)
+      (g.B.Source.coming l.fn.replayed) l.index
       (prepend_known l.recorded.decoder.bytes (g.A.Source.coming l.recorded.source))
       (prepend_known l.replayed.decoder.bytes (g.B.Source.coming l.replayed.source));
 }
 
-abbrev pub decreases-loop-recorded_command : goal.decreases-loop-recorded_command
-decreases-loop-recorded_command g l = 2 ^ 64 - l.index
+abbrev pub decreases-loop-replayed : goal.decreases-loop-replayed
+decreases-loop-replayed g l = 2 ^ 64 - l.index

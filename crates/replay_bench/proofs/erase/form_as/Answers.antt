@@ -1,6 +1,6 @@
 use Rattle.std.proofs.Common.{◌∙◌, ap}
 use Rattle.shared_core_message.specs.Messages.{message_schema}
-use Rattle.replay_bench.proofs.EqualForms.{made_form_of, malformed_of}
+use Rattle.replay_bench.proofs.EqualForms.{made_form_of}
 use Rattle.replay_bench.proofs.erase.form_as.Goals as goal
 
 pub returns-in-Ok-encode_payload : goal.returns-in-Ok-encode_payload
