@@ -62,10 +62,13 @@ fn main(rt: HostRuntime) -> Result<()> {
 
     let mut changed = Vec::new(alloc);
     change(alloc, &mut decoder, &mut changed)?;
-    println!(rt;
-        "{} bytes written, {} in no message",
-        changed.len(),
-        decoder.pending()
-    )?;
+    println!(rt; "{} bytes in no message", decoder.pending())?;
+
+    decoder.push(Bytes::from_vec(changed)?)?;
+    for item in decoder.items() {
+        if let Item::Message(message) = item? {
+            println!(rt; "written: {:?}", message.ty())?;
+        }
+    }
     Ok(())
 }

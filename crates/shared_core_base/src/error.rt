@@ -117,22 +117,31 @@ impl From<InvocationErrorCode> for u32 {
 pub mod codes {
     use super::InvocationErrorCode;
 
+    /// The request is wrong.
     pub const BAD_REQUEST: InvocationErrorCode = InvocationErrorCode(400);
 
+    /// There is no content type, or one of no supported version.
     pub const UNSUPPORTED_MEDIA_TYPE: InvocationErrorCode = InvocationErrorCode(415);
 
+    /// Something failed that has no code of its own, as an allocation.
     pub const INTERNAL: InvocationErrorCode = InvocationErrorCode(500);
 
+    /// The code does not do what the journal has.
     pub const JOURNAL_MISMATCH: InvocationErrorCode = InvocationErrorCode(570);
 
+    /// A message is malformed, missing, or of a type that may not come where it does.
     pub const PROTOCOL_VIOLATION: InvocationErrorCode = InvocationErrorCode(571);
 
+    /// Two results are awaited at once.
     pub const AWAITING_TWO_ASYNC_RESULTS: InvocationErrorCode = InvocationErrorCode(572);
 
+    /// The negotiated version lacks a feature that is used.
     pub const UNSUPPORTED_FEATURE: InvocationErrorCode = InvocationErrorCode(573);
 
+    /// A call was made on a state machine that is closed.
     pub const CLOSED: InvocationErrorCode = InvocationErrorCode(598);
 
+    /// The invocation is suspended.
     pub const SUSPENDED: InvocationErrorCode = InvocationErrorCode(599);
 }
 
