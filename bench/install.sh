@@ -8,7 +8,8 @@
 set -u
 cd "$(dirname "$0")" || exit 1
 
-packages='librust-prost-dev librust-prost-derive-dev librust-bytes-dev librust-serde-dev librust-serde-json-dev librust-base64-dev'
+packages='librust-prost-dev librust-prost-derive-dev librust-bytes-dev'
+packages="$packages librust-serde-dev librust-serde-json-dev librust-base64-dev"
 
 # not_run WHY: says why nothing is built, and ends
 not_run() {

@@ -9,7 +9,6 @@ the static library for C, which scripts/build.py builds over what is proved, and
 from __future__ import annotations
 
 import collections.abc
-import pathlib
 import subprocess
 import sys
 

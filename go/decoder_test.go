@@ -336,7 +336,8 @@ func TestMessageTooLong(t *testing.T) {
 		}
 		for i := 0; i < 2; i++ {
 			var long *MessageTooLong
-			if !errors.As(err, &long) || *long != (MessageTooLong{0, math.MaxUint32, limit, int64(whole)}) || decoder.Rest() != 0 {
+			wanted := MessageTooLong{0, math.MaxUint32, limit, int64(whole)}
+			if !errors.As(err, &long) || *long != wanted || decoder.Rest() != 0 {
 				t.Errorf("%v, with %d bytes left", err, decoder.Rest())
 			}
 			_, err = decoder.Next()

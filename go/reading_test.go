@@ -61,7 +61,8 @@ func TestJSONThatIsNotTaken(t *testing.T) {
 		t.Error(err)
 	}
 	_, err = Payload(Schemas, []byte("{}"))
-	wantError(t, err, ErrUnknown, fmt.Sprintf("pendratsoa: Payload: schema %d: unknown, or not of the kind that the call is for", Schemas))
+	about := fmt.Sprintf("pendratsoa: Payload: schema %d: unknown, or not of the kind that the call is for", Schemas)
+	wantError(t, err, ErrUnknown, about)
 	for _, kind := range []uint64{9, 1 << 63} {
 		if _, err := readingOf([]uint64{kind, 0}, nil); !errors.Is(err, ErrUnexpected) {
 			t.Errorf("kind %d: %v", kind, err)

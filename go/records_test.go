@@ -139,7 +139,8 @@ func TestTextsAreCopies(t *testing.T) {
 	}
 	// the next record has texts of its own
 	var next Failure
-	if err := next.UnmarshalBinary([]byte{0x12, 0x81, 0, 'm'}); err != nil || next.Message != "m" || found.HandlerName != "greet" {
+	err := next.UnmarshalBinary([]byte{0x12, 0x81, 0, 'm'})
+	if err != nil || next.Message != "m" || found.HandlerName != "greet" {
 		t.Errorf("%+v, %v", next, err)
 	}
 }

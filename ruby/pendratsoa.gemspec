@@ -6,7 +6,8 @@ Gem::Specification.new do |spec|
   spec.name = "pendratsoa"
   spec.version = Pendratsoa::VERSION
   spec.summary = "The journal protocol of the Restate SDKs"
-  spec.description = "The journal protocol of the Restate SDKs, by the calls of Pendratsoa's shared library, over Fiddle."
+  spec.description = "The journal protocol of the Restate SDKs, by the calls of Pendratsoa's shared library, " \
+                     "over Fiddle."
   spec.authors = ["Pendratsoa maintainers"]
   spec.license = "MIT"
   spec.required_ruby_version = ">= 3.1"
@@ -19,6 +20,7 @@ Gem::Specification.new do |spec|
     spec.extensions = ["ext/pendratsoa/extconf.rb"]
   end
   # a release has the licences too
-  spec.files = Dir["lib/**/*.{rb,so}", "ext/**/*.{rb,c,h}", "sig/*.rbs", "README.md", "LICENSE", "LINKED.txt", base: __dir__].sort
+  pages = %w[README.md LICENSE LINKED.txt]
+  spec.files = Dir["lib/**/*.{rb,so}", "ext/**/*.{rb,c,h}", "sig/*.rbs", *pages, base: __dir__].sort
   spec.metadata["rubygems_mfa_required"] = "true"
 end

@@ -24,7 +24,9 @@ usage() {
 command=${1---help}
 [ $# -eq 0 ] || shift
 case $command in
-  speed | programs | journals | messages | languages | agree | vectors) exec sh "$(dirname "$0")/../bench/$command.sh" "$@" ;;
+  speed | programs | journals | messages | languages | agree | vectors)
+    exec sh "$(dirname "$0")/../bench/$command.sh" "$@"
+    ;;
   aligned) exec python3 "$(dirname "$0")/../bench/aligned.py" "$@" ;;
   --help) usage ;;
   *)

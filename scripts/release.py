@@ -169,7 +169,9 @@ def wheel(release: Release, machine: Machine) -> None:
     folder = release.copy("python", f"python-{machine.name}")
     # older tags than this one are names of their own
     minor = max(17, int(machine.glibc(library).split(".")[1]))
-    compiler = {"CC": f"{machine.tools}gcc", "CFLAGS": f"-I{cpython_headers(release, machine)}"} if machine.tools else {}
+    compiler = (
+        {"CC": f"{machine.tools}gcc", "CFLAGS": f"-I{cpython_headers(release, machine)}"} if machine.tools else {}
+    )
     words = ("scripts/python.sh", folder, library, f"manylinux_2_{minor}_{machine.name}")
     run("sh", *words, PYTHONDONTWRITEBYTECODE="1", **compiler)
     made = list(folder.glob("dist/*.whl"))

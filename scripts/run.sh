@@ -61,7 +61,8 @@ fi
 program=$(sh "$top/scripts/program.sh" $how "$crate") || exit 2
 case $program in
   */unproved/*)
-    echo 'run.sh: built without the proofs: it checks each access, and is hundreds of times slower than with --proved' >&2
+    echo 'run.sh: built without the proofs: it checks each access, and is hundreds of times slower than with --proved' \
+      >&2
     ;;
 esac
 exec "$program" "$@"

@@ -223,7 +223,8 @@ class Adoption:
             self.code(message, other)
         if self.version() == LAST_FLAT:
             self.person(
-                f"their {SUSPENSION} has the three lists alone, as it is before version {LAST_FLAT + 1}: streams with it "
+                f"their {SUSPENSION} has the three lists alone, as it is before "
+                f"version {LAST_FLAT + 1}: streams with it "
                 f"are dumped with --protocol 5 or {LAST_FLAT}"
             )
         self.enums()
@@ -578,7 +579,9 @@ class Adoption:
 
     def further_enum(self, name, other):
         """An enum that only they have, which is added if a field here holds it."""
-        row = self.say(name, "", f"an enum of {', '.join(f'{number} {value}' for value, number, _ in other.values)}", THEIRS)
+        row = self.say(
+            name, "", f"an enum of {', '.join(f'{number} {value}' for value, number, _ in other.values)}", THEIRS
+        )
         kept, seen = [], set()
         for value, number, _ in other.values:
             if number >= 0 and number not in seen:
@@ -842,7 +845,11 @@ def add_line(out, name, alike, line):
     place.write_text(text.replace(lines, lines + line, 1), encoding="utf-8")
     for page in (out / "docs").glob("*.md"):
         said = page.read_text(encoding="utf-8")
-        counted = [row for row in re.findall(rf"^    {name}, \d+: .*$", said, re.M) if heading.startswith(row.split(": ", 1)[1])]
+        counted = [
+            row
+            for row in re.findall(rf"^    {name}, \d+: .*$", said, re.M)
+            if heading.startswith(row.split(": ", 1)[1])
+        ]
         for row in counted:
             said = said.replace(row, re.sub(r"\d+", str(lines.count("\n") + 1), row, count=1))
         page.write_text(said, encoding="utf-8")
@@ -864,7 +871,10 @@ def adopt_vectors(out, renumbering):
     found.write_text(renumbering.found(found.read_text(encoding="utf-8")), encoding="utf-8")
     for page in (out / "docs").glob("*.md"):
         lines = page.read_text(encoding="utf-8").split("\n")
-        page.write_text("\n".join(line.replace(line.strip(), changed.get(line.strip(), line.strip())) for line in lines), encoding="utf-8")
+        page.write_text(
+            "\n".join(line.replace(line.strip(), changed.get(line.strip(), line.strip())) for line in lines),
+            encoding="utf-8",
+        )
     return len(changed)
 
 
@@ -1185,7 +1195,7 @@ Next, in {out}:
   sh scripts/run.sh journal dump {stream:14} a stream of theirs; without proofs it is slow
   sh scripts/check.sh conformance generated     the test vectors have these numbers, and all that repeats them
   sh scripts/check.sh table                     what hand-written tables do not say yet (new fields of commands)
-  sh scripts/test.sh --quick                    the tests that say lengths, orders or numbers of before; docs/CHANGING.md
+  sh scripts/test.sh --quick                    the tests that say lengths, orders or numbers of before; CHANGING.md
   rt all check                                  proves the library for these numbers, or says where not, in hours
   sh scripts/install.sh DIR                     installs the proved programs"""
 

@@ -176,7 +176,10 @@ def told():
         os.dup2(os.open(os.devnull, os.O_WRONLY), sys.stdout.fileno())
         return 1
     except subprocess.CalledProcessError as ended:
-        refuse(f"{ended}\n{(ended.stderr or b'').decode(errors='replace') if isinstance(ended.stderr, bytes) else ended.stderr or ''}".strip())
+        said = ended.stderr or ""
+        if isinstance(said, bytes):
+            said = said.decode(errors="replace")
+        refuse(f"{ended}\n{said}".strip())
 
 
 if __name__ == "__main__":

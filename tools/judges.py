@@ -46,7 +46,11 @@ def frames():
     for line in (ROOT / "conformance" / "frames.txt").read_text(encoding="utf-8").splitlines():
         if match := re.match(r"frame (\w+) 5 - = ([0-9a-f]{4})", line):
             codes.add(f"{match[2]} {match[1]}")
-    same("the codes of conformance/frames.txt", {f"{message.code:04x} {message.type_name()}" for message in typed()}, codes)
+    same(
+        "the codes of conformance/frames.txt",
+        {f"{message.code:04x} {message.type_name()}" for message in typed()},
+        codes,
+    )
     names = {message.name for message in messages()}
     same("the messages and the record lines of conformance", names, of_kind["record"])
     same("the messages and the payload lines of conformance", names, of_kind["payload"])
@@ -75,7 +79,9 @@ def compared():
         if never:
             lines["never compared"].append((command, " ".join(sorted(never))))
     hand = {
-        "never compared": [(command, " ".join(sorted(fields.split()))) for command, fields in comparisons.NEVER_COMPARED.items()],
+        "never compared": [
+            (command, " ".join(sorted(fields.split()))) for command, fields in comparisons.NEVER_COMPARED.items()
+        ],
         "a payload": [(command, *field) for command, field in comparisons.PAYLOADS.items()],
         "printed": list(comparisons.PRINTED.items()),
     }
@@ -87,8 +93,14 @@ def compared():
 
 def rules():
     """The version from which on the peer's rules have another record for suspensions."""
-    found = re.findall(r"^const TREES: u32 = (\d+);$", (ROOT / "bench" / "src" / "rules.rs").read_text(encoding="utf-8"), re.M)
-    same("the version of suspensions in bench/src/rules.rs", {message.before_version for message, _ in earlier()}, map(int, found))
+    found = re.findall(
+        r"^const TREES: u32 = (\d+);$", (ROOT / "bench" / "src" / "rules.rs").read_text(encoding="utf-8"), re.M
+    )
+    same(
+        "the version of suspensions in bench/src/rules.rs",
+        {message.before_version for message, _ in earlier()},
+        map(int, found),
+    )
 
 
 def main():

@@ -28,7 +28,17 @@ sys.dont_write_bytecode = True
 
 from generators import ROOT  # noqa: E402
 from generators.commands import name_number  # noqa: E402
-from generators.proto import COMMANDS, HAND_WRITTEN, NOTIFICATIONS, PROTO, TEMPLATE, fields_of, messages, of_text, schemas  # noqa: E402
+from generators.proto import (
+    COMMANDS,
+    HAND_WRITTEN,
+    NOTIFICATIONS,
+    PROTO,
+    TEMPLATE,
+    fields_of,
+    messages,
+    of_text,
+    schemas,
+)  # noqa: E402
 
 # The type that stays: its code is the last one of notifications.
 LAST_TYPE = "SignalNotificationMessage"
@@ -72,7 +82,9 @@ def field_numbers(draw, found):
     template = next(message for message in found if message.name == TEMPLATE)
     common = permuted(draw, numbers_of(template))
     name = name_number()
-    other_name = any_number(draw, {number for message in found if message.is_command() for number in numbers_of(message)})
+    other_name = any_number(
+        draw, {number for message in found if message.is_command() for number in numbers_of(message)}
+    )
     lines = {}
     for message in found:
         if is_kept(message) or message.name in HAND_WRITTEN:
@@ -130,9 +142,13 @@ def with_numbers(text, found, numbers, codes, places):
         for at in range(message.line, len(lines)):
             if lines[at] == "}":
                 break
-            lines[at] = re.sub(r"(option \(schema\) = )\d+", lambda match: f"{match[1]}{places[message.schema]}", lines[at])
             lines[at] = re.sub(
-                r"(option \(code\) = )\w+", lambda match: f"{match[1]}0x{codes.get(message.code, message.code):04X}", lines[at]
+                r"(option \(schema\) = )\d+", lambda match: f"{match[1]}{places[message.schema]}", lines[at]
+            )
+            lines[at] = re.sub(
+                r"(option \(code\) = )\w+",
+                lambda match: f"{match[1]}0x{codes.get(message.code, message.code):04X}",
+                lines[at],
             )
         for field in fields_of(message):
             new = numbers.get(field.line, field.number)
@@ -151,7 +167,9 @@ def main():
     if len(seeds) > 1 or not all(seed.isdecimal() for seed in seeds):
         refuse("tools/permute.py [--force] [SEED], where SEED is a number")
     seed = int(seeds[0]) if seeds else 1
-    status = subprocess.run(["git", "-C", ROOT, "status", "--porcelain"], check=True, capture_output=True, text=True).stdout
+    status = subprocess.run(
+        ["git", "-C", ROOT, "status", "--porcelain"], check=True, capture_output=True, text=True
+    ).stdout
     if status and "--force" not in words:
         refuse("there are changes that are not committed: run it in a clean clone, or with --force")
     draw = random.Random(seed)
@@ -169,7 +187,8 @@ def main():
     kept = ", ".join(message.name for message in found if is_kept(message))
     print(
         f"seed {seed}: {sum(number != old[line] for line, number in numbers.items())} of {len(old)} fields and "
-        f"{sum(code != new for code, new in codes.items())} of {len({message.code for message in found} - {None})} codes have "
+        f"{sum(code != new for code, new in codes.items())} of "
+        f"{len({message.code for message in found} - {None})} codes have "
         f"another number; not those of {kept}"
     )
     print("python3 tools/generate.py writes all that repeats them")

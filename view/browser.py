@@ -170,7 +170,10 @@ class Browser:
 
     def click_on(self, expression):
         """Scrolls an element into sight, and clicks in its middle."""
-        box = f"(() => {{ const node = {expression}; node.scrollIntoView({{ block: 'nearest' }}); return node.getBoundingClientRect().toJSON(); }})()"
+        box = (
+            f"(() => {{ const node = {expression}; node.scrollIntoView({{ block: 'nearest' }}); "
+            "return node.getBoundingClientRect().toJSON(); })()"
+        )
         place = self.evaluate(box)
         self.click(place["left"] + place["width"] / 2, place["top"] + place["height"] / 2)
 

@@ -60,12 +60,16 @@ def parse_arguments(words):
     parser = argparse.ArgumentParser(
         prog="run.sh journal view",
         description="Writes a page that shows one journal, or two side by side. A journal is a stream, or its dump.",
-        formatter_class=lambda prog: argparse.HelpFormatter(prog, width=min(79, shutil.get_terminal_size().columns - 1)),
+        formatter_class=lambda prog: argparse.HelpFormatter(
+            prog, width=min(79, shutil.get_terminal_size().columns - 1)
+        ),
     )
     parser.add_argument("stream", metavar="STREAM", help="a journal; with OTHER the recorded one; - is the input")
     parser.add_argument("other", metavar="OTHER", nargs="?", help="the replayed journal")
     parser.add_argument("-o", "--output", metavar="FILE", default="journal.html", help="the page; - is the output")
-    parser.add_argument("--protocol", type=int, default=8, metavar="N", help="the version of the protocol, 8 by default")
+    parser.add_argument(
+        "--protocol", type=int, default=8, metavar="N", help="the version of the protocol, 8 by default"
+    )
     parser.add_argument("--ignore-payloads", action="store_true", help="payloads of user data are not compared")
     parser.add_argument(
         "--items", type=int, default=ITEMS, metavar="N", help=f"how many items the page shows, {ITEMS:,} by default"

@@ -94,7 +94,9 @@ def measured(page):
         heap = browser.call("Runtime.getHeapUsage")["usedSize"] / 1e6
         memory = resident(browser)
         key, _ = spent(browser, lambda: browser.press(*"j" * KEYS))
-        draw, _ = spent(browser, lambda: browser.evaluate(f"for (let count = 0; count < {DRAWINGS}; count++) drawNow();"))
+        draw, _ = spent(
+            browser, lambda: browser.evaluate(f"for (let count = 0; count < {DRAWINGS}; count++) drawNow();")
+        )
         text, _ = spent(browser, lambda: search(browser, "77"))
         return [f"{seconds:.1f} s", f"{processor:.1f} s", f"{heap:.0f} MB", f"{memory:.0f} MB",
                 f"{1000 * key / KEYS:.0f} ms", f"{1000 * draw / DRAWINGS:.0f} ms", f"{text:.1f} s"]  # fmt: skip

@@ -15,7 +15,10 @@ from pendratsoa import COMPILED, messages  # noqa: E402
 
 READS = {
     "SetStateCommandMessage": (lambda one: (one.key, one.value.content), lambda one: (one.key, one.value.content)),
-    "CallCommandMessage": (lambda one: (one.service_name, one.parameter), lambda one: (one.service_name, one.parameter)),
+    "CallCommandMessage": (
+        lambda one: (one.service_name, one.parameter),
+        lambda one: (one.service_name, one.parameter),
+    ),
     "CallCompletionNotificationMessage": (
         lambda one: (one.completion_id, one.result.content),
         lambda one: (one.completion_id, one.value.content),

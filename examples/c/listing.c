@@ -131,7 +131,8 @@ static int64_t code_of(const char *name) {
 }
 
 /* Prints the line of an item. Returns 0, or an error. */
-static int64_t print_item(uint32_t version, const uint8_t *bytes, const struct journal_item *item, struct buffer *buffer) {
+static int64_t print_item(uint32_t version, const uint8_t *bytes, const struct journal_item *item,
+                          struct buffer *buffer) {
     const uint8_t *payload = bytes + item->payload;
     size_t length = (size_t)(item->size - item->payload);
     uint16_t code = (uint16_t)item->code;

@@ -82,7 +82,8 @@ test('headers', () => {
 test('frames before and from version 7 on', () => {
   const payload = hex('22120a010122080a010222030a010122030a0103');
   assert.deepEqual(pendratsoa.frame(6, SUSPENSION, payload), hex('00010000000000060a0401020103'));
-  assert.deepEqual(pendratsoa.frame(7, SUSPENSION, payload), joined(pendratsoa.header(7, SUSPENSION, payload.length), payload));
+  const header = pendratsoa.header(7, SUSPENSION, payload.length);
+  assert.deepEqual(pendratsoa.frame(7, SUSPENSION, payload), joined(header, payload));
 });
 
 test('payloads by the number and the name of a schema', () => {

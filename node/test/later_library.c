@@ -36,7 +36,8 @@ int64_t journal_type_code(const uint8_t *name, size_t name_length) {
 }
 
 /* Eight bytes are an item of the kind that the first of them is. */
-int64_t journal_next(uint32_t version, const uint8_t *bytes, size_t length, struct journal_item *item, size_t item_room) {
+int64_t journal_next(uint32_t version, const uint8_t *bytes, size_t length, struct journal_item *item,
+                     size_t item_room) {
     (void)version;
     if (item_room < JOURNAL_ITEM_NUMBERS) {
         return JOURNAL_NO_ROOM;

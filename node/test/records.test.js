@@ -56,7 +56,8 @@ test('presence', () => {
     assert.deepEqual(readRecord('SignalNotificationMessage', payload).signalId, signalId);
   }
   const sleep = { wakeUpTime: (1n << 64n) - 1n };
-  assert.equal(readRecord('SleepCommandMessage', writeRecord('SleepCommandMessage', sleep)).wakeUpTime, sleep.wakeUpTime);
+  const read = readRecord('SleepCommandMessage', writeRecord('SleepCommandMessage', sleep));
+  assert.equal(read.wakeUpTime, sleep.wakeUpTime);
 });
 
 test('another encoding, and many fields', () => {

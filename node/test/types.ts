@@ -57,7 +57,8 @@ export function described(item: Item): string {
       const length: number = item.bytes.length + item.frameInto(new Uint8Array(20), 9);
       // @ts-expect-error it cannot be changed
       item.payload = bytes;
-      return `${type} ${item.schema + item.payload.length} ${item.requiresAck} ${json} ${item.frame().length} ${word} ${length}`;
+      const read = `${type} ${item.schema + item.payload.length} ${item.requiresAck} ${json}`;
+      return `${read} ${item.frame().length} ${word} ${length}`;
     }
     case 'unknownCode':
       // @ts-expect-error it has no payload

@@ -14,7 +14,11 @@ BUNDLED = pathlib.Path(__file__).with_name("libpendratsoa.so")
 SONAME = "libpendratsoa.so.0"
 
 # what each word of a call's parameters is for ctypes
-_TYPES: Dict[str, List[Any]] = {"u16": [ctypes.c_uint16], "u32": [ctypes.c_uint32], "slice": [ctypes.c_void_p, ctypes.c_size_t]}
+_TYPES: Dict[str, List[Any]] = {
+    "u16": [ctypes.c_uint16],
+    "u32": [ctypes.c_uint32],
+    "slice": [ctypes.c_void_p, ctypes.c_size_t],
+}
 
 PARAMETERS = {name: [type_ for word in words for type_ in _TYPES[word]] for name, words in CALLS.items()}
 

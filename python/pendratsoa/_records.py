@@ -8,7 +8,8 @@ import functools
 import threading
 from array import array
 from enum import IntEnum
-from typing import TYPE_CHECKING, Any, Callable, ClassVar, Dict, List, NamedTuple, NoReturn, Optional, Tuple, Type, TypeVar
+from typing import TYPE_CHECKING, Any, Callable, ClassVar, Dict, List, NamedTuple
+from typing import NoReturn, Optional, Tuple, Type, TypeVar
 
 from . import _calls
 from ._declared import FIELD_NUMBERS as NUMBERS

@@ -102,7 +102,8 @@ class TestFrames(unittest.TestCase):
                 self.assertEqual(message.message.frame(version), frame)
         text = "^frame: there is no SuspensionMessageV6 at version 8$"
         self.assertRaisesRegex(Unknown, text, Message(6, 1, b"").frame, 8)
-        self.assertRaisesRegex(TypeError, "^append_frame: out must be a bytearray", Message(6, 1, b"").append_frame, b"")
+        text = "^append_frame: out must be a bytearray"
+        self.assertRaisesRegex(TypeError, text, Message(6, 1, b"").append_frame, b"")
 
     def test_a_destination(self):
         message = Message.of("InputCommand", INPUT[8:])
@@ -185,7 +186,8 @@ class TestAsync(unittest.IsolatedAsyncioTestCase):
         items = Stream().read_async(reader, strict=True)
         reader.feed_data(INPUT + INPUT[:5])
         self.assertEqual(str(await items.__anext__()), f"InputCommand {INPUT_LENGTH}")
-        self.assertEqual(await asyncio.wait([asyncio.ensure_future(items.__anext__())], timeout=0.01), (set(), mock.ANY))
+        waiting = asyncio.ensure_future(items.__anext__())
+        self.assertEqual(await asyncio.wait([waiting], timeout=0.01), (set(), mock.ANY))
 
     async def test_strict(self):
         reader = asyncio.StreamReader()

@@ -63,8 +63,8 @@ class TestArguments(unittest.TestCase):
     def test_every_kind_in_every_place(self):
         for call in FUNCTIONS:
             names = [name for name in inspect.signature(call).parameters if name != "ignore_payloads"]
-            good = {"version": 8, "code": 0x0400, "schema": 13, "name": "SleepCommand", "payload_length": 0, "json": "{}"}
-            good = {name: good.get(name, b"") for name in names}
+            known = {"version": 8, "code": 0x0400, "schema": 13, "name": "SleepCommand", "payload_length": 0}
+            good = {name: {**known, "json": "{}"}.get(name, b"") for name in names}
             refused = 0
             for name, value in itertools.product(names, values()):
                 refused += self.tried(call, **{**good, name: value})

@@ -83,7 +83,8 @@ class TestDecoding(unittest.TestCase):
 
     def test_another_encoding(self):
         self.assertEqual(Value.decode(b"\n\x81\x00x"), Value(b"x"))
-        self.assertEqual(SuspensionMessageV6.decode(bytearray(b"\x08\x01\n\x02\x02\x03")).waiting_completions, (1, 2, 3))
+        suspension = SuspensionMessageV6.decode(bytearray(b"\x08\x01\n\x02\x02\x03"))
+        self.assertEqual(suspension.waiting_completions, (1, 2, 3))
         self.assertEqual(SetStateCommandMessage.decode(memoryview(b"")), SetStateCommandMessage())
 
     def test_what_is_malformed(self):
@@ -102,7 +103,8 @@ class TestDecoding(unittest.TestCase):
             return 1
 
         with replaced("journal_fields", one_field):
-            self.assertRaisesRegex(JournalError, "the field 0 of Value, which this module does not know", Value.decode, b"")
+            text = "the field 0 of Value, which this module does not know"
+            self.assertRaisesRegex(JournalError, text, Value.decode, b"")
 
         def of_another_kind(*parameters):
             (ctypes.c_uint64 * 2).from_address(parameters[5])[:] = 10, 0
@@ -158,7 +160,8 @@ class TestValues(unittest.TestCase):
         for signal in (None, 0, 5, "", "name"):
             record = SignalNotificationMessage(signal_id=signal, result=Void())
             self.assertEqual(SignalNotificationMessage.decode(record.encode()), record)
-        for result in (None, b"", b"bytes", Failure(), Failure(code=500, message="text", metadata=(FailureMetadata(key="a", value="b"),))):
+        metadata = (FailureMetadata(key="a", value="b"),)
+        for result in (None, b"", b"bytes", Failure(), Failure(code=500, message="text", metadata=metadata)):
             record = ProposeRunCompletionMessage(result=result)
             self.assertEqual(ProposeRunCompletionMessage.decode(record.encode()), record)
 

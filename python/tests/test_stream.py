@@ -11,7 +11,8 @@ import unittest
 from unittest import mock
 
 from pendratsoa import JournalError, Malformed, Message, Skipped, Stream, TooLong, UnknownCode, canonical
-from support import CALL_COMMAND, INPUT, INPUT_COMMAND, INPUT_LENGTH, RECORDED, STREAM, UNKNOWN_WORD, replaced, returning
+from support import CALL_COMMAND, INPUT, INPUT_COMMAND, INPUT_LENGTH, RECORDED, STREAM, UNKNOWN_WORD
+from support import replaced, returning
 
 EXPECTED = [Message(8, INPUT_COMMAND, INPUT[8:], False), UnknownCode(8, 8, UNKNOWN_WORD)]
 

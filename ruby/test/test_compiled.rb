@@ -14,7 +14,9 @@ class TestCompiled < Minitest::Test
   SAMPLES = [
     Void.new,
     SetStateCommandMessage.new(key: "counter", value: Value.new(content: "1"), name: "text"),
-    CallCommandMessage.new(service_name: "a", headers: [Header.new(key: "k", value: "\u00e9")] * 70, idempotency_key: LONG),
+    CallCommandMessage.new(
+      service_name: "a", headers: [Header.new(key: "k", value: "\u00e9")] * 70, idempotency_key: LONG
+    ),
     ErrorMessage.new(code: 5, message: "text", behavior: -7, next_retry_delay: 1 << 63),
     ErrorMessage.new(behavior: :PAUSE),
     Future.new(waiting_completions: [1, 2], waiting_named_signals: %w[a b], nested_futures: [Future.new] * 2),
@@ -63,7 +65,8 @@ class TestCompiled < Minitest::Test
   end
 
   def test_payloads
-    [unhex("0a0178"), +"\n\u0001x", "\n\x81\x00x", unhex("0a"), "text", nil, 5, "\n\u0001x".encode("UTF-16LE")].each do |payload|
+    payloads = [unhex("0a0178"), +"\n\u0001x", "\n\x81\x00x", unhex("0a"), "text", nil, 5]
+    [*payloads, "\n\u0001x".encode("UTF-16LE")].each do |payload|
       assert_equal ends { Value.send(:decode_in_ruby, payload) }, ends { Value.decode(payload) }
     end
     payload = +"\n\x01x"
@@ -88,7 +91,8 @@ class TestCompiled < Minitest::Test
     [["1", "false"], ["", COMPILED.to_s]].each do |value, wanted|
       next if value.empty? && !ENV.fetch("PENDRATSOA_PURE", "").empty?
 
-      words = RbConfig.ruby, "-w", "-I", File.expand_path("../lib", __dir__), "-rpendratsoa", "-e", "print Pendratsoa::COMPILED"
+      library = File.expand_path("../lib", __dir__)
+      words = RbConfig.ruby, "-w", "-I", library, "-rpendratsoa", "-e", "print Pendratsoa::COMPILED"
       output, = Open3.capture2e({ "PENDRATSOA_PURE" => value }, *words)
       assert_equal wanted, output
     end

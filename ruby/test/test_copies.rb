@@ -91,7 +91,8 @@ class TestCopies < Minitest::Test
     assert_equal 1, assert_error(Pendratsoa::Incomplete, text) { stream.feed("x").finish }.rest
     items = Pendratsoa::Stream.read(StringIO.new(INPUT + INPUT[0, 5]), strict: true)
     assert_equal "InputCommand 9", items.next.to_s
-    error = assert_error(Pendratsoa::Incomplete, "read: the stream ended within an item, after 5 bytes of it") { items.next }
+    text = "read: the stream ended within an item, after 5 bytes of it"
+    error = assert_error(Pendratsoa::Incomplete, text) { items.next }
     assert_equal ["read", 5], [error.call, error.rest]
   end
 

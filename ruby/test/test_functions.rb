@@ -136,7 +136,8 @@ class TestPayloads < Minitest::Test
   def test_frames
     payload = unhex("22120a010122080a010222030a010122030a0103")
     assert_equal unhex("00010000000000060a0401020103"), Pendratsoa.frame(6, CODES[:suspension], payload)
-    assert_equal Pendratsoa.header(7, CODES[:suspension], payload.bytesize) + payload, Pendratsoa.frame(7, CODES[:suspension], payload)
+    header = Pendratsoa.header(7, CODES[:suspension], payload.bytesize)
+    assert_equal header + payload, Pendratsoa.frame(7, CODES[:suspension], payload)
   end
 
   def test_lengths_of_a_header

@@ -18,7 +18,8 @@ class TestRecords < Minitest::Test
   end
 
   def test_each_schema
-    assert_equal Pendratsoa::SCHEMA_NAMES, (Pendratsoa::RECORDS.map { |record| record.name.delete_prefix("Pendratsoa::") })
+    names = Pendratsoa::RECORDS.map { |record| record.name.delete_prefix("Pendratsoa::") }
+    assert_equal Pendratsoa::SCHEMA_NAMES, names
     assert_equal (0...Pendratsoa::SCHEMAS).to_a, Pendratsoa::RECORDS.map { |record| record::SCHEMA }
     Pendratsoa::RECORDS.each { |record| assert_equal record.new, record.decode("") }
     set_state = Pendratsoa::SetStateCommandMessage
@@ -94,7 +95,8 @@ class TestRecords < Minitest::Test
       Pendratsoa::Value.new(content: 1) => "content must be a String, not Integer",
       Pendratsoa::InputCommandMessage.new(headers: [5]) => "headers[0] must be Pendratsoa::Header, not Integer",
       Pendratsoa::OutputCommandMessage.new(result: 5) => "result must be one of Value, Failure, not Integer",
-      Pendratsoa::ErrorMessage.new(behavior: :NONE) => "behavior must be a name of ErrorBehavior or an Integer, not Symbol"
+      Pendratsoa::ErrorMessage.new(behavior: :NONE) =>
+        "behavior must be a name of ErrorBehavior or an Integer, not Symbol"
     }.each { |record, text| assert_error(TypeError, "encode: #{text}") { record.encode } }
   end
 end

@@ -46,7 +46,10 @@ class TestSignatures < Minitest::Test
 
   # The public methods that are declared in this gem.
   def names(definition)
-    definition.methods.select { |_, method| method.public? && ours?(method.implemented_in || method.defined_in) }.keys.sort
+    found = definition.methods.select do |_, method|
+      method.public? && ours?(method.implemented_in || method.defined_in)
+    end
+    found.keys.sort
   end
 
   def ours?(name)

@@ -3,8 +3,8 @@
 # constants, an example, the test vectors and adversarial calls.
 #
 # scripts/install.sh --target builds them over the libraries that rt ci or rt lib has proved, and proves the crates of
-# the programs for that processor, in some eight processor minutes; of the proof of journal_ffi it takes what scripts/build.py has kept for
-# x86-64.
+# the programs for that processor, in some eight processor minutes; of the proof of journal_ffi it takes what
+# scripts/build.py has kept for x86-64.
 set -u
 cd "$(dirname "$0")/../.." || exit 1
 . scripts/checks/lib.sh

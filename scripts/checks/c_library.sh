@@ -89,8 +89,10 @@ later_library() {
 
 # message_example LIBRARY..: the example of the structs, with each library
 message_example() {
-  printf '\004\003\000\000\000\000\000\016\012\007counter\032\003\012\0011\000\003\000\000\000\000\000\000x' > "$work/stream"
-  printf '\004\003\000\000\000\000\000\017\012\007counter\032\004\012\00212\000\003\000\000\000\000\000\000x' > "$work/wanted"
+  # a state that is set, an end, and a byte that is no item
+  printf '\004\003\000\000\000\000\000\016\012\007counter\032\003\012\0011' > "$work/stream"
+  printf '\004\003\000\000\000\000\000\017\012\007counter\032\004\012\00212' > "$work/wanted"
+  printf '\000\003\000\000\000\000\000\000x' | tee -a "$work/stream" >> "$work/wanted"
   for library in "$@"; do
     compiled "examples/c/messages.c with ${library##*/}" -std=c99 -Wpedantic -Wconversion examples/c/messages.c \
       "$library" -o "$work/messages"

@@ -25,7 +25,9 @@ def together(*patterns: str) -> str:
     return "".join(read(file) for file in files)
 
 
-def lacking(check: checks.Check, name: str, wanted: collections.abc.Iterable[str], found: collections.abc.Container[str]) -> None:
+def lacking(
+    check: checks.Check, name: str, wanted: collections.abc.Iterable[str], found: collections.abc.Container[str]
+) -> None:
     """Counts a case, which is right where none of the wanted ones is absent."""
     listed = list(wanted)
     absent = [one for one in listed if one not in found]
@@ -34,9 +36,11 @@ def lacking(check: checks.Check, name: str, wanted: collections.abc.Iterable[str
 
 # Where the last version is said by hand, and the pages and comments that say the range.
 VERSIONS = ("rust/src/lib.rs", "tools/generators/record_vectors.py", "tests/vectors/cases.rt.in")
-RANGES = ("README.md", "conformance/*.md", "conformance/*.txt", "bench/README.md", "bench/src/*.rs", "docs/*.md", "include/*.h",
-          "examples/*/*.c", "examples/*/*.py", "python/**/*.md", "python/**/*.py", "rust/src/**/*.rs", "crates/*/src/**/*.rt",
-          "crates/*/specs/*.antt")
+RANGES = (
+    *("README.md", "conformance/*.md", "conformance/*.txt", "bench/README.md", "bench/src/*.rs", "docs/*.md"),
+    *("include/*.h", "examples/*/*.c", "examples/*/*.py", "python/**/*.md", "python/**/*.py", "rust/src/**/*.rs"),
+    *("crates/*/src/**/*.rt", "crates/*/specs/*.antt"),
+)
 
 
 def versions(check: checks.Check) -> None:
@@ -59,9 +63,13 @@ def calls(check: checks.Check) -> None:
     in_go = {call.symbol(): calls_data.camel(call.symbol(), False) for call in calls_data.calls()}
     uses = {
         "python/pendratsoa": re.findall(r"\blibrary\.(journal_\w+)", together("python/pendratsoa/*.py")),
-        "ruby/lib": re.findall(r":(journal_\w+)", together("ruby/lib/pendratsoa/f*.rb", "ruby/lib/pendratsoa/stream.rb")),
+        "ruby/lib": re.findall(
+            r":(journal_\w+)", together("ruby/lib/pendratsoa/f*.rb", "ruby/lib/pendratsoa/stream.rb")
+        ),
         "tests/ffi": re.findall(r"\b(journal_\w+)\(", together("tests/ffi/*.rt.in")),
-        "docs/PROOFS.md": re.findall(r"`(journal_\w+)`", read("docs/PROOFS.md").partition("\n## journal_ffi:")[2].partition("\n## ")[0]),
+        "docs/PROOFS.md": re.findall(
+            r"`(journal_\w+)`", read("docs/PROOFS.md").partition("\n## journal_ffi:")[2].partition("\n## ")[0]
+        ),
     }
     for place, found in uses.items():
         lacking(check, f"the calls that {place} lacks", symbols, set(found))
@@ -70,7 +78,9 @@ def calls(check: checks.Check) -> None:
     rust = "".join(read(file) for file in sorted(pathlib.Path("rust/src").rglob("*.rs")))
     lacking(check, "the calls that rust/src lacks", names, set(re.findall(r"\bffi::(\w+)\(", rust)))
     node = [calls_data.camel(name, False, with_capitals=False) for name in names]
-    lacking(check, "the calls that node/lib lacks", node, set(re.findall(r"\baddon\.(\w+)\(", together("node/lib/*.js"))))
+    lacking(
+        check, "the calls that node/lib lacks", node, set(re.findall(r"\baddon\.(\w+)\(", together("node/lib/*.js")))
+    )
 
 
 SOURCES = {
@@ -112,14 +122,19 @@ PUBLIC = (
     "crates/shared_core_errors/src/*.rt",
     "crates/shared_core_parts/src/conversions.rt",
     "crates/shared_core_parts/src/notification.rt",
-    *(f"crates/shared_core_base/src/{name}.rt" for name in ("error", "header", "message_header", "type_kinds", "values", "version")),
+    *(
+        f"crates/shared_core_base/src/{name}.rt"
+        for name in ("error", "header", "message_header", "type_kinds", "values", "version")
+    ),
 )
 
 
 def crates_and_tests(check: checks.Check) -> None:
     """Each crate is on its pages, each folder of tests/ on its own, and each public call in the tests of the API."""
     listed = re.findall(r"^([a-z_]+)[a-z ]*:", read("crates.txt"), re.M)
-    check.same("crates.txt and crates/README.md", listed, re.findall(r"^\| `([a-z_]+)` \|", read("crates/README.md"), re.M))
+    check.same(
+        "crates.txt and crates/README.md", listed, re.findall(r"^\| `([a-z_]+)` \|", read("crates/README.md"), re.M)
+    )
     rows = [line.split("|")[1] for line in read("docs/ARCHITECTURE.md").splitlines() if re.match(r"\| `[a-z_]*`", line)]
     named = {name for row in rows for name in re.findall(r"`([a-z_]+)`", row)}
     lacking(check, "the crates that docs/ARCHITECTURE.md lacks", listed, named)
@@ -127,9 +142,18 @@ def crates_and_tests(check: checks.Check) -> None:
     check.case("the rows of docs/ARCHITECTURE.md", not others, " ".join(others))
     folders = sorted(folder.name for folder in pathlib.Path("tests").iterdir() if folder.is_dir())
     rows = [line.split("|")[1] for line in read("tests/README.md").splitlines() if line.startswith("| `")]
-    check.same("the folders of tests/ and tests/README.md", folders, sorted(name for row in rows for name in re.findall(r"`([a-z_]+)`", row)))
+    check.same(
+        "the folders of tests/ and tests/README.md",
+        folders,
+        sorted(name for row in rows for name in re.findall(r"`([a-z_]+)`", row)),
+    )
     public = sorted(set(re.findall(r"^ *pub fn ([a-z_0-9]+)", together(*PUBLIC), re.M)) - INNER)
-    lacking(check, "public calls that tests/public_api has not", public, set(re.findall(r"[a-z_0-9]+", together("tests/public_api/*.rt.in"))))
+    lacking(
+        check,
+        "public calls that tests/public_api has not",
+        public,
+        set(re.findall(r"[a-z_0-9]+", together("tests/public_api/*.rt.in"))),
+    )
 
 
 def main(check: checks.Check) -> None:

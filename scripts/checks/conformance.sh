@@ -23,7 +23,8 @@ input() {
 }
 
 input > "$work/lines"
-unproved_crate vectors shared_core shared_core_fields shared_core_fields_writer shared_core_codec shared_core_base bytes hex
+unproved_crate vectors \
+  shared_core shared_core_fields shared_core_fields_writer shared_core_codec shared_core_base bytes hex
 sources tests/vectors "$crate/src"
 keeping_kit "$work"
 # the program is kept; here it is run without input

@@ -85,7 +85,15 @@ def read(schema, text):
         return f"{error.reason.name.lower()} {place}".rstrip(" ")
 
 
-KINDS = {"payload": payload, "merge": merge, "frame": frame, "stream": stream, "compare": compare, "json": json, "read": read}
+KINDS = {
+    "payload": payload,
+    "merge": merge,
+    "frame": frame,
+    "stream": stream,
+    "compare": compare,
+    "json": json,
+    "read": read,
+}
 NAMED = {"payload": 1, "merge": 1, "frame": 2, "stream": 1, "compare": 1, "json": 1, "read": 1}
 
 

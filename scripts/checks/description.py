@@ -197,7 +197,12 @@ REFUSED = [
     # schemas, types and commands
     ("no comment", "  // The bytes.\n", "", "content of Value has no comment, which its record would have"),
     ("no schema", "  option (schema) = {Value};\n", "", "Value has no option (schema)"),
-    ("a schema of another", "option (schema) = {Value};", "option (schema) = {Void};", "Value has the schema {Void} of Void"),
+    (
+        "a schema of another",
+        "option (schema) = {Value};",
+        "option (schema) = {Void};",
+        "Value has the schema {Void} of Void",
+    ),
     (
         "a gap",
         "option (schema) = {Value};",
@@ -287,7 +292,8 @@ REFUSED = [
         "another order of lists",
         "repeated uint32 waiting_signals = 2;\n  // The signals that are awaited, by their names.\n  repeated string "
         "waiting_named_signals = 3;\n}",
-        "repeated uint32 waiting_signals = {waiting_named_signals};\n  // The signals that are awaited, by their names.\n"
+        "repeated uint32 waiting_signals = {waiting_named_signals};\n"
+        "  // The signals that are awaited, by their names.\n"
         "  repeated string waiting_named_signals = {waiting_signals};\n}",
         "SuspensionMessageV6 has to have waiting_completions, waiting_signals, waiting_named_signals",
     ),
@@ -527,7 +533,9 @@ def imported(check: Check) -> None:
     from generators import proto
 
     name = "InputCommandMessage"
-    here = next(row for message in proto.messages() if message.name == name for row in message.rows if row.name == "value")
+    here = next(
+        row for message in proto.messages() if message.name == name for row in message.rows if row.name == "value"
+    )
     folder = check.work / "of_theirs" / "wire"
     folder.mkdir(parents=True)
     head = 'syntax = "proto3";\npackage theirs;\n'

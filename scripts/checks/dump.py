@@ -113,14 +113,27 @@ CASES: tuple[tuple[str, str, *tuple[str, ...]], ...] = (
     ("--type CustomEntry(65535) custom",
      '{"offset":8,"type":"CustomEntry(65535)","code":65535,"length":0,"bytes":""}\n{"offset":16,"rest":0}\n'),
     # such a header is shown in base64, also without payloads; and so are the bytes in no item
-    ("odd", f'{OF_ODD}{UNKNOWN_ODD}{{"offset":40,"rest":1,"bytes":"eA=="}}\n',
-     "offset 40: 1 byte after the last whole item"),
-    ("--no-payload odd", OF_ODD.replace(',"message":{}', "") + UNKNOWN_ODD + '{"offset":40,"rest":1}\n',
-     "offset 40: 1 byte after the last whole item"),
-    ("--protocol 9 odd", f'{OF_ODD}{{"offset":24,"skipped":true,"code":8,"length":1,"bytes":"AA=="}}\n'
-     '{"offset":33,"rest":8,"bytes":"CP//AAAAAHg="}\n', "offset 33: 8 bytes after the last whole item"),
-    ("--protocol 9 odd_skipped", '{"offset":0,"skipped":true,"code":8,"length":1,"header":"AAgBAAAAAAE=","bytes":"eA=="}'
-     '\n{"offset":9,"rest":0}\n'),
+    (
+        "odd",
+        f'{OF_ODD}{UNKNOWN_ODD}{{"offset":40,"rest":1,"bytes":"eA=="}}\n',
+        "offset 40: 1 byte after the last whole item",
+    ),
+    (
+        "--no-payload odd",
+        OF_ODD.replace(',"message":{}', "") + UNKNOWN_ODD + '{"offset":40,"rest":1}\n',
+        "offset 40: 1 byte after the last whole item",
+    ),
+    (
+        "--protocol 9 odd",
+        f'{OF_ODD}{{"offset":24,"skipped":true,"code":8,"length":1,"bytes":"AA=="}}\n'
+        '{"offset":33,"rest":8,"bytes":"CP//AAAAAHg="}\n',
+        "offset 33: 8 bytes after the last whole item",
+    ),
+    (
+        "--protocol 9 odd_skipped",
+        '{"offset":0,"skipped":true,"code":8,"length":1,"header":"AAgBAAAAAAE=","bytes":"eA=="}'
+        '\n{"offset":9,"rest":0}\n',
+    ),
     # a malformed payload ends nothing
     ("--protocol 6 v6", OF_V6 + MALFORMED),
     ("--protocol 7 v6", f'{SUSPENSION},"message":{{}}}}\n{MALFORMED}'),

@@ -59,7 +59,11 @@ REJECTED: tuple[tuple[str, Words, str], ...] = (
     ("journal_dump", ("--max-message", "", "replay"), SIZES),
     ("journal_diff", "--max-message 4294967296 recorded recorded", SIZES),
     ("journal_diff", "--max-message -1 recorded recorded", "error: "),
-    ("journal_list", "--protocol 9 ./replay v9", "error: the version is said by v9 or by --protocol, and not by both\n"),
+    (
+        "journal_list",
+        "--protocol 9 ./replay v9",
+        "error: the version is said by v9 or by --protocol, and not by both\n",
+    ),
     ("journal_list", "--protocol 9 ./replay v9", "\nUsage: journal_list [OPTIONS] [FILE] [BYTES] [v9]\n"),
     ("journal_diff", "", "<RECORDED>"),
     ("journal_diff", "recorded", "<REPLAYED>"),
@@ -151,7 +155,9 @@ def inputs(programs: dict[str, Program]) -> None:
     for name, words, why in READS:
         said, status = f"{name}: {why}\n", FAILURE[name]
         programs[name].ends(words, err=said, status=status, given=".", what="of a folder")
-        programs[name].ends(words, status=status, given=".", closed=[2], what="of a folder, with a closed standard error")
+        programs[name].ends(
+            words, status=status, given=".", closed=[2], what="of a folder, with a closed standard error"
+        )
         programs[name].ends(words, err=said, status=status, closed=[0], what="of a closed input")
 
 

@@ -48,7 +48,11 @@ RUNS = {
         (("recorded", "replayed_other_payload"), 1, ""),
         (("--ignore-payloads", "--protocol", "9", "recorded", "replayed_other_payload"), 0, ""),
         (("--json", "--color", "never", "recorded", "replayed_other_handler"), 1, ""),
-        (("--strict", "cut_short", "recorded"), 2, ": the recorded journal, offset 21: 8 bytes after the last whole item"),
+        (
+            ("--strict", "cut_short", "recorded"),
+            2,
+            ": the recorded journal, offset 21: 8 bytes after the last whole item",
+        ),
         (("cut_short", "recorded"), 1, ": the recorded journal has 8 bytes after its last whole item"),
         (("-", "-"), 2, "only one journal can come from the standard input"),
         (("recorded",), 2, "the following required arguments were not provided:\n  <REPLAYED>"),
@@ -115,7 +119,12 @@ class Journal:
     def helps(self) -> None:
         """The help names the subcommands and says where the rest is; a subcommand's help is that of --help."""
         ended = self.run(self.path, "--help")
-        parts = ("Usage: journal <COMMAND>", *(f"\n  {name}  " for name in RUNS), "journal_list", "scripts/run.sh journal view")
+        parts = (
+            "Usage: journal <COMMAND>",
+            *(f"\n  {name}  " for name in RUNS),
+            "journal_list",
+            "scripts/run.sh journal view",
+        )
         is_right = ended.status == 0 and not ended.err and all(part.encode() in ended.out for part in parts)
         self.check.case("journal --help", is_right, ended)
         self.check.case("journal --help in 80 columns", checks.is_narrow(ended.out), ended)
@@ -131,7 +140,9 @@ class Journal:
         self.check.case("journal --version", ended == checks.Run(0, version, b""), ended)
         for name in RUNS:
             asked, own = self.run(self.path, "help", name), self.run(self.path, name, "--help")
-            self.check.case(f"journal help {name}", asked == own and f"Usage: journal {name} ".encode() in own.out, asked)
+            self.check.case(
+                f"journal help {name}", asked == own and f"Usage: journal {name} ".encode() in own.out, asked
+            )
             self.check.case(f"journal help {name} in 80 columns", checks.is_narrow(own.out), own)
             ended = self.run(self.path, name, "--version")
             version = f"journal {name} {checks.library_version()}\n".encode()

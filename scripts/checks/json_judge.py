@@ -28,7 +28,8 @@ from generators import protobuf_dumps  # noqa: E402
 INTEGERS = (FieldDescriptor.TYPE_UINT32, FieldDescriptor.TYPE_UINT64)
 # what a damaged text gets in the place of, or between, its bytes
 PIECES = [bytes([byte]) for byte in b'{}[]:,"\\ 0123456789+-.eE_=/nul\x00\x1f\x80\xff'] + [
-    b"null", b"true", b"NaN", b"Infinity", b"\\u0041", b"\\ud800", b"\xc3\xa9", b'"x":1,', b"1.5", b"1e3", b'"1.0"', b"-1", b"[]", b"{}",
+    *(b"null", b"true", b"NaN", b"Infinity", b"\\u0041", b"\\ud800", b"\xc3\xa9", b'"x":1,', b"1.5", b"1e3", b'"1.0"'),
+    *(b"-1", b"[]", b"{}"),
 ]
 
 
@@ -54,7 +55,10 @@ class Writer:
                 out += short[character]
             elif ord(character) < 0x20 or self.r.random() < 0.2:
                 units = character.encode("utf-16-be")
-                out += "".join(f"\\u{int.from_bytes(units[at : at + 2], 'big'):04{self.r.choice('xX')}}" for at in range(0, len(units), 2))
+                out += "".join(
+                    f"\\u{int.from_bytes(units[at : at + 2], 'big'):04{self.r.choice('xX')}}"
+                    for at in range(0, len(units), 2)
+                )
             else:
                 out += character
         return f'"{out}"'
@@ -131,7 +135,9 @@ def damaged(r, text):
             data[at:at] = data[at:end]
         else:
             # a value of another kind in the place of a string or a number
-            found = [match.span() for match in re.finditer(rb'"(?:[^"\\]|\\.)*"|-?[0-9.eE+]+|true|false|null', bytes(data))]
+            found = [
+                match.span() for match in re.finditer(rb'"(?:[^"\\]|\\.)*"|-?[0-9.eE+]+|true|false|null', bytes(data))
+            ]
             if found:
                 begin, end = r.choice(found)
                 data[begin:end] = r.choice(PIECES)
@@ -147,7 +153,13 @@ class Differences:
 
     def any(self):
         try:
-            tree = json.loads(self.text.decode(), parse_int=Number, parse_float=Number, parse_constant=Number, object_pairs_hook=list_of_pairs)
+            tree = json.loads(
+                self.text.decode(),
+                parse_int=Number,
+                parse_float=Number,
+                parse_constant=Number,
+                object_pairs_hook=list_of_pairs,
+            )
         except (ValueError, RecursionError):
             return False
         return self.message(self.descriptor, tree, 1)
@@ -167,7 +179,9 @@ class Differences:
             # protobuf takes a member by each of its two names
             if seen.setdefault(field.name, name) != name:
                 return True
-            elements = member if field.label == FieldDescriptor.LABEL_REPEATED and isinstance(member, list) else [member]
+            elements = (
+                member if field.label == FieldDescriptor.LABEL_REPEATED and isinstance(member, list) else [member]
+            )
             if any(self.value(field, element, depth) for element in elements):
                 return True
         return False
@@ -213,7 +227,8 @@ def is_base64(text):
     if match is None or match[2] not in ("", "=" * (-len(match[1]) % 4)) or len(match[1]) % 4 == 1:
         return False
     data = json_format.base64.urlsafe_b64decode(match[1].replace("+", "-").replace("/", "_") + "==")
-    return json_format.base64.urlsafe_b64encode(data).decode().rstrip("=") == match[1].replace("+", "-").replace("/", "_")
+    written = json_format.base64.urlsafe_b64encode(data).decode().rstrip("=")
+    return written == match[1].replace("+", "-").replace("/", "_")
 
 
 class Judge:

@@ -17,8 +17,18 @@ from generators import rattle
 
 WIDTH = 120
 
-# What stays on one line: an import of one path, an attribute, a text.
-IS_KEPT = re.compile(r' *(ghost use|#\[)|use \S+(\{[^,]*\})?( as \w+)?$|.*"')
+# The folders of what is built.
+BUILT = ("out", "target", "build", "node_modules")
+
+# What stays on one line of a crate: an import of one path, an attribute, a text.
+IS_KEPT = re.compile(r' *((ghost )?use \S+?(\{[^,]*\})?( as \w+)?;?$|#\[)|.*"')
+
+# An import of several laws, which a generator writes on one line.
+IS_MADE = re.compile(r" *ghost use ")
+
+# The sources that no formatter lays out, but for those that say in their first line that they are generated.
+HAND_WRITTEN = ("scripts", "tools", "bench", "view", "python", "go", "ruby", "rust", "node", "examples", "tests")
+ENDINGS = (".sh", ".py", ".c", ".h", ".rs", ".go", ".rb", ".gemspec", ".js", ".ts", ".html", ".css")
 
 
 def files(*folders: str, endings: tuple[str, ...]) -> list[pathlib.Path]:
@@ -26,7 +36,7 @@ def files(*folders: str, endings: tuple[str, ...]) -> list[pathlib.Path]:
     found = []
     for top in folders:
         for folder, names_of_folders, names in os.walk(top):
-            names_of_folders[:] = [name for name in names_of_folders if name != "out"]
+            names_of_folders[:] = [name for name in names_of_folders if name not in BUILT]
             found += [pathlib.Path(folder, name) for name in names if name.endswith(endings)]
     return sorted(found)
 
@@ -46,20 +56,31 @@ def layout(check: checks.Check) -> None:
     check.command("the layout of tests/", [*words, *copies])
 
 
-def too_long(file: pathlib.Path) -> list[str]:
-    """The lines of a file that are too long, each with its place."""
+def too_long(file: pathlib.Path, is_kept: re.Pattern[str] | None) -> list[str]:
+    """The lines of a file that are too long, each with its place, but for those that are kept."""
     lines = enumerate(file.read_text(encoding="utf-8").splitlines(), 1)
-    return [f"\n{file}:{number}:{line}" for number, line in lines if len(line) > WIDTH]
+    return [
+        f"\n{file}:{number}:{line}"
+        for number, line in lines
+        if len(line) > WIDTH and not (is_kept and is_kept.match(line))
+    ]
+
+
+def is_generated(file: pathlib.Path) -> bool:
+    with file.open(encoding="utf-8") as opened:
+        return "@generated" in opened.readline()
 
 
 def long_lines(check: checks.Check) -> None:
     """Lines of code, definitions and proofs have at most 120 characters, but for what stays on one line."""
-    found = [
-        place
-        for file in files("crates", "tests", "examples", endings=(".rt", ".rt.in", ".antt"))
-        for place in too_long(file)
-        if not IS_KEPT.match(place.split(":", 2)[2])
-    ]
+    found = []
+    for file in files("crates", "tests", "examples", endings=(".rt", ".rt.in", ".antt")):
+        for place in too_long(file, IS_KEPT):
+            if not (is_generated(file) and IS_MADE.match(place.split(":", 2)[2])):
+                found.append(place)
+    for file in files(*HAND_WRITTEN, endings=ENDINGS):
+        if not is_generated(file):
+            found += too_long(file, None)
     check.case(f"lines of at most {WIDTH} characters", not found, "".join(found[:checks.LINES]))
 
 

@@ -38,10 +38,19 @@ CASES = (
 # The same where a message is longer than the limit, and the message that is.
 TOO_LONG = (
     ("--max-message 18 ./replay", "", "Start at offset 0: 19 bytes of payload, more than the limit of 18"),
-    *((f"--max-message 26 ./recorded {size}", "InputCommand 9\nSetStateCommand 14\n",
-       "CallCommand at offset 39: 27 bytes of payload, more than the limit of 26") for size in ("", "1", "47", "65536")),
-    ("--max-message 7 ./unknown_type v9", "",
-     "unknown protocol.message code 0x8 at offset 0: 8 bytes of payload, more than the limit of 7"),
+    *(
+        (
+            f"--max-message 26 ./recorded {size}",
+            "InputCommand 9\nSetStateCommand 14\n",
+            "CallCommand at offset 39: 27 bytes of payload, more than the limit of 26",
+        )
+        for size in ("", "1", "47", "65536")
+    ),
+    (
+        "--max-message 7 ./unknown_type v9",
+        "",
+        "unknown protocol.message code 0x8 at offset 0: 8 bytes of payload, more than the limit of 7",
+    ),
 )
 
 # Seventy thousand bytes of messages Start without a payload, of which a listing has a line each.

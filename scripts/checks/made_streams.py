@@ -46,7 +46,11 @@ def messages(version):
     # before V7 a suspension has another schema
     other, its = ("Suspension", "SuspensionMessageV6") if version < 7 else ("SuspensionMessageV6", "SuspensionMessage")
     found = [(words[1], bytes_of(words[2])) for words in lines_of("json/records.txt")]
-    found = [("Suspension" if name == its else name.removesuffix("Message"), payload) for name, payload in found if name.removesuffix("Message") != other]
+    found = [
+        ("Suspension" if name == its else name.removesuffix("Message"), payload)
+        for name, payload in found
+        if name.removesuffix("Message") != other
+    ]
     return [(codes[name], payload) for name, payload in found if name in codes]
 
 
@@ -197,7 +201,10 @@ def main():
     for batch in range((int(count) + BATCH - 1) // BATCH):
         version = 5 + batch // 2 % 5
         is_damaged = batch % 2 == 1
-        streams = [stream_of(chance, corpora[version], version, is_damaged) for _ in range(min(BATCH, int(count) - batch * BATCH))]
+        streams = [
+            stream_of(chance, corpora[version], version, is_damaged)
+            for _ in range(min(BATCH, int(count) - batch * BATCH))
+        ]
         streams[-1] += rest_of(chance, corpora[version])
         checker.check(version, streams, not is_damaged)
     for number in range(SINGLE):

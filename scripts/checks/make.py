@@ -149,7 +149,13 @@ def main(check: checks.Check) -> None:
     large = b"\x04\0\0\0\x01\x10\0\nr\x85\x80\xc0\x08\n\x80\x80\xc0\x08" + content
     make.ends("", large, given=line, what="of a line of 24 MiB")
 
-    words = [sys.executable, "-B", checks.ROOT / "scripts/checks/made_streams.py", check.program("journal_dump"), make.path]
+    words = [
+        sys.executable,
+        "-B",
+        checks.ROOT / "scripts/checks/made_streams.py",
+        check.program("journal_dump"),
+        make.path,
+    ]
     told = check.counted("streams made again", [*words, RANDOM])
     print(f"make: streams made again: {told.out.decode().splitlines()[-2]}")
 

@@ -32,7 +32,8 @@ else
   # as scripts/python.sh looks for it
   python=python3
   "$python" -c 'import setuptools, wheel, pip' 2> /dev/null || python=/usr/bin/python3
-  if "$python" -c 'import os, sysconfig; open(os.path.join(sysconfig.get_path("include"), "Python.h"))' 2> /dev/null; then
+  found='import os, sysconfig; open(os.path.join(sysconfig.get_path("include"), "Python.h"))'
+  if "$python" -c "$found" 2> /dev/null; then
     compiled=_compiled.abi3.so
   else
     left_out 'the compiled module' 'there are no headers of CPython; the Debian package python3-dev has them'

@@ -327,7 +327,9 @@ def rust(trial: Trial) -> None:
         env.update(debians_rust(trial))
         probe = ["rustc", *target, *env["RUSTFLAGS"].split(), "--crate-type=lib", "--out-dir", trial.work, "-"]
         if checks.run(probe, env=env).status != 0:
-            check.left_out(f"the crate for Rust, {trial.machine.name}", "there is no rustc of Debian's, or an older one")
+            check.left_out(
+                f"the crate for Rust, {trial.machine.name}", "there is no rustc of Debian's, or an older one"
+            )
             return
     unpack(trial, f"pendratsoa-rust-{VERSION}.tar.gz", folder)
     # its tests are in the repository alone
@@ -470,7 +472,9 @@ def made(check: checks.Check, machine: str | None) -> pathlib.Path:
     release = check.work / "release"
     words = ["sh", "scripts/release.sh", "--draft", *(["--machine", machine] if machine else []), release]
     ended = checks.run(words)
-    absent = re.search(rb"(?:nothing is built|no release is made), since ((?:there (?:is|are) no|no python3) .*)", ended.err)
+    absent = re.search(
+        rb"(?:nothing is built|no release is made), since ((?:there (?:is|are) no|no python3) .*)", ended.err
+    )
     if ended.status == 2 and absent:
         raise checks.NotRun(absent[1].decode())
     check.case("release.sh", ended.status == 0, ended)

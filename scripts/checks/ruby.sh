@@ -88,8 +88,11 @@ listed() {
 counted 'the proxy' python3 -B "$top/scripts/checks/proxied.py" ruby -w examples/proxy.rb
 
 # The page: its program, its part of the proxy, and its expressions.
-awk -v folder="$work" \
-  '/^```ruby$/ { file = folder "/page" ++blocks ".rb"; next } /^```$/ { file = "" } file != "" { print > file }' README.md
+awk -v folder="$work" '
+  /^```ruby$/ { file = folder "/page" ++blocks ".rb"; next }
+  /^```$/ { file = "" }
+  file != "" { print > file }
+' README.md
 (cd "$work" && ruby page1.rb) > "$work/log" 2> "$err"
 printf '%s\n' 'Start 19' 'InputCommand 9' 'GetLazyStateCompletionNotification 4' > "$work/wanted"
 cut -d ' ' -f 1,2 "$work/log" > "$out"

@@ -29,7 +29,9 @@ WORK = pathlib.Path(FOLDER.name)
 RANGES = [(0, 0x1F), (0x7F, 0x9F), (0x61C, 0x61C), (0x200E, 0x200F), (0x2028, 0x202E), (0x2066, 0x2069)]
 STEERING = [chr(code) for first, last in RANGES for code in range(first, last + 1)]
 # the characters beside them, and some that are shown as they are
-SHOWN = [chr(code) for code in (0x20, 0x7E, 0xA0, 0x61B, 0x61D, 0x200D, 0x2010, 0x2027, 0x202F, 0x2065, 0x206A, 0x1F600)]
+SHOWN = [
+    chr(code) for code in (0x20, 0x7E, 0xA0, 0x61B, 0x61D, 0x200D, 0x2010, 0x2027, 0x202F, 0x2065, 0x206A, 0x1F600)
+]
 HOSTILE = "".join(f"{c}." for c in STEERING + SHOWN)
 HEAD = (
     "Found a mismatch between the code paths taken during the previous execution and the paths taken during this"

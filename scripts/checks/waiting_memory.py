@@ -40,7 +40,9 @@ def bytes_of(test: str) -> int:
 
 def main(check: checks.Check) -> None:
     tests = sys.stdin.read().split()
-    least = {test.rpartition("::")[2]: most(check, test) for test in tests if test.endswith(("no_chunks", "mark_alone"))}
+    least = {
+        test.rpartition("::")[2]: most(check, test) for test in tests if test.endswith(("no_chunks", "mark_alone"))
+    }
     for test in tests:
         if test.endswith(("no_chunks", "mark_alone")):
             continue

@@ -110,8 +110,8 @@ def c_numbers():
         if message.code is None or message.before_version is not None
     )
     return (
-        "/* The numbers of the fields, by their messages and names, the types with their names, and the other schemas: for "
-        f"the tests in C. */\n\nenum {{\n{numbers}}};\n\n#define EACH_TYPE(TYPE){types}\n\n"
+        "/* The numbers of the fields, by their messages and names, the types with their names, and the other "
+        f"schemas: for the tests in C. */\n\nenum {{\n{numbers}}};\n\n#define EACH_TYPE(TYPE){types}\n\n"
         f"#define EACH_OTHER_SCHEMA(SCHEMA){others}\n"
     )
 

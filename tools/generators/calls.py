@@ -5,7 +5,7 @@ import re
 import textwrap
 
 from . import ROOT, laid_out, missing  # noqa: F401
-from .calls_data import BITS, PATH, calls, camel, comment, constants, described, entries, errors, kinds
+from .calls_data import BITS, PATH, calls, camel, comment, constants, described, errors, kinds
 from .calls_data import paragraphs, returned_errors, structs
 from .bindings import snake
 from .proto import schemas, typed
@@ -79,10 +79,15 @@ def c_struct(entry):
     width = max(len(field) for field, _ in entry["fields"]) + 1
     fields = "".join(f"    uint64_t {field + ';':{width}} /* {said} */\n" for field, said in entry["fields"])
     count = f"#define JOURNAL_{entry['constant']} {len(entry['fields'])}\n"
-    room = "; the room for a table is a count of structs" if is_table(entry) else ", and the room for one is their count"
-    return block(paragraphs(entry["comment"])) + f"struct journal_{name} {{\n{fields}}};\n\n" + block(
-        [f"How many numbers that are: a struct journal_{name} is as an array of them{room}."]
-    ) + count
+    room = (
+        "; the room for a table is a count of structs" if is_table(entry) else ", and the room for one is their count"
+    )
+    return (
+        block(paragraphs(entry["comment"]))
+        + f"struct journal_{name} {{\n{fields}}};\n\n"
+        + block([f"How many numbers that are: a struct journal_{name} is as an array of them{room}."])
+        + count
+    )
 
 
 def is_table(entry):
@@ -170,7 +175,9 @@ def c_protocol():
     codes = {f"JOURNAL_{snake(message.type_name())}": f"0x{message.code:04X}" for message in typed()}
     numbers = {f"JOURNAL_SCHEMA_{snake(schema_name(message))}": message.schema for message in schemas()}
     assert len(set(codes) | set(numbers)) == len(typed()) + len(schemas()), "two constants of one name"
-    return "/* The codes of the types. */\n" + defined(codes) + "\n/* The numbers of the schemas. */\n" + defined(numbers)
+    return (
+        "/* The codes of the types. */\n" + defined(codes) + "\n/* The numbers of the schemas. */\n" + defined(numbers)
+    )
 
 
 def schema_name(message):
@@ -210,7 +217,15 @@ FFI_ROOT = """\
 """
 
 # What contracts cite of std: the name, and the word or the sign by which it is found.
-PRELUDE = (("◌≡◌", "≡"), ("[]", "[]"), ("◌∷◌", "∷"), ("Ok", "Ok"), ("codes", "codes"), ("nat_lt", "nat_lt"), ("length", "length"))
+PRELUDE = (
+    ("◌≡◌", "≡"),
+    ("[]", "[]"),
+    ("◌∷◌", "∷"),
+    ("Ok", "Ok"),
+    ("codes", "codes"),
+    ("nat_lt", "nat_lt"),
+    ("length", "length"),
+)
 
 
 def definitions():
@@ -260,7 +275,8 @@ def ffi_module(module, found):
             cited.setdefault(place, []).append(name)
     imports = [f"ghost use Rattle.std.specs.Prelude.{{{', '.join(prelude)}}};"] if prelude else []
     imports += [
-        f"ghost use Rattle.journal_c_api.specs.{place}.{{{', '.join(names)}}};" for place, names in sorted(cited.items())
+        f"ghost use Rattle.journal_c_api.specs.{place}.{{{', '.join(names)}}};"
+        for place, names in sorted(cited.items())
     ]
     does = sorted({call.does.partition("::")[0] for call in found})
     uses = f"use journal_c_api::{does[0]};" if len(does) == 1 else f"use journal_c_api::{{{', '.join(does)}}};"
@@ -305,7 +321,10 @@ def python():
     text += "\n# the class of each error, and the names of the arguments one of which it is about\n"
     text += "ERRORS: Dict[int, Tuple[str, Tuple[str, ...]]] = {\n"
     for error in returned_errors():
-        text += f'    {error["number"]}: ("{class_name(error)}", {python_tuple([quoted(name) for name in error["about"]])}),\n'
+        text += (
+            f'    {error["number"]}: ("{class_name(error)}", '
+            f'{python_tuple([quoted(name) for name in error["about"]])}),\n'
+        )
     text += "}\n"
     for entry in kinds():
         if entry["python"]:
@@ -335,7 +354,11 @@ def shapes(call):
 # Ruby.
 
 def ruby():
-    text = "# frozen_string_literal: true\n\n# What the library for C declares: its calls, the numbers that they write, and their errors.\nmodule Pendratsoa\n"
+    text = (
+        "# frozen_string_literal: true\n\n"
+        "# What the library for C declares: its calls, the numbers that they write, and their errors.\n"
+        "module Pendratsoa\n"
+    )
     first, last = described()["versions"]
     text += f"  FIRST_VERSION = {first}\n  LAST_VERSION = {last}\n"
     for entry in kinds():
@@ -346,13 +369,19 @@ def ruby():
         text += filled(f"{entry['ruby']} = {made}", "  ", "    ") + "\n"
     hidden = [entry["ruby"] for entry in kinds() if not entry["python"]]
     text += "".join(f"  private_constant :{name}\n" for name in hidden)
-    text += "\n  # How many numbers each struct has, and of which words each call has a parameter: the bits of a number, or a slice.\n"
+    text += (
+        "\n  # How many numbers each struct has, and of which words each call has a parameter: the bits of a "
+        "number, or a slice.\n"
+    )
     for entry in structs().values():
         text += f"  {entry['constant']} = {len(entry['fields'])}\n"
     text += "  CALLS = {\n" + ",\n".join(f"    {call.symbol()}: %i[{' '.join(shapes(call))}]" for call in calls())
     text += "\n  }.freeze\n"
     text += "\n  # The class of each error, and the arguments one of which it is about.\n  ERRORS = {\n"
-    rows = [f"    {error['number']} => [:{class_name(error)}, %i[{' '.join(error['about'])}]]" for error in returned_errors()]
+    rows = [
+        f"    {error['number']} => [:{class_name(error)}, %i[{' '.join(error['about'])}]]"
+        for error in returned_errors()
+    ]
     text += ",\n".join(rows) + "\n  }.freeze\n"
     hidden = [entry["constant"] for entry in structs().values()] + ["CALLS", "ERRORS"]
     return text + filled("private_constant " + ", ".join(f":{name}" for name in hidden), "  ", "    ") + "\nend\n"
@@ -361,7 +390,10 @@ def ruby():
 # Node.
 
 def node():
-    text = "// What the library for C declares: the kinds that calls write, how many numbers each struct has, and the errors.\n"
+    text = (
+        "// What the library for C declares: the kinds that calls write, how many numbers each struct has, and the "
+        "errors.\n"
+    )
     for entry in kinds():
         names = "  undefined,\n" * entry.get("first", 0)
         names += "".join(f"  '{camel(name, False, with_capitals=False)}',\n" for name, _ in entry["values"])
@@ -391,7 +423,10 @@ def node_calls():
         given = [f"arguments->{name}" for name in call.takes]
         parameters = [name.upper() for name in call.takes]
         if call.entries:
-            given += ["(void *)arguments->fields", f"arguments->fields_count / JOURNAL_{structs()[call.entries]['constant']}"]
+            given += [
+                "(void *)arguments->fields",
+                f"arguments->fields_count / JOURNAL_{structs()[call.entries]['constant']}",
+            ]
             parameters.append("FIELDS")
         for name in call.reads:
             place = "second" if name in SECONDS else "first"
@@ -414,9 +449,12 @@ def node_calls():
         made = filled(", ".join(given).replace("(void *)", "(void\u00a0*)"), start, " " * len(start), WIDTH)
         text += f"\nstatic int64_t {call.call}(const struct arguments *arguments) {{\n{made});\n}}\n"
         rows += f'    {{"{camel(call.call, False, with_capitals=False)}", {call.call}, {{{", ".join(parameters)}}}}},\n'
-    return text.replace("\u00a0", " ") + f"\n/* All of them, as rows of the table of functions. */\n#define CALLS \\\n" + rows.replace(
-        ",\n", ", \\\n"
-    ).rstrip(" \\\n") + "\n"
+    return (
+        text.replace("\u00a0", " ")
+        + "\n/* All of them, as rows of the table of functions. */\n#define CALLS \\\n"
+        + rows.replace(",\n", ", \\\n").rstrip(" \\\n")
+        + "\n"
+    )
 
 
 # Go.
@@ -447,7 +485,8 @@ const Schemas = C.JOURNAL_SCHEMAS
 
 '''
 
-GO_REST = '''// What follows are the calls for C in the types of Go, a slice for a pointer and its count. The library keeps no
+GO_REST = '''\
+// What follows are the calls for C in the types of Go, a slice for a pointer and its count. The library keeps no
 // pointer, and what the pointers lead to holds none, as the rules of cgo want it.
 
 func pointer(slice []byte) *C.uint8_t {
@@ -495,7 +534,9 @@ def go_kinds(entry):
     text += f"// {said}\nconst (\n"
     if any(about for _, _, about in shown):
         for name, constant, about in shown:
-            text += filled(f"{name}: {about}.", "\t// ", width=WIDTH - 3) + f"\n\t{name} {kind} = C.JOURNAL_{constant}\n"
+            text += (
+                filled(f"{name}: {about}.", "\t// ", width=WIDTH - 3) + f"\n\t{name} {kind} = C.JOURNAL_{constant}\n"
+            )
     else:
         width = max(len(name) for name, _, _ in shown)
         text += "".join(f"\t{name:{width}} {kind} = C.JOURNAL_{constant}\n" for name, constant, _ in shown)
@@ -527,9 +568,12 @@ def go_call(call):
         parameters.append((camel(call.flag, False), "bool"))
         given.append(f"flag({camel(call.flag, False)})")
     if call.numbers:
-        parameters.append((call.numbers, f"*[{structs()[call.numbers]['constant'].lower()}]uint64".replace(
-            structs()[call.numbers]["constant"].lower(), camel(structs()[call.numbers]["constant"], False))))
-        given += [f"(*C.struct_journal_{call.numbers})(unsafe.Pointer({call.numbers}))", f"C.size_t(len({call.numbers}))"]
+        constant = camel(structs()[call.numbers]["constant"], False)
+        parameters.append((call.numbers, f"*[{constant}]uint64"))
+        given += [
+            f"(*C.struct_journal_{call.numbers})(unsafe.Pointer({call.numbers}))",
+            f"C.size_t(len({call.numbers}))",
+        ]
     if call.table:
         parameters.append((f"{call.table}s", go_table(call.table)))
         given += go_entries(call.table)
@@ -551,7 +595,10 @@ def go_call(call):
 def go():
     text = GO_HEAD.replace('import "C"\n', 'import "C"\n\nimport "unsafe"\n')
     text += "// The errors of the calls for C.\n"
-    text += go_constants([(camel(error["name"], False), f"C.JOURNAL_{error['name']}") for error in returned_errors()]) + "\n"
+    text += (
+        go_constants([(camel(error["name"], False), f"C.JOURNAL_{error['name']}") for error in returned_errors()])
+        + "\n"
+    )
     text += "// The indices of the numbers that the calls for C write, and how many there are.\n"
     for entry in structs().values():
         name, constant = entry["struct"], camel(entry["constant"], False)
@@ -591,10 +638,14 @@ def rust():
     text += "/// The calls as the header declares them.\nmod c {\n    extern \"C\" {\n"
     for call in calls():
         text += f"        pub fn {call.symbol()}({', '.join(rust_raw(call))}) -> i64;\n"
-    text += "    }\n}\n\nimpl From<i64> for Refusal {\n    fn from(returned: i64) -> Refusal {\n        match returned {\n"
+    text += (
+        "    }\n}\n\nimpl From<i64> for Refusal {\n    fn from(returned: i64) -> Refusal {\n        match returned {\n"
+    )
     for error in returned_errors():
         kind, about = class_name(error), rust_about(error)
-        text += f"            {error['number']} => Refusal::{kind}{f'(About::{about})' if kind in WITH_ABOUT else ''},\n"
+        text += (
+            f"            {error['number']} => Refusal::{kind}{f'(About::{about})' if kind in WITH_ABOUT else ''},\n"
+        )
     text += "            unlisted => Refusal::Unlisted(unlisted),\n        }\n    }\n}\n"
     return text + "".join(rust_call(call) for call in calls())
 
@@ -662,8 +713,10 @@ def rust_call(call):
         if is_appended:
             parameters.append("out: &mut Vec<u8>")
         body = (
-            "    // SAFETY: each pointer comes with the length of its slice, and the call writes at most `room` bytes and\n"
-            f"    // returns how many they are\n    unsafe {{ {'appended(out, ' if is_appended else 'written('}{guess}, |out, room| {made}) }}\n"
+            "    // SAFETY: each pointer comes with the length of its slice, and the call writes at most `room` bytes "
+            "and\n"
+            "    // returns how many they are\n"
+            f"    unsafe {{ {'appended(out, ' if is_appended else 'written('}{guess}, |out, room| {made}) }}\n"
         )
         result = "usize" if is_appended else "Vec<u8>"
     else:
@@ -677,11 +730,18 @@ def rust_call(call):
 def listed():
     names = [error["name"] for error in returned_errors()]
     text = "/* The calls, what the header says of each, and how each is made: for hostile_calls.c. */\n\n"
-    text += filled(", ".join([*(call.call.upper() for call in calls()), "CALLS"]), "enum call {\n    ", "    ") + "\n};\n\n"
-    text += filled(", ".join(["NO_ERROR", *names, "ERRORS"]), "enum error {\n    ", "    ") + "\n};\n\n"
-    text += "static const int64_t error_numbers[ERRORS] = {\n    0,\n" + "".join(f"    JOURNAL_{name},\n" for name in names) + "};\n\n"
     text += (
-        "static const struct {\n    const char *name;\n    int inputs;\n    size_t numbers;\n    size_t entry;\n    int writes;\n"
+        filled(", ".join([*(call.call.upper() for call in calls()), "CALLS"]), "enum call {\n    ", "    ") + "\n};\n\n"
+    )
+    text += filled(", ".join(["NO_ERROR", *names, "ERRORS"]), "enum error {\n    ", "    ") + "\n};\n\n"
+    text += (
+        "static const int64_t error_numbers[ERRORS] = {\n    0,\n"
+        + "".join(f"    JOURNAL_{name},\n" for name in names)
+        + "};\n\n"
+    )
+    text += (
+        "static const struct {\n    const char *name;\n    int inputs;\n    size_t numbers;\n    size_t entry;\n"
+        "    int writes;\n"
         "    unsigned errors;\n    int kinds;\n} listed[CALLS] = {\n"
     )
     for call in calls():
@@ -689,11 +749,17 @@ def listed():
         numbers = f"JOURNAL_{structs()[call.numbers]['constant']}" if call.numbers else 0
         entry = f"JOURNAL_{structs()[call.table]['constant']}" if call.table else 0
         inputs = len(call.reads) + (1 if call.entries else 0)
-        row = f"[{call.call.upper()}] = {{\"{call.symbol()}\", {inputs}, {numbers}, {entry}, {int(bool(call.writes))}, {bits}, {kinds_of(call)}}},"
+        row = (
+            f'[{call.call.upper()}] = {{"{call.symbol()}", {inputs}, {numbers}, {entry}, '
+            f'{int(bool(call.writes))}, {bits}, {kinds_of(call)}}},'
+        )
         text += filled(row, "    ", "        ") + "\n"
     text += "};\n\nstatic int64_t make(const struct request *r, const struct slice *slices) {\n"
     text += "    const struct slice *first = &slices[FIRST], *second = &slices[SECOND], *out = &slices[OUT];\n"
-    text += "    const void *table = second->at;\n    void *numbers = slices[NUMBERS].at;\n    size_t count = slices[NUMBERS].length / 8;\n\n    switch (r->call) {\n"
+    text += (
+        "    const void *table = second->at;\n    void *numbers = slices[NUMBERS].at;\n"
+        "    size_t count = slices[NUMBERS].length / 8;\n\n    switch (r->call) {\n"
+    )
     for call in calls():
         given = [f"r->{name}" for name in call.takes]
         # a table is the second input

@@ -134,7 +134,11 @@ def sentence_of_errors(call):
     said = [f"JOURNAL_{error}" for error in call.errors if error != "OUT_OF_MEMORY"]
     if said == ["JOURNAL_" + names[0]] and len(names) == 1:
         return f"Its only error is {said[0]}."
-    text = f"Its errors, of which the first that is true comes: {', '.join(said)}" if len(said) > 1 else f"Its error: {said[0]}"
+    text = (
+        f"Its errors, of which the first that is true comes: {', '.join(said)}"
+        if len(said) > 1
+        else f"Its error: {said[0]}"
+    )
     if "OUT_OF_MEMORY" in names:
         before = names[names.index("OUT_OF_MEMORY") - 1]
         is_last = names[-1] == "OUT_OF_MEMORY"

@@ -18,7 +18,9 @@ HEADING = "The impls of each command and of each oneof that a difference prints:
 
 def name_number():
     """The number of the field that names a command, one for all commands."""
-    return next(row.number for message in messages() if message.is_command() for row in message.rows if row.name == "name")
+    return next(
+        row.number for message in messages() if message.is_command() for row in message.rows if row.name == "name"
+    )
 
 
 class Entry:
@@ -87,7 +89,9 @@ class Source:
         self.ghosts.setdefault(module, set()).update(names)
 
     def text(self):
-        ghosts = [f"ghost use Rattle.{module}.{{{', '.join(sorted(names))}}};\n" for module, names in self.ghosts.items()]
+        ghosts = [
+            f"ghost use Rattle.{module}.{{{', '.join(sorted(names))}}};\n" for module, names in self.ghosts.items()
+        ]
         ghosts += [f"ghost use Rattle.{alias};\n" for alias in sorted(self.aliases)]
         uses = []
         for module, names in self.uses.items():
@@ -109,10 +113,16 @@ def write_same_but_payload(source, command, oneof):
     members = [member for member in oneof.members if member.number in command.entry.payloads]
     erased = " ∷ ".join([str(member.number) for member in members] + ["[]"])
     contents = " or a ".join(member.name.replace("_", " ") for member in members)
-    arms = "".join(f"        (Some({enum}::{camel(member.name)}(_)), Some({enum}::{camel(member.name)}(_))) => true,\n" for member in members)
+    arms = "".join(
+        f"        (Some({enum}::{camel(member.name)}(_)), Some({enum}::{camel(member.name)}(_))) => true,\n"
+        for member in members
+    )
 
     def without(value):
-        return f"without_payloads ({erased}) (row.OneOf ⟦<{enum} as OneOf>⟧.members) (option_part ⟦<{enum} as OneOf>⟧.part {value}.now)"
+        return (
+            f"without_payloads ({erased}) (row.OneOf ⟦<{enum} as OneOf>⟧.members) "
+            f"(option_part ⟦<{enum} as OneOf>⟧.part {value}.now)"
+        )
 
     source.body.append(
         f"/// Whether two {oneof.name}s are the same but for the content of a {contents}.\n"
@@ -239,7 +249,8 @@ def write_command(command, shared):
 def chained_fields(command):
     """The proof that a command's fields follow each other, which the prover does not find by itself beyond six, or
     through definitions that it must not open."""
-    path = f"Rattle.{CRATE}.proofs.commands.{command.module}.{command.message.name}CommandMessageHeaderDiff.write_fields.Goals"
+    method = f"{command.module}.{command.message.name}CommandMessageHeaderDiff.write_fields"
+    path = f"Rattle.{CRATE}.proofs.commands.{method}.Goals"
     counts = {}
     steps = ""
     rows = command.printed()
@@ -249,7 +260,10 @@ def chained_fields(command):
         if counts[call] > 1:
             call += f"-{counts[call]}"
         last = at == len(rows)
-        steps += f"    let w{at} = c.{call if last else f'in_ok-{call}'}.ensures {'ok' if last else '(refl {a = true})'} in\n"
+        steps += (
+            f"    let w{at} = c.{call if last else f'in_ok-{call}'}.ensures "
+            f"{'ok' if last else '(refl {a = true})'} in\n"
+        )
     chain = "nothing_written writes _"
     for at in range(len(rows), 0, -1):
         chain = f"append _ _ _ _ _ w{at}\n        ({chain})"
@@ -257,7 +271,8 @@ def chained_fields(command):
         ("use Rattle.std.proofs.Common.{refl, true}\n" if len(rows) > 1 else "")
         + f"use Rattle.{CRATE}.proofs.Fields.{{fields_append, nothing_written}}\n"
         f"use {path} as goal\n\n"
-        f"pub returns : goal.returns\nreturns g c ok =\n    let writes = g.F.DifferenceForm.writes c.args.form.now in\n{steps}"
+        "pub returns : goal.returns\nreturns g c ok =\n    let writes = g.F.DifferenceForm.writes c.args.form.now in\n"
+        f"{steps}"
         f"    let append = fields_append writes in\n    {chain}\n"
     )
 
@@ -284,7 +299,8 @@ def texts():
                 crate, module, enum, oneof = shared[row.name]
                 printed[module] = (f"{crate}::{module}", enum), oneof
         if command.printed():
-            proofs = f"crates/{CRATE}/proofs/commands/{command.module}/{command.message.name}CommandMessageHeaderDiff/write_fields"
+            method = f"{command.module}/{command.message.name}CommandMessageHeaderDiff/write_fields"
+            proofs = f"crates/{CRATE}/proofs/commands/{method}"
             found[f"{proofs}/Answers.antt"] = chained_fields(command)
     for module, (path, oneof) in printed.items():
         source = Source(f"`{path[1]}` printed.")

@@ -117,7 +117,12 @@ def never_compared(command):
 
 def payloads(command):
     """The fields that hold a payload, each with the member of a oneof that does."""
-    added = [(row.name, field.name if isinstance(row, OneOf) else None) for row in new_rows(command) for field in members_of(row) if field.payload]
+    added = [
+        (row.name, field.name if isinstance(row, OneOf) else None)
+        for row in new_rows(command)
+        for field in members_of(row)
+        if field.payload
+    ]
     return ([PAYLOADS[command]] if command in PAYLOADS else []) + added
 
 
@@ -147,7 +152,10 @@ def pairs():
         actual, expected, text = PAIRS.get(command, ({}, {}, None))
         added = new_rows(command)
         if added:
-            actual, expected = ({**known, **{row.name: row_sample(row, place) for row in added}} for place, known in enumerate((actual, expected)))
+            actual, expected = (
+                {**known, **{row.name: row_sample(row, place) for row in added}}
+                for place, known in enumerate((actual, expected))
+            )
             text = None
         yield command, actual, expected, text
 
@@ -1002,7 +1010,11 @@ def encoding_cases():
     run = {"result_completion_id": 2, "name": "a"}
     canonical = payload(rows_of("Run"), run)
     yield case(
-        "a field twice, of which the last counts", "Run", run, run, encoded=(records("Run", ("result_completion_id", 1)) + canonical, None)
+        "a field twice, of which the last counts",
+        "Run",
+        run,
+        run,
+        encoded=(records("Run", ("result_completion_id", 1)) + canonical, None),
     )
     number = unknown_number("Run")
     further = varint(8 * number) + b"\x07" + varint(8 * number + 3) + b"\x08\x01" + varint(8 * number + 4)
@@ -1027,13 +1039,17 @@ def malformed_cases():
     run = records("Run", ("result_completion_id", 1), ("name", "a"))
     yield malformed("the recorded one is cut off", "Run", run[:-1], run)
     yield malformed("the made one is cut off", "Run", run, run[:-1])
-    yield malformed("both are", "Run", number_key("Run", "result_completion_id"), number_key("Run", "result_completion_id"))
+    yield malformed(
+        "both are", "Run", number_key("Run", "result_completion_id"), number_key("Run", "result_completion_id")
+    )
     yield malformed("where nothing is compared, too", "Input", value_key("Input", "value"), b"")
     name = records("ClearAllState", ("name", b"\xff"))
     yield malformed("a name that is not UTF-8", "ClearAllState", name, name)
     number = number_key("GetEagerStateKeys", "value") + b"\x01"
     yield malformed("a number where bytes are expected", "GetEagerStateKeys", number, number)
-    yield malformed("an end of a group that did not begin", "SendSignal", b"", varint(8 * unknown_number("SendSignal") + 4))
+    yield malformed(
+        "an end of a group that did not begin", "SendSignal", b"", varint(8 * unknown_number("SendSignal") + 4)
+    )
 
 
 MAKERS = (

@@ -26,7 +26,9 @@ pub use shared_core_compare::equality::CommandMessageHeaderEq;
 pub use shared_core_compare::name::NamedCommandMessage;
 pub use shared_core_message::restate_message::{RestateEncodableMessage, RestateMessage};
 pub use shared_core_message::schemas::schema_at;
-pub use shared_core_parts::notification::{CANCEL_SIGNAL_ID, CompletionId, Notification, NotificationId, NotificationResult};
+pub use shared_core_parts::notification::{
+    CANCEL_SIGNAL_ID, CompletionId, Notification, NotificationId, NotificationResult,
+};
 pub use shared_core_codec::error::EncodingError;
 
 // The nested messages, and the template of notifications.
@@ -70,17 +72,28 @@ def used(found):
     return f"use crate::messages::{{{', '.join(sorted(found))}}};\n"
 
 
+def arms_by_type(found, value):
+    """The arms of a match that lead from the types of these messages to a value made of each one's record."""
+    return "".join(f"        MessageType::{message.type_name()} => {value(message.name)},\n" for message in found)
+
+
+def visited(record):
+    return f"visitor.visit::<{record}>()"
+
+
 def message_dispatch():
     """From a message's type to its record."""
-    arms = "".join(f"        MessageType::{message.type_name()} => visitor.visit::<{message.name}>(),\n" for message in typed())
+    arms = arms_by_type(typed(), visited)
     return (
         "//! From a message's type to its record.\n\n"
-        "ghost use Rattle.shared_core_message.specs.Messages.{message_schema};\nghost use Rattle.shared_core.specs.Visiting.{IsVisited};\n\n"
+        "ghost use Rattle.shared_core_message.specs.Messages.{message_schema};\n"
+        "ghost use Rattle.shared_core.specs.Visiting.{IsVisited};\n\n"
         + used({"MessageVisitor"} | {message.name for message in typed()})
         + "use shared_core_base::header::MessageType;\n\n"
         "/// The result of a visitor for a message's type, or `None` for a custom entry, which has no record.\n"
         "pub fn visit_message<V: MessageVisitor>(ty: MessageType, visitor: V) -> Option<V::Output>\n"
-        "    requires { V.may_visit visitor ty }\n    ensures { IsVisited (V.results visitor ty) (message_schema ty) result }\n{\n"
+        "    requires { V.may_visit visitor ty }\n"
+        "    ensures { IsVisited (V.results visitor ty) (message_schema ty) result }\n{\n"
         f"    Some(match ty {{\n{arms}        MessageType::CustomEntry(_) => return None,\n    }})\n}}\n"
     )
 
@@ -88,7 +101,7 @@ def message_dispatch():
 def command_dispatch():
     """From a command's type to its record."""
     commands = [message for message in typed() if message.command is not None]
-    arms = "".join(f"        MessageType::{message.type_name()} => visitor.visit::<{message.name}>(),\n" for message in commands)
+    arms = arms_by_type(commands, visited)
     return (
         "//! From a command's type to its record.\n\n"
         "ghost use Rattle.std.specs.Prelude.{IsSome};\n"
@@ -98,7 +111,8 @@ def command_dispatch():
         + "use shared_core_base::header::MessageType;\n\n"
         "/// The result of a visitor for a command's type, or `None` if it is not the type of a command.\n"
         "pub fn visit_command<V: CommandVisitor>(ty: MessageType, visitor: V) -> Option<V::Output>\n"
-        "    requires { V.may_visit visitor ty }\n    ensures visited { IsVisited (V.results visitor ty) (command_schema ty) result }\n"
+        "    requires { V.may_visit visitor ty }\n"
+        "    ensures visited { IsVisited (V.results visitor ty) (command_schema ty) result }\n"
         "    ensures each { IsSome (command_type_of ty) → IsSome result }\n{\n"
         f"    Some(match ty {{\n{arms}        _ => return None,\n    }})\n}}\n"
     )
@@ -107,14 +121,16 @@ def command_dispatch():
 def record_dispatch():
     """From the number of a schema to its record."""
     order = schemas()
-    arms = "".join(f"        {message.schema} => visitor.visit::<{message.name}>(),\n" for message in order)
+    arms = "".join(f"        {message.schema} => {visited(message.name)},\n" for message in order)
     return (
-        "//! From the number of a schema to its record.\n\nghost use Rattle.shared_core.specs.Visiting.{IsVisited, known_schema};\n\n"
+        "//! From the number of a schema to its record.\n\n"
+        "ghost use Rattle.shared_core.specs.Visiting.{IsVisited, known_schema};\n\n"
         + used({"RecordVisitor"} | {message.name for message in order})
         + "\n"
         + comment(
-            f"The result of a visitor for a schema, by its number: its place in the table of the {len(order)} schemas, from 0 for "
-            f"`{order[0].name}` to {order[-1].schema} for `{order[-1].name}`. `None` where no schema has the number."
+            f"The result of a visitor for a schema, by its number: its place in the table of the {len(order)} schemas, "
+            f"from 0 for `{order[0].name}` to {order[-1].schema} for `{order[-1].name}`. `None` where no schema has "
+            "the number."
         )
         + "pub fn visit_record<V: RecordVisitor>(schema: u32, visitor: V) -> Option<V::Output>\n"
         "    ensures { IsVisited (V.results visitor) (known_schema schema) result }\n{\n"
@@ -130,20 +146,26 @@ def type_schemas():
     arms = ""
     for message in typed():
         for other in sorted(before.get(message.name, []), key=lambda other: other.before_version):
-            arms += f"        MessageType::{message.type_name()} if version < Version::V{other.before_version} => {other.schema},\n"
+            arms += (
+                f"        MessageType::{message.type_name()} if version < Version::V{other.before_version} "
+                f"=> {other.schema},\n"
+            )
         arms += f"        MessageType::{message.type_name()} => {message.schema},\n"
     others = "".join(
-        f" `{last.type_name()}` has another one before V{message.before_version} than later." for message, last in earlier()
+        f" `{last.type_name()}` has another one before V{message.before_version} than later."
+        for message, last in earlier()
     )
     return (
         "//! The schemas of messages.\n\nghost use Rattle.std.specs.Prelude.{◌≡◌, ◌<◌, IfSome};\n"
-        "ghost use Rattle.shared_core_codec.specs.Table.{schema_count};\nghost use Rattle.shared_core_message.specs.Schemas.{schema_at};\n\n"
+        "ghost use Rattle.shared_core_codec.specs.Table.{schema_count};\n"
+        "ghost use Rattle.shared_core_message.specs.Schemas.{schema_at};\n\n"
         "use shared_core_base::header::MessageType;\nuse shared_core_base::version::Version;\n\n"
         + comment(
             "The number of the schema that a type's payloads have at a version: its place in the table of the "
             f"{len(schemas())} schemas.{others} A custom entry has none."
         )
-        + "pub fn schema_at(version: Version, ty: MessageType) -> Option<u32>\n    ensures schema { result ≡ schema_at version ty }\n"
+        + "pub fn schema_at(version: Version, ty: MessageType) -> Option<u32>\n"
+        "    ensures schema { result ≡ schema_at version ty }\n"
         "    ensures known { IfSome result (λ schema. schema < schema_count) }\n{\n"
         f"    Some(match ty {{\n{arms}        MessageType::CustomEntry(_) => return None,\n    }})\n}}\n"
     )

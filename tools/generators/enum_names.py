@@ -44,7 +44,8 @@ def texts():
             names = "".join(f'(codes "{name}", {number}) ∷ ' for name, number in enums()[field.enum])
             values.append(
                 f"    -- {about}\n"
-                f"    {'∷ ' if values else ''}record {{ schema = {message.schema}; number = {field.number}; values = {names}[] }}\n"
+                f"    {'∷ ' if values else ''}"
+                f"record {{ schema = {message.schema}; number = {field.number}; values = {names}[] }}\n"
             )
             listed = ", ".join(f'EnumValue("{name}", {number})' for name, number in enums()[field.enum])
             fields.append(
@@ -52,8 +53,12 @@ def texts():
                 f"    EnumField {{ schema: {message.schema}, number: {field.number}, values: &[{listed}] }},\n"
             )
     return {
-        "crates/shared_core_json_reader/specs/EnumValues.antt": VALUES + "".join(values) + f"    {'∷ ' if values else ''}[]\n",
-        "crates/shared_core_json_reader/src/enum_values.rt": f"{ENUM_FIELDS}pub static ENUM_FIELDS: [EnumField; {len(fields)}] = [\n" + "".join(fields) + "];\n",
+        "crates/shared_core_json_reader/specs/EnumValues.antt": (
+            VALUES + "".join(values) + f"    {'∷ ' if values else ''}[]\n"
+        ),
+        "crates/shared_core_json_reader/src/enum_values.rt": (
+            f"{ENUM_FIELDS}pub static ENUM_FIELDS: [EnumField; {len(fields)}] = [\n" + "".join(fields) + "];\n"
+        ),
     }
 
 

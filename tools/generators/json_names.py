@@ -39,7 +39,9 @@ def texts():
         rows.append(f"    // {name}\n    &[{', '.join(listed)}],\n")
     return {
         "crates/shared_core_json/specs/Names.antt": NAMES + "".join(names) + "    ∷ []\n",
-        "crates/shared_core_json/src/name_table.rt": f"{SCHEMAS}pub static NAMES: [&[Name]; {len(order)}] = [\n" + "".join(rows) + "];\n",
+        "crates/shared_core_json/src/name_table.rt": (
+            f"{SCHEMAS}pub static NAMES: [&[Name]; {len(order)}] = [\n" + "".join(rows) + "];\n"
+        ),
     }
 
 

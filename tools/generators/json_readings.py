@@ -14,8 +14,8 @@ SOURCE = "tools/generators/json_readings.py and proto/journal.proto"
 FILE = "conformance/json/readings.txt"
 
 HEAD = """\
-# JSON texts, each read for a schema: the canonical payload of what it means, or why it means nothing, and where. The text of a hand-written line
-# is in the comment above it, if it can be printed.
+# JSON texts, each read for a schema: the canonical payload of what it means, or why it means nothing, and where. The
+# text of a hand-written line is in the comment above it, if it can be printed.
 """
 
 
@@ -46,8 +46,16 @@ WRITTEN = [
         ("Void", " {} ", {}),
     ]),
     ("What is null, a default or empty", [
-        ("StartMessage", '{"id":null,"knownEntries":3,"scope":null,"stateMap":null,"partialState":null}', {"known_entries": 3}),
-        ("StartMessage", '{"partialState":false,"knownEntries":3,"id":"","debugId":"","stateMap":[],"randomSeed":0}', {"known_entries": 3}),
+        (
+            "StartMessage",
+            '{"id":null,"knownEntries":3,"scope":null,"stateMap":null,"partialState":null}',
+            {"known_entries": 3},
+        ),
+        (
+            "StartMessage",
+            '{"partialState":false,"knownEntries":3,"id":"","debugId":"","stateMap":[],"randomSeed":0}',
+            {"known_entries": 3},
+        ),
         ("StartMessage", '{"scope":""}', {"scope": ""}),
         ("Future", '{"waitingCompletions":[],"nestedFutures":[]}', {}),
         ("ProposeRunCompletionMessage", '{"value":""}', {"value": b""}),
@@ -142,7 +150,11 @@ WRITTEN = [
         (
             "Future",
             '{"nestedFutures":[{},{"combinatorType":2}],"waitingNamedSignals":["a",""],"waitingCompletions":[1,"300"]}',
-            {"waiting_completions": [1, 300], "waiting_named_signals": ["a", ""], "nested_futures": [{}, {"combinator_type": 2}]},
+            {
+                "waiting_completions": [1, 300],
+                "waiting_named_signals": ["a", ""],
+                "nested_futures": [{}, {"combinator_type": 2}],
+            },
         ),
         ("StartMessage", '{"partialState":true}', {"partial_state": 1}),
         ("StartMessage", '{"partialState":1}', "wrong_kind partialState"),
@@ -155,7 +167,11 @@ WRITTEN = [
         ("Future", '{"waitingCompletions":[1,{}]}', "wrong_kind waitingCompletions[1]"),
         ("Future", '{"waitingCompletions":[1,null]}', "wrong_kind waitingCompletions[1]"),
         ("Future", '{"waitingCompletions":[0,1,2,3,4,5,6,7,8,9,-1]}', "out_of_range waitingCompletions[10]"),
-        ("Future", '{"nestedFutures":[{"nestedFutures":[{},{"waitingSignals":[{}]}]}]}', "wrong_kind nestedFutures[0].nestedFutures[1].waitingSignals[0]"),
+        (
+            "Future",
+            '{"nestedFutures":[{"nestedFutures":[{},{"waitingSignals":[{}]}]}]}',
+            "wrong_kind nestedFutures[0].nestedFutures[1].waitingSignals[0]",
+        ),
         ("Future", '{"waitingNamedSignals":["a",1]}', "wrong_kind waitingNamedSignals[1]"),
         ("InputCommandMessage", '{"value":{"content":"!"}}', "not_base64 value.content"),
         ("InputCommandMessage", '{"headers":[{},{"key":"a","value":7}]}', "wrong_kind headers[1].value"),
@@ -212,7 +228,8 @@ WRITTEN = [
         )),
         ("StartMessage", '{"stateMap":[{},{"key":1},2]}', "wrong_kind stateMap[1].key"),
     ]),
-    ("What is not JSON: the offset is where the token begins that is none, or that has a comma or a colon too few or too many before it", [
+    ("What is not JSON: the offset is where the token begins that is none, or that has a comma or a colon too few or "
+     "too many before it", [
         ("StartMessage", "", "not_json 0"),
         ("StartMessage", " ", "not_json 1"),
         ("StartMessage", "{", "not_json 1"),
@@ -245,7 +262,8 @@ WRITTEN = [
         ("StartMessage", "{}//", "not_json 2"),
         ("StartMessage", '{"a":1}x', "not_json 7"),
     ]),
-    ("A bracket, a key or another value in the wrong place: the offset is that of the next token, or of the end of the text", [
+    ("A bracket, a key or another value in the wrong place: the offset is that of the next token, or of the end of "
+     "the text", [
         ("StartMessage", "}", "not_json 1"),
         ("StartMessage", "]", "not_json 1"),
         ("StartMessage", '{"knownEntries":}', "not_json 17"),
@@ -345,8 +363,13 @@ def of_row(schema, row):
 
 
 def files():
-    lines = [HEAD, *written(), "\n# Levels: one hundred, more, and arrays and objects nested more than one thousand deep.\n", *levels()]
-    lines.append("\n# Each field by its names, of another kind, and twice; of a oneof two members that are neighbours; and what is no object.\n")
+    lines = [HEAD, *written()]
+    lines.append("\n# Levels: one hundred, more, and arrays and objects nested more than one thousand deep.\n")
+    lines += levels()
+    lines.append(
+        "\n# Each field by its names, of another kind, and twice; of a oneof two members that are neighbours; and what "
+        "is no object.\n"
+    )
     for message in schemas():
         for row in message.rows:
             lines += of_row(message.name, row)

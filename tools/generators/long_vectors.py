@@ -137,7 +137,9 @@ def groups_below_futures():
     for record in ("1000", "110102030405060708", "1501020304", "120161"):
         skipped = bytes.fromhex(record)
         yield payload("EndMessage", groups(100, skipped), b"")
-    yield payload("SuspensionMessage", suspension(chain(100, varint(8 * unknown(15, "Future")) + b"\x01")), suspension(chain(100)))
+    yield payload(
+        "SuspensionMessage", suspension(chain(100, varint(8 * unknown(15, "Future")) + b"\x01")), suspension(chain(100))
+    )
     yield payload("Future", chain(101, lengthy(unknown(7, "Future"), b"\x01\x01")), chain(101))
 
     yield "# One level above, all readers accept them."
@@ -261,8 +263,8 @@ def text(title, *makers):
 def files():
     return {
         "conformance/levels.txt": text(
-            "Levels: the records of a payload are on level 0, those of a message or a group one level deeper, and level "
-            "100 is the last.",
+            "Levels: the records of a payload are on level 0, those of a message or a group one level deeper, and "
+            "level 100 is the last.",
             chains_of_futures,
             groups_of_an_unknown_field,
             groups_below_futures,

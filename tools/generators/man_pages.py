@@ -232,7 +232,10 @@ def library_page():
         3,
         ("NAME", title("pendratsoa", about)),
         ("SYNOPSIS", as_it_is("#include <pendratsoa.h>\n\ncc ... $(pkg-config --cflags --libs pendratsoa)")),
-        ("DESCRIPTION", "The calls are\n" + "".join(f".BR {name} (){',' if name != names[-1] else '.'}\n" for name in names)),
+        (
+            "DESCRIPTION",
+            "The calls are\n" + "".join(f".BR {name} (){',' if name != names[-1] else '.'}\n" for name in names),
+        ),
         *((name, prose(section(text, heading)[0])) for heading, name in LIBRARY_SECTIONS),
         ("CALLS", calls()),
         ("EXAMPLES", prose(build)),

@@ -17,11 +17,15 @@ PAGES = ("README.md", "CHANGELOG.md", "bench/README.md", "conformance/README.md"
 # Pages that say what was measured at their time.
 MEASURED = ("docs/GATE.md", "docs/PERFORMANCE.md")
 
-SAID = re.compile(r"((?:[Tt]he|[Aa]ll|its|these|each of the) )(\d+)( (?:named )?(schemas|records|types|codes|commands))\b")
+SAID = re.compile(
+    r"((?:[Tt]he|[Aa]ll|its|these|each of the) )(\d+)( (?:named )?(schemas|records|types|codes|commands))\b"
+)
 
 # The page on what bytes are: the row of the types with their kinds, and how many lines give a type's code.
 FORMAT = "docs/FORMAT.md"
-TYPES_ROW = re.compile(r"^(\| one of the )\d+( in \[conformance/frames\.txt\]\(\S+\) \| the type of that name: ).*( \|)$", re.M)
+TYPES_ROW = re.compile(
+    r"^(\| one of the )\d+( in \[conformance/frames\.txt\]\(\S+\) \| the type of that name: ).*( \|)$", re.M
+)
 CODE_LINES = re.compile(r"^(    frames\.txt, )\d+(: The code of each message type)$", re.M)
 
 LISTED = "docs/C.md"
@@ -37,7 +41,13 @@ ARGUMENTS = re.compile(r"(<!-- Written by tools/generate\.py pages\. -->\n\n)(?:
 def counted():
     """How many of each there are, by the words for them."""
     commands = sum(message.is_command() for message in typed())
-    return {"schemas": len(schemas()), "records": len(schemas()), "types": len(typed()), "codes": len(typed()), "commands": commands}
+    return {
+        "schemas": len(schemas()),
+        "records": len(schemas()),
+        "types": len(typed()),
+        "codes": len(typed()),
+        "commands": commands,
+    }
 
 
 def numbered(text, counts):
@@ -73,7 +83,8 @@ def list_of_schemas():
 def list_of_arguments(program):
     """What a program's arguments do, an item for each."""
     wrapped = (
-        textwrap.wrap(f"{tag}: {said}", 118, break_long_words=False, break_on_hyphens=False) for tag, said in program.items()
+        textwrap.wrap(f"{tag}: {said}", 118, break_long_words=False, break_on_hyphens=False)
+        for tag, said in program.items()
     )
     return "".join("- " + "\n  ".join(lines) + "\n" for lines in wrapped)
 

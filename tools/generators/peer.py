@@ -31,7 +31,9 @@ LABELS = {"plain": "Plain", "optional": "Optional", "message": "Optional", "repe
 def enumeration(name, constants):
     """An enum as Rust, its constants without the enum's name before them."""
     prefix = snake(name).upper() + "_"
-    variants = "".join(f"    {camel(constant.removeprefix(prefix).lower())} = {number},\n" for constant, number in constants)
+    variants = "".join(
+        f"    {camel(constant.removeprefix(prefix).lower())} = {number},\n" for constant, number in constants
+    )
     derives = "Clone, Copy, Debug, PartialEq, Eq, Hash, PartialOrd, Ord, ::prost::Enumeration"
     return f"#[derive({derives})]\n#[repr(i32)]\npub enum {name} {{\n{variants}}}\n"
 
@@ -88,7 +90,9 @@ class Records:
         text = f"#[derive(Clone, PartialEq, ::prost::Message)]\npub struct {message.name} {body}\n"
         one_ofs = [self.one_of(row) for row in message.rows if isinstance(row, OneOf)]
         if one_ofs:
-            text += f"/// The oneofs of `{message.name}`.\npub mod {snake(message.name)} {{\n" + "\n".join(one_ofs) + "}\n"
+            text += (
+                f"/// The oneofs of `{message.name}`.\npub mod {snake(message.name)} {{\n" + "\n".join(one_ofs) + "}\n"
+            )
         return text
 
 
@@ -152,7 +156,8 @@ def json():
         parts.append(
             f"impl Serialize for {message.name} {{\n"
             "    fn serialize<S: Serializer>(&self, serializer: S) -> Result<S::Ok, S::Error> {\n"
-            f"        let {mutable}object = serializer.serialize_map(None)?;\n{members}        object.end()\n    }}\n}}\n"
+            f"        let {mutable}object = serializer.serialize_map(None)?;\n{members}        object.end()\n    }}\n"
+            "}\n"
         )
     return "\n".join(parts)
 
@@ -176,7 +181,9 @@ def read_arm(message, row, field, place):
     keys = " | ".join(f'"{key}"' for key in dict.fromkeys((json_name(field.name), field.name)))
     if isinstance(row, OneOf):
         found = made.format("value")
-        store = f"one_of(&mut found.{row.name}, {snake(message.name)}::{camel(row.name)}::{camel(field.name)}({found}))?;"
+        store = (
+            f"one_of(&mut found.{row.name}, {snake(message.name)}::{camel(row.name)}::{camel(field.name)}({found}))?;"
+        )
     elif field.presence == "repeated":
         read = f"Vec<{read}>"
         each = made.format("each")
@@ -184,9 +191,12 @@ def read_arm(message, row, field, place):
         store = f"found.{field.name} = {found};"
     else:
         found = made.format("value")
-        store = f"found.{field.name} = {found};" if field.presence == "plain" else f"found.{field.name} = Some({found});"
+        store = (
+            f"found.{field.name} = {found};" if field.presence == "plain" else f"found.{field.name} = Some({found});"
+        )
     return (
-        f"                {keys} => {{\n                    if let Some(value) = member::<{read}, A>(&mut seen, {place}, &mut object)? {{\n"
+        f"                {keys} => {{\n"
+        f"                    if let Some(value) = member::<{read}, A>(&mut seen, {place}, &mut object)? {{\n"
         f"                        {store}\n                    }}\n                }}\n"
     )
 
@@ -201,7 +211,8 @@ def read_message(message):
         "    fn read<A: MapAccess<'de>>(mut object: A) -> Result<Self, A::Error> {\n"
         f"        let {mutable}found = {message.name}::default();\n{seen.replace('            ', '        ')}"
         "        while let Some(Key(key)) = object.next_key()? {\n            match &*key {\n"
-        f"{arms}                _ => return Err(unknown(&key)),\n            }}\n        }}\n        Ok(found)\n    }}\n}}\n\n"
+        f"{arms}                _ => return Err(unknown(&key)),\n            }}\n        }}\n        Ok(found)\n"
+        "    }\n}\n\n"
         f"impl<'de> Deserialize<'de> for {message.name} {{\n"
         "    fn deserialize<D: Deserializer<'de>>(deserializer: D) -> Result<Self, D::Error> {\n"
         "        read(deserializer)\n    }\n}\n"
@@ -213,7 +224,8 @@ def read_json():
     parts = [
         "//! How serde reads the records, in proto3's JSON form.\n",
         "use serde::de::{Deserialize, Deserializer, MapAccess};\n",
-        "use crate::make::{member, one_of, read, unknown, Binary, Enumeration, Key, Named, Number, Read};\nuse crate::records::*;\n",
+        "use crate::make::{member, one_of, read, unknown, Binary, Enumeration, Key, Named, Number, Read};\n"
+        "use crate::records::*;\n",
     ]
     for name, constants in enums().items():
         names = ", ".join(f'("{constant}", {number})' for constant, number in constants)
@@ -247,13 +259,15 @@ def schema(message, numbers):
 def choice(name, comment, selector, arms):
     """A macro that leads from a number to a record."""
     body = "".join(
-        f"            {number} => {{\n                type $record = $crate::records::{record};\n                $body\n            }}\n"
+        f"            {number} => {{\n                type $record = $crate::records::{record};\n"
+        "                $body\n            }\n"
         for number, record in arms
     )
     return (
         f"/// {comment}\nmacro_rules! {name} {{\n"
         f"    (${selector}:expr, $record:ident => $body:expr, _ => $other:expr $(,)?) => {{\n"
-        f"        match ${selector} {{\n{body}            _ => $other,\n        }}\n    }};\n}}\npub(crate) use {name};\n"
+        f"        match ${selector} {{\n{body}            _ => $other,\n        }}\n    }};\n}}\n"
+        f"pub(crate) use {name};\n"
     )
 
 
@@ -273,7 +287,8 @@ def table():
     types = [(message.type_name(), message.code) for message in typed()]
     listed = "".join(schema(message, numbers) for message in order)
     codes = "".join(
-        f'    MessageType {{\n        name: "{name}",\n        code: 0x{code:04X},\n        schema: {numbers[name + "Message"]},\n    }},\n'
+        f'    MessageType {{\n        name: "{name}",\n        code: 0x{code:04X},\n'
+        f'        schema: {numbers[name + "Message"]},\n    }},\n'
         for name, code in types
     )
     parts = [
@@ -290,7 +305,8 @@ def table():
         ),
         choice(
             "with_message",
-            "Does the body with a name for the record of a message type, or the other where no named type has the code.",
+            "Does the body with a name for the record of a message type, or the other where no named type has the "
+            "code.",
             "code",
             [(f"0x{code:04X}", name + "Message") for name, code in types],
         ),
@@ -299,4 +315,9 @@ def table():
 
 
 def files():
-    return {"bench/src/records.rs": records(), "bench/src/json.rs": json(), "bench/src/read_json.rs": read_json(), "bench/src/table.rs": table()}
+    return {
+        "bench/src/records.rs": records(),
+        "bench/src/json.rs": json(),
+        "bench/src/read_json.rs": read_json(),
+        "bench/src/table.rs": table(),
+    }

@@ -147,7 +147,10 @@ class Program:
         """What a page says of each argument, or of each subcommand: its tag, and a text."""
         if self.name == JOURNAL:
             return [(f"`{each.command}`", each.about) for each in subcommands()]
-        return [*((argument.tag(), argument.page) for argument in self.arguments), ("`--help`, `--version`", common()["page"])]
+        return [
+            *((argument.tag(), argument.page) for argument in self.arguments),
+            ("`--help`, `--version`", common()["page"]),
+        ]
 
     def texts(self):
         """The calls that give its definition the texts around the arguments."""

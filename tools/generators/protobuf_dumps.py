@@ -24,15 +24,18 @@ from google.protobuf.descriptor import FieldDescriptor
 ROOT = pathlib.Path(__file__).resolve().parents[2]
 RECORDS = "conformance/records.txt"
 
-HEAD = """# The JSON of each message: with every field present, with each member of its oneofs in turn, and with nothing present. The payloads are those of
-# conformance/records.txt, which are protoc's; the JSON is protobuf's own.
+HEAD = """\
+# The JSON of each message: with every field present, with each member of its oneofs in turn, and with nothing present.
+# The payloads are those of conformance/records.txt, which are protoc's; the JSON is protobuf's own.
 """
 
 
 def load():
     """The messages of proto/journal.proto by their names."""
     with tempfile.TemporaryDirectory() as work:
-        subprocess.run(["protoc", f"--python_out={work}", f"-I{ROOT / 'proto'}", "options.proto", "journal.proto"], check=True)
+        subprocess.run(
+            ["protoc", f"--python_out={work}", f"-I{ROOT / 'proto'}", "options.proto", "journal.proto"], check=True
+        )
         sys.path.insert(0, work)
         import journal_pb2
 
@@ -73,7 +76,11 @@ def in_rows(kind, shown):
         held = shown[field.json_name]
         if field.message_type is None:
             return held
-        return [in_rows(field.message_type, one) for one in held] if isinstance(held, list) else in_rows(field.message_type, held)
+        return (
+            [in_rows(field.message_type, one) for one in held]
+            if isinstance(held, list)
+            else in_rows(field.message_type, held)
+        )
 
     return {field.json_name: value(field) for field in sorted(kind.fields, key=place) if field.json_name in shown}
 
@@ -133,7 +140,10 @@ def records(root):
 
 def json_lines(kinds, root):
     """The JSON of these payloads, a line each."""
-    lines = [f"json {name} {payload.hex() or '-'} = {text_of(printed(getattr(kinds, name), payload))}\n" for name, payload in records(root)]
+    lines = [
+        f"json {name} {payload.hex() or '-'} = {text_of(printed(getattr(kinds, name), payload))}\n"
+        for name, payload in records(root)
+    ]
     return HEAD + "".join(lines)
 
 
@@ -157,7 +167,10 @@ def stored(kinds, root):
     stream.message("Error", kinds.ErrorMessage(message=text).SerializeToString())
     stream.message("InputCommand", kinds.InputCommandMessage(headers=[kinds.Header()], name="\0").SerializeToString())
     stream.message("Start", kinds.StartMessage(random_seed=2**64 - 1, limit_key="").SerializeToString())
-    stream.message("Error", kinds.ErrorMessage(behavior=-(2**31), related_command_index=0, next_retry_delay=0).SerializeToString())
+    stream.message(
+        "Error",
+        kinds.ErrorMessage(behavior=-(2**31), related_command_index=0, next_retry_delay=0).SerializeToString(),
+    )
     stream.message("Suspension", kinds.SuspensionMessage(awaiting_on=future_of(kinds, 90)).SerializeToString())
     stream.message("Start", b"\x08")
     stream.message("End", b"")
@@ -169,10 +182,18 @@ def stored(kinds, root):
     for flag in (1, 0x8001, 0xFFFF):
         stream.message("ProposeRunCompletion", b"", flag)
     stream.message("Start", b"\x08", 0x4000)
-    stream.put(frame(0xFC01, b"", 0x8000), type="CustomEntry(64513)", code=0xFC01, length=0, header="/AGAAAAAAAA=", bytes="")
+    stream.put(
+        frame(0xFC01, b"", 0x8000), type="CustomEntry(64513)", code=0xFC01, length=0, header="/AGAAAAAAAA=", bytes=""
+    )
     stream.put(frame(8, b"", 0x8000), unknown=True, code=8, header="AAiAAAAAAAA=")
     stream.put(frame(8, b"x")[:8], unknown=True, code=8, header="AAgAAAAAAAE=")
     return stream.end(frame(3, b"12345678")[:11])
+
+
+def character(r):
+    """A control character, one of ASCII, a quotation mark, a backslash, or one beyond ASCII."""
+    beyond = [range(0xA0, 0x3000), range(0x1F300, 0x1F700)]
+    return chr(r.choice([r.randrange(0x20), r.randrange(0x80), 0x22, 0x5C, *map(r.choice, beyond)]))
 
 
 SCALARS = {
@@ -180,10 +201,7 @@ SCALARS = {
     FieldDescriptor.TYPE_UINT64: lambda r: r.choice([0, 1, 2**53 + 1, 2**64 - 1, r.getrandbits(64)]),
     FieldDescriptor.TYPE_BOOL: lambda r: r.random() < 0.5,
     FieldDescriptor.TYPE_ENUM: lambda r: r.choice([0, 1, -1, 2**31 - 1, -(2**31), r.randrange(-5, 9)]),
-    FieldDescriptor.TYPE_STRING: lambda r: "".join(
-        chr(r.choice([r.randrange(0x20), r.randrange(0x80), 0x22, 0x5C, r.randrange(0xA0, 0x3000), r.randrange(0x1F300, 0x1F700)]))
-        for _ in range(r.choice([0, 1, 5, 40]))
-    ),
+    FieldDescriptor.TYPE_STRING: lambda r: "".join(character(r) for _ in range(r.choice([0, 1, 5, 40]))),
     FieldDescriptor.TYPE_BYTES: lambda r: r.randbytes(r.choice([0, 1, 2, 3, 4, 60])),
 }
 

@@ -12,7 +12,8 @@ from . import descriptors, renumbered
 from .payloads import varint
 
 NAME = (
-    r"(?<!\")\b(?P<name>[A-Z]\w+Message(?:V6)?|Value|Failure|Header|Future|StateEntry|StateKeys|NotificationTemplate)\b(?!\()"
+    r"(?<!\")\b(?P<name>[A-Z]\w+Message(?:V6)?|Value|Failure|Header|Future|StateEntry|StateKeys"
+    r"|NotificationTemplate)\b(?!\()"
 )
 SCHEMA = r"(?:\(\s*(?:(?:true|false),\s*)?|alloc, )(?P<schema>\d{1,2}),\s"
 CODE = r"\b0x(?P<code>[0-9A-F]{4})(?:u16)?,"
@@ -31,8 +32,12 @@ CONTEXTS = {
     "tests/ffi/commands.rt.in": CODE,
     "tests/ffi/frames.rt.in": after(ProposeRunCompletionMessage="PROPOSAL", SuspensionMessage="SUSPENSION") + NONE,
     "tests/ffi/notifications.rt.in": after(
-        NotificationTemplate=r"\(\s*&\[|= \[", Value=r"\], 1,\s*&|\.\.\],\s*1,\s*&", Failure=r", 2,\s*&", StateKeys=r",\s*4,\s*&"
-    ) + NONE,
+        NotificationTemplate=r"\(\s*&\[|= \[",
+        Value=r"\], 1,\s*&|\.\.\],\s*1,\s*&",
+        Failure=r", 2,\s*&",
+        StateKeys=r",\s*4,\s*&",
+    )
+    + NONE,
     "tests/ffi/payloads.rt.in": after(
         SuspensionMessageV6="let numbers", GetPromiseCompletionNotificationMessage="let twice"
     ) + SCHEMA,
@@ -65,7 +70,10 @@ CONTEXTS = {
 
 # A literal: the bytes of a text, or an array of numbers, with its length in its type.
 TEXT = re.compile(r'(?<!\w)b"((?:[^"\\]|\\.)*)"', re.S)
-ARRAY = re.compile(r"(?P<type>\[u8; )?(?P<length>(?(type)\d+))(?P<between>(?(type)\] =\s*&?))\[(?P<held>(?:\s*(?:0x[0-9A-Fa-f]{2}|\d{1,3})\s*,)*\s*(?:0x[0-9A-Fa-f]{2}|\d{1,3}),?\s*)\]")
+ARRAY = re.compile(
+    r"(?P<type>\[u8; )?(?P<length>(?(type)\d+))(?P<between>(?(type)\] =\s*&?))"
+    r"\[(?P<held>(?:\s*(?:0x[0-9A-Fa-f]{2}|\d{1,3})\s*,)*\s*(?:0x[0-9A-Fa-f]{2}|\d{1,3}),?\s*)\]"
+)
 DIGITS = re.compile(r'"((?:[0-9a-f]{2}){8,})"')
 ESCAPES = {"n": 10, "r": 13, "t": 9, "0": 0, "\\": 92, '"': 34}
 

@@ -48,7 +48,10 @@ def crate_of(message):
 
 # The crates, each with that line and its messages.
 CRATES = {
-    crate: (about, [message.name for message in messages() if crate_of(message) == crate and message.name not in HAND_WRITTEN])
+    crate: (
+        about,
+        [message.name for message in messages() if crate_of(message) == crate and message.name not in HAND_WRITTEN],
+    )
     for crate, about in ABOUT_CRATES.items()
 }
 
@@ -206,7 +209,8 @@ def laws(crate, module, name, trait, short):
     law = f"{short}_equality"
     present = f", present-law as {short}_present" if trait == "OneOf" else ""
     path = f"Rattle.{crate}.specs.contracts.{module}.{name}{trait}.TheImpl.Laws"
-    return f"    ghost use {path}.{{equality-law as {law}{present}}};\n", [law] + ([f"{short}_present"] if present else [])
+    laws = [law, f"{short}_present"] if present else [law]
+    return f"    ghost use {path}.{{equality-law as {law}{present}}};\n", laws
 
 
 def part_laws(message):
@@ -396,7 +400,9 @@ class RecordLines:
         """The bodies of `merge_field` and `encode_back`; the last field is written first."""
         if not self.parts:
             return "        Ok(())\n", "        end\n"
-        merge = "        match field.number {\n" + "".join(self.merges) + "            _ => {}\n        }\n        Ok(())\n"
+        merge = (
+            "        match field.number {\n" + "".join(self.merges) + "            _ => {}\n        }\n        Ok(())\n"
+        )
         write = "".join(f"        let end = {line};\n" for line in reversed(self.writes[1:]))
         return merge, write + f"        {self.writes[0]}\n"
 
@@ -432,7 +438,8 @@ def write_record(source, crate, message, shared):
         + f"    ghost parts = {{ λ {binder}. {lines.value()} }};\n\n"
         + f"    fn empty({alloc}: Global) -> {name} {{\n        {name} {built}\n    }}\n\n"
         + "    #[tactic(auto, using(shared_core_codec::proofs::Keeping::rows_stay))]\n"
-        + f"    fn merge_field(&mut self, {unused}field: &Occurrence<'_>) -> {result}<(), WireError> {{\n{merge}    }}\n\n"
+        + f"    fn merge_field(&mut self, {unused}field: &Occurrence<'_>) -> {result}<(), WireError> {{\n"
+        f"{merge}    }}\n\n"
         + f"    fn measure(&self, {unused}size: &mut Size) {{\n{''.join(lines.sizes)}    }}\n\n"
         + f"    fn encode_back(&self, {unused}out: &mut [u8], end: usize) -> usize {{\n{write}    }}\n\n"
         + "".join(lines.laws)
@@ -473,7 +480,8 @@ def write_message(source, message):
     source.uses.discard("shared_core_message::restate_message::RestateMessage")
     source.body.append(
         f"\nimpl RestateEncodableMessage for {name} {{\n"
-        f"    ghost wire_form = {{ λ message _. plain_form tables.{schema_name(name)} (⟦<{name} as WireRecord>⟧.parts message) }};\n\n"
+        f"    ghost wire_form = {{ λ message _. plain_form tables.{schema_name(name)} "
+        f"(⟦<{name} as WireRecord>⟧.parts message) }};\n\n"
         f"    fn encode_into(&self, _version: Version, out: &mut Vec<u8>) -> {result}<(), EncodingError> {{\n"
         "        encode_frame_into(self, None, out)\n    }\n\n"
         f"    fn encode_into_bytes(&self, _version: Version, out: &mut BytesMut) -> {result}<(), EncodingError> {{\n"

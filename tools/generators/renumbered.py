@@ -78,7 +78,9 @@ class Side:
             return '"{}"'.format(re.sub(r'([\\"])', r"\\\1", value.decode()))
         if field.kind == "bytes":
             return 'b"{}"'.format(
-                "".join(chr(byte) if 32 <= byte < 127 and chr(byte) not in '\\"' else f"\\x{byte:02x}" for byte in value)
+                "".join(
+                    chr(byte) if 32 <= byte < 127 and chr(byte) not in '\\"' else f"\\x{byte:02x}" for byte in value
+                )
             )
         return str(value)
 
@@ -90,8 +92,10 @@ class Side:
             if name in shown:
                 held = shown[name]
                 if field.message:
-                    held = [self.in_rows(field.message, one) for one in held] if isinstance(held, list) else self.in_rows(
-                        field.message, held
+                    held = (
+                        [self.in_rows(field.message, one) for one in held]
+                        if isinstance(held, list)
+                        else self.in_rows(field.message, held)
                     )
                 found[name] = held
         return found
@@ -197,7 +201,9 @@ class Renumbering:
         self.numbers = {}
         for name, fields in self.old.fields.items():
             others = {field.name: number for number, field in self.new.fields.get(name, {}).items()}
-            self.numbers[name] = {number: others[field.name] for number, field in fields.items() if field.name in others}
+            self.numbers[name] = {
+                number: others[field.name] for number, field in fields.items() if field.name in others
+            }
         # whether a field of another kind reads otherwise what it was given last
         self.is_other = False
         names = {name: code for code, name in self.new.codes.items()}
@@ -240,7 +246,9 @@ class Renumbering:
                 rest = record
             else:
                 old = descriptors.varint(data, before)[0] >> 3
-                records.append((self.old.places[schema].get(old, old), self.new.places[schema].get(number, number), record))
+                records.append(
+                    (self.old.places[schema].get(old, old), self.new.places[schema].get(number, number), record)
+                )
         if is_canonical is not False:
             ranks = sorted(range(len(records)), key=lambda place: records[place][0])
             records.sort(key=lambda record: record[1])
@@ -280,7 +288,8 @@ class Renumbering:
 
     def is_read_otherwise(self, schema, number, data, at):
         """Whether the value at a place is another one for a field whose kind is another one now."""
-        before, now = self.old.fields[schema].get(number), self.new.fields.get(schema, {}).get(self.number(schema, number))
+        before = self.old.fields[schema].get(number)
+        now = self.new.fields.get(schema, {}).get(self.number(schema, number))
         if before is None or now is None or before.kind == now.kind:
             return False
         try:

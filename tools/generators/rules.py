@@ -325,7 +325,8 @@ def check_rows(problems, known):
         for row in known[name].rows if name in known else ():
             if row.name not in rows:
                 problems.say(
-                    f"{row.name} in {name} has no form: hand-written code makes {name} of {', '.join(sorted(rows))} alone",
+                    f"{row.name} in {name} has no form: hand-written code makes {name} of "
+                    f"{', '.join(sorted(rows))} alone",
                     row.line,
                 )
 

@@ -4,14 +4,15 @@ list streams.
 """
 from . import bracketed, laid_out
 from .commands import Entry, name_number
-from .proto import TEMPLATE, OneOf, earlier, fields_of, messages, schema_name, schemas, typed
+from .proto import TEMPLATE, OneOf, earlier, fields_of, schema_name, schemas, typed
 from .records import KINDS, missing  # noqa: F401
 
 ABOUT = "The tables of schemas, of message types and of compared commands, for contracts."
 SOURCE = "proto/journal.proto"
 
 TYPES = """\
-# The types that the protocol names: the code in hex digits, and the name. For list_stream and write_stream of the checks.
+# The types that the protocol names: the code in hex digits, and the name. For list_stream and write_stream of the
+# checks.
 """
 
 TABLE = """\
@@ -88,7 +89,9 @@ def table():
     for message in schemas():
         name = schema_name(message.name)
         parts.append(f"\n-- The schema of {message.name}.\nabbrev pub {name} : ℕ\n{name} = {message.schema}\n")
-    parts.append("\n-- The schemas, in the order of the names above.\nabbrev pub schemas : List (List Row)\nschemas =\n")
+    parts.append(
+        "\n-- The schemas, in the order of the names above.\nabbrev pub schemas : List (List Row)\nschemas =\n"
+    )
     for message in schemas():
         rows = bracketed([row(one) for one in sorted(message.rows, key=least)])
         parts.append(f"    -- {message.name}\n    {'∷ ' if message.schema else ''}{rows}\n")
@@ -108,7 +111,9 @@ def part_fields():
             continue
         for field in fields_of(message):
             name = f"{schema_name(message.name)}_{field.name}"
-            parts.append(f"\n-- The number of {field.name} of {message.name}.\nabbrev pub {name} : ℕ\n{name} = {field.number}\n")
+            parts.append(
+                f"\n-- The number of {field.name} of {message.name}.\nabbrev pub {name} : ℕ\n{name} = {field.number}\n"
+            )
     return "".join(parts)
 
 
@@ -124,18 +129,25 @@ def template_parts():
 
 def message_schemas():
     """The schema of each type."""
-    rows = "".join(f"message_schema types.{message.type_name()} = Some schema.{schema_name(message.name)}\n" for message in typed())
+    rows = "".join(
+        f"message_schema types.{message.type_name()} = Some schema.{schema_name(message.name)}\n" for message in typed()
+    )
     others = "".join(
-        f" ⊎ ((ty ≡ types.{last.type_name()}) × (s ≡ schema.{schema_name(message.name)}))" for message, last in earlier()
+        f" ⊎ ((ty ≡ types.{last.type_name()}) × (s ≡ schema.{schema_name(message.name)}))"
+        for message, last in earlier()
     )
     said = ", or ".join(
         ["The schema is that of the type's payloads"]
-        + [f"the one that {last.type_name().lower()}s have before V{message.before_version}" for message, last in earlier()]
+        + [
+            f"the one that {last.type_name().lower()}s have before V{message.before_version}"
+            for message, last in earlier()
+        ]
     )
     return (
         f"{MESSAGES}use Rattle.shared_core_base.specs.declared.header.MessageType.TheVariants as types\n"
         "use Rattle.shared_core_codec.specs.Table as schema\n\n"
-        "-- The schema of a named type's payloads; a custom entry has none.\nabbrev pub message_schema : MessageType → Option ℕ\n"
+        "-- The schema of a named type's payloads; a custom entry has none.\n"
+        "abbrev pub message_schema : MessageType → Option ℕ\n"
         f"{rows}message_schema (types.CustomEntry code) = None\n\n"
         f"-- {said}.\nabbrev pub IsSchemaOf : MessageType → ℕ → Type 0\n"
         f"IsSchemaOf ty s = (message_schema ty ≡ Some s){others}\n"

@@ -70,9 +70,13 @@ def oneof(record, row):
     for field, member in zip(row.members, members):
         if not is_shared(row, field):
             own = member_name(record, row, field)
-            text += "\n" + doc(f"{own}: {field.comment[0].lower()}{field.comment[1:]}") + f"type {own} {element(field)}\n"
+            text += (
+                "\n" + doc(f"{own}: {field.comment[0].lower()}{field.comment[1:]}") + f"type {own} {element(field)}\n"
+            )
     width = max(map(len, members))
-    return text + "\n" + "".join(f"func ({member}) is{name}(){' ' * (width - len(member))} {{}}\n" for member in members)
+    return (
+        text + "\n" + "".join(f"func ({member}) is{name}(){' ' * (width - len(member))} {{}}\n" for member in members)
+    )
 
 
 def struct(record):
@@ -120,17 +124,20 @@ def read_field(record, row, field):
             return f"{indent}{target} = {member}({value})\n"
         made = "value" if is_shared(row, field) else f"(*{member})(value)"
         return (
-            f"{indent}value := new({name_of(field.record)})\n{indent}if err := value.read(table, level+1); err != nil {{\n"
+            f"{indent}value := new({name_of(field.record)})\n"
+            f"{indent}if err := value.read(table, level+1); err != nil {{\n"
             f"{indent}\treturn err\n{indent}}}\n{indent}{target} = {made}\n"
         )
     if field.record and field.shape == "repeated":
         return (
             f"{indent}{target} = append({target}, {element(field)}{{}})\n"
-            f"{indent}if err := {target}[len({target})-1].read(table, level+1); err != nil {{\n{indent}\treturn err\n{indent}}}\n"
+            f"{indent}if err := {target}[len({target})-1].read(table, level+1); err != nil {{\n{indent}\treturn err\n"
+            f"{indent}}}\n"
         )
     if field.record:
         return (
-            f"{indent}{target} = new({element(field)})\n{indent}if err := {target}.read(table, level+1); err != nil {{\n"
+            f"{indent}{target} = new({element(field)})\n"
+            f"{indent}if err := {target}.read(table, level+1); err != nil {{\n"
             f"{indent}\treturn err\n{indent}}}\n"
         )
     if field.shape == "repeated":
@@ -181,7 +188,8 @@ def written(field, value, depth):
     indent = "\t" * depth
     if field.record:
         return (
-            f"{indent}writer.message(level, {field.number}, Schema{field.record})\n{indent}{value}.write(writer, level+1)\n"
+            f"{indent}writer.message(level, {field.number}, Schema{field.record})\n"
+            f"{indent}{value}.write(writer, level+1)\n"
         )
     if field.kind in ("text", "bytes"):
         kind = "text" if field.kind == "text" else "bytes"
@@ -202,18 +210,23 @@ def methods(record):
         f"\treturn Schema{record.name}\n}}\n"
         "\n// MarshalBinary returns the canonical payload. The error is a *FieldError, ErrTooLong or ErrOutOfMemory.\n"
         f"func (r *{name}) MarshalBinary() ([]byte, error) {{\n\treturn marshal(r)\n}}\n"
-        "\n// UnmarshalBinary reads a payload, in any encoding. Bytes in the record are parts of it, without a copy, or of its\n"
-        "// canonical encoding. The errors are those of Canonical.\n"
+        "\n// UnmarshalBinary reads a payload, in any encoding. Bytes in the record are parts of it, without a copy, "
+        "or of its\n// canonical encoding. The errors are those of Canonical.\n"
         f"func (r *{name}) UnmarshalBinary(payload []byte) error {{\n\treturn unmarshal(r, payload)\n}}\n"
     )
     if record.code is not None:
         what = "its header, and its canonical payload"
         before = record.before_version
         text += (
-            f"\n// Frame returns the message as a frame of a version: {what}. The errors are those of MarshalBinary and Frame"
+            f"\n// Frame returns the message as a frame of a version: {what}. The errors are those of MarshalBinary "
+            "and Frame"
             + (f", and\n// ErrUnknown from version {before} on.\n" if before else ".\n")
             + f"func (r *{name}) Frame(version int) ([]byte, error) {{\n"
-            + (f"\treturn earlierFrame(r, version, Code{record.type_name})\n}}\n" if before else f"\treturn frameOf(r, version, Code{record.type_name})\n}}\n")
+            + (
+                f"\treturn earlierFrame(r, version, Code{record.type_name})\n}}\n"
+                if before
+                else f"\treturn frameOf(r, version, Code{record.type_name})\n}}\n"
+            )
         )
     return text
 

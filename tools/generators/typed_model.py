@@ -109,7 +109,8 @@ TAKEN = {
     *keyword.kwlist,
     *("encode", "decode", "frame"),
     *("schema", "marshal_binary", "unmarshal_binary", "read", "write"),
-    *("class", "hash", "method", "methods", "send", "dup", "clone", "freeze", "inspect", "object_id", "with", "to_h", "to_s"),
+    *("class", "hash", "method", "methods", "send", "dup", "clone", "freeze", "inspect", "object_id", "with"),
+    *("to_h", "to_s"),
     *("self", "super", "crate"),
 }
 
@@ -145,7 +146,9 @@ def records():
         rows = []
         for row in message.rows:
             if isinstance(row, OneOf):
-                rows.append(TypedOneOf(row.name, [field_of(member, True) for member in members_of(row)], text(row.comment)))
+                rows.append(
+                    TypedOneOf(row.name, [field_of(member, True) for member in members_of(row)], text(row.comment))
+                )
             else:
                 rows.append(field_of(row, False))
         last = before[message.name][1] if message.name in before else of_type.get(message.name)

@@ -15,9 +15,9 @@ CLASSES = {"u32": "int", "u64": "int", "bool": "int", "enum": "int", "text": "st
 HEAD = '''\
 """The records of the journal protocol, a frozen dataclass for each.
 
-What is absent is None, bytes are `bytes`, and a oneof is one of the types of its members, or None. `dataclasses.replace`
-changes one field, and `match` takes a record apart. A record's `encode` is its canonical payload, and `decode` reads any
-payload that means one; those of messages have a `frame`.
+What is absent is None, bytes are `bytes`, and a oneof is one of the types of its members, or None.
+`dataclasses.replace` changes one field, and `match` takes a record apart. A record's `encode` is its canonical payload,
+and `decode` reads any payload that means one; those of messages have a `frame`.
 """
 
 from __future__ import annotations
@@ -34,7 +34,9 @@ def doc(comment, indent):
     lines = textwrap.wrap(comment, 120 - len(indent) - 6)
     if len(lines) == 1:
         return f'{indent}"""{lines[0]}"""\n'
-    return f'{indent}"""' + "".join(f"{indent if at else ''}{line}\n" for at, line in enumerate(lines)) + f'{indent}"""\n'
+    return (
+        f'{indent}"""' + "".join(f"{indent if at else ''}{line}\n" for at, line in enumerate(lines)) + f'{indent}"""\n'
+    )
 
 
 def element(field):
@@ -83,7 +85,10 @@ def wrappers(record):
     for row in record.rows:
         if isinstance(row, TypedOneOf) and not told_apart(row):
             for field in row.members:
-                text += f"\n\n@dataclass(frozen=True)\nclass {wrapper(record, field)}:\n{doc(field.comment, '    ')}\n    value: {element(field)}\n"
+                text += (
+                    f"\n\n@dataclass(frozen=True)\nclass {wrapper(record, field)}:\n{doc(field.comment, '    ')}\n"
+                    f"    value: {element(field)}\n"
+                )
     return text
 
 
@@ -166,7 +171,8 @@ def read_value(field):
         return [f'value = str({part}, "utf-8")', "at += 6"], "value"
     if field.kind == "bytes":
         return [f"value = {part}", "at += 6"], "value"
-    word = {"bool": "table[at + 3] != 0", "enum": f"messages.{field.enum}(signed(table[at + 3]))"}.get(field.kind, "table[at + 3]")
+    number = "table[at + 3]"
+    word = {"bool": f"{number} != 0", "enum": f"messages.{field.enum}(signed({number}))"}.get(field.kind, number)
     return [f"value = {word}", "at += 6"], "value"
 
 
@@ -176,7 +182,10 @@ def reader(record):
     for row in record.rows:
         value = "[]" if not isinstance(row, TypedOneOf) and row.shape == "repeated" else default(row)
         text += f"    {row.name}_: Any = {value if '(' not in value or value == '()' else 'messages.' + value}\n"
-    text += "    value: Any\n    end = len(table)\n    while at < end and table[at] == level:\n        number = table[at + 1]\n"
+    text += (
+        "    value: Any\n    end = len(table)\n    while at < end and table[at] == level:\n"
+        "        number = table[at + 1]\n"
+    )
     word = "if"
     for row in record.rows:
         for field in row.members if isinstance(row, TypedOneOf) else [row]:
@@ -202,7 +211,11 @@ def reader(record):
         values.append(f'"{row.name}": {f"tuple({row.name}_)" if is_list else f"{row.name}_"}')
     line = f'    put(made, "__dict__", {{{", ".join(values)}}})\n'
     if len(line) > 121:
-        line = '    values: Dict[str, Any] = {\n' + "".join(f"        {one},\n" for one in values) + '    }\n    put(made, "__dict__", values)\n'
+        line = (
+            "    values: Dict[str, Any] = {\n"
+            + "".join(f"        {one},\n" for one in values)
+            + '    }\n    put(made, "__dict__", values)\n'
+        )
     text += f"    made = new(messages.{record.name})\n" + (line if names else "")
     return text + "    return made, at\n"
 
@@ -230,7 +243,11 @@ def write_value(field, indent):
             if field.kind == "text"
             else ["if value.__class__ is not bytes:", f"    value = writer.copied({at})"]
         )
-        lines += [f"table += (level, {field.number}, {kind}, 0, size, len(value))", "writer.parts.append(value)", "size += len(value)"]
+        lines += [
+            f"table += (level, {field.number}, {kind}, 0, size, len(value))",
+            "writer.parts.append(value)",
+            "size += len(value)",
+        ]
     else:
         held = "writer.unsigned(value)" if field.kind == "enum" else "value"
         lines = [
@@ -246,7 +263,9 @@ def write_member(record, row):
     text = f"    value = values[\"{row.name}\"]\n    if value is None:\n        pass\n"
     known = []
     for field in row.members:
-        class_name = {"int": "int", "str": "str", "bytes": "bytes"}.get(member(record, row, field), f"messages.{member(record, row, field)}")
+        class_name = member(record, row, field)
+        if class_name not in ("int", "str", "bytes"):
+            class_name = f"messages.{class_name}"
         known.append(class_name)
         text += f"    elif isinstance(value, {class_name}):\n"
         text += "" if told_apart(row) else "        value = value.value\n"
@@ -276,7 +295,11 @@ def writer(record):
 def codec():
     text = CODEC_HEAD + "".join(reader(record) + writer(record) for record in records())
     for name in ("read", "write"):
-        text += f"\n\n{name.upper()}ERS[:] = [\n".replace("WRITEERS", "WRITERS") + "".join(f"    {name}_{record.schema},\n" for record in records()) + "]\n"
+        text += (
+            f"\n\n{name.upper()}ERS[:] = [\n".replace("WRITEERS", "WRITERS")
+            + "".join(f"    {name}_{record.schema},\n" for record in records())
+            + "]\n"
+        )
     return text
 
 
@@ -289,7 +312,11 @@ def module():
     text = HEAD + "".join(enum(found) for found in enumerations())
     text += "".join(wrappers(record) + class_of(record) for record in records())
     text += "\n\n# what the table of fields has of each record\n" + "".join(rows_of(record) for record in records())
-    text += "\n# the record of each schema, at its number\nRECORDS = (\n" + "".join(f"    {name},\n" for name in names) + ")\n"
+    text += (
+        "\n# the record of each schema, at its number\nRECORDS = (\n"
+        + "".join(f"    {name},\n" for name in names)
+        + ")\n"
+    )
     sent = [record.name for record in records() if record.code is not None]
     text += union("AnyMessage", "the record of any message", sent)
     text += "\n# the name of each named type\nTypeName = Literal[\n"

@@ -34,7 +34,9 @@ def default(row):
     if row.shape == "repeated":
         return "[]"
     if row.enum:
-        value = next(name for found in enumerations() if found.name == row.enum for name, number in found.values if number == 0)
+        value = next(
+            name for found in enumerations() if found.name == row.enum for name, number in found.values if number == 0
+        )
         return f":{value}"
     return DEFAULTS[row.kind]
 
@@ -43,7 +45,11 @@ def what(record, row):
     """What a field is, in words."""
     if isinstance(row, TypedOneOf):
         return f"one of {', '.join(member(record, row, field) for field in row.members)}, or nil"
-    one = row.record or (f"a value of {row.enum}" if row.enum else {"text": "a UTF-8 String", "bytes": "a binary String"}.get(row.kind, CLASSES[row.kind]))
+    one = row.record or (
+        f"a value of {row.enum}"
+        if row.enum
+        else {"text": "a UTF-8 String", "bytes": "a binary String"}.get(row.kind, CLASSES[row.kind])
+    )
     if row.shape == "repeated":
         return f"an Array, each {one}"
     return f"{one}, or nil" if row.shape == "optional" else one
@@ -65,7 +71,11 @@ def class_of(record):
             text += doc(f"- {row.name}, {what(record, row)}: {row.comment[0].lower()}{row.comment[1:]}", "  ")
     rows = []
     for row in record.rows:
-        rows += [row_words(record, field, row) for field in row.members] if isinstance(row, TypedOneOf) else [row_words(record, row)]
+        rows += (
+            [row_words(record, field, row) for field in row.members]
+            if isinstance(row, TypedOneOf)
+            else [row_words(record, row)]
+        )
     text += f"  class {record.name} < Record\n    SCHEMA = {record.schema}\n"
     if record.code is not None:
         text += f'    TYPE = "{record.type_name}"\n    CODE = 0x{record.code:04x}\n'
@@ -116,7 +126,10 @@ RBS = {"u32": "Integer", "u64": "Integer", "bool": "bool", "text": "String", "by
 
 def rbs_type(record, row):
     if isinstance(row, TypedOneOf):
-        found = [field.record or RBS.get(field.kind, "Integer") if told_apart(row) else wrapper(record, field) for field in row.members]
+        found = [
+            field.record or RBS.get(field.kind, "Integer") if told_apart(row) else wrapper(record, field)
+            for field in row.members
+        ]
         return f"({' | '.join(found)})?"
     one = row.record or (f"{re.sub(r'(?<=[a-z0-9])(?=[A-Z])', '_', row.enum).lower()}" if row.enum else RBS[row.kind])
     if row.shape == "repeated":
@@ -129,12 +142,18 @@ def signatures():
     for found in enumerations():
         alias = re.sub(r"(?<=[a-z0-9])(?=[A-Z])", "_", found.name).lower()
         names = " | ".join(f":{name}" for name, _ in found.values)
-        text += f"  {doc(found.comment, '  ').strip()}\n  type {alias} = {names} | Integer\n\n  {found.name}: Hash[Symbol, Integer]\n\n"
+        text += (
+            f"  {doc(found.comment, '  ').strip()}\n  type {alias} = {names} | Integer\n\n"
+            f"  {found.name}: Hash[Symbol, Integer]\n\n"
+        )
     for record in records():
         for row in record.rows:
             if isinstance(row, TypedOneOf) and not told_apart(row):
                 for field in row.members:
-                    text += doc(field.comment, "  ") + f"  class {wrapper(record, field)} < Member\n    attr_reader value: {RBS[field.kind]}\n"
+                    text += (
+                        doc(field.comment, "  ")
+                        + f"  class {wrapper(record, field)} < Member\n    attr_reader value: {RBS[field.kind]}\n"
+                    )
                     text += f"    def self.new: ({RBS[field.kind]} value) -> instance\n  end\n\n"
         text += doc(record.comment, "  ") + f"  class {record.name} < Record\n"
         if record.code is not None:
@@ -147,7 +166,11 @@ def signatures():
         text += "  end\n\n"
     sent = [record.name for record in records() if record.code is not None]
     text += "  # The record of any message.\n  type any_message = " + "\n                   | ".join(sent) + "\n\n"
-    text += "  # The name of a named type.\n  type type_name = " + "\n                 | ".join(f'"{record.type_name}"' for record in messages()) + "\n\n"
+    text += (
+        "  # The name of a named type.\n  type type_name = "
+        + "\n                 | ".join(f'"{record.type_name}"' for record in messages())
+        + "\n\n"
+    )
     return text + "  RECORDS: Array[singleton(Record)]\nend\n"
 
 

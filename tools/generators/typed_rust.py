@@ -4,7 +4,7 @@ import textwrap
 
 from .calls_data import described
 from .model import camel
-from .typed_model import TypedOneOf, enumerations, messages, reasons, records
+from .typed_model import TypedOneOf, enumerations, reasons, records
 
 HEAD = """\
 //! The records of the journal protocol, a struct for each, with the comments of its description.
@@ -88,7 +88,11 @@ def type_of(record, row):
 
 def raw(name):
     """A field's name, where it is a word of Rust."""
-    return f"r#{name}" if name in ("type", "fn", "match", "move", "ref", "use", "where", "loop", "mod", "impl", "in") else name
+    return (
+        f"r#{name}"
+        if name in ("type", "fn", "match", "move", "ref", "use", "where", "loop", "mod", "impl", "in")
+        else name
+    )
 
 
 def struct(record):
@@ -103,7 +107,9 @@ def struct(record):
 
 def oneof(record, row):
     name = oneof_name(record, row)
-    text = "\n" + doc(row.comment) + f"#[derive(Clone, Debug, PartialEq, Eq, Hash)]\npub enum {name}{oneof_life(row)} {{\n"
+    text = (
+        "\n" + doc(row.comment) + f"#[derive(Clone, Debug, PartialEq, Eq, Hash)]\npub enum {name}{oneof_life(row)} {{\n"
+    )
     for field in row.members:
         text += doc(field.comment, "    ") + f"    {camel(field.name)}({element(field)}),\n"
     return text + "}\n"
@@ -128,7 +134,8 @@ def read_arm(record, row, field):
     if isinstance(row, TypedOneOf):
         return (
             f"{field.number} => {{\n                    let value = {reading(field)};\n"
-            f"                    {target} = Some({oneof_name(record, row)}::{camel(field.name)}(value));\n                }}"
+            f"                    {target} = Some({oneof_name(record, row)}::{camel(field.name)}(value));\n"
+            "                }"
         )
     if field.shape == "repeated":
         return (
@@ -194,7 +201,10 @@ def implementation(record):
         for row in record.rows:
             for field in row.members if isinstance(row, TypedOneOf) else [row]:
                 text += "                " + read_arm(record, row, field) + "\n"
-        text += "                number => return Err(Self::unknown(number)),\n            }\n        }\n        Ok(found)\n    }\n"
+        text += (
+            "                number => return Err(Self::unknown(number)),\n            }\n        }\n"
+            "        Ok(found)\n    }\n"
+        )
         text += "\n    fn write(&self, writer: &mut Writer, level: u64) -> Result<(), NoMemory> {\n"
         text += "".join(write_part(record, row) for row in record.rows) + "        Ok(())\n    }\n}\n"
     else:
@@ -203,7 +213,9 @@ def implementation(record):
         text += "\n    fn write(&self, _: &mut Writer, _: u64) -> Result<(), NoMemory> {\n        Ok(())\n    }\n}\n"
     text += f"\nimpl<'a> Record<'a> for {name}{life(name)} {{\n    const SCHEMA: Schema = Schema::{name};\n}}\n"
     if record.code is not None:
-        before = f"    const BEFORE_VERSION: Option<u32> = Some({record.before_version});\n" if record.before_version else ""
+        before = (
+            f"    const BEFORE_VERSION: Option<u32> = Some({record.before_version});\n" if record.before_version else ""
+        )
         text += (
             f"\nimpl<'a> MessageRecord<'a> for {name}{life(name)} {{\n"
             f"    const TYPE: MessageType = MessageType::{record.type_name};\n{before}}}\n"
@@ -221,7 +233,9 @@ def enum(found):
 
 def any_message():
     sent = [record for record in records() if record.code is not None]
-    text = "\n/// The record of a message of any type.\n#[derive(Clone, Debug, PartialEq, Eq, Hash)]\n#[non_exhaustive]\n"
+    text = (
+        "\n/// The record of a message of any type.\n#[derive(Clone, Debug, PartialEq, Eq, Hash)]\n#[non_exhaustive]\n"
+    )
     text += "pub enum AnyMessage<'a> {\n"
     for record in sent:
         text += doc(record.comment, "    ") + f"    {variant(record)}({record.name}{life(record.name)}),\n"
@@ -245,12 +259,19 @@ def variant(record):
 
 
 def listed():
-    text = "\n/// The names of the records and of their fields, at the numbers of their schemas, for the paths of errors.\n"
+    text = (
+        "\n/// The names of the records and of their fields, at the numbers of their schemas, for the paths of "
+        "errors.\n"
+    )
     text += f"const LISTED: [Listed; {len(records())}] = [\n"
     for record in records():
         fields = "".join(
             f'        ({field.number}, "{field.name}", {str(field.shape == "repeated").lower()}, '
-            + (f"Some({next(other.schema for other in records() if other.name == field.record)})" if field.record else "None")
+            + (
+                f"Some({next(other.schema for other in records() if other.name == field.record)})"
+                if field.record
+                else "None"
+            )
             + "),\n"
             for field in record.fields()
         )
@@ -264,22 +285,45 @@ def listed():
 def kinds():
     text = "//! Why a field cannot be encoded, by the numbers of the library, and the versions.\n\n"
     names = [("".join(word.capitalize() for word in name.split("_")), *texts) for name, *texts in reasons()]
-    text += "/// Why a field cannot be encoded.\n#[derive(Clone, Copy, Debug, PartialEq, Eq, Hash)]\n#[non_exhaustive]\n"
-    text += "pub enum FieldReason {\n" + "".join(f"    /// {said[0].upper()}{said[1:]}.\n    {name},\n" for name, said, _ in names)
-    text += "}\n\nimpl FieldReason {\n    pub(crate) fn from_number(number: u64) -> Option<FieldReason> {\n        Some(match number {\n"
+    text += (
+        "/// Why a field cannot be encoded.\n#[derive(Clone, Copy, Debug, PartialEq, Eq, Hash)]\n#[non_exhaustive]\n"
+    )
+    text += "pub enum FieldReason {\n" + "".join(
+        f"    /// {said[0].upper()}{said[1:]}.\n    {name},\n" for name, said, _ in names
+    )
+    text += (
+        "}\n\nimpl FieldReason {\n    pub(crate) fn from_number(number: u64) -> Option<FieldReason> {\n"
+        "        Some(match number {\n"
+    )
     text += "".join(f"            {number} => FieldReason::{name},\n" for number, (name, _, _) in enumerate(names, 1))
-    text += "            _ => return None,\n        })\n    }\n\n    pub(crate) fn text(self) -> &'static str {\n        match self {\n"
+    text += (
+        "            _ => return None,\n        })\n    }\n\n    pub(crate) fn text(self) -> &'static str {\n"
+        "        match self {\n"
+    )
     text += "".join(f'            FieldReason::{name} => "{words}",\n' for name, _, words in names)
     first, last = described()["versions"]
-    text += "        }\n    }\n}\n\n/// The protocol versions.\n#[derive(Clone, Copy, Debug, PartialEq, Eq, PartialOrd, Ord, Hash)]\n#[non_exhaustive]\n"
-    text += "pub enum Version {\n" + "".join(f"    /// Version {number}.\n    V{number} = {number},\n" for number in range(first, last + 1))
-    text += "}\n\nimpl From<Version> for u32 {\n    fn from(version: Version) -> u32 {\n        version as u32\n    }\n}\n"
+    text += (
+        "        }\n    }\n}\n\n/// The protocol versions.\n"
+        "#[derive(Clone, Copy, Debug, PartialEq, Eq, PartialOrd, Ord, Hash)]\n#[non_exhaustive]\n"
+    )
+    text += "pub enum Version {\n" + "".join(
+        f"    /// Version {number}.\n    V{number} = {number},\n" for number in range(first, last + 1)
+    )
+    text += (
+        "}\n\nimpl From<Version> for u32 {\n    fn from(version: Version) -> u32 {\n        version as u32\n    }\n}\n"
+    )
     return text
 
 
 def module():
-    text = HEAD + "\n/// Appends an element. `Error::OutOfMemory`.\nfn push<T>(elements: &mut Vec<T>, element: T) -> Result<(), Error> {\n"
-    text += "    elements.try_reserve(1).map_err(|_| Error::OutOfMemory)?;\n    elements.push(element);\n    Ok(())\n}\n"
+    text = (
+        HEAD
+        + "\n/// Appends an element. `Error::OutOfMemory`.\n"
+        "fn push<T>(elements: &mut Vec<T>, element: T) -> Result<(), Error> {\n"
+    )
+    text += (
+        "    elements.try_reserve(1).map_err(|_| Error::OutOfMemory)?;\n    elements.push(element);\n    Ok(())\n}\n"
+    )
     text += "".join(enum(found) for found in enumerations())
     for record in records():
         text += struct(record) + "".join(oneof(record, row) for row in record.rows if isinstance(row, TypedOneOf))
@@ -291,10 +335,15 @@ def all_records():
     """What the tests need of every record."""
     text = "//! Every record, by its schema: what is decoded, and encoded again.\n\n"
     text += "use pendratsoa::messages::{self, Record};\nuse pendratsoa::{Error, Schema};\n\n"
-    text += "fn again<'a, R: Record<'a>>(payload: &'a [u8]) -> Result<Vec<u8>, Error> {\n    R::decode(payload)?.encode()\n}\n\n"
+    text += (
+        "fn again<'a, R: Record<'a>>(payload: &'a [u8]) -> Result<Vec<u8>, Error> {\n    R::decode(payload)?.encode()\n"
+        "}\n\n"
+    )
     text += "/// The payload of the record that a payload means for a schema.\n"
     text += "pub fn encoded_again(schema: Schema, payload: &[u8]) -> Result<Vec<u8>, Error> {\n    match schema {\n"
-    text += "".join(f"        Schema::{record.name} => again::<messages::{record.name}>(payload),\n" for record in records())
+    text += "".join(
+        f"        Schema::{record.name} => again::<messages::{record.name}>(payload),\n" for record in records()
+    )
     return text + '        other => panic!("{other:?} is not listed"),\n    }\n}\n'
 
 

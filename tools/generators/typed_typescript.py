@@ -67,8 +67,9 @@ def enum(found):
 
 HEAD = """\
 /**
- * The records of the journal protocol, an interface for each, as `Message.message` has them. What is absent is undefined,
- * bytes are a `Uint8Array`, numbers of 64 bits a `bigint`, and a oneof is the `case` of its member with its `value`.
+ * The records of the journal protocol, an interface for each, as `Message.message` has them. What is absent is
+ * undefined, bytes are a `Uint8Array`, numbers of 64 bits a `bigint`, and a oneof is the `case` of its member with its
+ * `value`.
  */
 """
 
@@ -80,7 +81,9 @@ def types():
     text += "".join(f"  {record.name}: {record.name};\n" for record in records()) + "}\n"
     text += "\n/** The record of the messages of each type, by its name. */\nexport interface MessageRecords {\n"
     for record in messages():
-        before = "".join(f" | {other.name}" for other in records() if other.code == record.code and other.before_version)
+        before = "".join(
+            f" | {other.name}" for other in records() if other.code == record.code and other.before_version
+        )
         text += f"  {record.type_name}: {record.name}{before};\n"
     text += "}\n\n/** The record of any message. */\nexport type AnyMessage = MessageRecords[keyof MessageRecords];\n"
     return text
@@ -88,7 +91,12 @@ def types():
 
 def row_of(field, oneof=None):
     shape = "member" if oneof else field.shape
-    words = [f"'{json_name(oneof.name if oneof else field.name)}'", str(field.number), str(kind_numbers()[field.kind]), f"'{shape}'"]
+    words = [
+        f"'{json_name(oneof.name if oneof else field.name)}'",
+        str(field.number),
+        str(kind_numbers()[field.kind]),
+        f"'{shape}'",
+    ]
     by_name = {record.name: record.schema for record in records()}
     if field.record or oneof:
         words.append(str(by_name[field.record]) if field.record else "undefined")

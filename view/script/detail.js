@@ -153,7 +153,8 @@ function fieldRows(fields, row) {
   });
   const last = element("tr", "", Object.assign(element("td", "", button), { colSpan: 3 }));
   const label = () => {
-    button.textContent = `Show more: of ${counted(fields.length, "field")} ${number(fields.length - made)} are not shown`;
+    const rest = number(fields.length - made);
+    button.textContent = `Show more: of ${counted(fields.length, "field")} ${rest} are not shown`;
     last.hidden = made >= fields.length;
   };
   label();

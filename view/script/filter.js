@@ -21,7 +21,8 @@ function filter() {
   if (isFiltered) shown = shown.filter((place) => itemsOf(place).some(isShown));
   positions = new Int32Array(rows.length).fill(-1);
   shown.forEach((place, position) => { positions[place] = position; });
-  byId("matches").textContent = wrong ?? (isFiltered ? `${number(shown.length)} of ` : "") + counted(rows.length, "row");
+  const matches = (isFiltered ? `${number(shown.length)} of ` : "") + counted(rows.length, "row");
+  byId("matches").textContent = wrong ?? matches;
   byId("matches").classList.toggle("failure", wrong !== undefined);
   list.classList.toggle("empty", shown.length === 0);
   drawStrip();

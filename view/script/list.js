@@ -32,7 +32,8 @@ function linkNode(item) {
 }
 
 function typeNode(item) {
-  return element("span", `type ${item.direction}`, element("span", "dot"), element("span", "", breakable(typeOf(item))));
+  const name = element("span", "", breakable(typeOf(item)));
+  return element("span", `type ${item.direction}`, element("span", "dot"), name);
 }
 
 function singleCells([item]) {
@@ -85,7 +86,10 @@ function rowNode(place) {
   const kind = kindOfRow(place);
   const cells = attempt(
     () => (isPair ? [pairCell(row[0], kind), markOf(place), pairCell(row[1], kind)] : singleCells(row)),
-    () => [element("span", "type", itemsOf(place).map(typeOf).join(", ")), element("span", "text", "cannot be laid out")]);
+    () => [
+      element("span", "type", itemsOf(place).map(typeOf).join(", ")),
+      element("span", "text", "cannot be laid out"),
+    ]);
   const node = element("div", "row", cells);
   node.id = `row-${place}`;
   node.dataset.row = place;

@@ -26,7 +26,9 @@ const statesAt = journals.map(() => ({ next: 0, state: new Map() }));
 
 /** The state after an item of a number: a map from keys to a value and the item that left it. */
 function stateAfter(side, number) {
-  changesOf[side] ??= journals[side].items.map((item) => ({ item, change: stateChange(item) })).filter(({ change }) => change);
+  changesOf[side] ??= journals[side].items
+    .map((item) => ({ item, change: stateChange(item) }))
+    .filter(({ change }) => change);
   const changes = changesOf[side];
   // from what was made last, if that is not later
   if (changes[statesAt[side].next - 1]?.item.number > number) statesAt[side] = { next: 0, state: new Map() };
@@ -65,7 +67,8 @@ function stateTable(place) {
   const sorted = isPair ? [...keys.filter(differs), ...keys.filter((key) => !differs(key))] : keys;
   const lines = sorted.slice(0, STATE_ROWS).map((key) => tableRow(
     inRow(preview(key)), states.map((state) => stateCell(state.get(key))), differs(key) ? "differs" : ""));
-  const more = keys.length > STATE_ROWS ? element("p", "form", `and ${number(keys.length - STATE_ROWS)} more keys`) : null;
+  const rest = number(keys.length - STATE_ROWS);
+  const more = keys.length > STATE_ROWS ? element("p", "form", `and ${rest} more keys`) : null;
   return element("div", "", element("table", isPair ? "pair" : "single", isPair ? sidesHead() : null,
     element("tbody", "", lines)), more);
 }

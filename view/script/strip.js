@@ -11,9 +11,13 @@ const LEAST_ROWS = 8; // that fill the strip
 const DRAG = 4; // pixels from which on a press is no click
 
 // What a lane has at a row, the more important the higher; and the colors, by the names of page.css.
-const CODES = { other: 1, notification: 2, command: 3, same: 4, ids: 5, beyond: 6, unseen: 6, removed: 7, inserted: 7, changed: 8,
-  replaced: 8, problem: 9 };
-const COLORS = ["", "--core", "--notification", "--command", "--good", "--custom", "--rest", "--moved", "--bad", "--bad"];
+const CODES = {
+  other: 1, notification: 2, command: 3, same: 4, ids: 5, beyond: 6, unseen: 6, removed: 7, inserted: 7, changed: 8,
+  replaced: 8, problem: 9,
+};
+const COLORS = [
+  "", "--core", "--notification", "--command", "--good", "--custom", "--rest", "--moved", "--bad", "--bad",
+];
 // beside another journal the colors are of how commands belong together
 if (isPair) COLORS.fill("--low", CODES.other, CODES.command);
 
@@ -137,7 +141,10 @@ function drawArcs(context, side, style) {
     found.push({ from, to, isSelected });
   }
   found.sort((one, other) => other.to - other.from - (one.to - one.from));
-  const drawn = [...found.slice(0, MOST_ARCS).filter((arc) => !arc.isSelected), ...found.filter((arc) => arc.isSelected)];
+  const drawn = [
+    ...found.slice(0, MOST_ARCS).filter((arc) => !arc.isSelected),
+    ...found.filter((arc) => arc.isSelected),
+  ];
   const edge = side === 0 ? laneTop(0) - 1 : laneTop(side) + LANE + 1;
   for (const { from, to, isSelected } of drawn) {
     const height = Math.min(ARCS - 3, 3 + (to - from) / 4) * (side === 0 ? -1 : 1);
@@ -158,7 +165,8 @@ function drawSelected(context, style) {
   const [width, middle] = [Math.max(2, right - left), (left + right) / 2];
   context.strokeStyle = context.fillStyle = style.getPropertyValue("--focus");
   context.lineWidth = 2;
-  context.strokeRect(middle - width / 2 - 1, laneTop(0) - 2, width + 2, laneTop(journals.length - 1) + LANE - laneTop(0) + 4);
+  const height = laneTop(journals.length - 1) + LANE - laneTop(0);
+  context.strokeRect(middle - width / 2 - 1, laneTop(0) - 2, width + 2, height + 4);
 }
 
 /** Shows these rows in the strip: as many as there may be, and none before the first or after the last. */
@@ -206,7 +214,8 @@ function stripText(place) {
   const [item] = itemsOf(place);
   const index = item.command === null ? `#${number(item.number)}` : `command ${number(item.command)}`;
   const pieces = attempt(() => piecesOf(item).map(pieceText).join(" · "), () => "");
-  return [index, typeOf(item), pieces.slice(0, 80), kind && kind !== "same" ? SIGNS[kind][1] : ""].filter(Boolean).join(", ");
+  const moved = kind && kind !== "same" ? SIGNS[kind][1] : "";
+  return [index, typeOf(item), pieces.slice(0, 80), moved].filter(Boolean).join(", ");
 }
 
 function listenToStrip() {

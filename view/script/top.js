@@ -17,7 +17,8 @@ const amountOf = (amount) => (amount === 1 ? "one" : number(amount));
 function quotedRun(steps, side) {
   const items = steps.map(({ pair }) => pair[side]);
   const ends = items.length === 1 ? items : [items[0], items.at(-1)];
-  return ends.flatMap((item, place) => [place === 0 ? "" : items.length === 2 ? " and " : " to ", quoted(commandText(item), side)]);
+  const between = items.length === 2 ? " and " : " to ";
+  return ends.flatMap((item, place) => [place === 0 ? "" : between, quoted(commandText(item), side)]);
 }
 
 /** How the journals part, by the steps of a difference: pairs, or commands that one journal has alone. */
@@ -28,11 +29,14 @@ function partingOf({ steps, end }) {
   const at = number(pair[0].command);
   const others = amount === 1 ? "" : `, and the ${amountOf(amount - 1)} after it differ too`;
   if (kind === "ids") {
-    return [`The journals part at command ${at}, `, quoted(commandText(pair[0]), 0), ", which differs in its ids alone", others];
+    const command = quoted(commandText(pair[0]), 0);
+    return [`The journals part at command ${at}, `, command, ", which differs in its ids alone", others];
   }
   const [recorded, replayed] = differingTexts(pair);
   // what differs may be past what is said of them
-  if (recorded === replayed) return [`The journals part at command ${at}, `, quoted(commandText(pair[0]), 0), ", which differs", others];
+  if (recorded === replayed) {
+    return [`The journals part at command ${at}, `, quoted(commandText(pair[0]), 0), ", which differs", others];
+  }
   const type = kind === "changed" ? `, ${typeOf(pair[0])}` : "";
   return [`The journals part at command ${at}${type}: recorded is `, quoted(recorded, 0), ", replayed is ",
     quoted(replayed, 1), others];
@@ -49,8 +53,10 @@ function partingAlone(steps, end, side) {
   }
   const noun = amount === 1 ? "command" : "commands";
   if (side === 0) {
-    const which = amount === 1 ? `is command ${number(first)}` : `are the commands ${number(first)} to ${number(first + amount - 1)}`;
-    return [`The replay lacks ${amountOf(amount)} ${noun}, `, quotedRun(steps, 0), `, which ${which} of the recorded journal`];
+    const last = number(first + amount - 1);
+    const which = amount === 1 ? `is command ${last}` : `are the commands ${number(first)} to ${last}`;
+    const lacks = `The replay lacks ${amountOf(amount)} ${noun}, `;
+    return [lacks, quotedRun(steps, 0), `, which ${which} of the recorded journal`];
   }
   const next = alignment.steps[end].pair[0].command;
   return [`The replay has ${amountOf(amount)} ${noun} more, `, quotedRun(steps, 1), `, before command ${number(next)}`];
@@ -74,13 +80,17 @@ function afterText({ end }) {
   if (ids === after.length) {
     return `; the ${amountOf(after.length)} after it ${isOne ? "differs in its ids" : "differ in their ids"} alone`;
   }
-  const parts = [[same, "the same"], [ids, "the same but for ids"], [unseen, "of one type"]].filter(([amount]) => amount > 0);
+  const parts = [[same, "the same"], [ids, "the same but for ids"], [unseen, "of one type"]]
+    .filter(([amount]) => amount > 0);
   const said = parts.map(([amount, what]) => `${amountOf(amount)} ${amount === 1 ? "is" : "are"} ${what}`);
   const last = differences.at(-1);
   const side = endedSide(last);
   const more = differences.length - (side === null ? 1 : 2);
   if (more > 0) said.push(`there ${more === 1 ? "is one more difference" : `are ${number(more)} more differences`}`);
-  if (side !== null) said.push(`the ${SIDES[side]} journal ends before command ${number(last.steps[0].pair[1 - side].command)}`);
+  if (side !== null) {
+    const next = last.steps[0].pair[1 - side].command;
+    said.push(`the ${SIDES[side]} journal ends before command ${number(next)}`);
+  }
   return `; after it ${said.join(", ").replace(/, (?=[^,]*$)/, said.length > 2 ? ", and " : " and ")}`;
 }
 
@@ -95,14 +105,16 @@ function sentenceOf(verdict) {
     const amount = verdict?.index ?? alignment.steps.length;
     return [`The journals are the same: ${counted(amount, "command")}.`];
   }
-  const how = verdict.kind === "differs" ? "The journals part at" : `The ${verdict.kind.split(" ")[0]} journal ends before`;
+  const how = verdict.kind === "differs"
+    ? "The journals part at"
+    : `The ${verdict.kind.split(" ")[0]} journal ends before`;
   return [`${how} command ${number(verdict.index)}, which is past the items of this page.`];
 }
 
 // by what the commands are aligned, in words
 const ALIGNED_BY = {
-  proved: "Which commands are the same is what journal diff says; which of the others belong together is this page's own " +
-    "reading of the dump, and not proved",
+  proved: "Which commands are the same is what journal diff says; which of the others belong together is this page's " +
+    "own reading of the dump, and not proved",
   own: "Which commands belong together is this page's own reading of the dump, and not proved",
   index: "The commands are side by side by their indices, since too many have no equal",
   disagree: "The commands are side by side by their indices: the page's own reading does not agree with journal diff",
@@ -111,7 +123,8 @@ const ALIGNED_BY = {
 /** How far what the page says of two journals is proved. */
 function noteOnAlignment(verdict) {
   const text = ALIGNED_BY[alignment.by];
-  const lacking = alignment.steps.filter(({ pair }) => pair.some((item) => item && (lacksPayload(item) || item.dump.leftOut)));
+  const isLacking = (item) => item && (lacksPayload(item) || item.dump.leftOut);
+  const lacking = alignment.steps.filter(({ pair }) => pair.some(isLacking));
   const parts = [verdict ? "" : "; there is no verdict of journal diff, which compares streams"];
   if (lacking.length > 0) parts.push(`; of ${counted(lacking.length, "command")} the payload is not here`);
   return `${text}${parts.join("")}.`;
@@ -136,7 +149,9 @@ function drawTop() {
   const isSame = differences.length === 0 && hasPayloads && (!verdict || verdict.kind === "same");
   section.classList.add(isSame ? "same" : "different");
   fill(byId("sentence"), sentenceOf(verdict));
-  if (difference >= 0) byId("sentence").append(" ", buttonNode("", () => moveToProblem(1), "Next ", element("kbd", "", "n")));
+  if (difference >= 0) {
+    byId("sentence").append(" ", buttonNode("", () => moveToProblem(1), "Next ", element("kbd", "", "n")));
+  }
   byId("reading").textContent = noteOnAlignment(verdict);
   if (verdict?.kind === "differs") {
     byId("printed").hidden = false;
@@ -150,7 +165,9 @@ function drawTop() {
 function dumpNotices(name, dump) {
   if (!dump) return [];
   const notices = [];
-  if (!dump.isWhole) notices.push(`The dump ${name} has no last line, of the rest: it may end before its journal does.`);
+  if (!dump.isWhole) {
+    notices.push(`The dump ${name} has no last line, of the rest: it may end before its journal does.`);
+  }
   if (dump.gaps > 0) notices.push(`The dump ${name} leaves items out: an index counts the commands that are there.`);
   return notices;
 }

@@ -203,7 +203,8 @@ function treeNode(tree, pathBefore, marks = null) {
   const lineNode = (node) => {
     const mark = marks?.get(node);
     const name = node.key ?? (node.level > 0 ? String(node.place) : null);
-    const key = name && [buttonNode(node.key === null ? "key place" : "key", (event) => showPath(node, event), visible(name)), ": "];
+    const keyClass = node.key === null ? "key place" : "key";
+    const key = name && [buttonNode(keyClass, (event) => showPath(node, event), visible(name)), ": "];
     const sign = mark && mark.kind !== "within" ? element("span", "sign", mark.kind === "only" ? "±" : "≠") : null;
     const className = `member ${mark?.kind ?? ""}`;
     if (node.members === null) return element("div", className, sign, element("span", "fold"), key, leaf(node, mark));

@@ -13,14 +13,17 @@ function sizeText({ kind, cut }, length) {
 /** A text, or bytes, as they are laid out; `isRaw` leaves JSON as it is. Null for any other value. */
 function layoutOf(value, isRaw = false) {
   if (value.kind === "text") {
-    return { text: value.value, className: "string", form: value.cut ? sizeText(value, value.value.length) : undefined };
+    const form = value.cut ? sizeText(value, value.value.length) : undefined;
+    return { text: value.value, className: "string", form };
   }
   if (value.kind !== "bytes") return null;
   const bytes = bytesOf(value.value);
   const text = textOf(bytes, value.cut !== undefined);
   const size = sizeText(value, bytes.length);
   if (text === null) return { text: hexDump(bytes), className: "hex", form: `hex, ${size}` };
-  if (!isRaw && !value.cut && isJson(text)) return { text, className: "json", form: `JSON, ${size}`, tree: treeOf(text) };
+  if (!isRaw && !value.cut && isJson(text)) {
+    return { text, className: "json", form: `JSON, ${size}`, tree: treeOf(text) };
+  }
   return { text, className: "text", form: bytes.length === 0 ? size : `text, ${size}` };
 }
 
@@ -101,7 +104,8 @@ function payloadNode({ text, className, form, tree, part, marks }, path) {
 }
 
 /** The path of a value in the line of its item, as jq takes it. */
-const lineOf = ({ path }, item) => `.${item.dump.message === undefined || awaitsInLists(item) ? "" : "message."}${path}`;
+const lineOf = ({ path }, item) =>
+  `.${item.dump.message === undefined || awaitsInLists(item) ? "" : "message."}${path}`;
 
 /** What is copied of a value: its text, or bytes that are none in hex. */
 function copyText({ kind, value }) {

@@ -29,7 +29,13 @@ const STATES = {
 };
 
 /** What `is:` may be followed by of a row of two journals. */
-const KINDS = { same: ["same"], ids: ["ids"], changed: ["changed", "replaced"], removed: ["removed"], inserted: ["inserted"] };
+const KINDS = {
+  same: ["same"],
+  ids: ["ids"],
+  changed: ["changed", "replaced"],
+  removed: ["removed"],
+  inserted: ["inserted"],
+};
 
 // the fields of a number, each with the numbers of an item
 const NUMBERS = {
@@ -69,7 +75,9 @@ const isWithin = (value, { least, most, isOpen: isStrict }) =>
 function testOf(field, rest) {
   if (Object.hasOwn(NUMBERS, field)) {
     const range = rangeOf(rest);
-    if (range === null) return { wrong: `${field}: is followed by a number, as ${field}:49, ${field}:>49 or ${field}:40-60` };
+    if (range === null) {
+      return { wrong: `${field}: is followed by a number, as ${field}:49, ${field}:>49 or ${field}:40-60` };
+    }
     return { test: (item) => NUMBERS[field](item).some((value) => isWithin(value, range)) };
   }
   if (field === "is") {
@@ -86,5 +94,7 @@ function testOf(field, rest) {
 function wordsOf(text) {
   const WORD = /(-?)(?:(type|name|is|cmd|item|id|size|offset):)?(?:"([^"]*)"?|(\S*))/g;
   const found = Array.from(text.toLowerCase().matchAll(WORD)).filter(([whole]) => whole !== "" && whole !== "-");
-  return found.map(([, minus, field, phrase, word]) => ({ ...testOf(field, phrase ?? word), isWithout: minus === "-" }));
+  return found.map(([, minus, field, phrase, word]) => {
+    return { ...testOf(field, phrase ?? word), isWithout: minus === "-" };
+  });
 }

@@ -189,7 +189,9 @@ class Endings(unittest.TestCase):
     def test_a_file_without_a_message(self):
         path = written("text", b"this is a text and no journal")
         self.refused(f"{path}: no message in it; is it a journal of version 8?", path)
-        self.refused(f"{path}: no message in it; is it a journal of version 7?", "--protocol", "7", STREAMS / "replay", path)
+        self.refused(
+            f"{path}: no message in it; is it a journal of version 7?", "--protocol", "7", STREAMS / "replay", path
+        )
         # a journal may be empty
         self.assertEqual(run(written("empty", b""), "-o", WORK / "empty.html")[0], 0)
 
@@ -265,7 +267,9 @@ class Files(unittest.TestCase):
 
     def test_the_input_as_both_journals(self):
         status, output, lines = self.make("-", "-", "-o", "-")
-        self.assertEqual((status, output, lines[-1]), (2, b"", "run.sh journal view: error: - is one of two journals at most"))
+        self.assertEqual(
+            (status, output, lines[-1]), (2, b"", "run.sh journal view: error: - is one of two journals at most")
+        )
 
     def test_fifos(self):
         paths = [STREAMS / "recorded", STREAMS / "replayed_other_handler"]
@@ -294,7 +298,8 @@ class Files(unittest.TestCase):
         page = folder / "page.html"
         page.write_text("before")
         # a limit of what a file may hold, as a disk that is full
-        words = ["sh", "-c", 'trap "" XFSZ; ulimit -f 8; exec "$@"', "sh", sys.executable, make_page.__file__, "--unproved"]
+        limited = 'trap "" XFSZ; ulimit -f 8; exec "$@"'
+        words = ["sh", "-c", limited, "sh", sys.executable, make_page.__file__, "--unproved"]
         made = subprocess.run([*words, STREAMS / "replay.dump", "-o", page], capture_output=True)
         self.assertEqual((made.returncode, made.stdout, page.read_text()), (2, b"", "before"))
         self.assertEqual(list(folder.iterdir()), [page])
@@ -381,7 +386,10 @@ class Dumps(unittest.TestCase):
             (line(type=[], message={}), "1: type: wrong kind of value"),
             ('{"message":{},"type":[]}', "1: message: its type is not known"),
             (line(type="InputCommand", message={"headers": {}}), "1: message.headers: wrong kind of value"),
-            (line(type="InputCommand", message={"value": {"content": "a"}}), "1: message.value.content: no bytes in base64"),
+            (
+                line(type="InputCommand", message={"value": {"content": "a"}}),
+                "1: message.value.content: no bytes in base64",
+            ),
             (line(type="Suspension", message={"awaitingOn": futures}), "more than 100 levels"),
             ('{"' + "[" * 100_000, "1: no JSON"),
             ('{"a":' + "[" * 100_000, "1: more levels than an item has"),
@@ -401,7 +409,9 @@ class Dumps(unittest.TestCase):
         self.assertEqual(run(path, "-o", WORK / "wrong.html"), (2, "", f"view: {path}:2: no UTF-8\n"))
 
     def test_half_a_character_stays_one(self):
-        lines, _ = self.lines(written("half.jsonl", b'{"offset":0,"type":"RunCommand","code":1041,"message":{"name":"\\ud800"}}'))
+        lines, _ = self.lines(
+            written("half.jsonl", b'{"offset":0,"type":"RunCommand","code":1041,"message":{"name":"\\ud800"}}')
+        )
         self.assertEqual(json.loads(lines[0])["message"], {"name": "\ud800"})
 
 

@@ -38,32 +38,62 @@ class Sentences(PageTest):
 
     def test_one_command_more(self):
         said = self.sentence(*samples.audited())
-        self.assertEqual(said, "The replay has one command more, SetStateCommand key other, before command 49; the 49 after "
-                               "it are the same.")
+        self.assertEqual(
+            said,
+            "The replay has one command more, SetStateCommand key other, before command 49; the 49 after "
+            "it are the same.",
+        )
         self.assertIn("own reading of the dump, and not proved", self.text("#reading"))
         self.assertEqual(self.text("#legend"), "= 98 the same+ 1 inserted")
 
     def test_one_command_less(self):
         said = self.sentence(*reversed(samples.audited()))
-        self.assertEqual(said, "The replay lacks one command, SetStateCommand key other, which is command 49 of the recorded "
-                               "journal; the 49 after it are the same.")
+        self.assertEqual(
+            said,
+            "The replay lacks one command, SetStateCommand key other, which is command 49 of the recorded "
+            "journal; the 49 after it are the same.",
+        )
 
     def test_several_commands(self):
         same = samples.steps(4)
         more = samples.steps(3, first=100)
         for recorded, replayed, wanted in (
-            ([*same], [same[0], *more, *same[1:]], "The replay has 3 commands more, SetStateCommand key step 100 to "
-             "SetStateCommand key step 102, before command 1; the 3 after it are the same."),
-            ([same[0], *more[:2], *same[1:]], [*same], "The replay lacks 2 commands, SetStateCommand key step 100 and "
-             "SetStateCommand key step 101, which are the commands 1 to 2 of the recorded journal; the 3 after it are the same."),
-            ([*same, *more], [*same], "The replayed journal ends before command 4, where the recorded one has SetStateCommand "
-             "key step 100 and 2 more."),
-            ([*same[:3]], [*same[:3], *more[:1]], "The recorded journal ends before command 3, where the replayed one has "
-             "SetStateCommand key step 100."),
-            ([more[0], *same], [more[1], *same], "The journals part at command 0, SetStateCommand: recorded is key step 100, "
-             "replayed is key step 101; the 4 after it are the same."),
-            ([*more[:2], same[0]], [more[2], same[1], same[0]], "The journals part at command 0, SetStateCommand: recorded is "
-             "key step 100, replayed is key step 102, and the one after it differ too; the one after it is the same."),
+            (
+                [*same],
+                [same[0], *more, *same[1:]],
+                "The replay has 3 commands more, SetStateCommand key step 100 to "
+                "SetStateCommand key step 102, before command 1; the 3 after it are the same.",
+            ),
+            (
+                [same[0], *more[:2], *same[1:]],
+                [*same],
+                "The replay lacks 2 commands, SetStateCommand key step 100 and SetStateCommand key step 101, which are "
+                "the commands 1 to 2 of the recorded journal; the 3 after it are the same.",
+            ),
+            (
+                [*same, *more],
+                [*same],
+                "The replayed journal ends before command 4, where the recorded one has SetStateCommand "
+                "key step 100 and 2 more.",
+            ),
+            (
+                [*same[:3]],
+                [*same[:3], *more[:1]],
+                "The recorded journal ends before command 3, where the replayed one has "
+                "SetStateCommand key step 100.",
+            ),
+            (
+                [more[0], *same],
+                [more[1], *same],
+                "The journals part at command 0, SetStateCommand: recorded is key step 100, "
+                "replayed is key step 101; the 4 after it are the same.",
+            ),
+            (
+                [*more[:2], same[0]],
+                [more[2], same[1], same[0]],
+                "The journals part at command 0, SetStateCommand: recorded is key step 100, replayed is key step 102, "
+                "and the one after it differ too; the one after it is the same.",
+            ),
             ([*same], [*same], "The journals are the same: 4 commands."),
         ):
             with self.subTest(wanted=wanted):
@@ -78,8 +108,11 @@ class Sentences(PageTest):
     def test_ids_that_moved_are_no_difference(self):
         names = [f"step {number}" for number in range(8)]
         said = self.sentence(runs(names), runs([*names[:3], "audit", *names[3:]]))
-        self.assertEqual(said, "The replay has one command more, RunCommand audit, before command 3; the 5 after it differ in "
-                               "their ids alone.")
+        self.assertEqual(
+            said,
+            "The replay has one command more, RunCommand audit, before command 3; the 5 after it differ in "
+            "their ids alone.",
+        )
         # a completion belongs to that of the command that its own belongs to
         cells = "rows.map((row) => row.map((item) => item && item.number))"
         self.assertEqual(self.value(cells)[4:10], [[4, 4], [5, 5], [None, 6], [None, 7], [6, 8], [7, 9]])
@@ -88,8 +121,11 @@ class Sentences(PageTest):
 
     def test_ids_alone(self):
         said = self.sentence(runs(["a", "b", "c"]), runs(["a", "b", "c"], first=2))
-        self.assertEqual(said, "The journals part at command 0, RunCommand a, which differs in its ids alone, and the 2 after it "
-                               "differ too.")
+        self.assertEqual(
+            said,
+            "The journals part at command 0, RunCommand a, which differs in its ids alone, and the 2 after it "
+            "differ too.",
+        )
 
     def test_payloads_that_are_ignored(self):
         streams = [frame("SetStateCommand", key=b"k", value={"content": value}) for value in (b"1", b"2")]
@@ -114,7 +150,9 @@ class Alignments(PageTest):
         return {"type": "RunCommand", "message": {"name": name, "resultCompletionId": number}}
 
     def pairs(self):
-        return self.value("alignment.steps.map(({ kind, pair }) => [kind, ...pair.map((item) => item && item.command)])")
+        return self.value(
+            "alignment.steps.map(({ kind, pair }) => [kind, ...pair.map((item) => item && item.command)])"
+        )
 
     def test_as_many_equals_as_there_can_be(self):
         self.page([], [])
@@ -156,7 +194,10 @@ class Alignments(PageTest):
             ({"kind": "differs", "index": 1, "text": "command 1: x"}, False),
             ({"kind": "differs", "index": 2, "text": "command 2: x"}, True),
             ({"kind": "same", "index": 3, "text": "same, 3 commands"}, True),
-            ({"kind": "recorded malformed", "index": 1, "text": "journal diff: the recorded command 1 is malformed"}, False),
+            (
+                {"kind": "recorded malformed", "index": 1, "text": "journal diff: the recorded command 1 is malformed"},
+                False,
+            ),
         ):
             with self.subTest(verdict=verdict):
                 self.page(commands, [commands[0], commands[2]], verdict)
@@ -176,8 +217,11 @@ class Alignments(PageTest):
     def test_steps_within_what_the_script_says_differs(self):
         recorded = [self.run_of("a", 1), self.run_of("b", 2)]
         replayed = [self.run_of("x", 1), self.run_of("a", 2), self.run_of("b", 3)]
-        script = [{"change": "changed", "recorded": 0, "replayed": 0}, {"change": "changed", "recorded": 1, "replayed": 1},
-                  {"change": "inserted", "recorded": 2, "replayed": 2}]
+        script = [
+            {"change": "changed", "recorded": 0, "replayed": 0},
+            {"change": "changed", "recorded": 1, "replayed": 1},
+            {"change": "inserted", "recorded": 2, "replayed": 2},
+        ]
         self.page(recorded, replayed, None, script)
         self.assertEqual(self.pairs(), [["inserted", None, 0], ["ids", 0, 1], ["ids", 1, 2]])
 
@@ -191,8 +235,11 @@ class Alignments(PageTest):
         self.assertEqual(self.value("document.querySelectorAll('tr.differs, #verdict.same').length"), 0)
         sleep = {"type": "SleepCommand", "code": 0x040C}
         self.page([{"type": "RunCommand"}] * 2, [{"type": "RunCommand"}, sleep, {"type": "RunCommand"}])
-        self.assertIn("The replay has one command more, SleepCommand the dump has no payloads, before command 1; after it "
-                      "one is of one type.", self.text("#sentence"))
+        self.assertIn(
+            "The replay has one command more, SleepCommand the dump has no payloads, before command 1; after it "
+            "one is of one type.",
+            self.text("#sentence"),
+        )
 
     def test_an_end_that_the_page_has_not(self):
         same = b"".join(samples.steps(10))
@@ -307,7 +354,8 @@ class Tall(PageTest):
     def in_sight(self):
         """The rows that are in sight, if they are one after the other."""
         return self.value("""(() => { const area = list.getBoundingClientRect();
-            const rows = [...document.querySelectorAll('.row')].map((row) => [row.getBoundingClientRect(), Number(row.dataset.row)])
+            const rows = [...document.querySelectorAll('.row')]
+                .map((row) => [row.getBoundingClientRect(), Number(row.dataset.row)])
                 .filter(([box]) => box.top >= area.top - 3 && box.bottom <= area.bottom + 3)
                 .sort(([one], [other]) => one.top - other.top);
             const isOrderly = rows.every(([box, place], index) => index === 0 ||
@@ -362,7 +410,9 @@ class Trees(PageTest):
 
     def test_the_part_of_a_text_that_differs(self):
         self.compared({"card": "4242"}, {"card": "4243"})
-        self.assertEqual(self.value("[...document.querySelectorAll('mark')].map((mark) => mark.textContent)"), ["2", "3"])
+        self.assertEqual(
+            self.value("[...document.querySelectorAll('mark')].map((mark) => mark.textContent)"), ["2", "3"]
+        )
 
     def test_folding(self):
         self.open(written("tree", frame("InputCommand", value={"content": as_json({"a": {"b": [1, 2]}, "c": "d"})})))
@@ -403,7 +453,9 @@ class Values(PageTest):
     def test_of_a_long_value_the_beginning_is_shown(self):
         content = "é".encode() * 2_000_000
         changed = content[:-1] + b"\xaa"
-        self.open(*pair(*(frame("SetStateCommand", key=b"k", value={"content": value}) for value in (content, changed))))
+        self.open(
+            *pair(*(frame("SetStateCommand", key=b"k", value={"content": value}) for value in (content, changed)))
+        )
         self.assertIn("text, the first 65,532 of 4,000,000 bytes", self.text("tr.differs"))
         self.assertIn("beginning", self.text("tr.differs"))
         self.assertIn("copy the recorded shortened line", self.text("#detail h2"))
@@ -425,8 +477,10 @@ class Values(PageTest):
         self.assertGreater(self.value("document.querySelectorAll('.control').length"), 20_000)
 
     def test_keys_that_differ_in_one_character_look_different(self):
-        keys = ("kk", "k k", "k  k", "k\u00a0k", "k\tk", "k\nk", "k\u3164k", "k\u00adk", "k\u061ck", "k\U000e0041k", "k\ufeffk",
-                "kk ", " kk", "k\u2800k", "k\ue000k", "k\u2003k")
+        keys = (
+            *("kk", "k k", "k  k", "k\u00a0k", "k\tk", "k\nk", "k\u3164k", "k\u00adk", "k\u061ck", "k\U000e0041k"),
+            *("k\ufeffk", "kk ", " kk", "k\u2800k", "k\ue000k", "k\u2003k"),
+        )
         self.open(written("keys", b"".join(frame("ClearStateCommand", key=key.encode()) for key in keys)))
         shown = self.value("[...document.querySelectorAll('.row .text')].map((text) => text.textContent)")
         self.assertEqual(len(set(shown)), len(keys))
@@ -450,7 +504,9 @@ class Values(PageTest):
         self.open(written("tree", frame("Suspension", awaiting_on=future)))
         rights = """[...document.querySelectorAll('.future b')].map((node) => node.getBoundingClientRect().right)"""
         self.assertEqual(self.value(f"{rights}.length"), 61)
-        self.assertTrue(self.value(f"Math.max(...{rights}) < document.getElementById('detail').getBoundingClientRect().right"))
+        self.assertTrue(
+            self.value(f"Math.max(...{rights}) < document.getElementById('detail').getBoundingClientRect().right")
+        )
 
     def test_an_item_that_cannot_be_laid_out(self):
         self.open(STREAMS / "replay")
@@ -534,8 +590,12 @@ class Words(PageTest):
                 browser.press("Escape")
 
     def test_words_that_mean_nothing(self):
-        for text, said in (("size:big", "size: is followed by a number"), ("cmd:>1-2", "cmd: is followed by a number"),
-                           ("is:constructor", "is: is not followed by constructor"), ("cmd:", "cmd: is followed by a number")):
+        for text, said in (
+            ("size:big", "size: is followed by a number"),
+            ("cmd:>1-2", "cmd: is followed by a number"),
+            ("is:constructor", "is: is not followed by constructor"),
+            ("cmd:", "cmd: is followed by a number"),
+        ):
             with self.subTest(text=text):
                 self.search(text)
                 self.assertIn(said, self.text("#matches"))
@@ -560,13 +620,24 @@ class Addresses(PageTest):
         browser.wait("location.hash === '#item-8'")
 
     def test_a_copy_of_it_leads_to_the_same(self):
-        self.open(WORK / "orders_recorded", place="#item-12?filter=is%3Anotification&type=CallCompletionNotification&direction=none")
+        self.open(
+            WORK / "orders_recorded",
+            place="#item-12?filter=is%3Anotification&type=CallCompletionNotification&direction=none",
+        )
         self.assertEqual((self.rows(), self.value("selected")), (1, 12))
         self.assertEqual(self.value("byId('text').value"), "is:notification")
         self.assertTrue(self.value("document.querySelector('input[value=CallCompletionNotification]').checked"))
 
     def test_an_address_that_is_wrong(self):
-        for place in ("#item-99", "#item-", "#replayed-1", "#%", "#?filter=%", "#item-1?type=<img src=x>", "#constructor-1"):
+        for place in (
+            "#item-99",
+            "#item-",
+            "#replayed-1",
+            "#%",
+            "#?filter=%",
+            "#item-1?type=<img src=x>",
+            "#constructor-1",
+        ):
             with self.subTest(place=place):
                 self.open(WORK / "orders_recorded", place=place)
                 self.assertGreaterEqual(self.value("selected"), 0)
@@ -580,7 +651,9 @@ class Copies(PageTest):
         browser.session = session
 
     def copied(self, label, place=0):
-        button = f"[...document.querySelectorAll('#detail .copy')].filter((one) => one.textContent === '{label}')[{place}]"
+        button = (
+            f"[...document.querySelectorAll('#detail .copy')].filter((one) => one.textContent === '{label}')[{place}]"
+        )
         browser.click_on(button)
         browser.wait("[...document.querySelectorAll('.copy')].some((one) => one.textContent === 'copied')")
         text = self.value("navigator.clipboard.readText()")
@@ -619,8 +692,11 @@ class Explained(PageTest):
 
         self.open(*pair(order([], card), order(["audit"], other)))
         # what is said first is what was inserted, and the page is there
-        self.assertIn("The replay has one command more, RunCommand audit, before command 2; after it one is the same, one is the "
-                      "same but for ids, and there is one more difference.", self.text("#sentence"))
+        self.assertIn(
+            "The replay has one command more, RunCommand audit, before command 2; after it one is the same, one is the "
+            "same but for ids, and there is one more difference.",
+            self.text("#sentence"),
+        )
         self.assertIn("not recorded", self.selected())
         self.assertIn("audit", self.selected())
         # its completion belongs to it
@@ -637,7 +713,9 @@ class Explained(PageTest):
         self.assertIn(['≠"kind": "debit"'], lines)
         self.assertIn(['≠"kind": "credit"', '±1: "sugar"'], lines)
         # the way to the member
-        browser.click_on("""[...document.querySelectorAll('tr.differs .key')].findLast((key) => key.textContent === '"kind"')""")
+        browser.click_on(
+            """[...document.querySelectorAll('tr.differs .key')].findLast((key) => key.textContent === '"kind"')"""
+        )
         self.assertEqual(self.text("tr.differs td:last-child .where code"), ".card.kind")
         # back by a click in the strip, and there again by a key
         browser.click(*self.value("""(() => { const box = strip.getBoundingClientRect();

@@ -251,7 +251,9 @@ class Joins(PageTest):
 
     def test_a_wide_tree_is_shown_in_part(self):
         nested = [{"waiting_completions": [2 * number, 2 * number + 1]} for number in range(1, 2001)]
-        self.open(written("wide", frame("Suspension", awaiting_on={"waiting_signals": [1, 2], "nested_futures": nested})))
+        self.open(
+            written("wide", frame("Suspension", awaiting_on={"waiting_signals": [1, 2], "nested_futures": nested}))
+        )
         self.assertEqual(self.value("document.querySelectorAll('.future li:not(.form)').length"), 1000)
         self.assertIn("and 1,667 more", self.text(".future"))
 
@@ -389,21 +391,51 @@ class Hostile(PageTest):
             self.assertIn(text, self.value("document.querySelector('.row .text').textContent"))
 
     def test_hidden_characters_are_shown_by_their_numbers(self):
-        self.open(written("hidden", frame("InputCommand", name="a\u202eb\u001b", value={"content": "k\ufeffk".encode()})))
+        self.open(
+            written("hidden", frame("InputCommand", name="a\u202eb\u001b", value={"content": "k\ufeffk".encode()}))
+        )
         self.assertIn("a\\u202eb\\u001b", self.text("#row-0 .text"))
         self.assertIn("k\\ufeffk", self.text("#row-0 .text"))
 
     def test_each_hidden_character(self):
-        controls = [*range(0x20), *range(0x7F, 0xA0), 0x61C, 0x200E, 0x200F, *range(0x2028, 0x202F), *range(0x2066, 0x206A)]
-        others = [0xA0, 0xAD, 0x34F, 0x115F, 0x180E, 0x2003, 0x200B, 0x200D, 0x2060, 0x206A, 0x2800,
-                  0x3000, 0x3164, 0xE000, 0xFE0F, 0xFEFF, 0xFFF9, 0xE0041]
+        controls = [
+            *range(0x20),
+            *range(0x7F, 0xA0),
+            0x61C,
+            0x200E,
+            0x200F,
+            *range(0x2028, 0x202F),
+            *range(0x2066, 0x206A),
+        ]
+        others = [
+            0xA0,
+            0xAD,
+            0x34F,
+            0x115F,
+            0x180E,
+            0x2003,
+            0x200B,
+            0x200D,
+            0x2060,
+            0x206A,
+            0x2800,
+            0x3000,
+            0x3164,
+            0xE000,
+            0xFE0F,
+            0xFEFF,
+            0xFFF9,
+            0xE0041,
+        ]
         hidden = [chr(number) for number in [*controls, *others] if chr(number) not in "\t\n"]
         numbers = [f"\\u{ord(one):04x}" if ord(one) < 0x10000 else f"\\u{{{ord(one):x}}}" for one in hidden]
         # bytes with a control that no text has are shown in hex
         content = "".join(hidden[31:])
         self.assertEqual(hidden[31], "\x80")
         self.open(written("hidden", frame("InputCommand", name="<".join(hidden), value={"content": content.encode()})))
-        shown = self.value("document.getElementById('rows').textContent + document.getElementById('detail').textContent")
+        shown = self.value(
+            "document.getElementById('rows').textContent + document.getElementById('detail').textContent"
+        )
         self.assertEqual([one for one in hidden if one in shown], [])
         self.assertIn("<".join(numbers), shown)
         self.assertIn("".join(numbers[31:]), shown)

@@ -194,7 +194,8 @@ module Pendratsoa
 
       def number(row, value, level)
         found = row.kind == Kinds::ENUM && value.is_a?(Symbol) ? row.held[value] : value
-        wrong(row, level, value, row.holds ? "a name of #{row.holds} or an Integer" : "an Integer") unless found.is_a?(Integer)
+        taken = row.holds ? "a name of #{row.holds} or an Integer" : "an Integer"
+        wrong(row, level, value, taken) unless found.is_a?(Integer)
         # as the table has a negative number; one below any enum's stays negative, and is refused
         found += 1 << 64 if row.kind == Kinds::ENUM && found.between?(-(1 << 63), -1)
         @numbers.push(level, row.number, row.kind, found, 0, 0)

@@ -81,7 +81,9 @@ module Pendratsoa
     def message
       number = schema
       record = RECORDS[number]
-      raise Error.new("message: the schema #{number} is of no record that this gem knows", call: "message") unless record
+      unless record
+        raise Error.new("message: the schema #{number} is of no record that this gem knows", call: "message")
+      end
 
       record.decode(payload)
     end
