@@ -6,6 +6,8 @@ use Rattle.std.proofs.Common.{◌&&◌, eqb, cond, subst, ◌/◌, ◌%◌}
 use Rattle.std.proofs.lemmas.List.{take-set, take_more_set, take-take, drop-drop, take_at, length-take-le}
 use Rattle.std.proofs.lemmas.List.{drop-take, drop_at, take-append-le}
 use Rattle.std.proofs.lemmas.List.Edits.{take-paste, length-paste}
+use Rattle.std.specs.List.{copy_within}
+use Rattle.std.proofs.lemmas.List.{take-append-drop}
 use Rattle.std.proofs.Math.Seq.{take-add, take-set-lt, paste}
 use borrow.Rule.Slice.PartMut.{put_mid}
 use Rattle.shared_core_wire.specs.Encoding.{shortest_varint, key_bytes}
@@ -279,3 +281,9 @@ module _ (old mid new : List ℕ) (at start end moved last : ℕ) (a : start ≤
     count = omega (arith, g, m);
     written = λ k. absurd (omega (arith, h, k));
   }
+
+-- Bytes that are copied to where they are.
+pub copied_here : (xs : List ℕ) (start end : ℕ) → start ≤ end → xs ≡ copy_within xs start end start
+copied_here xs start end h =
+    sym (ap (λ (ys : List ℕ). ys ++ drop (start + (end - start)) xs) (sym (take-add start (end - start) xs))
+    ∙ take-append-drop (start + (end - start)) xs)

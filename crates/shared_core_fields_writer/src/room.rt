@@ -3,7 +3,8 @@
 //! Each function returns the index after what it writes, or would write, at most the greatest number of 64 bits. So one
 //! pass over the parts of a payload says how long it is, and has written it if there is room for all of it.
 
-ghost use Rattle.std.specs.Prelude.{◌≡◌, ◌-◌, ◌<◌, ◌≤◌, ◌∷◌, [], length, drop};
+ghost use Rattle.std.specs.Prelude.{◌≡◌, ◌+◌, ◌-◌, ◌<◌, ◌≤◌, ◌∷◌, [], length, drop};
+ghost use Rattle.std.specs.List.{copy_within};
 ghost use Rattle.shared_core_wire.specs.Encoding.{shortest_varint, key_bytes};
 ghost use Rattle.shared_core_record_writer.specs.Records.{number_record, content_record};
 ghost use Rattle.shared_core_fields_writer.specs.Room.{Wrote, WroteLength};
@@ -171,8 +172,22 @@ fn write_long_length(out: &mut [u8], at: usize, start: usize, end: usize) -> usi
     let moved = at.saturating_add(varint_len(len as u64) as usize);
     let last = moved.saturating_add(len);
     if last <= out.len() {
-        out.copy_within(start..end, moved);
+        move_bytes(out, start, end, moved);
     }
     write_varint(out, at, len as u64);
     last
+}
+
+/// Copies the bytes between two indices to another one. Those that are there are left, since the kit's `copy_within` is
+/// a loop over bytes.
+#[tactic(auto, using(crate::proofs::Rooms::copied_here))]
+fn move_bytes(out: &mut [u8], start: usize, end: usize, to: usize)
+    requires order { start ≤ end }
+    requires end { end ≤ length out.old }
+    requires room { to + (end - start) ≤ length out.old }
+    ensures after { out.new ≡ copy_within out.old start end to }
+{
+    if to != start {
+        out.copy_within(start..end, to);
+    }
 }

@@ -26,7 +26,7 @@ returns c =
       | then-last-out w ↦
           wrote_moved c.args.out.now mid new c.args.at c.args.start c.args.end moved last c.requires.after
           c.requires.few first second wrote after (omega arith) w.if-last-out.true
-          (w.out-is ∙ w.copy_within.ensures.after)
+          (w.out-is ∙ w.move_bytes.ensures.after)
       | else-last-out w ↦
           wrote_counted c.args.out.now mid new c.args.at c.args.start c.args.end moved last c.requires.after
           c.requires.few first second wrote after w.if-last-out.false w.out-is
