@@ -90,6 +90,7 @@ impl LinePrinter for Listing {
         None
     }
 
+    #[inline(always)]
     fn print_item(
         &self,
         _alloc: Global,

@@ -5,7 +5,8 @@ use Rattle.std.proofs.Common.{append_assoc, append-nil, length-append, arith, su
 use Rattle.std.proofs.lemmas.Bool.{le-ltb}
 use Rattle.std.specs.Io.KnownBytes.{IsAtEnd}
 use Rattle.shared_core_base.specs.declared.version.Version.{Version}
-use Rattle.shared_core_stream.specs.Items.{NoItemBegins, TakesItem}
+use Rattle.bytes.specs.Filled.{Filled}
+use Rattle.shared_core_stream.specs.Items.{front_word, NoItemBegins, TakesItem}
 use Rattle.shared_core_stream.specs.Limits.{Limited, ReturnsWithin, rejection}
 use Rattle.shared_core_stream.specs.Limits.{offset_after}
 use Rattle.shared_core_stream.specs.declared.encoding.item.Item.{Item}
@@ -15,7 +16,8 @@ use Rattle.shared_core_stream.proofs.Items.{front_word_more, item_is_long, takes
 use Rattle.shared_core_stream.proofs.Limits.{accepted, front_more}
 use Rattle.shared_core_io.specs.declared.error.ReadError.{ReadError}
 use Rattle.shared_core_io.specs.declared.error.ReadError.TheVariants.{Failed, TooLong, Truncated, OutOfMemory}
-use Rattle.shared_core_io.specs.Reading.{IsRead, IsTaken, IsTakenOf, TakesNothing, result_at_end, with_more}
+use Rattle.shared_core_io.specs.Reading.{held, most_held, result_at_end, with_more, IsDrained, IsRead}
+use Rattle.shared_core_io.specs.Reading.{IsTaken, IsTakenOf, TakesNothing}
 
 -- bytes that were read before, and then more
 pub joined : (first loop next new : Limited) (read more : List ℕ) → loop ≡ with_more first read → next ≡ loop → new ≡
@@ -121,6 +123,50 @@ took_nothing old new outside kept left (TooLong message) (some, after, gone) =
 took_nothing old new outside kept left (Truncated count) taken = absurd taken
 took_nothing old new outside kept left OutOfMemory (same, kept_same) = rw (same, kept_same) refl
 
+-- the word at the front of what the decoder held is that at the front of all that was there
+pub word_of : (old first new : Limited) (outside kept : List ℕ) → with_more old outside ≡ first → (item : Item)
+    (word : ℕ) → IsTaken old outside (Ok (Some item)) new kept → word ≡ front_word old.unread.bytes → word ≡ front_word
+    first.unread.bytes
+word_of old first new outside kept before item word (accepts, (taken, fits), after, same) is =
+    let long = item_is_long old.unread.version old.unread.bytes new.unread.bytes item taken in
+    is ∙ sym (front_word_more old.unread.bytes outside (omega (arith, long)))
+    ∙ ap (λ (state : Limited). front_word state.unread.bytes) before
+
+-- at the end of a stream nothing is outside the decoder, and other errors are no end
+pub drained_end : (result : Result (Option (ℕ × Item)) ReadError) (outside : List ℕ) → outside ≡ [] → IsDrained result
+    outside
+drained_end (Ok None) outside gone = gone
+drained_end (Ok (Some next)) outside gone = tt
+drained_end (Err (Failed reason)) outside gone = tt
+drained_end (Err (TooLong message)) outside gone = tt
+drained_end (Err (Truncated count)) outside gone = gone
+drained_end (Err OutOfMemory) outside gone = tt
+
+pub drained_fill : (error : ReadError) (outside : List ℕ) → TakesNothing error → IsDrained (Err error) outside
+drained_fill (Failed reason) outside nothing = tt
+drained_fill (TooLong message) outside nothing = tt
+drained_fill (Truncated count) outside nothing = absurd nothing
+drained_fill OutOfMemory outside nothing = tt
+
+pub drained_error : (old new : Limited) (outside kept : List ℕ) (error : ReadError) → IsTaken old outside (Err error)
+    new kept → IsDrained (Err error) kept
+drained_error old new outside kept (Failed reason) taken = tt
+drained_error old new outside kept (TooLong message) taken = tt
+drained_error old new outside kept (Truncated count) taken = absurd taken
+drained_error old new outside kept OutOfMemory taken = tt
+
+-- all that is held, by the most that each place holds
+pub few_held : (decoder : Limited) (chunk : List ℕ) (buffer : Filled) → length decoder.unread.bytes ≤ 4295032838 →
+    length chunk ≤ 65536 → length buffer.items ≤ 65536 → length (held decoder chunk buffer).unread.bytes ≤ most_held
+few_held decoder chunk buffer short small few = omega (
+  arith,
+  short,
+  small,
+  few,
+  length-append decoder.unread.bytes (chunk ++ buffer.items),
+  length-append chunk buffer.items,
+)
+
 -- the same where what was there is what was held first and what was read since
 module _ (first : Limited) (read : List ℕ) (old new : Limited) (outside kept : List ℕ)
     (before : with_more old outside ≡ with_more first read) (left : Option (List ℕ)) where
@@ -191,15 +237,19 @@ module _ (first old new : Limited) (outside kept : List ℕ) (before : with_more
       before (took_nothing old new outside kept None OutOfMemory taken)
 
   -- where nothing was outside the decoder
+  pub all_there : outside ≡ [] → old ≡ first
+  all_there gone =
+      let alone : with_more old [] ≡ old =
+      ap (λ (bytes : List ℕ). record old { unread = record old.unread { bytes = bytes } })
+      (append-nil old.unread.bytes) in
+      sym alone ∙ ap (λ (bytes : List ℕ). with_more old bytes) (sym gone) ∙ before
+
   pub all_taken : (result : Result (Option Item) ReadError) → outside ≡ [] → IsTaken old outside result new kept →
       IsTakenOf first result (with_more new kept)
   all_taken (Err error) gone taken = error_taken error taken
   all_taken (Ok (Some item)) gone taken = item_taken item taken
   all_taken (Ok None) gone (accepts, none, short, same, kept_same) =
-      let alone : with_more old [] ≡ old =
-      ap (λ (bytes : List ℕ). record old { unread = record old.unread { bytes = bytes } })
-      (append-nil old.unread.bytes) in
-      let there : old ≡ first = sym alone ∙ ap (λ (bytes : List ℕ). with_more old bytes) (sym gone) ∙ before in (
+      let there = all_there gone in (
         subst (λ (state : Limited). rejection state ≡ None) there accepts,
         subst (λ (state : Limited). NoItemBegins state.unread.version state.unread.bytes) there none,
         rw (same, kept_same) before,

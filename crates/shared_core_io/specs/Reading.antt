@@ -5,7 +5,7 @@ use Rattle.std.specs.Io.KnownBytes.{Consumes, IsAtEnd, Keeps}
 use Rattle.std.specs.IoError.{error_kind}
 use Rattle.std.specs.declared.io.ErrorKind.TheVariants.{Interrupted}
 use Rattle.bytes.specs.Filled.{Filled}
-use Rattle.shared_core_stream.specs.Items.{NoItemBegins}
+use Rattle.shared_core_stream.specs.Items.{front_word, NoItemBegins}
 use Rattle.shared_core_stream.specs.Limits.{Limited, TakesWithin, rejection, after_item, after_rejection}
 use Rattle.shared_core_stream.specs.declared.encoding.item.Item.{Item}
 use Rattle.shared_core_io.specs.declared.chunk.ChunkError.{ChunkError}
@@ -27,6 +27,10 @@ with_more state more = record state { unread = record state.unread { bytes = sta
 -- What is held: a decoder to which also those bytes have come that were read and are in a chunk or a buffer yet.
 abbrev pub held : Limited → List ℕ → Filled → Limited
 held decoder chunk buffer = with_more decoder (chunk ++ buffer.items)
+
+-- The most bytes that are held: a header, all but one byte of its payload, and what three reads give.
+abbrev pub most_held : ℕ
+most_held = 4295163910
 
 -- What the next item is, by what was held or read, what the reader has left, and what is held afterwards: the item at
 -- the front, if it is within the limit; none, if there are no bytes at the end; an error that the message at the front
@@ -75,6 +79,19 @@ IsTakenOf old (Err error) new = ⊥
 abbrev pub result_at_end : List ℕ → Result (Option Item) ReadError
 result_at_end [] = Ok None
 result_at_end (byte ∷ bytes) = Err (Truncated (length (byte ∷ bytes)))
+
+-- The word that comes with an item is that of the first header of the bytes.
+abbrev pub HasWord : Result (Option (ℕ × Item)) ReadError → List ℕ → Type 0
+HasWord (Ok (Some next)) bytes = next.0 ≡ front_word bytes
+HasWord (Ok None) bytes = Unit {0}
+HasWord (Err error) bytes = Unit {0}
+
+-- At the end of a stream no byte is outside the decoder.
+abbrev pub IsDrained : Result (Option (ℕ × Item)) ReadError → List ℕ → Type 0
+IsDrained (Ok None) outside = outside ≡ []
+IsDrained (Ok (Some next)) outside = Unit {0}
+IsDrained (Err (Truncated count)) outside = outside ≡ []
+IsDrained (Err error) outside = Unit {0}
 
 -- The error takes nothing, whatever there is, and is no interrupted read.
 abbrev pub TakesNothing : ReadError → Type 0

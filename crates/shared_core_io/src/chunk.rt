@@ -44,7 +44,7 @@ impl From<AllocError> for ChunkError {
 }
 
 /// Reads once, at most as much as the buffer has room for, and returns a copy of what came. No byte means the end of
-/// the stream. A read that is interrupted takes nothing, and is repeated.
+/// the stream, since the buffer has room for one at least. A read that is interrupted takes nothing, and is repeated.
 pub fn read_chunk<R: Read>(
     alloc: Global,
     reader: &mut R,

@@ -1,55 +1,34 @@
 //! The items of a stream that a reader gives.
-//!
-//! What was read and not used is held for the next call, so no error loses a byte. A payload that lies in what one read
-//! gave shares the memory that it was read into.
 
-ghost use Rattle.std.specs.Prelude.{◌≡◌, ◌+◌, ◌<◌, ◌≤◌, ◌++◌, ℕ, List, [], length, IfOk, IfErr, OnOk, OnErr};
-ghost use Rattle.std.specs.Prelude.{false, None};
-ghost use Rattle.std.specs.Io.KnownBytes.{Consumes, IsAtEnd};
+ghost use Rattle.std.specs.Prelude.{◌≡◌, ◌≤◌, ℕ, List, [], IfOk, None};
+ghost use Rattle.std.specs.Io.KnownBytes.{Consumes};
 ghost use Rattle.shared_core_base.specs.Version.{version_number};
 ghost use Rattle.shared_core_stream.specs.Items.{TakesItem};
 ghost use Rattle.shared_core_stream.specs.declared.encoding.item.Item.{Item as AnyItem};
-ghost use Rattle.shared_core_io.specs.Reading.{result_at_end, with_more, IsRead, IsTaken, IsTakenOf, TakesNothing};
-ghost use Rattle.shared_core_io.specs.declared.error.ReadError.TheVariants.{OutOfMemory};
+ghost use Rattle.shared_core_io.specs.Reading.{with_more, IsRead, IsTakenOf};
 
 use crate::error::ReadError;
-use bytes::{Bytes, BytesMut};
+use crate::item_buffer::{CHUNK, ItemBuffer};
 use shared_core_base::version::Version;
-use shared_core_stream::encoding::{
-    Item, LimitedDecoder, LimitedError, LimitedPushError, PushError,
-};
+use shared_core_stream::encoding::Item;
 use std::alloc::{AllocError, Global};
 use std::io::Read;
-use std::{io, mem};
-
-/// The bytes that a new block is read into, and the most that are pushed at once.
-const CHUNK: usize = 65536;
-
-/// The least room that a read is given. A block is read into until there is less, so that a stream that comes a few
-/// bytes at a time does not take a block for each read.
-const LEAST_ROOM: usize = 4096;
 
 /// Reads the items of a stream, in order.
 #[derive(Drop)]
 pub struct ItemReader<R> {
     reader: R,
-    decoder: LimitedDecoder,
-    /// A chunk that was read and could not be pushed.
-    chunk: Bytes,
-    /// What was read and is in no chunk yet, and the room for what is read next.
-    buffer: BytesMut,
-    ghost small: { length chunk ≤ 65536 },
-    ghost limited: { decoder.limit ≤ 4294967295 },
+    items: ItemBuffer,
 }
 
 impl<R: Read + Drop> ItemReader<R> {
-    ghost use Rattle.shared_core_io.specs.Reading.{held};
+    ghost use Rattle.shared_core_io.specs.Buffered.{held_in};
 
     /// Returns a reader of the items of a stream of this version, which is at least V5. Neither reads nor allocates.
     pub fn new(alloc: Global, version: Version, reader: R) -> ItemReader<R>
         requires { 5 ≤ version_number version }
         ensures reader { result.reader ≡ reader }
-        ensures nothing_held { held result.decoder result.chunk result.buffer ≡ record
+        ensures nothing_held { held_in result.items ≡ record
             { unread = record { version = version; bytes = [] }; limit = 4294967295; offset = 0; rejected = None } }
     {
         ItemReader::with_limit(alloc, version, u32::MAX, reader)
@@ -59,14 +38,12 @@ impl<R: Read + Drop> ItemReader<R> {
     pub fn with_limit(alloc: Global, version: Version, limit: u32, reader: R) -> ItemReader<R>
         requires { 5 ≤ version_number version }
         ensures reader { result.reader ≡ reader }
-        ensures nothing_held { held result.decoder result.chunk result.buffer ≡ record
+        ensures nothing_held { held_in result.items ≡ record
             { unread = record { version = version; bytes = [] }; limit = limit; offset = 0; rejected = None } }
     {
         ItemReader {
             reader,
-            decoder: LimitedDecoder::new(alloc, version, limit),
-            chunk: Bytes::new(),
-            buffer: BytesMut::new(alloc),
+            items: ItemBuffer::new(alloc, version, limit, CHUNK),
         }
     }
 
@@ -79,184 +56,36 @@ impl<R: Read + Drop> ItemReader<R> {
     /// a later call goes on from there.
     pub fn next_item(&mut self) -> Result<Option<Item>, ReadError>
         ensures read { (read : List ℕ) × Consumes (R.remaining self.old.reader) (R.remaining self.new.reader) read
-            × IsRead (with_more (held self.old.decoder self.old.chunk self.old.buffer) read)
-            (R.remaining self.new.reader) result (held self.new.decoder self.new.chunk self.new.buffer) }
+            × IsRead (with_more (held_in self.old.items) read) (R.remaining self.new.reader) result
+            (held_in self.new.items) }
         // a whole item is returned before anything is read, so it does not wait for what comes after it
-        ensures idle { (item : AnyItem) (rest : List ℕ) → TakesItem self.old.decoder.unread.version
-            (held self.old.decoder self.old.chunk self.old.buffer).unread.bytes item rest
-            → self.new.reader ≡ self.old.reader }
+        ensures idle { (item : AnyItem) (rest : List ℕ) → TakesItem self.old.items.decoder.unread.version
+            (held_in self.old.items).unread.bytes item rest → self.new.reader ≡ self.old.reader }
     {
-        for _ in 0..u64::MAX {
-            if let Some(item) = self.take()? {
-                return Ok(Some(item));
-            }
-            if !self.fill()? {
-                return end_of(&self.decoder);
-            }
-        }
-        Err(ReadError::Failed(io::Error::from(io::ErrorKind::TimedOut)))
+        let Some((_, item)) = self.items.next_with_word(&mut self.reader)? else {
+            return Ok(None);
+        };
+        Ok(Some(item))
     }
 
     /// Returns the next item of what was read, and reads nothing; `None` if that holds no whole item.
     ///
     /// `TooLong` and `OutOfMemory` are as of `next_item`, and no other error comes.
     pub fn take_item(&mut self) -> Result<Option<Item>, ReadError>
-        ensures taken { IsTakenOf (held self.old.decoder self.old.chunk self.old.buffer) result
-            (held self.new.decoder self.new.chunk self.new.buffer) }
+        ensures taken { IsTakenOf (held_in self.old.items) result (held_in self.new.items) }
         ensures reader { self.new.reader ≡ self.old.reader }
     {
-        // bytes are outside the decoder only after it could not take them
-        while !self.chunk.is_empty() || !self.buffer.is_empty() {
-            if let Some(item) = self.take()? {
-                return Ok(Some(item));
-            }
-            self.push_held()?;
-        }
-        self.take()
+        let Some((_, item)) = self.items.take_with_word()? else {
+            return Ok(None);
+        };
+        Ok(Some(item))
     }
 
     /// Returns a copy of the bytes that were read and are in no item that was returned: after `Truncated` those of the
     /// item that is cut short, after `TooLong` none.
-    #[tactic(auto, using(crate::proofs::Reading::all_held))]
     pub fn copy_pending(&self) -> Result<Vec<u8>, AllocError>
-        ensures { IfOk result (λ bytes.
-            bytes.items ≡ (held self.now.decoder self.now.chunk self.now.buffer).unread.bytes) }
+        ensures { IfOk result (λ bytes. bytes.items ≡ (held_in self.now.items).unread.bytes) }
     {
-        let mut bytes = self.decoder.decoder().copy_pending()?;
-        bytes.extend_from_slice(self.chunk.as_slice())?;
-        bytes.extend_from_slice(self.buffer.as_slice())?;
-        Ok(bytes)
-    }
-
-    /// Takes the next item of what the decoder holds. If it is too long, all that is held is dropped.
-    #[tactic(auto, using(crate::proofs::Reading::taken, crate::proofs::Reading::taken_not, crate::proofs::Reading::taken_long))]
-    fn take(&mut self) -> Result<Option<Item>, ReadError>
-        ensures taken { IsTaken self.old.decoder (self.old.chunk ++ self.old.buffer.items) result self.new.decoder
-            (self.new.chunk ++ self.new.buffer.items) }
-        ensures reader { self.new.reader ≡ self.old.reader }
-    {
-        match self.decoder.next_item() {
-            Ok(found) => Ok(found),
-            Err(LimitedError::OutOfMemory) => Err(ReadError::OutOfMemory),
-            Err(LimitedError::MessageTooLong(message)) => {
-                self.chunk = Bytes::new();
-                self.buffer.clear();
-                Err(ReadError::TooLong(message))
-            }
-        }
-    }
-
-    /// Gives the decoder the next of the bytes that are held, or else of those that one read gives. Returns whether the
-    /// stream goes on: if it does not, nothing is held but by the decoder.
-    fn fill(&mut self) -> Result<bool, ReadError>
-        requires accepted { self.old.decoder.rejected ≡ None }
-        requires short { length self.old.decoder.unread.bytes ≤ self.old.decoder.limit + 7 }
-        ensures filled { (read : List ℕ) × Consumes (R.remaining self.old.reader) (R.remaining self.new.reader) read
-            × (held self.new.decoder self.new.chunk self.new.buffer
-            ≡ with_more (held self.old.decoder self.old.chunk self.old.buffer) read) }
-        ensures end { IfOk result (λ more. more ≡ false → IsAtEnd (R.remaining self.new.reader)
-            × (self.new.decoder ≡ self.old.decoder) × (self.new.chunk ++ self.new.buffer.items ≡ [])) }
-        ensures idle { 0 < length self.old.chunk + length self.old.buffer.items → self.new.reader ≡ self.old.reader }
-        ensures error { IfErr result TakesNothing }
-    {
-        if !self.next_chunk()? {
-            return Ok(false);
-        }
-        self.push()?;
-        Ok(true)
-    }
-
-    /// Gives the decoder the next of the bytes that are held outside it, of which there are some.
-    fn push_held(&mut self) -> Result<(), ReadError>
-        requires accepted { self.old.decoder.rejected ≡ None }
-        requires short { length self.old.decoder.unread.bytes ≤ self.old.decoder.limit + 7 }
-        requires some { 0 < length self.old.chunk + length self.old.buffer.items }
-        ensures same { held self.new.decoder self.new.chunk self.new.buffer
-            ≡ held self.old.decoder self.old.chunk self.old.buffer }
-        ensures fewer { OnOk result (length self.new.chunk + length self.new.buffer.items
-            < length self.old.chunk + length self.old.buffer.items) }
-        ensures error { IfErr result (λ error. error ≡ OutOfMemory) }
-        ensures reader { self.new.reader ≡ self.old.reader }
-    {
-        if self.chunk.is_empty() {
-            self.chunk = self.buffer.freeze_to(self.buffer.len().min(CHUNK))?;
-        }
-        self.push()
-    }
-
-    /// Gives the decoder the chunk that is held, which has room for it.
-    fn push(&mut self) -> Result<(), ReadError>
-        requires accepted { self.old.decoder.rejected ≡ None }
-        requires short { length self.old.decoder.unread.bytes ≤ self.old.decoder.limit + 7 }
-        ensures ok { OnOk result ((self.new.decoder ≡ with_more self.old.decoder self.old.chunk)
-            × (self.new.chunk ≡ [])) }
-        ensures kept { OnErr result ((self.new.decoder ≡ self.old.decoder) × (self.new.chunk ≡ self.old.chunk)) }
-        ensures error { IfErr result (λ error. error ≡ OutOfMemory) }
-        ensures reader { self.new.reader ≡ self.old.reader }
-        ensures buffer { self.new.buffer ≡ self.old.buffer }
-    {
-        match self.decoder.push(mem::take(&mut self.chunk)) {
-            Ok(()) => Ok(()),
-            Err(LimitedPushError::Rejected(PushError::OutOfMemory(chunk))) => {
-                self.chunk = chunk;
-                Err(ReadError::OutOfMemory)
-            }
-            Err(LimitedPushError::Rejected(PushError::TooLong(_))) => unreachable!(),
-            Err(LimitedPushError::MessageTooLong(_, _)) => unreachable!(),
-        }
-    }
-
-    /// Cuts the next chunk off the buffer, if none is held. Returns whether the stream goes on.
-    fn next_chunk(&mut self) -> Result<bool, ReadError>
-        ensures cut { (read : List ℕ) × Consumes (R.remaining self.old.reader) (R.remaining self.new.reader) read
-            × (self.new.chunk ++ self.new.buffer.items ≡ (self.old.chunk ++ self.old.buffer.items) ++ read) }
-        ensures end { IfOk result (λ more. more ≡ false → IsAtEnd (R.remaining self.new.reader)
-            × (self.new.chunk ++ self.new.buffer.items ≡ [])) }
-        ensures idle { 0 < length self.old.chunk + length self.old.buffer.items → self.new.reader ≡ self.old.reader }
-        ensures error { IfErr result TakesNothing }
-        ensures decoder { self.new.decoder ≡ self.old.decoder }
-    {
-        if !self.chunk.is_empty() {
-            return Ok(true);
-        }
-        if !self.read()? {
-            return Ok(false);
-        }
-        self.chunk = self.buffer.freeze_to(self.buffer.len().min(CHUNK))?;
-        Ok(true)
-    }
-
-    /// Reads once, if the buffer is empty. Returns whether the stream goes on.
-    fn read(&mut self) -> Result<bool, ReadError>
-        ensures bytes { (read : List ℕ) × Consumes (R.remaining self.old.reader) (R.remaining self.new.reader) read
-            × (self.new.buffer.items ≡ self.old.buffer.items ++ read) }
-        ensures end { IfOk result (λ more. more ≡ false → IsAtEnd (R.remaining self.new.reader)
-            × (self.new.buffer.items ≡ [])) }
-        ensures idle { 0 < length self.old.buffer.items → self.new.reader ≡ self.old.reader }
-        ensures error { IfErr result TakesNothing }
-        ensures decoder { self.new.decoder ≡ self.old.decoder }
-        ensures chunk { self.new.chunk ≡ self.old.chunk }
-    {
-        if !self.buffer.is_empty() {
-            return Ok(true);
-        }
-        if self.buffer.capacity() < LEAST_ROOM {
-            self.buffer.reserve(CHUNK)?;
-        }
-        match self.buffer.read_from(&mut self.reader) {
-            Ok(count) => Ok(count > 0),
-            Err(reason) if reason.kind() == io::ErrorKind::Interrupted => Ok(true),
-            Err(reason) => Err(ReadError::Failed(reason)),
-        }
-    }
-}
-
-/// The result at the end of a stream, of which a decoder holds the last bytes.
-fn end_of(decoder: &LimitedDecoder) -> Result<Option<Item>, ReadError>
-    ensures { result ≡ result_at_end decoder.now.unread.bytes }
-{
-    match decoder.decoder().pending() {
-        0 => Ok(None),
-        count => Err(ReadError::Truncated(count)),
+        self.items.copy_pending()
     }
 }

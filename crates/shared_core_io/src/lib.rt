@@ -3,10 +3,12 @@
 
 pub mod chunk;
 pub mod error;
+pub mod item_buffer;
 pub mod item_reader;
 pub mod output;
 
 pub use crate::chunk::{ChunkError, read_chunk, read_some};
 pub use crate::error::ReadError;
+pub use crate::item_buffer::ItemBuffer;
 pub use crate::item_reader::ItemReader;
 pub use crate::output::{WriteError, write_whole};

@@ -10,28 +10,11 @@ use Rattle.shared_core_stream.specs.Limits.{Limited, TakesWithin, after_item, af
 use Rattle.shared_core_stream.specs.Limits.{offset_after, payload_length, too_long_at}
 use Rattle.shared_core_stream.specs.LimitedStreams.{IsDecodedWithin, IsDecodingWithin, IsStopped, limited_at}
 use Rattle.shared_core_stream.specs.LimitedStreams.{offset_of_rest}
-use Rattle.shared_core_stream.proofs.Items.{item_is_long, nothing_begins_with_none, then_more, then_start}
+use Rattle.shared_core_stream.proofs.Items.{item_is_long, then_more}
 use Rattle.shared_core_stream.proofs.Items.{then_takes}
 use Rattle.shared_core_stream.proofs.Limits.{accepted, front_more, rejected_front, taken_past}
 
 module _ (version : Version) (limit : ℕ) where
-  -- before the first byte
-  pub decoded_none : (state : Limited) → state ≡ record {
-    unread = record { version = version; bytes = [] };
-    limit = limit;
-    offset = 0;
-    rejected = None;
-  } → IsDecodedWithin version limit [] [] state
-  decoded_none state is = record {
-    rest = [];
-    splits = record {
-      items_then = then_start version [];
-      within = λ k item below. absurd (omega (arith, below));
-      no_more = λ item others taken. nothing_begins_with_none version item others taken.0;
-    };
-    state_is = is;
-  }
-
   -- one more item is taken
   pub decoding_takes : (stream : List ℕ) (items : List Item) (item : Item) (old new : Limited) → IsDecodingWithin
       version limit stream items old → TakesWithin old.unread.version old.limit old.unread.bytes item new.unread.bytes →

@@ -100,6 +100,12 @@ ReturnsWithin old (Ok (Some item)) new =
     (rejection old ≡ None) × TakesWithin old.unread.version old.limit old.unread.bytes item new.unread.bytes
     × (new ≡ after_item old new.unread.bytes)
 
+-- The result without the word of the item's header.
+abbrev pub without_word : {E : Type 0} → Result (Option (ℕ × Item)) E → Result (Option Item) E
+without_word (Ok (Some next)) = Ok (Some next.1)
+without_word (Ok None) = Ok None
+without_word (Err error) = Err error
+
 -- A chunk was not taken, and is returned unchanged: since a message was rejected before it, or as without a limit.
 abbrev pub LimitedPushFails : Limited → List ℕ → LimitedPushError → Type 0
 LimitedPushFails old chunk (pushed.Rejected error) = (old.rejected ≡ None) × PushFails old.unread.bytes chunk error

@@ -1,10 +1,10 @@
 -- How the printing of a stream continues, and what is written when it ends.
 use Rattle.std.proofs.Common.{ℕ, ◌+◌, ◌-◌, ◌<◌, ◌≤◌, drop, Some, None, Bool, true, false, cond, length-append}
 use Rattle.std.proofs.Common.{length-drop, ◌≡◌, List, [], ◌∷◌, ◌++◌, length, ap, sym, subst, ◌∙◌, append_assoc}
-use Rattle.std.proofs.Common.{append-nil, arith, Result, Ok, Err, Option, inl, inr, refl, All}
-use Rattle.std.proofs.lemmas.List.Elements.{All-append}
+use Rattle.std.proofs.Common.{append-nil, arith, Result, Ok, Err, IfOk, IfErr, Option, inl, inr, refl, All}
+use Rattle.std.proofs.lemmas.List.Elements.{All-append, All-push}
 use Rattle.std.specs.Io.KnownBytes.{Appends, Consumes, IsAtEnd}
-use Rattle.std.proofs.KnownBytes.{Appends-nil, Appends-trans, Consumes-nil, Consumes-trans, Consumes-kept}
+use Rattle.std.proofs.KnownBytes.{Appends-nil, Appends-trans, Consumes-nil, Consumes-trans}
 use Rattle.shared_core_base.specs.declared.version.Version.{Version}
 use Rattle.shared_core_stream.specs.declared.encoding.item.Item.{Item}
 use Rattle.std.specs.Option.{option_map_or}
@@ -15,23 +15,25 @@ use Rattle.shared_core_stream.specs.Items.{AreItems, NoItemBegins, IsItem, IsIte
 use Rattle.shared_core_stream.specs.Items.{body_length, item_of, skips_unknown_messages}
 use Rattle.std.proofs.lemmas.List.{drop-drop}
 use Rattle.shared_core_stream.proofs.Items.{drop_exact, front_word_more, item_is_long, nothing_begins_with_none}
-use Rattle.shared_core_stream.proofs.Items.{then_start, then_join, then_more, split_of, split_begins}
+use Rattle.shared_core_stream.proofs.Items.{then_start, then_join, then_more, then_one, split_of, split_begins}
 use Rattle.std.specs.Option.{option_or}
-use Rattle.shared_core_io.specs.Reading.{IsChunk}
-use Rattle.shared_core_io.specs.declared.chunk.ChunkError.{ChunkError}
-use Rattle.shared_core_io.specs.declared.chunk.ChunkError.TheVariants as chunk
 use Rattle.stream_lines.specs.declared.report.Report.{Report}
 use Rattle.stream_lines.specs.declared.report.Trouble.{Trouble}
 use Rattle.stream_lines.specs.declared.error.PrintError.{PrintError}
 use Rattle.stream_lines.specs.declared.error.PrintError.TheVariants.{Input, Output, OutOfMemory, TooLong}
 use Rattle.stream_lines.specs.declared.error.PrintError.TheVariants.{MessageTooLong}
 use Rattle.shared_core_stream.specs.declared.encoding.limit_error.MessageTooLong.{MessageTooLong as Longer}
-use Rattle.shared_core_stream.specs.Limits.{offset_after, payload_length, too_long_at}
+use Rattle.shared_core_stream.specs.Limits.{without_word, Limited}
+use Rattle.shared_core_stream.specs.Limits.{after_item, offset_after, payload_length, too_long_at, TakesWithin}
 use Rattle.stream_lines.specs.Printing.{item_size, items_size, lines, trouble_at, first_trouble, ArePrinted, IsReport}
-use Rattle.stream_lines.specs.Printing.{AreWithin, Begins, IsLack, IsLongIn, IsWrittenFor, reading_error}
-use Rattle.stream_lines.specs.Printing.{too_long_after}
+use Rattle.stream_lines.specs.Printing.{too_long_after, AreWithin, Begins, IsLack, IsLongIn, IsWrittenFor}
+use Rattle.stream_lines.specs.Steps.{holding, Added, IsAfter, IsAfterHeld}
+use Rattle.stream_lines.specs.declared.print.Stop.{Stop}
+use Rattle.stream_lines.specs.declared.print.Stop.TheVariants.{End, Failed, TooLong as TooLonger}
+use Rattle.shared_core_io.specs.Reading.{with_more, HasWord, IsRead}
+use Rattle.shared_core_io.specs.declared.error.ReadError.{ReadError}
 
-pub lines_join : (line : ℕ → ℕ → Item → List ℕ) (at : ℕ) (bytes : List ℕ) (items others : List Item)
+lines_join : (line : ℕ → ℕ → Item → List ℕ) (at : ℕ) (bytes : List ℕ) (items others : List Item)
     → lines line at bytes items ++ lines line (at + items_size items) (drop (items_size items) bytes) others ≡ lines
     line at bytes (items ++ others)
 lines_join line at bytes [] others = ap (λ (n : ℕ). lines line n bytes others) (omega arith)
@@ -46,17 +48,6 @@ lines_join line at bytes (item ∷ items) others =
     ((at + item_size item) + items_size items) l others) (sym (drop-drop (items_size items) (item_size item) bytes))
     ∙ lines_join line (at + item_size item) after items others)
 
--- the line of one more item, which is at the front of what is after the others
-pub lines_next : (line : ℕ → ℕ → Item → List ℕ) (at : ℕ) (bytes rest : List ℕ) (items : List Item) (item : Item) → drop
-    (items_size items) bytes ≡ rest
-    → lines line at bytes items ++ line (at + items_size items) (front_word rest) item ≡ lines line at bytes
-    (items ++ item ∷ [])
-lines_next line at bytes rest items item is =
-    ap (λ (l : List ℕ). lines line at bytes items ++ l) (sym
-    (append-nil (line (at + items_size items) (front_word rest) item)))
-    ∙ ap (λ (l : List ℕ). lines line at bytes items ++ lines line (at + items_size items) l (item ∷ [])) (sym is)
-    ∙ lines_join line at bytes items (item ∷ [])
-
 or_assoc : {A : Type 0} (a b c : Option A) → option_or a (option_or b c) ≡ option_or (option_or a b) c
 or_assoc None b c = refl
 or_assoc (Some x) b c = refl
@@ -65,7 +56,7 @@ or_none : {A : Type 0} (a : Option A) → option_or a None ≡ a
 or_none None = refl
 or_none (Some x) = refl
 
-pub first_join : (trouble : Item → Option Trouble) (at : ℕ) (items others : List Item)
+first_join : (trouble : Item → Option Trouble) (at : ℕ) (items others : List Item)
     → option_or (first_trouble trouble at items) (first_trouble trouble (at + items_size items) others) ≡ first_trouble
     trouble at (items ++ others)
 first_join trouble at [] others = ap (λ (n : ℕ). first_trouble trouble n others) (omega arith)
@@ -78,42 +69,7 @@ first_join trouble at (item ∷ items) others =
     ∙ ap (λ (o : Option (ℕ × Trouble)). option_or (trouble_at trouble at item) o)
     (first_join trouble (at + item_size item) items others)
 
--- the first trouble of items, with one more item
-pub first_next : (trouble : Item → Option Trouble) (before : Option (ℕ × Trouble)) (at : ℕ) (items : List Item)
-    (item : Item)
-    → option_or (option_or before (first_trouble trouble at items)) (trouble_at trouble (at + items_size items) item) ≡
-    option_or before (first_trouble trouble at (items ++ item ∷ []))
-first_next trouble before at items item =
-    sym (or_assoc before (first_trouble trouble at items) (trouble_at trouble (at + items_size items) item))
-    ∙ ap (λ (o : Option (ℕ × Trouble)). option_or before o)
-    (ap (λ (o : Option (ℕ × Trouble)). option_or (first_trouble trouble at items) o)
-    (sym (or_none (trouble_at trouble (at + items_size items) item)))
-    ∙ first_join trouble at items (item ∷ []))
-
--- the first trouble after the next item
-pub next_trouble : (trouble : Item → Option Trouble) (before old found : Option (ℕ × Trouble)) (at first : ℕ)
-    (items : List Item) (item : Item)
-    → old ≡ option_or before (first_trouble trouble first items) → at ≡ first + items_size items → found ≡ option_or old
-    (trouble_at trouble at item)
-    → found ≡ option_or before (first_trouble trouble first (items ++ item ∷ []))
-next_trouble trouble before old found at first items item noted place is =
-    is ∙ ap (λ (o : Option (ℕ × Trouble)). option_or o (trouble_at trouble at item)) noted
-    ∙ ap (λ (n : ℕ). option_or (option_or before (first_trouble trouble first items)) (trouble_at trouble n item)) place
-    ∙ first_next trouble before first items item
-
--- the lines after the next item
-pub next_lines : (line : ℕ → ℕ → Item → List ℕ) (at first word : ℕ) (bytes rest text longer : List ℕ)
-    (items : List Item) (item : Item)
-    → text ≡ lines line first bytes items → drop (items_size items) bytes ≡ rest → at ≡ first + items_size items → word
-    ≡ front_word rest → longer ≡ text ++ line at word item
-    → longer ≡ lines line first bytes (items ++ item ∷ [])
-next_lines line at first word bytes rest text longer items item printed after place word_is is =
-    is ∙ ap (λ (t : List ℕ). t ++ line at word item) printed
-    ∙ ap (λ (n : ℕ). lines line first bytes items ++ line n word item) place
-    ∙ ap (λ (w : ℕ). lines line first bytes items ++ line (first + items_size items) w item) word_is
-    ∙ lines_next line first bytes rest items item after
-
-pub zero_more : (n : ℕ) → n ≡ 0 + n
+zero_more : (n : ℕ) → n ≡ 0 + n
 zero_more n = omega arith
 
 -- ---- how many bytes items take
@@ -156,11 +112,6 @@ pub rest_after : (version : Version) (stream rest : List ℕ) (items : List Item
 rest_after version stream rest items h = ap (drop (items_size items)) h.whole ∙ drop_exact (items_size items) h.front
     rest (items_long version h.front items h.encoded)
 
--- bytes that are fewer than a header are no item
-pub none_without_header : (version : Version) (bytes : List ℕ) → length bytes < 8 → NoItemBegins version bytes
-none_without_header version bytes short item rest taken = omega
-    (arith, short, item_is_long version bytes rest item taken)
-
 -- the lines of items, whatever is after them
 lines_front : (version : Version) (line : ℕ → ℕ → Item → List ℕ) (at : ℕ) (front rest : List ℕ) (items : List Item) →
     AreItems version front items → lines line at (front ++ rest) items ≡ lines line at front items
@@ -196,12 +147,6 @@ begins_after front text whole (more, is) = (more, ap (λ l. front ++ l) is ∙ s
 begins_longer : {A : Type 0} (text whole more : List A) → Begins text whole → Begins text (whole ++ more)
 begins_longer text whole more (left, is) = (left ++ more, ap (λ l. l ++ more) is ∙ append_assoc text left more)
 
-consumes_none : (first left now : Option (List ℕ)) (read chunk : List ℕ) → Consumes first left read → Consumes left now
-    chunk → length chunk ≡ 0 → Consumes first now read
-consumes_none first left now read [] came taken none = subst (Consumes first now) (append-nil read)
-    (Consumes-trans first left now read [] came taken)
-consumes_none first left now read (x ∷ chunk) came taken none = absurd (omega (arith, none))
-
 -- the item that is too long is one of the items
 pub lack_in : (is_long : Item → Type 0) (version : Version) (bytes rest : List ℕ) (front : List Item) (item : Item)
     (error : PrintError) → IsItemsThen version bytes (front ++ item ∷ []) rest → IsLack (is_long item) error → IsLack
@@ -212,15 +157,176 @@ lack_in is_long version bytes rest front item OutOfMemory is lack = tt
 lack_in is_long version bytes rest front item TooLong is lack = (front, item, rest, is, lack)
 lack_in is_long version bytes rest front item (MessageTooLong longer) is lack = absurd lack
 
+-- it is so too if items are before it
+pub lack_after : (is_long : Item → Type 0) (version : Version) (bytes rest : List ℕ) (items : List Item)
+    (error : PrintError) → IsItemsThen version bytes items rest → IsLack (IsLongIn is_long version rest) error → IsLack
+    (IsLongIn is_long version bytes) error
+lack_after is_long version bytes rest items Input is lack = absurd lack
+lack_after is_long version bytes rest items Output is lack = absurd lack
+lack_after is_long version bytes rest items OutOfMemory is lack = tt
+lack_after is_long version bytes rest items TooLong is (more, item, others, then_item, long) =
+    (items ++ more, item, others, longer, long)
+  where
+    longer : IsItemsThen version bytes ((items ++ more) ++ item ∷ []) others
+    longer = subst (λ (all : List Item). IsItemsThen version bytes all others)
+        (sym (append_assoc items more (item ∷ [])))
+        (then_join version bytes rest others items (more ++ item ∷ []) is then_item)
+lack_after is_long version bytes rest items (MessageTooLong longer) is lack = absurd lack
+
+-- ---- steps
+
+items_size_join : (items others : List Item) → items_size (items ++ others) ≡ items_size items + items_size others
+items_size_join [] others = zero_more (items_size others)
+items_size_join (item ∷ items) others = omega (arith, items_size_join items others)
+
+pub size_is : (item : Item) → item_size item ≡ 8 + payload_length item
+size_is (Message message) = refl
+size_is (Unknown code) = refl
+size_is (Skipped code payload) = refl
+
+-- what is held after an item is taken
+pub moved : (version : Version) (limit offset : ℕ) (bytes rest : List ℕ) (size : ℕ) → length bytes ≡ size + length rest
+    → after_item (holding version limit offset bytes) rest ≡ holding version limit (offset + size) rest
+moved version limit offset bytes rest size long =
+    ap (λ (o : ℕ). record
+    { unread = record { version = version; bytes = rest }; limit = limit; offset = o; rejected = None })
+    (omega (arith, long))
+
+-- what is held, by where it begins
+state_of : (state : Limited) (offset : ℕ) (rejected : Option Longer) → state.offset ≡ offset → state.rejected ≡ rejected
+    → state ≡ record { unread = state.unread; limit = state.limit; offset = offset; rejected = rejected }
+state_of state offset rejected place is = rw (sym place, sym is) refl
+
+pub held_is : (state : Limited) (offset : ℕ) → state.rejected ≡ None → state.offset ≡ offset_after 0 offset → state ≡
+    holding state.unread.version state.limit offset state.unread.bytes
+held_is state offset none place = state_of state (offset_after 0 offset) None place none
+
+-- what the call that reads says
+abbrev pub HasRead : Option (List ℕ) → Option (List ℕ) → Limited → Result (Option (ℕ × Item)) ReadError → Limited →
+    Type 0
+HasRead before left old result new = (read : List ℕ) × Consumes before left read
+    × IsRead (with_more old read) left (without_word result) new
+    × HasWord result (with_more old read).unread.bytes
+
+-- what a step says, of a state of which these bytes are held
+abbrev pub HasAdded : (ℕ → ℕ → Item → List ℕ) → (Item → Option Trouble) → (Item → Type 0) → Version → ℕ →
+    Option (List ℕ) → Option (List ℕ) → ℕ → Option (ℕ × Trouble) → List ℕ → Result (Option Stop) PrintError → ℕ →
+    Option (ℕ × Trouble) → List ℕ → List ℕ → Limited → Type 0
+HasAdded line trouble is_long version limit before left at found bytes result offset noted text decoded state =
+    (read : List ℕ) × Consumes before left read
+    × IfOk result (λ stop. (rest : List ℕ) × Added line trouble version limit at found [] (bytes ++ read) offset noted
+    text rest × IsAfter version limit stop offset rest left decoded state)
+    × IfErr result (IsLack (IsLongIn is_long version (bytes ++ read)))
+
+-- what holds of a result holds of it more weakly
+pub if_ok : {A E : Type 0} {P Q : A → Type 0} → ((value : A) → P value → Q value) → (result : Result A E) → IfOk result
+    P → IfOk result Q
+if_ok weaker (Ok value) holds = weaker value holds
+if_ok weaker (Err error) holds = tt
+
+pub if_err : {A E : Type 0} {P Q : E → Type 0} → ((error : E) → P error → Q error) → (result : Result A E) → IfErr
+    result P → IfErr result Q
+if_err weaker (Ok value) holds = tt
+if_err weaker (Err error) holds = weaker error holds
+
+-- what is after the items that were held is after those that were read
+pub after_held : (version : Version) (limit : ℕ) (stop : Option Stop) (offset : ℕ) (rest : List ℕ)
+    (left : Option (List ℕ)) (decoded : List ℕ) (state : Limited) → IsAfterHeld version limit stop offset rest state →
+    IsAfter version limit stop offset rest left decoded state
+after_held version limit None offset rest left decoded state after = after
+after_held version limit (Some (TooLonger message)) offset rest left decoded state after = after
+after_held version limit (Some Failed) offset rest left decoded state after = absurd after
+after_held version limit (Some End) offset rest left decoded state after = absurd after
+
+-- an item is taken of what is held
+pub takes : (version : Version) (limit offset : ℕ) (old new : Limited) (item : Item) → old ≡ holding version limit
+    offset
+    old.unread.bytes → TakesWithin old.unread.version old.limit old.unread.bytes item new.unread.bytes → new ≡
+    after_item old new.unread.bytes → TakesWithin version limit old.unread.bytes item new.unread.bytes
+    × (length old.unread.bytes ≡ item_size item + length new.unread.bytes)
+    × (new ≡ holding version limit (offset + item_size item) new.unread.bytes)
+takes version limit offset old new item is taken after =
+    let bytes = old.unread.bytes in
+    let rest = new.unread.bytes in
+    let here = subst (λ (state : Limited). TakesWithin state.unread.version state.limit bytes item rest) is taken in
+    let long : length bytes ≡ item_size item + length rest =
+    omega (arith, then_long version bytes rest (item ∷ []) (then_one version bytes rest item here.0)) in (
+      here,
+      long,
+      after ∙ ap (λ (state : Limited). after_item state rest) is
+          ∙ moved version limit offset bytes rest (item_size item) long,
+    )
+
+module _ (line : ℕ → ℕ → Item → List ℕ) (trouble : Item → Option Trouble) (version : Version) (limit : ℕ) where
+  -- nothing was added
+  pub added_none : (at : ℕ) (before : Option (ℕ × Trouble)) (text bytes : List ℕ) → Added line trouble version limit at
+      before text bytes at before text bytes
+  added_none at before text bytes = record {
+    more = [];
+    next = then_start version bytes;
+    within = λ k item below. absurd (omega (arith, below));
+    printed = sym (append-nil text);
+    place = omega arith;
+    noted = sym (or_none before);
+  }
+
+  -- one item was
+  pub added_one : (at word offset : ℕ) (before found : Option (ℕ × Trouble)) (text longer bytes rest : List ℕ)
+      (item : Item) → TakesWithin version limit bytes item rest → word ≡ front_word bytes → longer ≡ text ++ line at
+      word item → offset ≡ at + item_size item → found ≡ option_or before (trouble_at trouble at item) → Added line
+      trouble version limit at before text bytes offset found longer rest
+  added_one at word offset before found text longer bytes rest item (taken, fits) word_is printed place noted =
+      record {
+        more = item ∷ [];
+        next = then_one version bytes rest item taken;
+        within = All-push (λ i. payload_length i ≤ limit) [] item (λ k i below. absurd (omega (arith, below))) fits;
+        printed =
+            printed ∙ ap (λ (w : ℕ). text ++ line at w item) word_is
+            ∙ ap (λ (l : List ℕ). text ++ l) (sym (append-nil (line at (front_word bytes) item)));
+        place = place ∙ omega arith;
+        noted = noted ∙ ap (λ (o : Option (ℕ × Trouble)). option_or before o)
+            (sym (or_none (trouble_at trouble at item)));
+      }
+
+  -- some were, and then others
+  pub added_join : (at middle offset : ℕ) (before between found : Option (ℕ × Trouble))
+      (text longer longest bytes left rest : List ℕ) → Added line trouble version limit at before text bytes middle
+      between longer left → Added line trouble version limit middle between longer left offset found longest rest →
+      Added line trouble version limit at before text bytes offset found longest rest
+  added_join at middle offset before between found text longer longest bytes left rest first second =
+      let after : drop (items_size first.more) bytes ≡ left = rest_after version bytes left first.more first.next in
+      record {
+        more = first.more ++ second.more;
+        next = then_join version bytes left rest first.more second.more first.next second.next;
+        within = All-append (λ item. payload_length item ≤ limit) first.more second.more first.within second.within;
+        printed =
+            second.printed ∙ ap (λ (t : List ℕ). t ++ lines line middle left second.more) first.printed
+            ∙ append_assoc text (lines line at bytes first.more) (lines line middle left second.more)
+            ∙ ap (λ (l : List ℕ). text ++ l)
+            (ap (λ (n : ℕ). lines line at bytes first.more ++ lines line n left second.more) first.place
+            ∙ ap (λ (l : List ℕ). lines line at bytes first.more ++ lines line (at + items_size first.more) l
+            second.more) (sym after)
+            ∙ lines_join line at bytes first.more second.more);
+        place = omega (arith, first.place, second.place, items_size_join first.more second.more);
+        noted =
+            second.noted
+            ∙ ap (λ (o : Option (ℕ × Trouble)). option_or o (first_trouble trouble middle second.more)) first.noted
+            ∙ sym (or_assoc before (first_trouble trouble at first.more) (first_trouble trouble middle second.more))
+            ∙ ap (λ (o : Option (ℕ × Trouble)). option_or before o)
+            (ap (λ (n : ℕ). option_or (first_trouble trouble at first.more) (first_trouble trouble n second.more))
+            first.place
+            ∙ first_join trouble at first.more second.more);
+      }
+
 -- A printing that is not at its end: the items of what was read have their lines, and these bytes are pending, which
 -- begin with no item.
 pub record GoesOn (line : ℕ → ℕ → Item → List ℕ) (trouble : Item → Option Trouble) (version : Version) (limit : ℕ)
-    (first start left out : Option (List ℕ)) (total : ℕ) (pending : List ℕ) (found : Option (ℕ × Trouble)) : Type 0
+    (first start left out : Option (List ℕ)) (offset : ℕ) (pending : List ℕ) (found : Option (ℕ × Trouble)) : Type 0
   where
     pub read : List ℕ
     pub items : List Item
     pub split : SplitsInto version read items pending
-    pub long : total ≡ length read
+    pub place : offset ≡ items_size items
     pub came : Consumes first left read
     pub wrote : Appends start out (lines line 0 read items)
     pub noted : found ≡ first_trouble trouble 0 items
@@ -286,7 +392,7 @@ module _ (line : ℕ → ℕ → Item → List ℕ) (last : ℕ → List ℕ →
     read = [];
     items = [];
     split = record { items_then = then_start version []; no_more = nothing_begins_with_none version };
-    long = refl;
+    place = refl;
     came = Consumes-nil first;
     wrote = Appends-nil start;
     noted = refl;
@@ -307,12 +413,8 @@ module _ (line : ℕ → ℕ → Item → List ℕ) (last : ℕ → List ℕ →
         written_for = (items, (rest, front, within, after), refl);
       }
 
-  module _ (left out : Option (List ℕ)) (total : ℕ) (pending : List ℕ) (found : Option (ℕ × Trouble))
-      (so_far : GoesOn line trouble version limit first start left out total pending found) where
-    -- where the pending bytes begin
-    pub place : total ≡ items_size so_far.items + length pending
-    place = so_far.long ∙ then_long version so_far.read pending so_far.items so_far.split.items_then
-
+  module _ (left out : Option (List ℕ)) (offset : ℕ) (pending : List ℕ) (found : Option (ℕ × Trouble))
+      (so_far : GoesOn line trouble version limit first start left out offset pending found) where
     -- the lines that are written, and what was read before
     abbrev written_so_far : List ℕ
     written_so_far = lines line 0 so_far.read so_far.items
@@ -326,6 +428,39 @@ module _ (line : ℕ → ℕ → Item → List ℕ) (last : ℕ → List ℕ →
       record { items = so_far.items; rest = pending; split = so_far.split; written_for = (refl, so_far.within) },
     )
 
+    -- the input has ended, and the last line is written, or cut short
+    module _ (grown : Option (List ℕ)) (written : List ℕ) (end : IsAtEnd left) (wrote : Appends out grown written) where
+      then_last : (result : Result Report PrintError) → IsWrittenFor version limit line last is_long trouble result
+          so_far.read so_far.items pending (written_so_far ++ written) left → HasEnded line last is_long trouble version
+          limit first start left grown result
+      then_last result written_for = (
+        so_far.read,
+        written_so_far ++ written,
+        so_far.came,
+        Appends-trans start out grown written_so_far written so_far.wrote wrote,
+        record { items = so_far.items; rest = pending; split = so_far.split; written_for = written_for },
+      )
+
+      pub ended_whole : (found : Option (ℕ × Trouble)) (count : ℕ) → found ≡ first_trouble trouble 0 so_far.items →
+          count ≡ length pending → written ≡ last offset pending → HasEnded line last is_long trouble version limit
+          first start left grown
+          (Ok (record { trouble = found; end = offset; rest = count }))
+      ended_whole found count noted counted is = then_last _ (
+        end,
+        ap (λ (l : List ℕ). written_so_far ++ l) (is ∙ ap (λ (n : ℕ). last n pending) so_far.place),
+        record { first = noted; end = so_far.place; count = counted },
+        so_far.within,
+      )
+
+      pub ended_cut : Begins written (last offset pending) → HasEnded line last is_long trouble version limit first
+          start
+          left grown (Err Output)
+      ended_cut is = then_last (Err Output) (inr (
+        end,
+        begins_after written_so_far written (last (items_size so_far.items) pending)
+            (subst (λ (n : ℕ). Begins written (last n pending)) so_far.place is),
+      ))
+
     module _ (now : Option (List ℕ)) (chunk : List ℕ) (taken : Consumes left now chunk) where
       with_chunk : Consumes first now (so_far.read ++ chunk)
       with_chunk = Consumes-trans first left now so_far.read chunk so_far.came taken
@@ -334,11 +469,11 @@ module _ (line : ℕ → ℕ → Item → List ℕ) (last : ℕ → List ℕ →
       then_chunk = then_more version so_far.read pending chunk so_far.items so_far.split.items_then
 
       -- they are the lines of the same items, a chunk later
-      abbrev with_more : List ℕ
-      with_more = lines line 0 (so_far.read ++ chunk) so_far.items
+      abbrev written_before : List ℕ
+      written_before = lines line 0 (so_far.read ++ chunk) so_far.items
 
-      wrote_more : Appends start out with_more
-      wrote_more = subst (Appends start out) (lines_more version line 0 so_far.read pending chunk so_far.items
+      wrote_before : Appends start out written_before
+      wrote_before = subst (Appends start out) (lines_more version line 0 so_far.read pending chunk so_far.items
           so_far.split.items_then) so_far.wrote
 
       -- an error on a chunk
@@ -346,147 +481,85 @@ module _ (line : ℕ → ℕ → Item → List ℕ) (last : ℕ → List ℕ →
           last is_long trouble version limit first start now out (Err error)
       ended_lack error lack = (
         so_far.read ++ chunk,
-        with_more,
+        written_before,
         with_chunk,
-        wrote_more,
+        wrote_before,
         printed_lack error
             (so_far.read ++ chunk) (pending ++ chunk) so_far.items now lack then_chunk,
       )
 
-      module _ (rest : List ℕ) (more : List Item) (next : IsItemsThen version (pending ++ chunk) more rest) where
-        then_items : IsItemsThen version (so_far.read ++ chunk) (so_far.items ++ more) rest
-        then_items = then_join version (so_far.read ++ chunk) (pending ++ chunk) rest so_far.items more then_chunk
-            next
+      module _ (after : ℕ) (noted : Option (ℕ × Trouble)) (text rest : List ℕ)
+          (step : Added line trouble version limit offset found [] (pending ++ chunk) after noted text rest) where
+        then_items : IsItemsThen version (so_far.read ++ chunk) (so_far.items ++ step.more) rest
+        then_items = then_join version (so_far.read ++ chunk) (pending ++ chunk) rest so_far.items step.more then_chunk
+            step.next
 
-        -- the lines of the items of a chunk are those after the others
-        joined : with_more ++ lines line (items_size so_far.items) (pending ++ chunk) more ≡ lines line 0
-            (so_far.read ++ chunk) (so_far.items ++ more)
+        -- the lines of these items are those after the others
+        joined : written_before ++ text ≡ lines line 0 (so_far.read ++ chunk) (so_far.items ++ step.more)
         joined =
-            ap (λ (n : ℕ). with_more ++ lines line n (pending ++ chunk) more) (zero_more (items_size so_far.items))
-            ∙ ap (λ (l : List ℕ). with_more ++ lines line (0 + items_size so_far.items) l more)
+            ap (λ (l : List ℕ). written_before ++ l) step.printed
+            ∙ ap (λ (n : ℕ). written_before ++ lines line n (pending ++ chunk) step.more)
+            (so_far.place ∙ zero_more (items_size so_far.items))
+            ∙ ap (λ (l : List ℕ). written_before ++ lines line (0 + items_size so_far.items) l step.more)
             (sym (rest_after version (so_far.read ++ chunk) (pending ++ chunk) so_far.items then_chunk))
-            ∙ lines_join line 0 (so_far.read ++ chunk) so_far.items more
+            ∙ lines_join line 0 (so_far.read ++ chunk) so_far.items step.more
 
-        -- the offset of the bytes that are left
-        offset_next : (count : ℕ) → count ≡ length chunk → (total + count) - length rest ≡ items_size
-            (so_far.items ++ more)
-        offset_next count counted = omega (
-          arith,
-          so_far.long,
-          counted,
-          length-append so_far.read chunk,
-          then_long version (so_far.read ++ chunk) rest (so_far.items ++ more) then_items,
+        -- where the bytes begin that are left
+        place_next : after ≡ items_size (so_far.items ++ step.more)
+        place_next = omega (arith, so_far.place, step.place, items_size_join so_far.items step.more)
+
+        after_next : (longer : Option Longer) → too_long_at version limit (offset_after 0 after) rest ≡ longer →
+            too_long_after version limit (so_far.items ++ step.more) rest ≡ longer
+        after_next longer is = ap (λ n. too_long_at version limit (offset_after 0 n) rest) (sym place_next) ∙ is
+
+        within_next : All (λ item. payload_length item ≤ limit) (so_far.items ++ step.more)
+        within_next = All-append (λ item. payload_length item ≤ limit) so_far.items step.more so_far.within.0
+            step.within
+
+        -- the text is not written whole
+        pub ended_output : (grown : Option (List ℕ)) (written : List ℕ) → Appends out grown written → Begins written
+            text → HasEnded line last is_long trouble version limit first start now grown (Err Output)
+        ended_output grown written wrote is = (
+          so_far.read ++ chunk,
+          written_before ++ written,
+          with_chunk,
+          Appends-trans start out grown written_before written wrote_before wrote,
+          printed_output (so_far.read ++ chunk) rest (written_before ++ written) (so_far.items ++ step.more) now
+              then_items
+              (subst (Begins (written_before ++ written)) joined (begins_after written_before written text is)),
         )
 
-        after_next : (count : ℕ) (found : Option Longer) → count ≡ length chunk → too_long_at version limit
-            (offset_after 0 ((total + count) - length rest)) rest ≡ found → too_long_after version limit
-            (so_far.items ++ more) rest ≡ found
-        after_next count longer counted is =
-            ap (λ n. too_long_at version limit (offset_after 0 n) rest) (sym (offset_next count counted)) ∙ is
+        module _ (grown : Option (List ℕ)) (wrote : Appends out grown text) where
+          all_written : Appends start grown (lines line 0 (so_far.read ++ chunk) (so_far.items ++ step.more))
+          all_written = subst (Appends start grown) joined
+              (Appends-trans start out grown written_before text wrote_before wrote)
 
-        module _ (fits : All (λ item. payload_length item ≤ limit) more) where
-          within_next : All (λ item. payload_length item ≤ limit) (so_far.items ++ more)
-          within_next = All-append (λ item. payload_length item ≤ limit) so_far.items more so_far.within.0 fits
-
-          pub goes_on : (grown : Option (List ℕ)) (count : ℕ) (now_found : Option (ℕ × Trouble)) → count ≡ length chunk
-              → Appends out grown (lines line (items_size so_far.items) (pending ++ chunk) more)
-              → NoItemBegins version rest → too_long_at version limit (offset_after 0 ((total + count) - length rest))
-              rest ≡ None → now_found ≡ option_or found (first_trouble trouble (items_size so_far.items) more) → GoesOn
-              line trouble version limit first start now grown (total + count) rest now_found
-          goes_on grown count now_found counted wrote none after noted = record {
+          pub goes_on : NoItemBegins version rest → too_long_at version limit (offset_after 0 after) rest ≡ None →
+              GoesOn line trouble version limit first start now grown after rest noted
+          goes_on none short = record {
             read = so_far.read ++ chunk;
-            items = so_far.items ++ more;
+            items = so_far.items ++ step.more;
             split = record { items_then = then_items; no_more = none };
-            long = omega (arith, so_far.long, counted, length-append so_far.read chunk);
+            place = place_next;
             came = with_chunk;
-            wrote = subst (Appends start grown) joined (Appends-trans start out grown with_more
-                (lines line (items_size so_far.items) (pending ++ chunk) more) wrote_more wrote);
+            wrote = all_written;
             noted =
-                noted ∙ ap (λ (o : Option (ℕ × Trouble)). option_or o
-                (first_trouble trouble (items_size so_far.items) more)) so_far.noted
-                ∙ ap (λ (n : ℕ). option_or (first_trouble trouble 0 so_far.items) (first_trouble trouble n more))
-                (zero_more (items_size so_far.items))
-                ∙ first_join trouble 0 so_far.items more;
-            within = (within_next, after_next count None counted after);
+                step.noted ∙ ap (λ (o : Option (ℕ × Trouble)). option_or o (first_trouble trouble offset step.more))
+                so_far.noted
+                ∙ ap (λ (n : ℕ). option_or (first_trouble trouble 0 so_far.items) (first_trouble trouble n step.more))
+                (so_far.place ∙ zero_more (items_size so_far.items))
+                ∙ first_join trouble 0 so_far.items step.more;
+            within = (within_next, after_next None short);
           }
 
           -- after them comes a message that is longer than the limit
-          pub ended_long : (grown : Option (List ℕ)) (count : ℕ) (longer : Longer) → count ≡ length chunk → Appends out
-              grown (lines line (items_size so_far.items) (pending ++ chunk) more) → too_long_at version limit
-              (offset_after 0 ((total + count) - length rest)) rest ≡ Some longer → HasEnded line last is_long trouble
-              version limit first start now grown (Err (MessageTooLong longer))
-          ended_long grown count longer counted wrote after = (
+          pub ended_long : (longer : Longer) → too_long_at version limit (offset_after 0 after) rest ≡ Some longer →
+              HasEnded line last is_long trouble version limit first start now grown (Err (MessageTooLong longer))
+          ended_long longer is = (
             so_far.read ++ chunk,
-            lines line 0 (so_far.read ++ chunk) (so_far.items ++ more),
+            lines line 0 (so_far.read ++ chunk) (so_far.items ++ step.more),
             with_chunk,
-            subst (Appends start grown) joined (Appends-trans start out grown with_more
-                (lines line (items_size so_far.items) (pending ++ chunk) more) wrote_more wrote),
-            printed_long (so_far.read ++ chunk) rest (so_far.items ++ more) now longer then_items within_next
-                (after_next count (Some longer) counted after),
+            all_written,
+            printed_long (so_far.read ++ chunk) rest (so_far.items ++ step.more) now longer then_items within_next
+                (after_next (Some longer) is),
           )
-
-        -- the lines of a chunk are not written whole
-        pub ended_output : (grown : Option (List ℕ)) (written : List ℕ) → Appends out grown written → Begins written
-            (lines line (items_size so_far.items) (pending ++ chunk) more) → HasEnded line last is_long trouble
-            version limit
-            first start now grown (Err Output)
-        ended_output grown written wrote is = (
-          so_far.read ++ chunk,
-          with_more ++ written,
-          with_chunk,
-          Appends-trans start out grown with_more written wrote_more wrote,
-          printed_output (so_far.read ++ chunk) rest (with_more ++ written) (so_far.items ++ more) now then_items
-              (subst (Begins (with_more ++ written)) joined (begins_after with_more written
-              (lines line (items_size so_far.items) (pending ++ chunk) more) is)),
-        )
-
-      -- the input has ended, and the last line is written, or cut short
-      module _ (grown : Option (List ℕ)) (written : List ℕ) (none : length chunk ≡ 0) (end : IsAtEnd now)
-          (wrote : Appends out grown written) where
-        then_last : (result : Result Report PrintError) → IsWrittenFor version limit line last is_long trouble
-            result so_far.read
-            so_far.items pending (written_so_far ++ written) now → HasEnded line last is_long trouble version limit
-            first
-            start now grown result
-        then_last result written_for = (
-          so_far.read,
-          written_so_far ++ written,
-          consumes_none first left now so_far.read chunk so_far.came taken none,
-          Appends-trans start out grown written_so_far written so_far.wrote wrote,
-          record { items = so_far.items; rest = pending; split = so_far.split; written_for = written_for },
-        )
-
-        pub ended_whole : (report : Report) → IsReport trouble so_far.items pending report → written ≡ last
-            (items_size so_far.items) pending → HasEnded line last is_long trouble version limit first start now grown
-            (Ok report)
-        ended_whole report reported is = then_last (Ok report)
-            (end, ap (λ (l : List ℕ). written_so_far ++ l) is, reported, so_far.within)
-
-        pub ended_cut : Begins written (last (items_size so_far.items) pending) → HasEnded line last is_long trouble
-            version limit first start now grown (Err Output)
-        ended_cut is = then_last (Err Output) (inr (
-          end,
-          begins_after written_so_far written
-              (last (items_size so_far.items) pending) is,
-        ))
-
-    -- a read failed
-    pub ended_read : (now : Option (List ℕ)) (error : ChunkError) → IsChunk (Err error) left now → HasEnded line last
-        is_long trouble version limit first start now out (Err (reading_error error))
-    ended_read now (chunk.Failed reason) (kept, other) = (
-      so_far.read,
-      written_so_far,
-      Consumes-kept first left now so_far.read so_far.came kept,
-      so_far.wrote,
-      record { items = so_far.items; rest = pending; split = so_far.split; written_for = (refl, so_far.within) },
-    )
-    ended_read now chunk.OutOfMemory (lost, taken) = ended_lack now lost taken OutOfMemory tt
-
--- the offset of the pending bytes stays if a chunk is appended to them
-pub still_there : (size total : ℕ) (pending chunk : List ℕ) → total ≡ size + length pending → (total + length chunk) -
-    length (pending ++ chunk) ≡ size
-still_there size total pending chunk e = omega (arith, length-append pending chunk)
-
--- the offset of the pending bytes, by their number
-pub begins_at : (size total count : ℕ) → total ≡ size + count → total - count ≡ size
-begins_at size total count e = omega arith

@@ -11,8 +11,6 @@ use Rattle.shared_core_stream.specs.declared.encoding.limit_error.MessageTooLong
 use Rattle.shared_core_stream.specs.Errors.{message_too_long_text}
 use Rattle.shared_core_stream.specs.Items.{front_word, IsItemsThen, SplitsInto}
 use Rattle.shared_core_stream.specs.Limits.{offset_after, payload_length, too_long_at}
-use Rattle.shared_core_io.specs.declared.chunk.ChunkError.{ChunkError}
-use Rattle.shared_core_io.specs.declared.chunk.ChunkError.TheVariants as chunk
 use Rattle.stream_lines.specs.declared.report.Report.{Report}
 use Rattle.stream_lines.specs.declared.report.Trouble.{Trouble}
 use Rattle.stream_lines.specs.declared.error.PrintError.{PrintError}
@@ -57,10 +55,6 @@ pub record IsReport (trouble : Item → Option Trouble) (items : List Item) (res
     pub first : report.trouble ≡ first_trouble trouble 0 items
     pub end : report.end ≡ items_size items
     pub count : report.rest ≡ length rest
-
--- The most bytes that can be pending without a whole item: a header, and all but one byte of its payload.
-abbrev pub most_pending : ℕ
-most_pending = 4294967302
 
 -- The list is a prefix of the whole.
 abbrev pub Begins : {A : Type 0} → List A → List A → Type 0
@@ -123,11 +117,6 @@ pub record ArePrinted (line : ℕ → ℕ → Item → List ℕ) (last : ℕ →
   pub rest : List ℕ
   pub split : SplitsInto version read items rest
   pub written_for : IsWrittenFor version limit line last is_long trouble result read items rest written left
-
--- The error by which printing ends where no chunk was read.
-abbrev pub reading_error : ChunkError → PrintError
-reading_error (chunk.Failed reason) = Input
-reading_error chunk.OutOfMemory = OutOfMemory
 
 -- The text of an error.
 abbrev pub error_text : PrintError → List ℕ

@@ -1,7 +1,6 @@
 //! The error of `print_lines`.
 
 use crate::output::OutputFailed;
-use shared_core_io::ChunkError;
 use shared_core_stream::encoding::MessageTooLong;
 use std::alloc::AllocError;
 use std::error::Error;
@@ -60,19 +59,5 @@ impl From<OutputFailed> for PrintError {
 
     fn from(_error: OutputFailed) -> PrintError {
         PrintError::Output
-    }
-}
-
-impl From<ChunkError> for PrintError {
-    ghost use Rattle.std.specs.Prelude.{◌≡◌};
-    ghost use Rattle.stream_lines.specs.Printing.{reading_error};
-
-    ghost from_gives = { λ error print. print ≡ reading_error error };
-
-    fn from(error: ChunkError) -> PrintError {
-        match error {
-            ChunkError::Failed(_) => PrintError::Input,
-            ChunkError::OutOfMemory => PrintError::OutOfMemory,
-        }
     }
 }

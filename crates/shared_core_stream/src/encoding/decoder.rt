@@ -180,6 +180,7 @@ impl Decoder {
     /// A payload within one chunk shares its memory; one that straddles chunks is joined, once. A failed allocation
     /// takes nothing, and comes only if a whole payload would be taken: a later call returns as if this one had not
     /// been made.
+    #[inline(always)]
     pub fn next_item(&mut self) -> Result<Option<Item>, AllocError>
         ensures taken { IfOk result (λ found. MatchOption found
             (NoItemBegins self.old.version self.old.bytes × (self.new.bytes ≡ self.old.bytes)

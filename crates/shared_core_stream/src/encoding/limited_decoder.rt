@@ -39,7 +39,8 @@ impl LimitedDecoder {
     ghost use Rattle.std.specs.Prelude.{◌≡◌, ◌+◌, ◌≤◌, ◌++◌, [], length, OnOk, OnErr, IfErr, IfOk, IfSome, IsOk};
     ghost use Rattle.std.specs.Prelude.{None, false};
     ghost use Rattle.shared_core_base.specs.Version.{version_number};
-    ghost use Rattle.shared_core_stream.specs.Limits.{LimitedPushFails, ReturnsWithin, ReturnsWord};
+    ghost use Rattle.shared_core_stream.specs.Items.{front_word};
+    ghost use Rattle.shared_core_stream.specs.Limits.{without_word, LimitedPushFails, ReturnsWithin, ReturnsWord};
 
     /// Returns a decoder of this version, which is at least V5, and this limit, before any byte has come. Does not
     /// allocate.
@@ -87,6 +88,7 @@ impl LimitedDecoder {
 
     /// The word of the next header, or `None` if its eight bytes have not all come; an error if its message is longer
     /// than the limit, or one was rejected before. Takes nothing, but after an error nothing is held.
+    #[inline(always)]
     pub fn next_word(&mut self) -> Result<Option<u64>, MessageTooLong>
         ensures { ReturnsWord self.old result self.new }
     {
@@ -133,7 +135,21 @@ impl LimitedDecoder {
         ensures shorter { IfOk result (λ found. IfSome found
             (λ item. length self.new.unread.bytes + 8 ≤ length self.old.unread.bytes)) }
     {
-        let Some(_) = self.next_word()? else {
+        let Some((_, item)) = self.next_with_word()? else {
+            return Ok(None);
+        };
+        Ok(Some(item))
+    }
+
+    /// The next item as of `next_item`, with the word of its header, of which an item holds only a part.
+    #[inline(always)]
+    pub fn next_with_word(&mut self) -> Result<Option<(u64, Item)>, LimitedError>
+        ensures item { ReturnsWithin self.old (without_word result) self.new }
+        ensures word { IfOk result (λ found. IfSome found (λ next. next.0 ≡ front_word self.old.unread.bytes)) }
+        ensures shorter { IfOk result (λ found. IfSome found
+            (λ next. length self.new.unread.bytes + 8 ≤ length self.old.unread.bytes)) }
+    {
+        let Some(word) = self.next_word()? else {
             return Ok(None);
         };
         let before = self.decoder.pending();
@@ -142,7 +158,7 @@ impl LimitedDecoder {
         };
         let taken = before - self.decoder.pending();
         self.offset = self.offset.saturating_add(taken);
-        Ok(Some(item))
+        Ok(Some((word, item)))
     }
 
     /// The items that the decoder holds, in order, for a loop: each is taken as it is returned, as by `next_item`.

@@ -1,15 +1,14 @@
-use Rattle.std.proofs.Common.{◌≡◌, ◌*◌, ◌≤◌, length}
-use Rattle.stream_lines.specs.Printing.{most_pending}
+use Rattle.std.proofs.Common.{◌≡◌, ◌*◌, ◌≤◌}
+use Rattle.shared_core_io.specs.Buffered.{held_in}
+use Rattle.stream_lines.specs.Steps.{holding, most_added}
 use Rattle.stream_lines.proofs.Progress.{GoesOn}
 use Rattle.stream_lines.proofs.print.print_lines.Given as goal
 
 abbrev pub invariant-loop : goal.invariant-loop
 invariant-loop g l = record {
-  version : l.decoder.version ≡ l.fn.version;
-  short : length l.decoder.bytes ≤ most_pending;
-  counted : l.total ≤ 65536 * l.counter;
+  counted : l.lines.offset ≤ most_added * l.counter;
+  state : held_in l.items ≡ holding l.fn.version l.fn.limit l.lines.offset (held_in l.items).unread.bytes;
   so_far : GoesOn (g.P.LinePrinter.item_line l.fn.printer) (g.P.LinePrinter.item_trouble l.fn.printer) l.fn.version
-      l.fn.limit
-      (g.R.Read.remaining l.fn.input) (g.W.Write.contents l.fn.output) (g.R.Read.remaining l.input)
-      (g.W.Write.contents l.output) l.total l.decoder.bytes l.trouble;
+      l.fn.limit (g.R.Read.remaining l.fn.input) (g.W.Write.contents l.fn.output) (g.R.Read.remaining l.input)
+      (g.W.Write.contents l.output) l.lines.offset (held_in l.items).unread.bytes l.lines.trouble;
 }

@@ -1,0 +1,61 @@
+-- What each step of the loop that prints adds.
+use Rattle.std.specs.Prelude.{◌≡◌, ℕ, ◌+◌, ◌≤◌, All, List, ◌++◌, Option, Some, None}
+use Rattle.std.specs.Io.KnownBytes.{IsAtEnd}
+use Rattle.std.specs.Option.{option_or}
+use Rattle.shared_core_base.specs.declared.version.Version.{Version}
+use Rattle.shared_core_stream.specs.declared.encoding.item.Item.{Item}
+use Rattle.shared_core_stream.specs.Items.{IsItemsThen, NoItemBegins}
+use Rattle.shared_core_stream.specs.Limits.{offset_after, payload_length, too_long_at, Limited}
+use Rattle.stream_lines.specs.Printing.{first_trouble, items_size, lines}
+use Rattle.stream_lines.specs.declared.print.Stop.{Stop}
+use Rattle.stream_lines.specs.declared.print.Stop.TheVariants.{End, Failed, TooLong}
+use Rattle.stream_lines.specs.declared.report.Trouble.{Trouble}
+
+-- No step adds items of more bytes: those of one item, and of what is held at the most.
+abbrev pub most_added : ℕ
+most_added = 17179869184
+
+-- Items at the front of the bytes, the first of which begins at an offset, each within the limit, were added to the
+-- text, to the offset and to the first trouble; these bytes are left.
+pub record Added (line : ℕ → ℕ → Item → List ℕ) (trouble : Item → Option Trouble) (version : Version) (limit : ℕ)
+    (at : ℕ) (before : Option (ℕ × Trouble)) (text : List ℕ) (bytes : List ℕ) (offset : ℕ)
+    (found : Option (ℕ × Trouble)) (longer rest : List ℕ) : Type 0 where
+  pub more : List Item
+  pub next : IsItemsThen version bytes more rest
+  pub within : All (λ item. payload_length item ≤ limit) more
+  pub printed : longer ≡ text ++ lines line at bytes more
+  pub place : offset ≡ at + items_size more
+  pub noted : found ≡ option_or before (first_trouble trouble at more)
+
+-- What is held of a stream after the items up to an offset, if it is these bytes.
+abbrev pub holding : Version → ℕ → ℕ → List ℕ → Limited
+holding version limit offset bytes = record {
+  unread = record { version = version; bytes = bytes };
+  limit = limit;
+  offset = offset_after 0 offset;
+  rejected = None;
+}
+
+-- No whole item is at the front of these bytes, nor a message that is longer than the limit, and they are held.
+abbrev pub AreLeft : Version → ℕ → ℕ → List ℕ → Limited → Type 0
+AreLeft version limit offset rest state =
+    NoItemBegins version rest × (too_long_at version limit (offset_after 0 offset) rest ≡ None)
+    × (state ≡ holding version limit offset rest)
+
+-- What is after the items that were held, by what was returned: a message that is longer than the limit, or bytes that
+-- are left.
+abbrev pub IsAfterHeld : Version → ℕ → Option Stop → ℕ → List ℕ → Limited → Type 0
+IsAfterHeld version limit None offset rest state = AreLeft version limit offset rest state
+IsAfterHeld version limit (Some (TooLong message)) offset rest state =
+    too_long_at version limit (offset_after 0 offset) rest ≡ Some message
+IsAfterHeld version limit (Some stop) offset rest state = ⊥
+
+-- What is after the items that were read, by what was returned; and at the end of the stream the decoder holds all
+-- that is left.
+abbrev pub IsAfter : Version → ℕ → Option Stop → ℕ → List ℕ → Option (List ℕ) → List ℕ → Limited → Type 0
+IsAfter version limit None offset rest left decoded state = AreLeft version limit offset rest state
+IsAfter version limit (Some (TooLong message)) offset rest left decoded state =
+    too_long_at version limit (offset_after 0 offset) rest ≡ Some message
+IsAfter version limit (Some Failed) offset rest left decoded state = AreLeft version limit offset rest state
+IsAfter version limit (Some End) offset rest left decoded state =
+    AreLeft version limit offset rest state × IsAtEnd left × (decoded ≡ rest)
