@@ -2,7 +2,7 @@
 use Rattle.std.proofs.Common.{◌≡◌, ℕ, zero, suc, ◌+◌, ◌-◌, ◌*◌, ◌%◌, ◌^◌, ◌<◌, ◌≤◌, Bool, true, false, cond, ◌&&◌, ◌||◌}
 use Rattle.std.proofs.Common.{List, [], ◌∷◌, ◌++◌, map, take, drop, set, length, Option, Some, None, Result, Ok}
 use Rattle.std.proofs.Common.{refl, sym, ap, ◌∙◌, subst, arith, append-nil, min, ltb, eqb, inl, inr, get_or}
-use Rattle.std.proofs.lemmas.Bool.{cases_lt, ltb-true, ltb-false, lt-ltb, le-ltb}
+use Rattle.std.proofs.lemmas.Bool.{cases_lt, ltb-true, lt-ltb, le-ltb}
 use Rattle.std.proofs.lemmas.List.{length-append, length-map, length-set, take_all, drop_all, take-append-le}
 use Rattle.std.specs.Prelude.{flat_map, option_map, IfSome, not}
 use Rattle.shared_core_wire.specs.Grammar.{RecordValue, Varint, Length, FieldRecord, content}
@@ -31,7 +31,7 @@ use Rattle.shared_core_fields.specs.Rows.{TableRow, entry_row, run_rows, bytes_r
 use Rattle.shared_core_fields.specs.Rows.{bytes_entry, fields_rows, table_rows, kind_number, IsPlaced}
 use Rattle.shared_core_fields.specs.Rows.{written_at, WritesRows}
 use Rattle.shared_core_fields.specs.Views.{IsAt, unplaced, item_fields, placed_record, content_offset}
-use Rattle.shared_core_fields.specs.Checked.{WritesNext, WritesTo, record_rows, room_after, room_if}
+use Rattle.shared_core_fields.specs.Checked.{WritesNext, WritesTo, record_rows}
 use Rattle.shared_core_fields.specs.declared.table.FieldEntry.{FieldEntry}
 use Rattle.shared_core_fields.proofs.FewRows.{whole_rows}
 use Rattle.shared_core_fields.proofs.Reading.{content_at}
@@ -247,16 +247,6 @@ content_size n bytes w e =
       length-append (shortest_varint (length bytes)) bytes,
     )
 
-by_room : (c : Bool) (m still : ℕ) → Some still ≡ cond c None (Some m) → (c ≡ false) × (still ≡ m)
-by_room true m still e = absurd cc
-by_room false m still e = (refl, cc)
-
-pub room_left : (r : FieldRecord) (room still : ℕ) → Some still ≡ room_after r room → (written_size r ≤ room) ×
-    (still ≡ room - written_size r)
-room_left r room still e =
-    let b = by_room (ltb room (written_size r)) (room - written_size r) still e in
-    (ltb-false _ _ b.0, b.1)
-
 and_true : (b : Bool) → b && true ≡ b
 and_true true = refl
 and_true false = refl
@@ -301,7 +291,13 @@ run_to payload left n k repeated run at after old new e r count w =
 
 -- ---- the records of a message
 
-abbrev with_room : ℕ → List Row → Coming
+abbrev room_after : FieldRecord → ℕ → Option ℕ
+room_after r room = cond (ltb room (written_size r)) None (Some (room - written_size r))
+
+abbrev room_if : Bool → FieldRecord → ℕ → Option ℕ
+room_if comes r room = cond comes (room_after r room) None
+
+abbrev pub with_room : ℕ → List Row → Coming
 with_room m rows = (rows, m)
 
 some_field : (b c : Bool) (rows : List Row) (m : ℕ) → (cond b (Some rows) None >>= λ rs. cond c None
@@ -320,36 +316,19 @@ comes_after nested rows room r next e =
     ∙ some_field (is_written_field nested next.is_plain next.field r.value) (ltb room (written_size r)) next.rows
     (room - written_size r)
 
-pub not_found : (nested : NestedAcceptance) (rows : List Row) (room : ℕ) (r : FieldRecord) → None ≡ next_field rows
-    r.number → None ≡ coming_after nested (rows, room) r
-not_found nested rows room r e =
-    ap (λ (o : Option Next). (o >>= rows_after_field nested r.value) >>= λ rs. cond (ltb room (written_size r)) None
-    (Some (with_room (room - written_size r) rs))) e
-
 unless_room : (b : Bool) (o : Option ℕ) → None ≡ o → None ≡ cond b o None
 unless_room true o e = e
 unless_room false o e = refl
 
-pub no_room : (nested : NestedAcceptance) (rows : List Row) (room : ℕ) (r : FieldRecord) (next : Next)
-    → Some next ≡ next_field rows r.number → None ≡ room_after r room → None ≡ coming_after nested (rows, room) r
-no_room nested rows room r next e h =
-    ap (option_map (λ m. with_room m next.rows))
-    (unless_room (is_written_field nested next.is_plain next.field r.value) (room_after r room) h)
-    ∙ sym (comes_after nested rows room r next (sym e))
-
-pub not_written : (nested : NestedAcceptance) (rows : List Row) (room : ℕ) (r : FieldRecord) (next : Next)
-    → Some next ≡ next_field rows r.number → false ≡ is_written_field nested next.is_plain next.field r.value → None ≡
-    coming_after nested (rows, room) r
-not_written nested rows room r next e h =
-    ap (λ (b : Bool). option_map (λ m. with_room m next.rows) (room_if b r room)) h
-    ∙ sym (comes_after nested rows room r next (sym e))
-
-pub comes_then : (nested : NestedAcceptance) (rows : List Row) (room still : ℕ) (r : FieldRecord) (next : Next)
-    → Some next ≡ next_field rows r.number → Some still ≡ room_after r room
-    → true ≡ is_written_field nested next.is_plain next.field r.value → Some (next.rows, still) ≡ coming_after nested
-    (rows, room) r
-comes_then nested rows room still r next e room_is h =
-    ap (option_map (λ m. with_room m next.rows)) room_is
+pub comes_then : (nested : NestedAcceptance) (rows : List Row) (room size : ℕ) (r : FieldRecord) (next : Next)
+    → Some next ≡ next_field rows r.number → size ≡ written_size r → size ≤ room
+    → true ≡ is_written_field nested next.is_plain next.field r.value → Some (next.rows, room - size) ≡ coming_after
+    nested (rows, room) r
+comes_then nested rows room size r next e is most h =
+    let some : ltb room (written_size r) ≡ false = le-ltb _ _ (omega (arith, is, most)) in
+    let left : Some (room - size) ≡ room_after r room = ap (λ (m : ℕ). Some (room - m)) is
+    ∙ sym (ap (λ (b : Bool). cond b None (Some (room - written_size r))) some) in
+    ap (option_map (λ m. with_room m next.rows)) left
     ∙ ap (λ (b : Bool). option_map (λ m. with_room m next.rows) (room_if b r room)) h
     ∙ sym (comes_after nested rows room r next (sym e))
 

@@ -7,3 +7,5 @@ pub mod Appending
 pub mod Written
 pub mod FewRows
 pub mod Checked
+pub mod Ascii
+pub mod SingleBytes

@@ -52,10 +52,6 @@ run_typed : (repeated : Bool) (run : List ℕ) → is_typed (U32, repeated) (Len
 run_typed true run e = e
 run_typed false run e = absurd cc
 
-pub typed_run : (k : Kind) (repeated : Bool) (w : RecordValue) (run : List ℕ) → k ≡ U32 → w ≡ Length run → is_typed
-    (k, repeated) w ≡ true → is_written_run run ≡ true
-typed_run k repeated w run e f h = run_typed repeated run (typed_as k U32 repeated w run e f h)
-
 -- ---- one record
 
 -- The field that may come next, of which the record is one.

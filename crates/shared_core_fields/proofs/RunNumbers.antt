@@ -15,9 +15,6 @@ use Rattle.shared_core_fields.specs.Runs.{numbers_or_none, run_numbers}
 abbrev are_low : List ℕ → Bool
 are_low run = is_some (sequence_past low_varint_at 0 run)
 
-pub of_written : (run : List ℕ) → is_written_run run ≡ true → is_some (sequence_past low_varint_at 0 run) ≡ true
-of_written run h = (and_split _ _ h).1
-
 some_list : (o : Option (List ℕ)) → is_some o ≡ true → (ns : List ℕ) × (o ≡ Some ns)
 some_list None h = absurd cc
 some_list (Some ns) h = (ns, refl)

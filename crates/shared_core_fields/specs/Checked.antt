@@ -1,7 +1,9 @@
 -- What checking a payload and writing its entries in one pass says of a record.
-use Rattle.std.specs.Prelude.{◌≡◌, ℕ, ◌+◌, ◌-◌, Bool, List, length, nat_lt, if◌then◌else◌, Option, Some, None}
-use Rattle.shared_core_wire.specs.Grammar.{RecordValue, FieldRecord}
-use Rattle.shared_core_wire.specs.Schema.{Kind, Row}
+use Rattle.std.specs.Prelude.{◌≡◌, ℕ, ◌+◌, ◌-◌, ◌<◌, Bool, List, [], ◌∷◌, length, drop, Some}
+use Rattle.shared_core_wire.specs.Grammar.{RecordValue, Length, FieldRecord}
+use Rattle.shared_core_wire.specs.Reader.{record_at}
+use Rattle.shared_core_wire.specs.Schema.{Kind, Row, ByteString, Plain}
+use Rattle.shared_core_codec.specs.Table.{table}
 use Rattle.shared_core_codec.specs.Canonicity.{Next, next_field, written_size}
 use Rattle.shared_core_fields.specs.Fields.{record_part}
 use Rattle.shared_core_fields.specs.Entries.{field_entries}
@@ -26,10 +28,13 @@ pub record WritesNext (payload : List ℕ) (left : ℕ) (rows : List Row) (r : F
   pub rest_is : rest ≡ next.rows
   pub written : WritesTo payload (record_rows left r.number next.field r.value) at old new after
 
--- The number of bytes that the records still have to have after a record, if it has no more than they have to have.
-abbrev pub room_after : FieldRecord → ℕ → Option ℕ
-room_after r room = if nat_lt room (written_size r) then None else Some (room - written_size r)
-
--- The same, if the record may come.
-abbrev pub room_if : Bool → FieldRecord → ℕ → Option ℕ
-room_if comes r room = if comes then room_after r room else None
+-- The only row of the schema s is a plain field of bytes with this number, and the bytes are one record of it, as it is
+-- written, after whose key and length of one byte each comes what it holds.
+pub record IsSingle (n s : ℕ) (bytes : List ℕ) : Type 0 where
+  pub content : List ℕ
+  pub rows : table s ≡ Plain n ByteString ∷ []
+  pub read : record_at 0 bytes ≡ Some (record { number = n; value = Length content }, [])
+  pub size : written_size (record { number = n; value = Length content }) ≡ length bytes
+  pub there : drop 2 bytes ≡ content
+  pub long : 2 + length content ≡ length bytes
+  pub some : 0 < length content

@@ -8,8 +8,8 @@ ghost use Rattle.shared_core_fields.specs.Coming.{are_coming};
 
 use crate::next::find_next;
 use crate::runs::Run;
+use crate::table::check::check_payload;
 use crate::typed::{content_offset, typed_value};
-use shared_core_codec::canonical::is_canonical;
 use shared_core_codec::rows::{Row, rows_of};
 use shared_core_wire::records::Records;
 
@@ -76,14 +76,12 @@ impl<'a> CanonicalPayload<'a> {
         ensures canonical { (is_some result ≡ true) ↔ IsCanonical schema payload.now }
         ensures same { IfSome result (λ c. (c.schema ≡ schema) × (c.bytes.now ≡ payload.now)) }
     {
-        if is_canonical(schema, payload) {
-            Some(CanonicalPayload {
-                schema,
-                bytes: payload,
-            })
-        } else {
-            None
-        }
+        // no entry is written
+        let _count = check_payload(&mut [], schema, payload)?;
+        Some(CanonicalPayload {
+            schema,
+            bytes: payload,
+        })
     }
 
     /// Returns an iterator over its fields: those of what it means, row by row in the order of the schema, without the

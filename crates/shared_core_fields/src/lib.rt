@@ -7,4 +7,5 @@ pub mod laws;
 mod next;
 pub mod runs;
 pub mod table;
+pub mod text;
 mod typed;

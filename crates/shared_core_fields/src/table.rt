@@ -1,6 +1,11 @@
 //! The fields of all levels of a canonical payload, in one table.
 
+ghost use Rattle.std.specs.Prelude.{◌≡◌};
+ghost use Rattle.shared_core_codec.specs.ProgramRows.{kind_view};
+ghost use Rattle.shared_core_fields.specs.Rows.{kind_number};
+
 use crate::fields::Field;
+use shared_core_codec::rows::Kind;
 
 /// A field, and how deep the message is that it is of.
 #[derive(Clone, Copy)]
@@ -46,6 +51,21 @@ impl FieldEntry {
     pub const BYTE_STRING: u64 = 6;
     /// The kind of a message.
     pub const MESSAGE: u64 = 7;
+}
+
+/// The number of a kind in entries.
+pub fn kind_number(kind: Kind) -> u64
+    ensures { result ≡ kind_number (kind_view kind) }
+{
+    match kind {
+        Kind::U32 => FieldEntry::U32,
+        Kind::U64 => FieldEntry::U64,
+        Kind::Boolean => FieldEntry::BOOLEAN,
+        Kind::Enumeration => FieldEntry::ENUMERATION,
+        Kind::Text => FieldEntry::TEXT,
+        Kind::ByteString => FieldEntry::BYTE_STRING,
+        Kind::Message(_) => FieldEntry::MESSAGE,
+    }
 }
 
 pub mod append;

@@ -2,7 +2,6 @@
 
 ghost use Rattle.std.specs.Prelude.{◌≡◌, ◌↔◌, ◌+◌, ◌-◌, ◌<◌, ◌≤◌, ◌^◌, ℕ, List, length, map, true, is_some, option_map};
 ghost use Rattle.std.specs.Prelude.{IfSome, IfNone};
-ghost use Rattle.std.specs.Str.{is_utf8};
 ghost use Rattle.shared_core_wire.specs.Grammar.{Varint, Length, content};
 ghost use Rattle.shared_core_wire.specs.View.{value_of};
 ghost use Rattle.shared_core_codec.specs.Canonicity.{IsCanonical, is_canonical_payload, is_canonical_message};
@@ -11,16 +10,16 @@ ghost use Rattle.shared_core_codec.specs.Checking.{field_record_of};
 ghost use Rattle.shared_core_codec.specs.Payloads.{payload_meaning};
 ghost use Rattle.shared_core_codec.specs.ProgramRows.{found_view, kind_view, row_view, rows_view};
 ghost use Rattle.shared_core_codec.specs.Table.{table};
-ghost use Rattle.shared_core_fields.specs.Checked.{WritesNext, WritesTo, record_rows, room_after};
+ghost use Rattle.shared_core_fields.specs.Checked.{IsSingle, WritesNext, WritesTo, record_rows};
 ghost use Rattle.shared_core_fields.specs.Fields.{message_fields};
-ghost use Rattle.shared_core_fields.specs.Rows.{fields_rows, kind_number, table_rows};
+ghost use Rattle.shared_core_fields.specs.Rows.{fields_rows, table_rows};
 ghost use Rattle.shared_core_fields.specs.Views.{IsAt, content_offset};
 
-use super::FieldEntry;
 use super::write::{bytes_entry, number_entry, put, write_payload, write_run};
+use super::{FieldEntry, kind_number};
 use crate::next::find_next;
 use crate::runs::Run;
-use crate::typed::content_offset;
+use crate::text::is_text;
 use shared_core_codec::canonical::{NextField, is_written_number, is_written_run, written_size};
 use shared_core_codec::rows::{Kind, Row, rows_of};
 use shared_core_codec::size::Size;
@@ -90,7 +89,7 @@ fn write_kept(
 }
 
 /// Checks a payload and writes its entries as it goes: where it is not canonical, some of them may have been written.
-fn check_payload(out: &mut [FieldEntry], schema: u32, payload: &[u8]) -> Option<usize>
+pub(crate) fn check_payload(out: &mut [FieldEntry], schema: u32, payload: &[u8]) -> Option<usize>
     ensures canonical { (is_some result ≡ true) ↔ IsCanonical schema payload.now }
     ensures rows { IfSome result (λ n. WritesTo payload.now (table_rows schema (payload_meaning schema payload.now)) 0
         out.old out.new n) }
@@ -161,6 +160,7 @@ fn check_record<'a>(
     left: u32,
 ) -> Option<(usize, &'a [Row], u64)>
     requires short { length (content (value_of found.now.value)) < 4294967296 }
+    requires within { length (content (value_of found.now.value)) ≤ found.now.span.1 }
     requires place { IsAt whole.now (offset + content_offset (value_of found.now.value) found.now.span.1)
         (content (value_of found.now.value)) }
     requires levels { left ≤ 100 }
@@ -175,28 +175,25 @@ fn check_record<'a>(
     match found.value {
         WireValue::Varint(number) => {
             let next = find_next(rows, found.number)?;
-            let still = room_after(found, room)?;
+            let size = written_size(found);
+            if room < size {
+                return None;
+            }
             let count = check_number(out, at, found.number, next, number, left)?;
-            Some((count, next.rows, still))
+            Some((count, next.rows, room - size))
         }
         WireValue::Length(content) => {
             let next = find_next(rows, found.number)?;
-            let still = room_after(found, room)?;
-            let start = offset + content_offset(found.value, found.span.1);
+            let size = written_size(found);
+            if room < size {
+                return None;
+            }
+            let start = offset + (found.span.1 - content.len());
             let count = check_content(out, at, found.number, next, content, whole, start, left)?;
-            Some((count, next.rows, still))
+            Some((count, next.rows, room - size))
         }
         _ => None,
     }
-}
-
-/// How many of `room` bytes are left for the records after one; `None` if it has more when it is written.
-#[inline(always)]
-fn room_after(found: &Record<'_>, room: u64) -> Option<u64>
-    ensures { result ≡ room_after (field_record_of found.now) room }
-{
-    let size = written_size(found);
-    if room < size { None } else { Some(room - size) }
 }
 
 /// Checks the number of a record for its field, and writes its entry.
@@ -307,6 +304,21 @@ fn check_content(
                     level,
                 ),
             );
+            if let Some(inner) = single_bytes(schema, content) {
+                put(
+                    out,
+                    at + 1,
+                    bytes_entry(
+                        FieldEntry::BYTE_STRING,
+                        0,
+                        content.len() - 2,
+                        inner,
+                        offset + 2,
+                        level + 1,
+                    ),
+                );
+                return Some(at + 2);
+            }
             check_message(out, at + 1, schema, content, whole, offset, left - 1)
         }
         Kind::U32 => {
@@ -319,27 +331,29 @@ fn check_content(
     }
 }
 
-/// The number of a kind in entries.
-fn kind_number(kind: Kind) -> u64
-    ensures { result ≡ kind_number (kind_view kind) }
+/// The number of the only field of a schema, if that is a plain field of bytes, and these are one record of it whose
+/// key and length are one byte each: most messages within others are such.
+#[inline(always)]
+fn single_bytes(schema: u32, bytes: &[u8]) -> Option<u32>
+    ensures { IfSome result (λ n. IsSingle n schema bytes.now) }
 {
-    match kind {
-        Kind::U32 => FieldEntry::U32,
-        Kind::U64 => FieldEntry::U64,
-        Kind::Boolean => FieldEntry::BOOLEAN,
-        Kind::Enumeration => FieldEntry::ENUMERATION,
-        Kind::Text => FieldEntry::TEXT,
-        Kind::ByteString => FieldEntry::BYTE_STRING,
-        Kind::Message(_) => FieldEntry::MESSAGE,
+    let (row, others) = rows_of(schema).split_first()?;
+    if !others.is_empty() {
+        return None;
     }
-}
-
-/// Whether bytes are UTF-8.
-fn is_text(bytes: &[u8]) -> bool
-    ensures { result ≡ is_utf8 bytes.now }
-{
-    match std::str::from_utf8(bytes) {
-        Ok(_text) => true,
-        Err(_) => false,
+    let Row::Plain(field) = row else {
+        return None;
+    };
+    let Kind::ByteString = field.1 else {
+        return None;
+    };
+    let (key, rest) = bytes.split_first()?;
+    let (size, content) = rest.split_first()?;
+    if *key < 8 || *key >= 128 || u64::from(*key) != 8 * u64::from(field.0) + 2 {
+        return None;
     }
+    if *size >= 128 || content.is_empty() || usize::from(*size) != content.len() {
+        return None;
+    }
+    Some(field.0)
 }

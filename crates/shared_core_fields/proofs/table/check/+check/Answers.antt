@@ -1,5 +1,5 @@
-use Rattle.std.proofs.Common.{◌≡◌, ◌<◌, ◌≤◌, ◌+◌, ◌-◌, ◌*◌, ℕ, List, [], ◌∷◌, map, Result, length, true, false, eqb}
-use Rattle.std.proofs.Common.{is_some, refl, sym, ap, ◌∙◌, subst}
+use Rattle.std.proofs.Common.{◌≡◌, ◌<◌, ◌≤◌, ◌+◌, ◌-◌, ◌*◌, ◌^◌, ℕ, List, [], ◌∷◌, map, Result, length, true, false}
+use Rattle.std.proofs.Common.{eqb, is_some, refl, sym, ap, ◌∙◌, subst}
 use Rattle.std.proofs.Common.{arith, rules}
 use Rattle.shared_core_wire.specs.Grammar.{RecordValue, content}
 use Rattle.shared_core_wire.specs.View.{value_of}
@@ -7,22 +7,23 @@ use Rattle.shared_core_wire.specs.Places.{EachLies}
 use Rattle.shared_core_wire.specs.ReadRecords.{PlacedRecord}
 use Rattle.shared_core_wire.specs.RecordsLeft.{records_left, placed_of, placed_result}
 use Rattle.shared_core_wire.specs.declared.error.WireError.{WireError}
+use Rattle.shared_core_codec.specs.Payloads.{payload_meaning}
 use Rattle.shared_core_codec.specs.Table.{table}
 use Rattle.shared_core_codec.specs.Canonicity.{is_canonical_message, is_canonical_payload, all_come_read, next_view}
-use Rattle.shared_core_codec.specs.Checking.{field_record_of}
 use Rattle.shared_core_codec.specs.ProgramRows.{kind_view, row_view}
 use Rattle.shared_core_codec.proofs.Canonicity.{all_come_is, canonical_zero, canonical_below}
 use Rattle.shared_core_wire.specs.Schema.{Row, Text, ByteString, Message}
 use Rattle.shared_core_fields.specs.Checked.{WritesTo, record_rows}
 use Rattle.shared_core_fields.specs.Rows.{TableRow, bytes_entry, fields_rows}
-use Rattle.shared_core_fields.specs.Fields.{FieldPart}
+use Rattle.shared_core_fields.specs.Fields.{FieldPart, message_fields}
 use Rattle.shared_core_fields.specs.Views.{IsAt, content_offset, item_fields, unplaced}
 use Rattle.shared_core_fields.proofs.Reading.{reads}
 use Rattle.shared_core_fields.proofs.Written.{nothing}
 use Rattle.shared_core_fields.proofs.Checked.{text_rows, byte_string_rows, bytes_placed, nested_rows, nested_canonical}
 use Rattle.shared_core_fields.proofs.Checked.{not_nested, is_nested, if_some_then, then_within, single, run_to}
-use Rattle.shared_core_fields.proofs.Checked.{few_numbers, number_size, content_size, room_left, content_place}
+use Rattle.shared_core_fields.proofs.Checked.{few_numbers, number_size, content_size, content_place}
 use Rattle.shared_core_fields.proofs.Checked.{record_step, comes_on, comes_not}
+use Rattle.shared_core_fields.proofs.SingleBytes.{single_canonical, single_rows}
 use Rattle.shared_core_fields.proofs.table.check.+check.Goals as goal
 use Rattle.shared_core_fields.proofs.table.check.+check.Goals.{check_content-else-next-via-then-next+then-not-next+else-is_empty}
 use Rattle.shared_core_fields.proofs.table.check.+check.Goals.{check_content-else-next-via-then-next+else-not-next}
@@ -67,8 +68,64 @@ check_content-check_message-requires t c =
     let low : c.args.left - 1 ≤ 100 = omega (arith, c.requires.levels) in
     (less, (c.requires.short, (c.requires.place, (low, c.requires.few))))
 
-pub check_content-returns-else-left-eq0-clause-canonical : goal.check_content-returns-else-left-eq0-clause-canonical
-check_content-returns-else-left-eq0-clause-canonical t c =
+pub check_content-returns-in-Some-clause-canonical : goal.check_content-returns-in-Some-clause-canonical
+check_content-returns-in-Some-clause-canonical t c =
+    let nested = is_canonical_message c.args.left in
+    let some : c.args.next.is_plain ≡ true → c.args.next.field.is_repeated ≡ false → eqb (length c.args.content.now) 0 ≡
+    false = λ p r. elim c.else-next.branch [
+      | check_content-else-next-via-then-next+then-not-next+else-is_empty w ↦
+          sym w.is_empty.ensures ∙ w.if-is_empty.false
+      | check_content-else-next-via-then-next+else-not-next w ↦ absurd (let s = w.if-not-next.false in cc)
+      | check_content-else-next-via-else-next w ↦ absurd (let s = w.if-next.false in cc)
+    ] in
+    sym (single_canonical (c.args.left - 1) c.in-Some.inner c.in-Message.schema c.args.content.now c.in-Some.ensures)
+    ∙ sym (canonical_below (c.args.left - 1) c.args.left c.in-Message.schema c.args.content.now
+    (omega (arith, c.if-left-eq0.false)))
+    ∙ sym (is_nested nested c.args.next.is_plain (kind_view c.args.next.field.kind) c.in-Message.schema
+    c.args.next.field.is_repeated c.args.content.now (ap kind_view c.in-Message.is) some)
+
+pub check_content-returns-in-Some-clause-rows : goal.check_content-returns-in-Some-clause-rows
+check_content-returns-in-Some-clause-rows t c =
+    let s = c.in-Message.schema in
+    let n = c.in-Some.inner in
+    let bytes = c.args.content.now in
+    let whole = c.args.whole.now in
+    let level = 100 - c.args.left in
+    let within = 100 - (c.args.left - 1) in
+    let place = c.args.offset + 2 in
+    let h = c.in-Some.ensures in
+    let canonical = nested_canonical (c.args.left - 1) s bytes (λ i. omega (arith, c.type_inv.content i))
+    c.requires.short (omega (arith, c.requires.levels)) (single_canonical (c.args.left - 1) n s bytes h) in
+    let deeper : level + 1 ≡ within = omega (arith, c.if-left-eq0.false, c.requires.levels) in
+    let size : length bytes - 2 ≡ length h.content = omega (arith, h.long) in
+    let next : c.args.at + 1 + 1 ≡ c.args.at + 2 = omega arith in
+    let deep : c.bytes_entry-in-Some.result ≡ bytes_entry ByteString 0 (length bytes - 2) n place within =
+    c.bytes_entry-in-Some.ensures ∙ ap (λ (l : ℕ). bytes_entry ByteString 0 (length bytes - 2) n place l) deeper in
+    let entry : c.bytes_entry-in-Some.result ≡ bytes_entry ByteString 0 (length h.content) n place within = deep ∙ ap
+    (λ (m : ℕ). bytes_entry ByteString 0 m n place within) size in
+    let inner = single_rows whole (c.args.left - 1) n s c.args.offset (c.args.at + 1) bytes c.put-in-Message.new.out
+    c.put-in-Some.new.out c.bytes_entry-in-Some.result h canonical c.requires.place entry c.put-in-Some.ensures in
+    then_within whole _ _ c.args.at (c.args.at + 2) c.args.out.now c.put-in-Message.new.out c.put-in-Some.new.out
+    c.bytes_entry-in-Message.result (bytes_entry (Message s) s (length bytes) c.args.number c.args.offset level)
+    (nested_rows whole c.args.left c.args.number s (kind_view c.args.next.field.kind) c.args.next.field.is_repeated
+    c.args.offset bytes (ap kind_view c.in-Message.is) (omega (arith, c.if-left-eq0.false)) c.requires.levels
+    c.requires.place canonical)
+    (c.bytes_entry-in-Message.ensures ∙ ap (λ (m : ℕ). record {
+      level = level;
+      number = c.args.number;
+      kind = 7;
+      value = m;
+      offset = c.args.offset;
+      length = length bytes;
+    }) c.from.ensures)
+    (bytes_placed whole (Message s) s c.args.number c.args.offset level bytes (omega arith) c.requires.place)
+    c.put-in-Message.ensures
+    (subst (λ (m : ℕ). WritesTo whole (fields_rows (c.args.left - 1) within (message_fields (table s)
+    (payload_meaning s bytes))) (c.args.at + 1) c.put-in-Message.new.out c.put-in-Some.new.out m) next inner)
+
+pub check_content-returns-in_default-single_bytes-clause-canonical :
+    goal.check_content-returns-in_default-single_bytes-clause-canonical
+check_content-returns-in_default-single_bytes-clause-canonical t c =
     let nested = is_canonical_message c.args.left in
     let some : c.args.next.is_plain ≡ true → c.args.next.field.is_repeated ≡ false → eqb (length c.args.content.now) 0 ≡
     false = λ p r. elim c.else-next.branch [
@@ -83,8 +140,9 @@ check_content-returns-else-left-eq0-clause-canonical t c =
     ∙ sym (is_nested nested c.args.next.is_plain (kind_view c.args.next.field.kind) c.in-Message.schema
     c.args.next.field.is_repeated c.args.content.now (ap kind_view c.in-Message.is) some)
 
-pub check_content-returns-else-left-eq0-clause-rows : goal.check_content-returns-else-left-eq0-clause-rows
-check_content-returns-else-left-eq0-clause-rows t c =
+pub check_content-returns-in_default-single_bytes-clause-rows :
+    goal.check_content-returns-in_default-single_bytes-clause-rows
+check_content-returns-in_default-single_bytes-clause-rows t c =
     let s = c.in-Message.schema in
     let bytes = c.args.content.now in
     let level = 100 - c.args.left in
@@ -130,11 +188,9 @@ check_content-returns-else-not-is_written_run-clause-few t c =
 
 pub check_record-check_number-requires-clause-few : goal.check_record-check_number-requires-clause-few
 check_record-check_number-requires-clause-few t c =
-    let room = room_left (field_record_of c.args.found.now) c.args.room c.in_ok-still-in-Varint.still
-    c.in_ok-still-in-Varint.ensures in
     let size = number_size c.args.found.now.number c.in-Varint.number (value_of c.args.found.now.value)
     (ap value_of c.in-Varint.is) in
-    omega (arith, room.0, size, c.requires.few)
+    omega (arith, c.written_size-size.ensures, c.if-room-size.false, size, c.requires.few)
 
 pub check_record-check_content-requires : goal.check_record-check_content-requires
 check_record-check_content-requires t c =
@@ -143,23 +199,14 @@ check_record-check_content-requires t c =
     let whole = c.args.whole.now in
     let is = ap value_of c.in-Length.is in
     let less : 3 * c.args.left < t = search rules in
-    let room = room_left (field_record_of c.args.found.now) c.args.room c.in_ok-still-in-Length.still
-    c.in_ok-still-in-Length.ensures in
     let size = content_size c.args.found.now.number bytes (value_of c.args.found.now.value) is in
     let short : length bytes < 4294967296 = subst (λ (w : RecordValue). length (content w) < 4294967296) is
     c.requires.short in
     let place = subst (λ (w : RecordValue). IsAt whole (c.args.offset + content_offset w to) (content w)) is
     c.requires.place in
-    let start = c.content_offset.ensures ∙ ap (λ (w : RecordValue). content_offset w to) is in (
-      less,
-      (
-        short,
-        (
-          subst (λ (m : ℕ). IsAt whole (c.args.offset + m) bytes) (sym start) place,
-          (c.requires.levels, omega (arith, room.0, size, c.requires.few)),
-        ),
-      ),
-    )
+    let few : c.args.at + 1 + length bytes < 2 ^ 63 = omega
+    (arith, c.written_size-size-in-Length.ensures, c.if-room-size-2.false, size, c.requires.few) in
+    (less, (short, (place, (c.requires.levels, few))))
 
 pub check_record-returns-in_ok-count-in-Varint-clause-rows : goal.check_record-returns-in_ok-count-in-Varint-clause-rows
 check_record-returns-in_ok-count-in-Varint-clause-rows t c =
@@ -176,19 +223,17 @@ check_record-returns-in_ok-count-in-Varint-clause-rows t c =
 
 pub check_record-returns-in_ok-count-in-Varint-clause-few : goal.check_record-returns-in_ok-count-in-Varint-clause-few
 check_record-returns-in_ok-count-in-Varint-clause-few t c =
-    let room = room_left (field_record_of c.args.found.now) c.args.room c.in_ok-still-in-Varint.still
-    c.in_ok-still-in-Varint.ensures in
     let size = number_size c.args.found.now.number c.in-Varint.number (value_of c.args.found.now.value)
     (ap value_of c.in-Varint.is) in
-    omega (arith, room.0, room.1, size, c.in_ok-count-in-Varint.ensures.few)
+    omega
+    (arith, c.written_size-size.ensures, c.if-room-size.false, size, c.in_ok-count-in-Varint.ensures.few)
 
 pub check_record-returns-in_ok-count-in-Length-clause-few : goal.check_record-returns-in_ok-count-in-Length-clause-few
 check_record-returns-in_ok-count-in-Length-clause-few t c =
-    let room = room_left (field_record_of c.args.found.now) c.args.room c.in_ok-still-in-Length.still
-    c.in_ok-still-in-Length.ensures in
     let size = content_size c.args.found.now.number c.in-Length.content.now (value_of c.args.found.now.value)
     (ap value_of c.in-Length.is) in
-    omega (arith, room.0, room.1, size, c.in_ok-count-in-Length.ensures.few)
+    omega
+    (arith, c.written_size-size-in-Length.ensures, c.if-room-size-2.false, size, c.in_ok-count-in-Length.ensures.few)
 
 -- ---- a message
 
@@ -226,7 +271,7 @@ check_message-check_record-requires t c =
     (arith, here.0.0, here.0.1, c.requires.short) in
     let place = content_place c.args.whole.now c.args.offset bytes found.span.1 (value_of found.value) c.requires.place
     here.0 in
-    (less, (short, (place, (c.requires.levels, omega (arith, c.loop-item.invariant.few, c.requires.few)))))
+    (less, (short, (here.0.1, (place, (c.requires.levels, omega (arith, c.loop-item.invariant.few, c.requires.few))))))
 
 pub check_message-returns-in_default-check_record-clause-canonical :
     goal.check_message-returns-in_default-check_record-clause-canonical
