@@ -1,5 +1,6 @@
 mod ShortRecords
 mod Rooms
+mod Ends
 mod Walking
 mod Stepping
 mod Whole

@@ -1,39 +1,19 @@
 -- What is written into a slice, as far as there is room.
 use Rattle.std.proofs.Common.{◌≡◌, ℕ, ◌+◌, ◌-◌, ◌*◌, ◌<◌, ◌≤◌, List, [], ◌∷◌, ◌++◌, length, take, drop, refl, sym, ap}
 use Rattle.std.proofs.Common.{◌∙◌}
-use Rattle.std.proofs.Common.{append_assoc, append-nil, length-append, length-set, length-drop, set, arith, Bool, false}
+use Rattle.std.proofs.Common.{append_assoc, length-append, length-set, length-drop, set, arith, Bool, false}
 use Rattle.std.proofs.Common.{◌&&◌, eqb, cond, subst, ◌/◌, ◌%◌}
-use Rattle.std.proofs.lemmas.List.{take-set, take_more_set, take-take, drop-drop, take_at, length-take-le}
+use Rattle.std.proofs.lemmas.List.{take-set, take_more_set, take-take, drop-drop, length-take-le}
 use Rattle.std.proofs.lemmas.List.{drop-take, drop_at, take-append-le}
 use Rattle.std.proofs.lemmas.List.Edits.{take-paste, length-paste}
 use Rattle.std.specs.List.{copy_within}
 use Rattle.std.proofs.lemmas.List.{take-append-drop}
 use Rattle.std.proofs.Math.Seq.{take-add, take-set-lt, paste}
-use borrow.Rule.Slice.PartMut.{put_mid}
 use Rattle.shared_core_wire.specs.Encoding.{shortest_varint, key_bytes}
 use Rattle.shared_core_wire.proofs.Shortest.{shortest_small, shortest_large}
 use Rattle.shared_core_record_writer.specs.Records.{number_record, content_record, at_most_64_bits}
 use Rattle.shared_core_fields_writer.specs.Room.{Wrote, WroteLength}
 use Rattle.shared_core_fields_writer.proofs.ShortRecords.{short_key, short_put}
-
-pub wrote_none : (old : List ℕ) (at : ℕ) → at < 18446744073709551616 → Wrote old at old at []
-wrote_none old at m = record {
-  same_length = refl;
-  before = refl;
-  up = omega arith;
-  count = omega (arith, m);
-  written = λ h. sym (append-nil (take at old));
-}
-
-pub wrote_nothing : (old : List ℕ) (from to : ℕ) (bytes : List ℕ) → from < 18446744073709551616 → to ≡ at_most_64_bits
-    (from + length bytes) → length old < to → Wrote old from old to bytes
-wrote_nothing old from to bytes m e h = record {
-  same_length = refl;
-  before = refl;
-  up = omega (arith, m, e);
-  count = e;
-  written = λ k. absurd (omega (arith, h, k));
-}
 
 pub wrote_byte : (old : List ℕ) (at to byte : ℕ) → length old < 18446744073709551616 → to ≡ at_most_64_bits (at + 1)
     → at
@@ -89,34 +69,6 @@ wrote_large a b c i j k n h v w =
     wrote_as a c i k ((n % 128 + 128) ∷ shortest_varint (n / 128)) (shortest_varint n)
     (wrote_both a b c i j k ((n % 128 + 128) ∷ []) (shortest_varint (n / 128)) v w) (sym (shortest_large n h))
 
--- ---- bytes
-
-pub wrote_bytes : (old new : List ℕ) (at end : ℕ) (bytes : List ℕ) → length old < 18446744073709551616 → end ≡ at +
-    length bytes → end ≤ length old → new ≡ take at old ++ (bytes ++ drop end old) → Wrote old at new end bytes
-wrote_bytes old new at end bytes m e h is =
-    let inside : at ≤ length old = omega (arith, e, h) in
-    let front : length (take at old) ≡ at = length-take-le at old inside in
-    let all : length (take at old ++ bytes) ≡ end = omega (arith, e, front, length-append (take at old) bytes) in
-    let split : new ≡ (take at old ++ bytes) ++ drop end old = is ∙ sym (append_assoc (take at old) bytes (drop end
-    old))
-    in
-    record {
-      same_length =
-          omega (
-            arith,
-            ap length split,
-            length-append (take at old ++ bytes) (drop end old),
-            all,
-            length-drop end
-                old,
-            h,
-          );
-      before = ap (take at) is ∙ take_at (take at old) (bytes ++ drop end old) at front;
-      up = omega (arith, e);
-      count = omega (arith, e, h, m);
-      written = λ k. ap (take end) split ∙ take_at (take at old ++ bytes) (drop end old) end all;
-    }
-
 -- ---- records
 
 number_is : (plain : Bool) (n value : ℕ) → n < 16 → value < 128 → plain && eqb value 0 ≡ false → number_record plain n
@@ -162,21 +114,17 @@ wrote_content plain n content a b c d i j k l e v w x =
     (wrote_both b c d j k l (shortest_varint (length content)) content w x))
     (sym (ap (λ (p : Bool). cond p [] (key_bytes n 2 ++ rest)) e))
 
-pub wrote_short_content : (plain : Bool) (n : ℕ) (content put old : List ℕ) (at : ℕ) → n < 16 → length content < 128 →
-    plain && eqb (length content) 0 ≡ false → length old < 18446744073709551616 → length content + 2 ≤ length old - at →
-    put ≡ content → Wrote old at
-    (put_mid (at + 2) (at + 2 + length content - (at + 2)) (set (set old at (8 * n + 2)) (at + 1) (length content)) put)
-    (at + 2 + length content) (content_record plain n content)
-wrote_short_content plain n content put old at h l k big r e =
+pub wrote_short_content : (plain : Bool) (n : ℕ) (content new old : List ℕ) (at to : ℕ) → n < 16 → length content <
+    128 → plain && eqb (length content) 0 ≡ false → length old < 18446744073709551616 → length content + 2 ≤ length old
+    - at → Wrote (set (set old at (8 * n + 2)) (at + 1) (length content)) (at + 2) new to content → Wrote old at new to
+    (content_record plain n content)
+wrote_short_content plain n content new old at to h l k big r third =
     let x : ℕ = 8 * n + 2 in
     let m : ℕ = length content in
     let one : List ℕ = set old at x in
     let two : List ℕ = set one (at + 1) m in
-    let new : List ℕ = put_mid (at + 2) (at + 2 + m - (at + 2)) two put in
     let size : length one ≡ length old = length-set old at x in
-    let sizes : length two ≡ length one = length-set one (at + 1) m in
     let step : at + 1 + 1 ≡ at + 2 = omega arith in
-    let span : at + 2 + (at + 2 + m - (at + 2)) ≡ at + 2 + m = omega arith in
     let first : Wrote old at one (at + 1) (x ∷ []) = wrote_byte old at (at + 1) x big (omega (arith, r, big))
     (omega (arith, r)) in
     let second : Wrote one (at + 1) two (at + 2) (m ∷ []) = subst (λ (j : ℕ). Wrote one (at + 1) two j (m ∷ [])) step
@@ -185,17 +133,9 @@ wrote_short_content plain n content put old at h l k big r e =
       r,
       size,
     ))) in
-    let is : new ≡ take (at + 2) two ++ (content ++ drop (at + 2 + m) two) = ap
-    (λ (ys : List ℕ). take (at + 2) two ++ (ys ++ drop (at + 2 + m - (at + 2)) (drop (at + 2) two))) e
-    ∙ ap (λ (ys : List ℕ). take (at + 2) two ++ (content ++ ys)) (drop-drop (at + 2 + m - (at + 2)) (at + 2) two)
-    ∙ ap (λ (j : ℕ). take (at + 2) two ++ (content ++ drop j two)) span in
-    let third : Wrote two (at + 2) new (at + 2 + m) content = wrote_bytes two new (at + 2) (at + 2 + m) content
-    (omega (arith, size, sizes, big)) refl
-    (omega (arith, r, size, sizes)) is in
-    let all : Wrote old at new (at + 2 + m) ((x ∷ []) ++ ((m ∷ []) ++ content)) = wrote_both old one new at (at + 1)
-    (at + 2 + m) (x ∷ []) ((m ∷ []) ++ content) first
-    (wrote_both one two new (at + 1) (at + 2) (at + 2 + m) (m ∷ []) content second third) in
-    wrote_as old new at (at + 2 + m) (x ∷ (m ∷ content)) (content_record plain n content) all
+    let all : Wrote old at new to ((x ∷ []) ++ ((m ∷ []) ++ content)) = wrote_both old one new at (at + 1) to (x ∷ [])
+    ((m ∷ []) ++ content) first (wrote_both one two new (at + 1) (at + 2) to (m ∷ []) content second third) in
+    wrote_as old new at to (x ∷ (m ∷ content)) (content_record plain n content) all
     (sym (ap (λ (b : Bool). cond b [] (key_bytes n 2 ++ (shortest_varint m ++ content))) k
     ∙ ap (λ (xs : List ℕ). xs ++ (shortest_varint m ++ content)) (short_key n 2 h (omega arith))
     ∙ ap (λ (xs : List ℕ). x ∷ (xs ++ content)) (shortest_small m l)))
@@ -283,7 +223,7 @@ module _ (old mid new : List ℕ) (at start end moved last : ℕ) (a : start ≤
   }
 
 -- Bytes that are copied to where they are.
-pub copied_here : (xs : List ℕ) (start end : ℕ) → start ≤ end → xs ≡ copy_within xs start end start
-copied_here xs start end h =
+pub copied_here : (xs : List ℕ) (start end : ℕ) → xs ≡ copy_within xs start end start
+copied_here xs start end =
     sym (ap (λ (ys : List ℕ). ys ++ drop (start + (end - start)) xs) (sym (take-add start (end - start) xs))
     ∙ take-append-drop (start + (end - start)) xs)

@@ -9,6 +9,11 @@ use Rattle.shared_core_wire.proofs.Shortest.{shortest_small}
 pub short_key : (n wire : ℕ) → n < 16 → wire < 8 → key_bytes n wire ≡ (8 * n + wire) ∷ []
 short_key n wire h w = shortest_small (8 * n + wire) (omega (arith, h, w))
 
+-- a field is not left out if it has something
+pub by_some : (plain : Bool) (m : ℕ) → 0 < m → plain && eqb m 0 ≡ false
+by_some true m some = ne_eqb m 0 (λ e. omega (arith, some, e))
+by_some false m some = refl
+
 -- a field is not left out if it is not plain, or has something
 pub by_either : (plain : Bool) (m : ℕ) → (plain ≡ true × (m ≡ 0 → ⊥)) ⊎ (plain ≡ false) → plain && eqb m 0 ≡ false
 by_either true m (inl some) = ne_eqb m 0 some.1

@@ -1,7 +1,7 @@
 -- One step of the walk: the entry at an index, and what was appended for it.
 use Rattle.std.proofs.Common.{◌≡◌, length, ℕ, zero, suc, ◌+◌, ◌-◌, ◌<◌, ◌≤◌, List, [], ◌∷◌, ◌++◌, true, false}
 use Rattle.std.proofs.Common.{◌&&◌, Option, Some, None, Result, Ok, Err, refl, sym, ap, ◌∙◌, eqb, take}
-use Rattle.std.proofs.Common.{drop}
+use Rattle.std.proofs.Common.{drop, ◌≢◌}
 use Rattle.std.proofs.Common.{arith, inl, inr, append-nil, ◌⊎◌, length-append, subst}
 use Rattle.std.proofs.lemmas.List.{drop_at, length-take-le}
 use Rattle.std.specs.Result.{IsErrAnd}
@@ -136,9 +136,6 @@ pub nested_error : (n : ℕ) (inner next : Walked) (x : Reason) (m : ℕ) → in
     Err
     (x, m)
 nested_error n inner next x m e = ap (λ (w : Walked). nested_onto n w next) e
-
-pub run_error : (bytes : List ℕ) (w next : Walked) (x : Reason) (m : ℕ) → w ≡ Err (x, m) → onto bytes w ≡ Err (x, m)
-run_error bytes w next x m e = ap (onto bytes) e
 
 -- ---- the numbers of a run
 
@@ -293,23 +290,19 @@ module _ (bytes : List ℕ) (s : ℕ) (left : List Row) (last : Option ℕ) (lev
       ∙ ap (onto out) (stops bytes s left last Nothing level depth e es h) ∙ ap (λ (xs : List ℕ). Ok xs) (append-nil
       out)
 
-  pub message_deeper : level < e.level → start ≡ Err (WrongLevel, length now)
-  message_deeper h =
+  pub message_deeper : e.level ≢ level → level ≤ e.level → start ≡ Err (WrongLevel, length now)
+  message_deeper d a =
+      let h : level < e.level = omega (arith, d, a) in
       j ∙ ap (λ (ys : List FieldEntry). onto out (walk bytes s left last Nothing level depth ys)) i
       ∙ ap (onto out) (too_deep bytes s left last level depth e es h)
       ∙ ap (λ (ys : List FieldEntry). Err (WrongLevel, length ys)) (sym i)
 
-  pub message_unknown : (r : Reason) → level ≤ e.level → e.level ≤ level → Err r ≡ field_next (table s) left last
-      e.number → start ≡ Err (r, length now)
-  message_unknown r a b f =
-      let h : e.level ≡ level = omega (arith, a, b) in
+  pub message_unknown : (r : Reason) → e.level ≡ level → Err r ≡ field_next (table s) left last e.number → start ≡
+      Err (r, length now)
+  message_unknown r h f =
       j ∙ ap (λ (ys : List FieldEntry). onto out (walk bytes s left last Nothing level depth ys)) i
       ∙ ap (onto out) (no_field bytes s left last level depth e es h r (sym f))
       ∙ ap (λ (ys : List FieldEntry). Err (r, length ys)) (sym i)
-
-pub message_fails : (out : List ℕ) (start w : Walked) (r : Reason) (n : ℕ) → start ≡ onto out w → w ≡ Err (r, n) → start
-    ≡ Err (r, n)
-message_fails out start w r n j e = j ∙ ap (onto out) e
 
 pub message_more : (out more : List ℕ) (start w next : Walked) → start ≡ onto out w → w ≡ onto more next → start ≡ onto
     (out ++ more) next
@@ -322,23 +315,21 @@ walk_none bytes s left last level depth = refl
 
 -- one entry more, at the level of the message
 pub message_step : (bytes : List ℕ) (s : ℕ) (left rows : List Row) (last : Option ℕ) (n level at depth : ℕ) (now rest :
-    List FieldEntry) (start : Walked) (a b c : List ℕ) (i j k : ℕ) → level ≤ at → at ≤ level → ((x : List ℕ) × (start ≡
+    List FieldEntry) (start : Walked) (a b c : List ℕ) (i j k : ℕ) → at ≡ level → ((x : List ℕ) × (start ≡
     onto x (walk bytes s left last Nothing level depth now)) × Wrote a i b j x) → ((y : List ℕ) × (walk bytes s left
     last Nothing at depth now ≡ onto y (walk bytes s rows (Some n) Nothing at depth rest)) × Wrote b j c k y) →
     (z : List ℕ) × (start ≡ onto z (walk bytes s rows (Some n) Nothing level depth rest)) × Wrote a i c k z
-message_step bytes s left rows last n level at depth now rest start a b c i j k h g v w =
-    let same : at ≡ level = omega (arith, h, g) in (
-      v.0 ++ w.0,
-      message_more v.0 w.0 start (walk bytes s left last Nothing level depth now) (walk bytes s rows (Some n) Nothing
-          level depth rest) v.1 (subst (λ (l : ℕ). walk bytes s left last Nothing l depth now ≡ onto w.0 (walk bytes s
-          rows (Some n) Nothing l depth rest)) same w.1),
-      wrote_both a b c i j k v.0 w.0 v.2 w.2,
-    )
+message_step bytes s left rows last n level at depth now rest start a b c i j k same v w = (
+  v.0 ++ w.0,
+  message_more v.0 w.0 start (walk bytes s left last Nothing level depth now) (walk bytes s rows (Some n) Nothing level
+      depth rest) v.1 (subst (λ (l : ℕ). walk bytes s left last Nothing l depth now ≡ onto w.0 (walk bytes s rows
+      (Some n) Nothing l depth rest)) same w.1),
+  wrote_both a b c i j k v.0 w.0 v.2 w.2,
+)
 
-pub rest_level : (level at : ℕ) (xs ys : List FieldEntry) → level ≤ at → at ≤ level → rest_of at xs ≡ rest_of at ys →
-    rest_of level xs ≡ rest_of level ys
-rest_level level at xs ys h g e =
-    let same : at ≡ level = omega (arith, h, g) in
+pub rest_level : (level at : ℕ) (xs ys : List FieldEntry) → at ≡ level → rest_of at xs ≡ rest_of at ys → rest_of level
+    xs ≡ rest_of level ys
+rest_level level at xs ys same e =
     subst (λ (l : ℕ). rest_of l xs ≡ rest_of l ys) same e
 
 pub message_ends : (bytes : List ℕ) (s : ℕ) (left : List Row) (last : Option ℕ) (level depth : ℕ) (now : List

@@ -1,10 +1,8 @@
 -- What entries give, by the first of them.
-use Rattle.std.proofs.Common.{◌≡◌, ◌≢◌, length, ℕ, zero, suc, ◌+◌, ◌<◌, List, [], ◌∷◌, ◌++◌, Bool, true, false}
-use Rattle.std.proofs.Common.{◌&&◌, Option, Some, None, Ok, Err, refl, sym, ap, ◌∙◌, append_assoc, eqb}
-use Rattle.std.proofs.Common.{arith, inl, inr, drop}
+use Rattle.std.proofs.Common.{◌≡◌, ◌≢◌, length, ℕ, zero, suc, ◌<◌, List, [], ◌∷◌, ◌++◌, Bool, true, false}
+use Rattle.std.proofs.Common.{◌&&◌, Option, Some, None, Ok, Err, refl, sym, ap, append_assoc, eqb}
+use Rattle.std.proofs.Common.{arith, inl, inr}
 use Rattle.std.proofs.lemmas.Bool.{lt-ltb, le-ltb, eqb-true, eqb-false, cases_lt}
-use Rattle.std.proofs.lemmas.List.{drop_more}
-use Rattle.std.specs.List.{slice_index_or}
 use Rattle.shared_core_wire.proofs.Runs.{and_split}
 use Rattle.shared_core_wire.specs.Schema.{Row, U32}
 use Rattle.shared_core_codec.specs.Table.{table}
@@ -20,10 +18,6 @@ use Rattle.shared_core_fields_writer.specs.Walk.{More}
 use Rattle.shared_core_fields_writer.specs.Walk.{Nothing, Within, Numbers, run_numbers, varints, rest_of, walk}
 
 -- ---- bytes before others
-
-pub onto_error : (bytes : List ℕ) (w : Walked) (r : Reason) (n : ℕ) → onto bytes w ≡ Err (r, n) → w ≡ Err (r, n)
-onto_error bytes (Ok more) r n e = absurd cc
-onto_error bytes (Err x) r n e = e
 
 pub onto_more : (a b : List ℕ) (w : Walked) → onto a (onto b w) ≡ onto (a ++ b) w
 onto_more a b (Ok more) = ap (λ (xs : List ℕ). Ok xs) (sym (append_assoc a b more))
@@ -179,10 +173,3 @@ pub no_numbers : (bytes : List ℕ) (s : ℕ) (left : List Row) (n level depth :
     depth [] ≡ walk bytes s left (Some n) Nothing level depth []
 unfolding walk
 no_numbers bytes s left n level depth = refl
-
--- ---- the entry at an index
-
-pub headed : (xs : List FieldEntry) (i : ℕ) (e : FieldEntry) → i < length xs → e ≡ slice_index_or xs i e → drop i xs ≡ e
-    ∷
-    drop (i + 1) xs
-headed xs i e h f = drop_more xs i e h ∙ ap (λ (x : FieldEntry). x ∷ drop (i + 1) xs) (sym f)

@@ -1,18 +1,18 @@
 //! What an entry gives to a field.
 
 ghost use Rattle.std.specs.Prelude.{◌≡◌, map, IfOk};
-ghost use Rattle.std.specs.Str.{is_utf8};
 ghost use Rattle.shared_core_codec.specs.Table.{table};
 ghost use Rattle.shared_core_codec.specs.ProgramRows.{kind_view, row_view, rows_view};
 ghost use Rattle.shared_core_codec.specs.Canonicity.{next_view};
-ghost use Rattle.shared_core_fields.specs.Rows.{kind_number};
-ghost use Rattle.shared_core_fields_writer.specs.Given.{Content, given_view, content, given, text_given, absence};
+ghost use Rattle.shared_core_fields_writer.specs.Given.{Content, given_view, content, given, number_given, text_given};
+ghost use Rattle.shared_core_fields_writer.specs.Given.{absence};
 ghost use Rattle.shared_core_fields_writer.specs.Given.{share_oneof, has_both, field_next, ok_view};
 
 use crate::error::Reason;
 use shared_core_codec::canonical::{NextField, is_written_number, next_field};
-use shared_core_codec::rows::{Kind, Row, find_field, find_in_row, rows_of};
-use shared_core_fields::table::FieldEntry;
+use shared_core_codec::rows::{Found, Kind, Row, find_field, find_in_row, rows_of};
+use shared_core_fields::table::{FieldEntry, kind_number};
+use shared_core_fields::text::is_text;
 
 /// What an entry gives to a field of its kind.
 #[derive(Clone, Copy)]
@@ -23,21 +23,6 @@ pub(crate) enum Given<'a> {
     Content(&'a [u8]),
     /// A message of the schema at this index of the table, whose fields come next.
     Message(u32),
-}
-
-/// The number of a kind in entries.
-fn kind_number(kind: Kind) -> u64
-    ensures { result ≡ kind_number (kind_view kind) }
-{
-    match kind {
-        Kind::U32 => FieldEntry::U32,
-        Kind::U64 => FieldEntry::U64,
-        Kind::Boolean => FieldEntry::BOOLEAN,
-        Kind::Enumeration => FieldEntry::ENUMERATION,
-        Kind::Text => FieldEntry::TEXT,
-        Kind::ByteString => FieldEntry::BYTE_STRING,
-        Kind::Message(_) => FieldEntry::MESSAGE,
-    }
 }
 
 /// The bytes of an entry.
@@ -66,16 +51,6 @@ fn text_of<'a>(entry: &FieldEntry, bytes: &'a [u8]) -> Result<&'a [u8], Reason>
     }
 }
 
-/// Whether bytes are UTF-8.
-fn is_text(bytes: &[u8]) -> bool
-    ensures { result ≡ is_utf8 bytes.now }
-{
-    match std::str::from_utf8(bytes) {
-        Ok(_text) => true,
-        Err(_) => false,
-    }
-}
-
 /// What an entry gives to a field of a kind.
 #[inline(always)]
 pub(crate) fn given_value<'a>(
@@ -98,20 +73,57 @@ pub(crate) fn given_value<'a>(
                 Err(Reason::WrongKind)
             }
         }
-        _ => {
-            if is_written_number(kind, entry.value) {
-                Ok(Given::Number(entry.value))
-            } else {
-                Err(Reason::OutOfRange)
-            }
-        }
+        // each kind by itself, so that there is one jump by the kind
+        Kind::U32 => number_of(Kind::U32, entry),
+        Kind::U64 => number_of(Kind::U64, entry),
+        Kind::Boolean => number_of(Kind::Boolean, entry),
+        Kind::Enumeration => number_of(Kind::Enumeration, entry),
+    }
+}
+
+/// The number of an entry.
+#[inline(always)]
+fn number_of<'a>(kind: Kind, entry: &FieldEntry) -> Result<Given<'a>, Reason>
+    ensures { ok_view given_view result ≡ number_given (kind_view kind) entry.now }
+{
+    if is_written_number(kind, entry.value) {
+        Ok(Given::Number(entry.value))
+    } else {
+        Err(Reason::OutOfRange)
     }
 }
 
 /// The number of an entry's field, and that field, which may come next in a message of the schema where these rows are
-/// left, after the last field.
+/// left, after the last field: most often that of the first row, which is plain.
 #[inline(always)]
 pub(crate) fn next_of(
+    schema: u32,
+    rows: &'static [Row],
+    last: Option<u32>,
+    number: u64,
+) -> Result<(u32, NextField<'static>), Reason>
+    ensures next { ok_view (λ x. next_view x.1) result ≡ field_next (table schema) (rows_view rows.entry) last number }
+    ensures same { IfOk result (λ x. x.0 ≡ number) }
+{
+    if let Some((Row::Plain(field), after)) = rows.split_first() {
+        if u64::from(field.0) == number {
+            let next = NextField {
+                field: Found {
+                    kind: field.1,
+                    is_repeated: false,
+                },
+                is_plain: true,
+                rows: after,
+            };
+            return Ok((field.0, next));
+        }
+    }
+    next_among(schema, rows, last, number)
+}
+
+/// The same of any row.
+#[inline(always)]
+fn next_among(
     schema: u32,
     rows: &'static [Row],
     last: Option<u32>,
@@ -131,6 +143,8 @@ pub(crate) fn next_of(
 }
 
 /// Why no field of a number may come after the last one.
+#[cold]
+#[inline(never)]
 fn absence(rows: &[Row], last: Option<u32>, number: u32) -> Reason
     ensures { result ≡ absence (map row_view rows.now) last number }
 {

@@ -9,6 +9,7 @@ ghost use Rattle.shared_core_wire.specs.Encoding.{shortest_varint, key_bytes};
 ghost use Rattle.shared_core_record_writer.specs.Records.{number_record, content_record};
 ghost use Rattle.shared_core_fields_writer.specs.Room.{Wrote, WroteLength};
 
+use crate::few::{FEW, write_few};
 use shared_core_record_writer::LENGTH;
 use shared_core_wire::varint::varint_len;
 
@@ -26,6 +27,7 @@ fn write_byte(out: &mut [u8], at: usize, byte: u8) -> usize
 {
     if at < out.len() {
         out[at] = byte;
+        return at + 1;
     }
     at.saturating_add(1)
 }
@@ -43,6 +45,7 @@ pub(crate) fn write_varint(out: &mut [u8], at: usize, number: u64) -> usize
 }
 
 /// Writes the shortest varint of a number of any length.
+#[inline(never)]
 fn write_long_varint(out: &mut [u8], at: usize, number: u64) -> usize
     ensures written { Wrote out.old at out.new result (shortest_varint number) }
     ensures after { drop result out.new ≡ drop result out.old }
@@ -76,7 +79,7 @@ fn room(out: &[u8], at: usize) -> usize
 pub(crate) fn write_number(out: &mut [u8], at: usize, plain: bool, number: u32, value: u64) -> usize
     ensures { Wrote out.old at out.new result (number_record plain number value) }
 {
-    if number >= SHORT_KEYS || value >= 128 || plain && value == 0 || room(out, at) < 2 {
+    if number >= SHORT_KEYS || value == 0 || value >= 128 || room(out, at) < 2 {
         return write_long_number(out, at, plain, number, value);
     }
     out[at] = 8 * number as u8;
@@ -84,7 +87,8 @@ pub(crate) fn write_number(out: &mut [u8], at: usize, plain: bool, number: u32, 
     at + 2
 }
 
-/// Writes the record of a number whose key or value is long.
+/// Writes the record of a number whose key or value is long, or which is 0.
+#[inline(never)]
 fn write_long_number(out: &mut [u8], at: usize, plain: bool, number: u32, value: u64) -> usize
     ensures { Wrote out.old at out.new result (number_record plain number value) }
 {
@@ -107,18 +111,16 @@ pub(crate) fn write_content(
     ensures { Wrote out.old at out.new result (content_record plain number content.now) }
 {
     let len = content.len();
-    if number >= SHORT_KEYS || len >= 128 || plain && len == 0 || room(out, at) < len + 2 {
+    if number >= SHORT_KEYS || len == 0 || len > FEW || room(out, at) < len + 2 {
         return write_long_content(out, at, plain, number, content);
     }
-    let start = at + 2;
-    let end = start + len;
     out[at] = 8 * number as u8 + 2;
     out[at + 1] = len as u8;
-    out[start..end].copy_from_slice(content);
-    end
+    write_few(out, at + 2, content)
 }
 
-/// Writes the record of some bytes whose key or length is long.
+/// Writes the record of some bytes whose key is long, or which are not a few.
+#[inline(never)]
 fn write_long_content(out: &mut [u8], at: usize, plain: bool, number: u32, content: &[u8]) -> usize
     ensures { Wrote out.old at out.new result (content_record plain number content.now) }
 {
@@ -161,6 +163,7 @@ pub(crate) fn write_length(out: &mut [u8], at: usize, start: usize, end: usize) 
 }
 
 /// Writes the length of any bytes, and these after it.
+#[inline(never)]
 fn write_long_length(out: &mut [u8], at: usize, start: usize, end: usize) -> usize
     requires before { at ≤ start }
     requires room { at < 18446744073709551615 → at < start }

@@ -76,10 +76,10 @@ pub(crate) fn write_message(
     let mut last = None;
     while at.entry < source.entries.len() {
         let entry = &source.entries[at.entry];
-        if entry.level < level {
-            return Ok(());
-        }
-        if entry.level > level {
+        if entry.level != level {
+            if entry.level < level {
+                return Ok(());
+            }
             return Err(Reason::WrongLevel);
         }
         let (number, next) = next_of(schema, rows, last, entry.number)?;
@@ -176,6 +176,7 @@ fn write_nested(
 /// Writes a message again that is shorter than it was measured to be, and looks at no length of what was measured.
 #[cycle(message)]
 #[cold]
+#[inline(never)]
 fn write_again(
     out: &mut [u8],
     at: &mut Place,
@@ -232,6 +233,7 @@ pub(crate) fn is_packed(field: Found) -> bool
 }
 
 /// Writes the packed run of a number, whose entry is at the place, and of those whose entries come after it.
+#[inline(never)]
 fn write_run(
     out: &mut [u8],
     at: &mut Place,

@@ -10,6 +10,7 @@ ghost use Rattle.shared_core_fields_writer.specs.Written.{WritesPayload};
 ghost use Rattle.shared_core_fields_writer.specs.declared.error.Reason.TheVariants.{OutOfMemory};
 
 use crate::error::{FieldsError, Reason};
+use crate::few::overwrite;
 use crate::measure::lengths_of;
 use crate::walk::{Place, Source, write_message};
 use shared_core_codec::size::Size;
@@ -17,8 +18,16 @@ use shared_core_fields::table::FieldEntry;
 use shared_core_wire::records::LEVELS;
 use std::alloc::{AllocError, Global};
 
-/// How many bytes of a payload are kept until its table is known to be accepted.
+/// How many bytes of a payload are kept until its table is known to be accepted, of a small table and of another one.
+/// The room for them is set first, at each call.
+const KEPT_FEW: usize = 64;
+
 const KEPT: usize = 256;
+
+/// How many entries a small table has at most, and how many bytes besides.
+const FEW_ENTRIES: usize = 4;
+
+const FEW_BYTES: usize = 32;
 
 /// An allocation failed before the payload was written.
 const OUT_OF_MEMORY: FieldsError = FieldsError {
@@ -78,10 +87,33 @@ pub fn write_payload(
     ensures index { IfErr result (λ error. error.index ≤ length entries.now) }
     ensures unchanged { IfErr result (λ error. out.new ≡ out.old) }
 {
-    let mut kept = [0; KEPT];
-    let length = check(&mut kept, schema, entries, bytes)?;
+    if entries.len() <= FEW_ENTRIES && bytes.len() <= FEW_BYTES {
+        write_kept(alloc, schema, entries, bytes, out, &mut [0; KEPT_FEW])
+    } else {
+        write_kept(alloc, schema, entries, bytes, out, &mut [0; KEPT])
+    }
+}
+
+/// The same, where the payload is kept in another slice first. If it has too little room, the table is read again.
+#[inline(always)]
+fn write_kept(
+    alloc: Global,
+    schema: u32,
+    entries: &[FieldEntry],
+    bytes: &[u8],
+    out: &mut [u8],
+    kept: &mut [u8],
+) -> Result<usize, FieldsError>
+    ensures payload { IfOk result (λ length. (payload : List ℕ)
+        × WritesPayload schema entries.now bytes.now out.old out.new length payload) }
+    ensures error { IfErr result (λ error. error.reason ≢ OutOfMemory → entries_payload schema entries.now bytes.now
+        ≡ Err (error.reason, length entries.now - error.index)) }
+    ensures index { IfErr result (λ error. error.index ≤ length entries.now) }
+    ensures unchanged { IfErr result (λ error. out.new ≡ out.old) }
+{
+    let length = check(kept, schema, entries, bytes)?;
     if length <= out.len() {
-        let Ok(()) = put(alloc, &mut out[..length], &kept, schema, entries, bytes) else {
+        let Ok(()) = put(alloc, &mut out[..length], kept, schema, entries, bytes) else {
             return Err(OUT_OF_MEMORY);
         };
     }
@@ -110,6 +142,7 @@ fn check(
 }
 
 /// Writes the payload of a table that was accepted, and of which this was kept, into a slice that is as long as it is.
+#[inline(always)]
 fn put(
     alloc: Global,
     out: &mut [u8],
@@ -124,10 +157,27 @@ fn put(
 {
     let length = out.len();
     if length <= kept.len() {
-        out.copy_from_slice(&kept[..length]);
+        overwrite(out, &kept[..length]);
         return Ok(());
     }
-    let lengths = lengths_of(alloc, schema, entries, length)?;
+    put_long(alloc, out, schema, entries, bytes)
+}
+
+/// The same of a payload of which nothing was kept.
+#[inline(never)]
+fn put_long(
+    alloc: Global,
+    out: &mut [u8],
+    schema: u32,
+    entries: &[FieldEntry],
+    bytes: &[u8],
+) -> Result<(), AllocError>
+    requires { (payload : List ℕ) × (entries_payload schema entries.now bytes.now ≡ Ok payload)
+        × (length payload ≡ length out.old) }
+    ensures payload { OnOk result (entries_payload schema entries.now bytes.now ≡ Ok out.new) }
+    ensures unchanged { OnErr result (out.new ≡ out.old) }
+{
+    let lengths = lengths_of(alloc, schema, entries, out.len())?;
     let source = Source {
         entries,
         bytes,

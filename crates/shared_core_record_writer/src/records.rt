@@ -25,7 +25,7 @@ pub fn append_varint(out: &mut Vec<u8>, number: u64) -> Result<(), AllocError>
     Ok(())
 }
 
-/// Appends the key of a record.
+/// Appends the key of a record of a wire type, which is below 8.
 pub fn append_key(out: &mut Vec<u8>, number: u32, wire: u32) -> Result<(), AllocError>
     requires { wire < 8 }
     ensures { OnOk result (out.new.items ≡ out.old.items ++ key_bytes number wire) }

@@ -155,23 +155,23 @@ write_again-returns-clause-written t c =
           (inl (omega arith))) (omega arith),
     )
 
-pub write_message-returns-then-entry-level-clause-written : goal.write_message-returns-then-entry-level-clause-written
-write_message-returns-then-entry-level-clause-written t c =
+pub write_message-returns-then-entry-level-2-clause-written :
+    goal.write_message-returns-then-entry-level-2-clause-written
+write_message-returns-then-entry-level-2-clause-written t c =
     let l = c.loop-at in (
       l.invariant.2.0,
       message_stops c.args.source.now.bytes.now c.args.schema (rows_view l.rows) l.last c.args.level c.args.depth _ _ _
           (drop_more c.args.source.now.entries.now l.at.entry _ c.loop-at-test.true) l.invariant.2.0 _ l.invariant.2.1
-          c.if-entry-level.true,
+          c.if-entry-level-2.true,
       l.invariant.2.2,
     )
 
-pub write_message-returns-then-entry-level-2-clause-written :
-    goal.write_message-returns-then-entry-level-2-clause-written
-write_message-returns-then-entry-level-2-clause-written t c =
+pub write_message-returns-then-entry-level-clause-written : goal.write_message-returns-then-entry-level-clause-written
+write_message-returns-then-entry-level-clause-written t c =
     let l = c.loop-at in
     message_deeper c.args.source.now.bytes.now c.args.schema (rows_view l.rows) l.last c.args.level c.args.depth _ _ _
     (drop_more c.args.source.now.entries.now l.at.entry _ c.loop-at-test.true) l.invariant.2.0 _ l.invariant.2.1
-    c.if-entry-level-2.true
+    c.if-entry-level.true c.if-entry-level-2.false
 
 pub write_message-returns-in_err-number-clause-written : goal.write_message-returns-in_err-number-clause-written
 write_message-returns-in_err-number-clause-written t c =
@@ -179,23 +179,22 @@ write_message-returns-in_err-number-clause-written t c =
     writes_error c.from_residual.result c.in_err-number.field-0.0 _ _ _ _ _ _ c.from_residual.ensures.1
     (message_unknown c.args.source.now.bytes.now c.args.schema (rows_view l.rows) l.last c.args.level c.args.depth _ _ _
     (drop_more c.args.source.now.entries.now l.at.entry _ c.loop-at-test.true) l.invariant.2.0 _ l.invariant.2.1 _
-    c.if-entry-level.false c.if-entry-level-2.false c.in_err-number.ensures.next)
+    c.if-entry-level.false c.in_err-number.ensures.next)
 
 pub write_message-loop-at-preserved : goal.write_message-loop-at-preserved
 write_message-loop-at-preserved t c =
     let l = c.loop-at in
     let w = c.in_ok-write_field.ensures in
-    let low = c.if-entry-level.false in
-    let high = c.if-entry-level-2.false in (
+    let same = c.if-entry-level.false in (
       omega (arith, l.invariant.0, w.more),
       w.end,
       message_step c.args.source.now.bytes.now c.args.schema (rows_view l.rows) (rows_view c.in_ok-number.next.rows)
           l.last c.in_ok-number.number c.args.level _ c.args.depth _ _ _ c.args.out.now l.out c.write_field.new.out
-          c.args.at.now.byte l.at.byte c.write_field.new.at.byte low high l.invariant.2
+          c.args.at.now.byte l.at.byte c.write_field.new.at.byte same l.invariant.2
           (w.written c.args.schema (rows_view l.rows) l.last
           (ap (field_next (table c.args.schema) (rows_view l.rows) l.last) c.in_ok-number.ensures.same
           ∙ sym c.in_ok-number.ensures.next)),
-      rest_level c.args.level _ _ _ low high w.rest ∙ l.invariant.3,
+      rest_level c.args.level _ _ _ same w.rest ∙ l.invariant.3,
     )
 
 pub write_message-returns-clause-written : goal.write_message-returns-clause-written

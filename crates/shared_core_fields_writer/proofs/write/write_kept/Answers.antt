@@ -4,7 +4,7 @@ use Rattle.shared_core_fields_writer.proofs.Bytes.{payload_bytes}
 use Rattle.shared_core_fields_writer.proofs.Canonical.{payload_is_canonical}
 use Rattle.shared_core_fields_writer.proofs.GivenRows.{means_given}
 use Rattle.shared_core_fields_writer.proofs.Whole.{front_written, front_kept}
-use Rattle.shared_core_fields_writer.proofs.write.write_payload.Goals as goal
+use Rattle.shared_core_fields_writer.proofs.write.write_kept.Goals as goal
 
 pub returns-in-Ok-clause-payload : goal.returns-in-Ok-clause-payload
 returns-in-Ok-clause-payload c =
