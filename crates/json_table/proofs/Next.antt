@@ -1,4 +1,4 @@
--- Items and members split behind the first.
+-- Items and members split after the first.
 use Rattle.std.proofs.Common.{◌≡◌, ℕ, List, [], ◌∷◌, ◌++◌, true, false, ◌==◌, length, refl, sym, ap, ◌∙◌, arith}
 use Rattle.std.proofs.lemmas.List.{length-map}
 use Rattle.json.specs.Json.{Json, Items, no_items, item, Members, no_members, member}

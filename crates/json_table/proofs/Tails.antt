@@ -15,10 +15,6 @@ use Rattle.json_table.specs.Views.{entry_view, entries_view, AreItems, AreMember
 use Rattle.json_table.specs.declared.entry.Entry.{Entry}
 use Rattle.json_table.proofs.Next.{seen_members, are_members}
 
-len_none : members_len no_members ≡ 0
-unfolding members_len members_entries
-len_none = refl
-
 -- The entries of a member, and those after it.
 len_member : (k : List ℕ) (j : Json) (ms : Members) → members_len (member k j ms) ≡ suc (length (value_entries j)) +
     members_len ms

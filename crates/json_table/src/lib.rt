@@ -9,8 +9,6 @@ mod entry;
 mod node;
 mod read;
 mod table;
-#[cfg(test)]
-mod tests;
 
 pub use entry::Entry;
 pub use node::{Items, Members, Node, Shape};

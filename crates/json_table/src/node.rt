@@ -101,7 +101,7 @@ fn split_value<'t, 'a>(entries: &'t [Entry<'a>]) -> (&'t [Entry<'a>], &'t [Entry
     entries.split_at(entries[0].within() + 1)
 }
 
-/// Splits entries behind the key with which they begin, if they do.
+/// Splits entries after the key with which they begin, if they do.
 #[inline(always)]
 fn split_key<'t, 'a>(entries: &'t [Entry<'a>]) -> Option<(&'a str, &'t [Entry<'a>])>
     ensures { SplitsKey entries.now result }

@@ -1,15 +1,23 @@
 -- The places of a line's names, as its members are gone over.
-use Rattle.std.proofs.Common.{◌≡◌, ◌≢◌, ℕ, zero, suc, ◌+◌, ◌-◌, ◌<◌, ◌≤◌, ◌⊎◌, List, [], ◌∷◌, length, get_or, slice_set}
+use Rattle.std.proofs.Common.{◌≡◌, ◌≢◌, ℕ, zero, suc, ◌+◌, ◌-◌, ◌<◌, ◌≤◌, ◌⊎◌, List, [], ◌∷◌, length, get_or, map}
+use Rattle.std.proofs.Common.{drop, slice_set}
 use Rattle.std.proofs.Common.{Bool, true, false, cond, Option, Some, None}
-use Rattle.std.proofs.Common.{refl, sym, ap, ◌∙◌, inl, inr, arith}
-use Rattle.std.proofs.lemmas.Bool.{cases_eq}
-use Rattle.std.proofs.lemmas.List.{length-set, get_or-set_same, get_or-set_other}
+use Rattle.std.proofs.Common.{refl, sym, ap, ◌∙◌, inl, inr, arith, ltb, ◌||◌}
+use Rattle.std.proofs.lemmas.Bool.{cases_eq, ltb-true}
+use Rattle.std.proofs.lemmas.List.{length-set, length-drop, length-map, get_or-set_same, get_or-set_other, get_or-drop}
+use Rattle.std.proofs.lemmas.List.{drop_more, drop_all}
 use Rattle.std.proofs.lemmas.Slice.Eq.{bytes_eq-Decides}
+use Rattle.std.specs.Borrow.{Bor}
+use Rattle.std.specs.Prelude.{is_some}
 use Rattle.std.specs.Str.{bytes_eq}
 use Rattle.json.specs.Json.{Json, Members, no_members, member}
 use Rattle.json.specs.Find.{get_member, later_or}
 use Rattle.json_table.specs.Tails.{members_len, last_members, IsTail}
 use Rattle.json_table.proofs.Tails.{last_whole, last_next}
+use Rattle.shared_core_json_reader.specs.declared.error.Reason.TheVariants.{UnknownMember, RepeatedMember}
+use Rattle.make_lines.specs.declared.error.LineReason.TheVariants.{Json as Wrong}
+use Rattle.make_lines.specs.Errors.{at}
+use Rattle.make_lines.specs.Members.{is_known, has_key, members_fault}
 use Rattle.make_lines.specs.Places.{names, name_at, place_count, index_in, place_of, first_value, value_at, ArePlaces}
 
 -- The places of the members before `rest`, which are at the end of all.
@@ -65,7 +73,11 @@ own_place (suc (suc (suc (suc (suc (suc zero)))))) h = refl
 own_place (suc (suc (suc (suc (suc (suc (suc zero))))))) h = refl
 own_place (suc (suc (suc (suc (suc (suc (suc (suc zero)))))))) h = refl
 own_place (suc (suc (suc (suc (suc (suc (suc (suc (suc zero))))))))) h = refl
-own_place (suc (suc (suc (suc (suc (suc (suc (suc (suc (suc i)))))))))) h = absurd (omega arith)
+own_place (suc (suc (suc (suc (suc (suc (suc (suc (suc (suc zero)))))))))) h = refl
+own_place (suc (suc (suc (suc (suc (suc (suc (suc (suc (suc (suc zero))))))))))) h = refl
+own_place (suc (suc (suc (suc (suc (suc (suc (suc (suc (suc (suc (suc zero)))))))))))) h = refl
+own_place (suc (suc (suc (suc (suc (suc (suc (suc (suc (suc (suc (suc (suc zero))))))))))))) h = refl
+own_place (suc (suc (suc (suc (suc (suc (suc (suc (suc (suc (suc (suc (suc (suc i)))))))))))))) h = absurd (omega arith)
 
 named_place : (key : List ℕ) (i : ℕ) → i < place_count → bytes_eq key (name_at i) ≡ true → place_of key ≡ Some i
 named_place key i h e = ap place_of ((bytes_eq-Decides key (name_at i)).0 e) ∙ own_place i h
@@ -86,6 +98,105 @@ no_name key j h e = by_test (bytes_eq key (name_at j)) refl
     by_test false q = refl
     by_test true q = absurd (let t : None ≡ Some j = sym e ∙ named_place key j h q in cc)
 
+-- Each name is known.
+known_name : (i : ℕ) → i < place_count → is_known (name_at i) ≡ true
+known_name zero h = refl
+known_name (suc zero) h = refl
+known_name (suc (suc zero)) h = refl
+known_name (suc (suc (suc zero))) h = refl
+known_name (suc (suc (suc (suc zero)))) h = refl
+known_name (suc (suc (suc (suc (suc zero))))) h = refl
+known_name (suc (suc (suc (suc (suc (suc zero)))))) h = refl
+known_name (suc (suc (suc (suc (suc (suc (suc zero))))))) h = refl
+known_name (suc (suc (suc (suc (suc (suc (suc (suc zero)))))))) h = refl
+known_name (suc (suc (suc (suc (suc (suc (suc (suc (suc zero))))))))) h = refl
+known_name (suc (suc (suc (suc (suc (suc (suc (suc (suc (suc zero)))))))))) h = refl
+known_name (suc (suc (suc (suc (suc (suc (suc (suc (suc (suc (suc zero))))))))))) h = refl
+known_name (suc (suc (suc (suc (suc (suc (suc (suc (suc (suc (suc (suc zero)))))))))))) h = refl
+known_name (suc (suc (suc (suc (suc (suc (suc (suc (suc (suc (suc (suc (suc zero))))))))))))) h = refl
+known_name (suc (suc (suc (suc (suc (suc (suc (suc (suc (suc (suc (suc (suc (suc i)))))))))))))) h =
+    absurd (omega arith)
+
+pub known_place : (key : List ℕ) (i : ℕ) → place_of key ≡ Some i → is_known key ≡ true
+known_place key i e =
+    let found = found_place key i e in
+    ap is_known ((bytes_eq-Decides key (name_at i)).0 found.1) ∙ known_name i found.0
+
+none_of : (b d : Bool) → b ≡ false → d ≡ false → (b || d) ≡ false
+none_of false d e f = f
+none_of true d e f = absurd cc
+
+pub unknown_place : (key : List ℕ) → place_of key ≡ None → is_known key ≡ false
+unknown_place key e =
+    let item = none_of _ _ (none_of _ _ (none_of _ _ (no 1 refl) (no 2 refl)) (no 6 refl)) (no 9 refl) in
+    let more = none_of _ _ (no 5 refl) (no 4 refl) in
+    let bytes = none_of _ _ (none_of _ _ (no 7 refl) (no 12 refl)) (no 11 refl) in
+    let passed = none_of _ _ (none_of _ _ (none_of _ _ (no 0 refl) (no 3 refl)) (no 8 refl)) (no 10 refl) in
+    none_of _ _ (none_of _ _ (none_of _ _ (none_of _ _ item more) (no 13 refl)) bytes) passed
+  where
+    no : (i : ℕ) → ltb i place_count ≡ true → bytes_eq key (name_at i) ≡ false
+    no i h = no_name key i (ltb-true i place_count h) e
+
+-- ---- looking for a key
+
+pub name_here : (xs : List (Bor (List ℕ))) (i : ℕ) (d : Bor (List ℕ)) → map (λ s. s.now) xs ≡ names → i < length xs →
+    (get_or xs i d).now ≡ name_at i
+name_here xs i d e h = sym (mapped xs i h) ∙ ap (λ (ns : List (List ℕ)). get_or ns i []) e
+  where
+    mapped : (xs : List (Bor (List ℕ))) (i : ℕ) → i < length xs → get_or (map (λ s. s.now) xs) i [] ≡
+        (get_or xs i d).now
+    mapped [] i h = absurd (omega (arith, h))
+    mapped (x ∷ xs) zero h = refl
+    mapped (x ∷ xs) (suc i) h = mapped xs i (omega (arith, h))
+
+many_names : (xs : List (Bor (List ℕ))) → map (λ s. s.now) xs ≡ names → length xs ≡ place_count
+many_names xs e = sym (length-map xs (λ s. s.now)) ∙ ap length e
+
+pub at_place : (xs : List (Bor (List ℕ))) (i from : ℕ) (d : Bor (List ℕ)) (key : List ℕ) → map (λ s. s.now) xs ≡ names →
+    i < length xs → index_in (drop i names) i key ≡ index_in (drop from names) from key → bytes_eq key
+    (get_or xs i d).now ≡ true → Some i ≡ index_in (drop from names) from key
+at_place xs i from d key e h so_far is =
+    let here : bytes_eq key (name_at i) ≡ true = ap (bytes_eq key) (sym (name_here xs i d e h)) ∙ is in
+    let within : i < length names = omega (arith, h, many_names xs e) in
+    let found : index_in (drop i names) i key ≡ Some i = ap (λ ns. index_in ns i key) (drop_more names i [] within) ∙ rw
+    here refl in
+    sym found ∙ so_far
+
+pub past_place : (xs : List (Bor (List ℕ))) (i from : ℕ) (d : Bor (List ℕ)) (key : List ℕ) → map (λ s. s.now) xs ≡ names
+    → i < length xs → index_in (drop i names) i key ≡ index_in (drop from names) from key → bytes_eq key (get_or xs i
+    d).now ≡ false → index_in (drop (i + 1) names) (i + 1) key ≡ index_in (drop from names) from key
+past_place xs i from d key e h so_far is =
+    let here : bytes_eq key (name_at i) ≡ false = ap (bytes_eq key) (sym (name_here xs i d e h)) ∙ is in
+    let within : i < length names = omega (arith, h, many_names xs e) in
+    let next : suc i ≡ i + 1 = omega arith in
+    let past : index_in (drop i names) i key ≡ index_in (drop (i + 1) names) (suc i) key = ap (λ ns. index_in ns i key)
+    (drop_more names i [] within) ∙ rw here refl in
+    ap (λ n. index_in (drop (i + 1) names) n key) (sym next) ∙ sym past ∙ so_far
+
+pub no_place : (xs : List (Bor (List ℕ))) (i from : ℕ) (key : List ℕ) → map (λ s. s.now) xs ≡ names → length xs ≤ i →
+    index_in (drop i names) i key ≡ index_in (drop from names) from key → None ≡ index_in (drop from names) from key
+no_place xs i from key e h so_far =
+    sym (ap (λ ns. index_in ns i key) (drop_all i names (omega (arith, h, many_names xs e)))) ∙ so_far
+
+pub from_found : (from : ℕ) (key : List ℕ) (i : ℕ) → index_in (drop from names) from key ≡ Some i → (i < place_count) ×
+    (place_of key ≡ Some i)
+from_found from key i e =
+    let found = index_found (drop from names) from key i e in
+    let within : i < place_count = omega (arith, found.0, found.1, length-drop from names) in
+    let sum : from + (i - from) ≡ i = omega (arith, found.0) in
+    let is : bytes_eq key (name_at i) ≡ true = ap (λ n. bytes_eq key (get_or names n [])) (sym sum) ∙ ap (bytes_eq key)
+    (sym (get_or-drop from names (i - from) [])) ∙ found.2 in
+    (within, named_place key i within is)
+
+pub known_if : (o : Option ℕ) (key : List ℕ) → o ≡ index_in (drop 0 names) 0 key → is_some o ≡ is_known key
+unfolding place_of
+known_if None key e = sym (unknown_place key (sym e))
+known_if (Some i) key e = sym (known_place key i (sym e))
+
+pub free_if : (o : Option ℕ) → is_some o ≡ false → o ≡ None
+free_if None e = refl
+free_if (Some n) e = absurd cc
+
 -- ---- going over the members
 
 none_later : (o : Option Json) → later_or o None ≡ o
@@ -98,7 +209,8 @@ some_later (Some i) p j = refl
 
 -- No place is known.
 abbrev pub nones : List (Option ℕ)
-nones = None ∷ None ∷ None ∷ None ∷ None ∷ None ∷ None ∷ None ∷ None ∷ None ∷ []
+nones =
+    None ∷ None ∷ None ∷ None ∷ None ∷ None ∷ None ∷ None ∷ None ∷ None ∷ None ∷ None ∷ None ∷ None ∷ []
 
 none_at : (i : ℕ) → i < place_count → get_or nones i None ≡ None
 none_at zero h = refl
@@ -111,7 +223,11 @@ none_at (suc (suc (suc (suc (suc (suc zero)))))) h = refl
 none_at (suc (suc (suc (suc (suc (suc (suc zero))))))) h = refl
 none_at (suc (suc (suc (suc (suc (suc (suc (suc zero)))))))) h = refl
 none_at (suc (suc (suc (suc (suc (suc (suc (suc (suc zero))))))))) h = refl
-none_at (suc (suc (suc (suc (suc (suc (suc (suc (suc (suc i)))))))))) h = absurd (omega arith)
+none_at (suc (suc (suc (suc (suc (suc (suc (suc (suc (suc zero)))))))))) h = refl
+none_at (suc (suc (suc (suc (suc (suc (suc (suc (suc (suc (suc zero))))))))))) h = refl
+none_at (suc (suc (suc (suc (suc (suc (suc (suc (suc (suc (suc (suc zero)))))))))))) h = refl
+none_at (suc (suc (suc (suc (suc (suc (suc (suc (suc (suc (suc (suc (suc zero))))))))))))) h = refl
+none_at (suc (suc (suc (suc (suc (suc (suc (suc (suc (suc (suc (suc (suc (suc i)))))))))))))) h = absurd (omega arith)
 
 -- At first no member was seen.
 pub no_places : (ms : Members) → ArePlacesSoFar ms ms nones
@@ -125,52 +241,42 @@ no_places ms = record {
 
 module _ (ms rest : Members) (k : List ℕ) (j : Json) (places : List (Option ℕ)) (so_far : ArePlacesSoFar ms (member k j
     rest) places) where
-  -- A member whose key has no place is passed over.
-  pub passed_over : place_of k ≡ None → ArePlacesSoFar ms rest places
-  passed_over none = record {
-    many = so_far.many;
-    at_end = last_next ms rest k j so_far.at_end;
-    tails = so_far.tails;
-    values = λ i h.
-        so_far.values i h
-        ∙ ap (λ b. later_or (later_or (get_member (name_at i) rest) (cond b (Some j) None)) (value_at ms (get_or places
-        i None))) (no_name k i h none)
-        ∙ ap (λ o. later_or o (value_at ms (get_or places i None))) (none_later (get_member (name_at i) rest));
-  }
-
   -- A member whose key has a place is the last one of its name so far.
-  pub placed : (at : ℕ) → place_of k ≡ Some at → ArePlacesSoFar ms rest (slice_set places at (Some (members_len (member
-      k j rest))))
-  placed at found = record {
-    many = length-set places at (Some left) ∙ so_far.many;
+  pub placed : (place : ℕ) → place_of k ≡ Some place → ArePlacesSoFar ms rest (slice_set places place (Some (members_len
+      (member k j rest))))
+  placed place found = record {
+    many = length-set places place (Some left) ∙ so_far.many;
     at_end = last_next ms rest k j so_far.at_end;
-    tails = λ i n h e. tail i n h (cases_eq i at) e;
-    values = λ i h. value i h (cases_eq i at);
+    tails = λ i n h e. tail i n h (cases_eq i place) e;
+    values = λ i h. value i h (cases_eq i place);
   }
     where
       left : ℕ
       left = members_len (member k j rest)
 
-      here : at < place_count
-      here = (found_place k at found).0
+      here : place < place_count
+      here = (found_place k place found).0
 
-      tail : (i n : ℕ) → i < place_count → (i ≡ at) ⊎ (i ≢ at) → get_or (slice_set places at (Some left)) i None ≡ Some
-          n → IsTail n ms
+      tail : (i n : ℕ) → i < place_count → (i ≡ place) ⊎ (i ≢ place) → get_or (slice_set places place (Some left)) i
+          None ≡ Some n → IsTail n ms
       tail i n h (inl same) e =
-          let set : get_or (slice_set places at (Some left)) i None ≡ Some left = ap (λ x. get_or (slice_set places at
-          (Some left)) x None) same ∙ get_or-set_same places at (Some left) None (omega (arith, so_far.many, here))
+          let set : get_or (slice_set places place (Some left)) i None ≡ Some left = ap (λ x. get_or (slice_set places
+          place (Some left)) x None) same ∙ get_or-set_same places place (Some left) None
+          (omega (arith, so_far.many, here))
           in
           let is : left ≡ n = cc in
           record { len = ap (λ x. members_len (last_members x ms)) (sym is) ∙ ap members_len so_far.at_end ∙ is }
-      tail i n h (inr other) e = so_far.tails i n h (sym (get_or-set_other places at i (Some left) None other) ∙ e)
+      tail i n h (inr other) e = so_far.tails i n h (sym (get_or-set_other places place i (Some left) None other) ∙ e)
 
-      value : (i : ℕ) → i < place_count → (i ≡ at) ⊎ (i ≢ at) → get_member (name_at i) ms ≡ later_or (get_member
-          (name_at i) rest) (value_at ms (get_or (slice_set places at (Some left)) i None))
+      value : (i : ℕ) → i < place_count → (i ≡ place) ⊎ (i ≢ place) → get_member (name_at i) ms ≡ later_or (get_member
+          (name_at i) rest) (value_at ms (get_or (slice_set places place (Some left)) i None))
       value i h (inl same) =
-          let set : get_or (slice_set places at (Some left)) i None ≡ Some left = ap (λ x. get_or (slice_set places at
-          (Some left)) x None) same ∙ get_or-set_same places at (Some left) None (omega (arith, so_far.many, here))
+          let set : get_or (slice_set places place (Some left)) i None ≡ Some left = ap (λ x. get_or (slice_set places
+          place (Some left)) x None) same ∙ get_or-set_same places place (Some left) None
+          (omega (arith, so_far.many, here))
           in
-          let is : bytes_eq k (name_at i) ≡ true = ap (λ x. bytes_eq k (name_at x)) same ∙ (found_place k at found).1 in
+          let is : bytes_eq k (name_at i) ≡ true = ap (λ x. bytes_eq k (name_at x)) same ∙ (found_place k place
+          found).1 in
           so_far.values i h
           ∙ ap (λ b. later_or (later_or (get_member (name_at i) rest) (cond b (Some j) None)) (value_at ms (get_or
           places i None))) is
@@ -180,11 +286,110 @@ module _ (ms rest : Members) (k : List ℕ) (j : Json) (places : List (Option �
       value i h (inr other) =
           so_far.values i h
           ∙ ap (λ b. later_or (later_or (get_member (name_at i) rest) (cond b (Some j) None)) (value_at ms (get_or
-          places i None))) (other_name k at i h found (λ e. other (sym e)))
+          places i None))) (other_name k place i h found (λ e. other (sym e)))
           ∙ ap (λ o. later_or o (value_at ms (get_or places i None))) (none_later (get_member (name_at i) rest))
-          ∙ ap (λ o. later_or (get_member (name_at i) rest) (value_at ms o)) (sym (get_or-set_other places at i (Some
+          ∙ ap (λ o. later_or (get_member (name_at i) rest) (value_at ms o)) (sym (get_or-set_other places place i (Some
           left) None other))
 
--- At the end all members were seen.
-pub all_places : (ms : Members) (places : List (Option ℕ)) → ArePlacesSoFar ms no_members places → ArePlaces ms places
-all_places ms places so_far = record { tails = so_far.tails; values = so_far.values }
+-- ---- the fault of the members
+
+-- The rest has none of the keys that have a place.
+abbrev pub HasNoneOf : List (Option ℕ) → Members → Type 0
+HasNoneOf places rest = (place n : ℕ) → place < place_count → get_or places place None ≡ Some n → has_key
+    (name_at place) rest ≡ false
+
+-- The members before `rest` are known and differ, and have these places.
+pub record AreWellSoFar (ms rest : Members) (places : List (Option ℕ)) : Type 0 where
+  pub well : members_fault rest ≡ None → HasNoneOf places rest → members_fault ms ≡ None
+  pub fault : members_fault rest ≢ None → members_fault ms ≢ None
+  pub repeated : (place n : ℕ) → place < place_count → get_or places place None ≡ Some n → has_key (name_at place) rest
+      ≡ true → members_fault ms ≢ None
+
+-- At first no member was seen.
+pub no_keys : (ms : Members) → AreWellSoFar ms ms nones
+no_keys ms = record {
+  well = λ e none. e;
+  fault = λ ne. ne;
+  repeated = λ i n h e. absurd (let t = sym (none_at i h) ∙ e in cc);
+}
+
+-- At the end there is no fault.
+pub all_well : (ms : Members) (places : List (Option ℕ)) → AreWellSoFar ms no_members places → members_fault ms ≡ None
+all_well ms places so_far = so_far.well refl (λ i n h e. refl)
+
+unknown_is : (k : List ℕ) (j : Json) (rest : Members) → is_known k ≡ false → members_fault (member k j rest) ≡ Some
+    (at k (Wrong UnknownMember))
+unknown_is k j rest e = rw e refl
+
+repeated_is : (k : List ℕ) (j : Json) (rest : Members) → is_known k ≡ true → has_key k rest ≡ true → members_fault
+    (member k j rest) ≡ Some (at k (Wrong RepeatedMember))
+repeated_is k j rest e f = rw (e, f) refl
+
+next_is : (k : List ℕ) (j : Json) (rest : Members) → is_known k ≡ true → has_key k rest ≡ false → members_fault
+    (member k j rest) ≡ members_fault rest
+next_is k j rest e f = rw (e, f) refl
+
+-- A key that has no place is a fault.
+pub no_place_fault : (ms rest : Members) (k : List ℕ) (j : Json) (places : List (Option ℕ)) → AreWellSoFar ms
+    (member k j rest) places → place_of k ≡ None → members_fault ms ≢ None
+no_place_fault ms rest k j places so_far none = so_far.fault (λ e. absurd (let t = sym (unknown_is k j rest
+    (unknown_place k none)) ∙ e in cc))
+
+module _ (ms rest : Members) (k : List ℕ) (j : Json) (places : List (Option ℕ)) (place : ℕ) (many : length places ≡
+    place_count) (found : place_of k ≡ Some place) (so_far : AreWellSoFar ms (member k j rest) places) where
+  here : place < place_count
+  here = (found_place k place found).0
+
+  is : bytes_eq k (name_at place) ≡ true
+  is = (found_place k place found).1
+
+  name_is : k ≡ name_at place
+  name_is = (bytes_eq-Decides k (name_at place)).0 is
+
+  known : is_known k ≡ true
+  known = known_place k place found
+
+  -- A key whose place is taken is a fault.
+  pub taken_fault : is_some (get_or places place None) ≡ true → members_fault ms ≢ None
+  taken_fault e = by_value (get_or places place None) refl e
+    where
+      by_value : (o : Option ℕ) → get_or places place None ≡ o → is_some o ≡ true → members_fault ms ≢ None
+      by_value None f g = absurd cc
+      by_value (Some n) f g = so_far.repeated place n here f (rw is refl)
+
+  repeated_fault : has_key k rest ≡ true → members_fault (member k j rest) ≢ None
+  repeated_fault f e = absurd (let t = sym (repeated_is k j rest known f) ∙ e in cc)
+
+  -- A key whose place is free takes it.
+  pub taken : (left : ℕ) → is_some (get_or places place None) ≡ false → AreWellSoFar ms rest (slice_set places place
+      (Some left))
+  taken left is_free = record {
+    well = λ e none. so_far.well (next_is k j rest known (absent none) ∙ e) (λ i n h f. others none i n h f (cases_eq i
+        place));
+    fault = λ ne. so_far.fault (λ e. by_test (has_key k rest) refl ne e);
+    repeated = λ i n h f g. again i n h f g (cases_eq i place);
+  }
+    where
+      free : get_or places place None ≡ None
+      free = free_if (get_or places place None) is_free
+
+      absent : HasNoneOf (slice_set places place (Some left)) rest → has_key k rest ≡ false
+      absent none = ap (λ x. has_key x rest) name_is ∙ none place left here (get_or-set_same places place (Some left)
+          None (omega (arith, many, here)))
+
+      others : HasNoneOf (slice_set places place (Some left)) rest → (i n : ℕ) → i < place_count → get_or places i None
+          ≡ Some n → (i ≡ place) ⊎ (i ≢ place) → has_key (name_at i) (member k j rest) ≡ false
+      others none i n h f (inl same) = absurd (let t = sym f ∙ ap (λ x. get_or places x None) same ∙ free in cc)
+      others none i n h f (inr other) = rw (other_name k place i h found (λ e. other (sym e))) (none i n h
+          (get_or-set_other places place i (Some left) None other ∙ f))
+
+      by_test : (b : Bool) → has_key k rest ≡ b → members_fault rest ≢ None → members_fault (member k j rest) ≡ None → ⊥
+      by_test true f ne e = repeated_fault f e
+      by_test false f ne e = ne (sym (next_is k j rest known f) ∙ e)
+
+      again : (i n : ℕ) → i < place_count → get_or (slice_set places place (Some left)) i None ≡ Some n → has_key
+          (name_at i) rest ≡ true → (i ≡ place) ⊎ (i ≢ place) → members_fault ms ≢ None
+      again i n h f g (inl same) = so_far.fault (repeated_fault (ap (λ x. has_key x rest)
+          (name_is ∙ ap name_at (sym same)) ∙ g))
+      again i n h f g (inr other) = so_far.repeated i n h (sym (get_or-set_other places place i (Some left) None other)
+          ∙ f) (rw (other_name k place i h found (λ e. other (sym e))) g)

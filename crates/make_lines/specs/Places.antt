@@ -5,15 +5,16 @@ use Rattle.json.specs.Json.{Json, Members, no_members, member}
 use Rattle.json.specs.Find.{get_member}
 use Rattle.json_table.specs.Tails.{last_members, IsTail}
 
--- The names of the members that are asked for, by their places.
+-- The names of the members that a line may have, by their places.
 abbrev pub names : List (List ℕ)
 names =
-    codes "type" ∷ codes "code" ∷ codes "message" ∷ codes "unknown" ∷ codes "header" ∷ codes "requestedAck" ∷
-    codes "ack" ∷ codes "bytes" ∷ codes "payload" ∷ codes "rest" ∷ []
+    codes "offset" ∷ codes "type" ∷ codes "code" ∷ codes "length" ∷ codes "requestedAck" ∷ codes "header" ∷
+    codes "message" ∷ codes "bytes" ∷ codes "malformed" ∷ codes "unknown" ∷ codes "skipped" ∷ codes "rest" ∷
+    codes "payload" ∷ codes "ack" ∷ []
 
 -- How many places there are.
 abbrev pub place_count : ℕ
-place_count = 10
+place_count = 14
 
 -- The name of a place.
 abbrev pub name_at : ℕ → List ℕ

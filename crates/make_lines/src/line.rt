@@ -23,7 +23,7 @@ use json_table::Node;
 use shared_core_base::header::MessageType;
 use shared_core_base::version::Version;
 use shared_core_json_reader::{
-    Reason, payload_of_node, read_bytes, read_u32, read_u64, table_of_text,
+    Reason, payload_in_buffer, read_bytes, read_u32, read_u64, table_of_text,
 };
 use shared_core_message::schemas::schema_at;
 use std::alloc::{AllocError, Global};
@@ -160,12 +160,13 @@ fn schema_of(version: Version, code: u16) -> Option<u32>
     }
 }
 
-/// The payload of a message.
+/// The payload of a message, in a buffer, which is emptied first.
 fn message_of(
     alloc: Global,
     version: Version,
     code: u16,
     message: &Node<'_, '_>,
+    buffer: Vec<u8>,
 ) -> Result<Vec<u8>, LineError>
     ensures { MatchResult result (λ bytes. message_said version code message.now ≡ Ok bytes.items)
         (Rejects (message_said version code message.now)) }
@@ -173,7 +174,7 @@ fn message_of(
     let Some(schema) = schema_of(version, code) else {
         return Err(reject(alloc, LineReason::NoSchema, "message"));
     };
-    match payload_of_node(alloc, schema, message) {
+    match payload_in_buffer(alloc, schema, message, buffer) {
         Ok(payload) => Ok(payload),
         Err(error) => Err(reject_inside(alloc, &error, "message")),
     }
@@ -193,12 +194,13 @@ fn nothing_of(alloc: Global, code: u16, value: &Node<'_, '_>) -> Result<Vec<u8>,
     }
 }
 
-/// The payload of a line.
+/// The payload of a line. That of a message is in a buffer, which is emptied first.
 fn payload_of(
     alloc: Global,
     version: Version,
     code: u16,
     line: &Line<'_, '_>,
+    buffer: Vec<u8>,
 ) -> Result<Vec<u8>, LineError>
     ensures { MatchResult result (λ payload. line_payload version code line.now ≡ Ok payload.items)
         (Rejects (line_payload version code line.now)) }
@@ -207,7 +209,7 @@ fn payload_of(
     let bytes = line.given_either(BYTES, PAYLOAD);
     let unknown = line.given(UNKNOWN);
     match (message, bytes, unknown) {
-        (Some(message), None, None) => message_of(alloc, version, code, &message),
+        (Some(message), None, None) => message_of(alloc, version, code, &message, buffer),
         (None, Some(bytes), None) => bytes_of(alloc, &bytes, bytes_name(line)),
         (None, None, Some(unknown)) => nothing_of(alloc, code, &unknown),
         (None, None, None) => Err(reject(alloc, LineReason::NoPayload, "")),
@@ -410,20 +412,24 @@ fn append_framed(
     append(alloc, payload, out)
 }
 
-/// Appends the bytes of an item.
+/// Appends the bytes of an item. The buffer is kept for the next payload.
 #[tactic(auto, unfolding(crate::specs::Lines::item_said))]
 fn append_item(
     alloc: Global,
     version: Version,
     line: &Line<'_, '_>,
+    buffer: &mut Vec<u8>,
     out: &mut Vec<u8>,
 ) -> Result<(), LineError>
     ensures { Appends result (item_said version line.now) out.old.items out.new.items }
 {
     let code = code_of(alloc, line)?;
     let flag = flag_of(alloc, code, line)?;
-    let payload = payload_of(alloc, version, code, line)?;
-    append_framed(alloc, version, code, flag, payload.as_slice(), line, out)
+    let kept = std::mem::replace(buffer, Vec::new(alloc));
+    let payload = payload_of(alloc, version, code, line, kept)?;
+    append_framed(alloc, version, code, flag, payload.as_slice(), line, out)?;
+    *buffer = payload;
+    Ok(())
 }
 
 /// Whether a line has none of the members that say what an item is.
@@ -463,6 +469,7 @@ fn append_said(
     alloc: Global,
     version: Version,
     value: &Node<'_, '_>,
+    buffer: &mut Vec<u8>,
     out: &mut Vec<u8>,
 ) -> Result<(), LineError>
     ensures { Appends result (line_said version value.now) out.old.items out.new.items }
@@ -472,20 +479,37 @@ fn append_said(
         Err(error) => return Err(error),
     };
     let Some(rest) = line.given(REST) else {
-        return append_item(alloc, version, &line, out);
+        return append_item(alloc, version, &line, buffer, out);
     };
     let bytes = rest_of(alloc, &rest, &line)?;
     append(alloc, bytes.as_slice(), out)
 }
 
+/// What is kept from line to line: the buffers for reading JSON, and that of a payload.
+#[derive(Drop)]
+pub struct Buffers {
+    scratch: Scratch,
+    payload: Vec<u8>,
+}
+
+impl Buffers {
+    /// Buffers without room.
+    pub fn new(alloc: Global) -> Buffers {
+        Buffers {
+            scratch: Scratch::new(alloc),
+            payload: Vec::new(alloc),
+        }
+    }
+}
+
 /// Appends the bytes that a line means, without its newline; none for a blank one. After an error nothing is appended,
-/// unless an allocation failed. The buffers for reading JSON can be reused.
+/// unless an allocation failed.
 #[tactic(auto, unfolding(crate::specs::Lines::line_made))]
 pub fn append_line(
     alloc: Global,
     version: Version,
     line: &[u8],
-    scratch: &mut Scratch,
+    buffers: &mut Buffers,
     out: &mut Vec<u8>,
 ) -> Result<(), LineError>
     ensures { AppendsLine version line.now result out.old.items out.new.items }
@@ -493,8 +517,10 @@ pub fn append_line(
     if is_blank(line) {
         return Ok(());
     }
-    let error = match table_of_text(alloc, line, scratch) {
-        Ok(table) => return append_said(alloc, version, &table.root(), out),
+    let error = match table_of_text(alloc, line, &mut buffers.scratch) {
+        Ok(table) => {
+            return append_said(alloc, version, &table.root(), &mut buffers.payload, out);
+        }
         Err(error) => error,
     };
     match (error.reason, error.offset) {

@@ -1,15 +1,14 @@
 //! The members of a line, by their names.
 //!
-//! A line is gone over once for the values of the names that are asked for; each has a place (`Line`).
+//! A line is gone over once: each name has a place (`Line`), and only a line with a fault is gone over again.
 
-ghost use Rattle.std.specs.Prelude.{◌≡◌, ◌<◌, None, IfSome, option_and_then, MatchResult};
+ghost use Rattle.std.specs.Prelude.{◌≡◌, ◌≢◌, ◌<◌, None, map, drop, IfSome, option_and_then, MatchOption, MatchResult};
 ghost use Rattle.json_table.specs.Tails.{last_members, IsTail};
 ghost use Rattle.shared_core_json_reader.specs.Reading.{present};
 ghost use Rattle.make_lines.specs.Appending.{HasFault};
-ghost use Rattle.make_lines.specs.Members.{says_item, says_bytes, is_passed_over, is_known};
-ghost use Rattle.make_lines.specs.Members.{has_key, members_fault, shape_fault};
+ghost use Rattle.make_lines.specs.Members.{is_known, has_key, members_fault, shape_fault};
 ghost use Rattle.make_lines.specs.Members.{given, given_either, gives_both};
-ghost use Rattle.make_lines.specs.Places.{place_of, name_at, place_count, first_value, ArePlaces};
+ghost use Rattle.make_lines.specs.Places.{names, index_in, place_of, name_at, place_count, first_value, ArePlaces};
 
 use crate::error::{LineError, LineReason};
 use crate::reject::reject;
@@ -18,33 +17,52 @@ use shared_core_json_reader::Reason;
 use std::alloc::Global;
 use std::marker::Model;
 
+/// The names of the members that a line may have, in the order in which a dump has them; the place of a name is its
+/// index.
+static NAMES: [&str; 14] = [
+    "offset",
+    "type",
+    "code",
+    "length",
+    "requestedAck",
+    "header",
+    "message",
+    "bytes",
+    "malformed",
+    "unknown",
+    "skipped",
+    "rest",
+    "payload",
+    "ack",
+];
+
 /// The place of the member `type`; the names of the other places are their names.
-pub const TYPE: usize = 0;
+pub const TYPE: usize = 1;
 
-pub const CODE: usize = 1;
+pub const CODE: usize = 2;
 
-pub const MESSAGE: usize = 2;
+pub const REQUESTED_ACK: usize = 4;
 
-pub const UNKNOWN: usize = 3;
+pub const HEADER: usize = 5;
 
-pub const HEADER: usize = 4;
-
-pub const REQUESTED_ACK: usize = 5;
-
-pub const ACK: usize = 6;
+pub const MESSAGE: usize = 6;
 
 pub const BYTES: usize = 7;
 
-pub const PAYLOAD: usize = 8;
+pub const UNKNOWN: usize = 9;
 
-pub const REST: usize = 9;
+pub const REST: usize = 11;
+
+pub const PAYLOAD: usize = 12;
+
+pub const ACK: usize = 13;
 
 /// The value of a line: an object of members that a line may have. A contract sees the value.
 #[derive(Drop)]
 pub struct Line<'t, 'a> {
     members: Members<'t, 'a>,
-    /// With how many entries the members end that begin with the last one of a place's name.
-    places: [Option<usize>; 10],
+    /// With how many entries the members end that begin with the one of a place's name.
+    places: [Option<usize>; 14],
 }
 
 impl<'t, 'a> Model for Line<'t, 'a> {
@@ -62,37 +80,51 @@ impl<'t, 'a> Model for Line<'t, 'a> {
     ghost invariant = { λ a. ArePlaces a.members a.places };
 }
 
-/// Whether a key is one of those that say what an item is.
-fn says_item(key: &str) -> bool
-    ensures { result ≡ says_item key.now }
+/// The names of the members that a line may have.
+fn names() -> &'static [&'static str]
+    ensures { map (λ s. s.now) result.now ≡ names }
 {
-    key == "type"
-        || key == "code"
-        || key == "message"
-        || key == "unknown"
-        || (key == "header" || key == "requestedAck")
-        || key == "ack"
+    &NAMES
 }
 
-/// Whether a key is one of those that give bytes, or say that these are after the last item.
-fn says_bytes(key: &str) -> bool
-    ensures { result ≡ says_bytes key.now }
+/// The place of the first of the names, from a place on, that is a key.
+#[inline(always)]
+fn place_from(from: usize, key: &str) -> Option<usize>
+    ensures { result ≡ index_in (drop from names) from key.now }
 {
-    key == "bytes" || key == "payload" || key == "rest"
+    let names = names();
+    let mut place = from;
+    while place < names.len() {
+        if key == names[place] {
+            return Some(place);
+        }
+        place += 1;
+    }
+    None
 }
 
-/// Whether a key is one of the others of a dump, which are ignored.
-fn is_passed_over(key: &str) -> bool
-    ensures { result ≡ is_passed_over key.now }
+/// The place of a key, if it is a name. The names from `next` on are tried first, and `next` is set after the key's:
+/// most lines have their members in the order of a dump.
+#[inline(always)]
+fn next_place(next: &mut usize, key: &str) -> Option<usize>
+    ensures value { result ≡ place_of key.now }
+    ensures within { IfSome result (λ place. place < place_count) }
 {
-    key == "offset" || key == "length" || key == "malformed" || key == "skipped"
+    match place_from(*next, key) {
+        Some(place) => {
+            *next = place + 1;
+            Some(place)
+        }
+        None => place_from(0, key),
+    }
 }
 
 /// Whether a line may have a member with this key.
+#[tactic(auto, using(crate::proofs::Placing::known_if))]
 fn is_known(key: &str) -> bool
     ensures { result ≡ is_known key.now }
 {
-    says_item(key) || says_bytes(key) || is_passed_over(key)
+    place_from(0, key).is_some()
 }
 
 /// Whether a member has this key.
@@ -108,69 +140,46 @@ fn has_key(key: &str, members: &Members<'_, '_>) -> bool
     false
 }
 
-/// Checks that each key is one that a line may have, and that none occurs twice.
-fn check_members(alloc: Global, members: &Members<'_, '_>) -> Result<(), LineError>
-    ensures { MatchResult result (λ _. members_fault members.now ≡ None) (HasFault (members_fault members.now)) }
+/// The fault of the first member whose key a line may not have, or whose key occurs again.
+#[cold]
+fn first_fault(alloc: Global, members: &Members<'_, '_>) -> LineError
+    requires { members_fault members.now ≢ None }
+    ensures { HasFault (members_fault members.now) result }
 {
     let mut rest = members.copy();
     while let Some((key, _)) = rest.next() {
         if !is_known(key) {
-            return Err(reject(alloc, LineReason::Json(Reason::UnknownMember), key));
+            return reject(alloc, LineReason::Json(Reason::UnknownMember), key);
         }
         if has_key(key, &rest) {
-            return Err(reject(alloc, LineReason::Json(Reason::RepeatedMember), key));
+            return reject(alloc, LineReason::Json(Reason::RepeatedMember), key);
         }
     }
-    Ok(())
+    unreachable!()
 }
 
-/// The place of a key, if it is one of the names that are asked for.
+/// Where the member of each name is; none if a key is one that a line may not have, or occurs twice.
 #[inline(always)]
-#[tactic(auto, unfolding(crate::specs::Places::place_of))]
-fn place_of(key: &str) -> Option<usize>
-    ensures value { result ≡ place_of key.now }
-    ensures within { IfSome result (λ place. place < place_count) }
+fn places_of(members: &Members<'_, '_>) -> Option<[Option<usize>; 14]>
+    ensures places { IfSome result (λ places. ArePlaces members.now places) }
+    ensures fault { MatchOption result (members_fault members.now ≢ None)
+        (λ _. members_fault members.now ≡ None) }
 {
-    if key == "type" {
-        Some(TYPE)
-    } else if key == "code" {
-        Some(CODE)
-    } else if key == "message" {
-        Some(MESSAGE)
-    } else if key == "unknown" {
-        Some(UNKNOWN)
-    } else if key == "header" {
-        Some(HEADER)
-    } else if key == "requestedAck" {
-        Some(REQUESTED_ACK)
-    } else if key == "ack" {
-        Some(ACK)
-    } else if key == "bytes" {
-        Some(BYTES)
-    } else if key == "payload" {
-        Some(PAYLOAD)
-    } else if key == "rest" {
-        Some(REST)
-    } else {
-        None
-    }
-}
-
-/// Where the last member of each name is.
-#[inline(always)]
-fn places_of(members: &Members<'_, '_>) -> [Option<usize>; 10]
-    ensures { ArePlaces members.now result }
-{
-    let mut places = [None; 10];
+    let mut places = [None; 14];
     let mut rest = members.copy();
+    let mut next = 0;
     loop {
         let left = rest.left();
         let Some((key, _)) = rest.next() else {
-            return places;
+            return Some(places);
         };
-        if let Some(place) = place_of(key) {
-            places[place] = Some(left);
+        let Some(place) = next_place(&mut next, key) else {
+            return None;
+        };
+        if places[place].is_some() {
+            return None;
         }
+        places[place] = Some(left);
     }
 }
 
@@ -194,8 +203,9 @@ impl<'t, 'a> Line<'t, 'a> {
         let Shape::Object(members) = value.shape() else {
             return Err(reject(alloc, LineReason::Json(Reason::WrongKind), ""));
         };
-        check_members(alloc, &members)?;
-        let places = places_of(&members);
+        let Some(places) = places_of(&members) else {
+            return Err(first_fault(alloc, &members));
+        };
         let line = Line { members, places };
         if line.gives_both(BYTES, PAYLOAD) {
             return Err(reject(alloc, LineReason::SeveralPayloads, ""));

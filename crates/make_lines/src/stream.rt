@@ -8,8 +8,7 @@ ghost use Rattle.make_lines.specs.Made.{has_newline, IsMade};
 ghost use Rattle.make_lines.specs.Steps.{IsTaken, IsStep, IsFinished, LineIsTaken};
 
 use crate::error::{LineError, LineReason, MakeError};
-use crate::line::append_line;
-use json::Scratch;
+use crate::line::{Buffers, append_line};
 use memchr::memchr;
 use shared_core_base::version::Version;
 use shared_core_io::read_some;
@@ -43,7 +42,7 @@ pub struct Rejected {
 fn take_line(
     alloc: Global,
     version: Version,
-    scratch: &mut Scratch,
+    buffers: &mut Buffers,
     lines: &mut Lines,
 ) -> Result<Option<Rejected>, AllocError>
     ensures { LineIsTaken (line_made version) (IsRejected version) result lines.old lines.new }
@@ -53,7 +52,7 @@ fn take_line(
         alloc,
         version,
         lines.pending.as_slice(),
-        scratch,
+        buffers,
         &mut lines.made,
     ) {
         Ok(()) => {
@@ -71,7 +70,7 @@ fn take_chunk(
     alloc: Global,
     version: Version,
     chunk: &[u8],
-    scratch: &mut Scratch,
+    buffers: &mut Buffers,
     lines: &mut Lines,
 ) -> Result<Option<Rejected>, AllocError>
     requires { has_newline lines.old.pending.items ≡ false }
@@ -81,7 +80,7 @@ fn take_chunk(
     let mut rest = chunk;
     while let Some(at) = memchr(b'\n', rest) {
         lines.pending.extend_from_slice(&rest[..at])?;
-        if let Some(rejected) = take_line(alloc, version, scratch, lines)? {
+        if let Some(rejected) = take_line(alloc, version, buffers, lines)? {
             return Ok(Some(rejected));
         }
         rest = &rest[at + 1..];
@@ -95,7 +94,7 @@ fn step<W: Write>(
     alloc: Global,
     version: Version,
     chunk: &[u8],
-    scratch: &mut Scratch,
+    buffers: &mut Buffers,
     lines: &mut Lines,
     output: &mut W,
 ) -> Result<(), MakeError>
@@ -106,7 +105,7 @@ fn step<W: Write>(
         × IsStep (line_made version) (IsRejected version) (lines.old.pending.items ++ chunk.now) result written
         lines.old lines.new }
 {
-    let rejected = take_chunk(alloc, version, chunk, scratch, lines)?;
+    let rejected = take_chunk(alloc, version, chunk, buffers, lines)?;
     write_whole(output, lines.made.as_slice())?;
     lines.made.clear();
     match rejected {
@@ -119,7 +118,7 @@ fn step<W: Write>(
 fn finish<W: Write>(
     alloc: Global,
     version: Version,
-    scratch: &mut Scratch,
+    buffers: &mut Buffers,
     lines: &mut Lines,
     output: &mut W,
 ) -> Result<(), MakeError>
@@ -128,7 +127,7 @@ fn finish<W: Write>(
         × Appends (W.contents output.old) (W.contents output.new) written
         × IsFinished (line_made version) (IsRejected version) result written lines.old }
 {
-    if let Some(rejected) = take_line(alloc, version, scratch, lines)? {
+    if let Some(rejected) = take_line(alloc, version, buffers, lines)? {
         return Err(MakeError::Line(rejected.number, rejected.error));
     }
     write_whole(output, lines.made.as_slice())?;
@@ -159,19 +158,19 @@ pub fn make<R: Read, W: Write>(
     };
     let mut buffer = Vec::from_elem(alloc, 0u8, CHUNK)?;
     let buffer = buffer.as_mut_slice();
-    let mut scratch = Scratch::new(alloc);
+    let mut buffers = Buffers::new(alloc);
     for _ in 0..u64::MAX {
         let Ok(count) = read_some(input, buffer) else {
             return Err(MakeError::Input);
         };
         if count == 0 {
-            return finish(alloc, version, &mut scratch, &mut lines, output);
+            return finish(alloc, version, &mut buffers, &mut lines, output);
         }
         step(
             alloc,
             version,
             &buffer[..count],
-            &mut scratch,
+            &mut buffers,
             &mut lines,
             output,
         )?;

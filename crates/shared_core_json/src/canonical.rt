@@ -54,8 +54,9 @@ fn encode_over<M: WireRecord>(message: &M, canonical: &mut Vec<u8>) -> Result<()
     Ok(())
 }
 
-/// Returns the JSON of a payload of the message whose schema is at this index of the table. A canonical payload is
-/// written as it is; any other is decoded and written canonically first. The errors are those of `write_canonical`.
+/// Returns the JSON of a payload of the message whose schema is at this index of the table, which is that of the record
+/// `M`. A canonical payload is written as it is; any other is decoded and written canonically first. The errors are
+/// those of `write_canonical`.
 pub fn json_of<M: WireRecord>(
     alloc: Global,
     schema: u32,

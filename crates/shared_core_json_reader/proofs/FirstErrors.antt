@@ -37,26 +37,9 @@ pub entered : (old new first : List program.Step) (step : program.Step) → new 
 entered old new first step e q = ap path_view e ∙ map-append step_view old (step ∷ []) ∙ ap
     (λ (steps : List program.Step). path_view steps ++ step_view step ∷ []) q
 
-pub items_error_turn : (nested : List Step → ℕ → Json → Option PathError) (f : NamedField) (js rest : Items) (i : ℕ)
-    (j : Json) (path here : List Step) (all : Option PathError) → js ≡ item j rest → here ≡ path ++ Element i ∷ [] →
-    field_error nested f here j ≡ None → items_error nested f path i js ≡ all → items_error nested f path (i + 1) rest ≡
-    all
-items_error_turn nested f js rest i j path here all is at none h =
-    let more = items_error nested f path (i + 1) rest in
-    sym (ap (λ (o : Option PathError). option_or o more) (ap (λ (w : List Step). field_error nested f w j)
-    (sym at) ∙ none))
-    ∙ sym (ap (λ (ks : Items). items_error nested f path i ks) is) ∙ h
-
 pub items_error_end : (nested : List Step → ℕ → Json → Option PathError) (f : NamedField) (js : Items) (i : ℕ)
     (path : List Step) (all : Option PathError) → js ≡ no_items → items_error nested f path i js ≡ all → all ≡ None
 items_error_end nested f js i path all is h = sym h ∙ ap (λ (ks : Items). items_error nested f path i ks) is
-
-pub run_error_turn : (js rest : Items) (i : ℕ) (j : Json) (m : ℕ) (path : List Step) (all : Option PathError) → js ≡
-    item j rest → unsigned_read 4294967296 j ≡ Some m → run_error path i js ≡ all → run_error path (i + 1) rest ≡ all
-run_error_turn js rest i j m path all is number h =
-    let more = run_error path (i + 1) rest in
-    sym (ap (λ (o : Option ℕ). option_or (unread o (number_reason j) (path ++ Element i ∷ [])) more) number)
-    ∙ sym (ap (λ (ks : Items). run_error path i ks) is) ∙ h
 
 pub run_error_end : (js : Items) (i : ℕ) (path : List Step) (all : Option PathError) → js ≡ no_items → run_error path i
     js ≡ all → all ≡ None

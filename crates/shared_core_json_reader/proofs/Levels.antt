@@ -41,13 +41,6 @@ after_both old new (Some xs) None e = refl
 after_both old new (Some xs) (Some ys) e = let q : old ++ xs ≡ new = cc in ap (λ (zs : List ℕ). Some zs)
     (sym (append_assoc old xs ys) ∙ ap (λ (zs : List ℕ). zs ++ ys) q)
 
-pub items_turn : (nested : ℕ → Json → Option (List ℕ)) (f : NamedField) (js rest : Items) (j : Json)
-    (old new : List ℕ) (all : Option (List ℕ)) → js ≡ item j rest → after old (field_bytes nested false f j) ≡ Some new
-    → after old (items_bytes nested f js) ≡ all → after new (items_bytes nested f rest) ≡ all
-items_turn nested f js rest j old new all is e h =
-    sym (after_both old new (field_bytes nested false f j) (items_bytes nested f rest) e)
-    ∙ sym (ap (λ (ks : Items). after old (items_bytes nested f ks)) is) ∙ h
-
 pub items_end : (nested : ℕ → Json → Option (List ℕ)) (f : NamedField) (js : Items) (old : List ℕ)
     (all : Option (List ℕ)) → js ≡ no_items → after old (items_bytes nested f js) ≡ all → all ≡ Some old
 items_end nested f js old all is h =
@@ -70,10 +63,6 @@ run_end js old all is h =
 pub none_left : (js : Items) → items_count js ≤ 0 → js ≡ no_items
 none_left no_items h = refl
 none_left (item j js) h = absurd (omega (arith, h))
-
--- one item fewer
-pub one_fewer : (js rest : Items) (j : Json) → js ≡ item j rest → items_count js ≡ items_count rest + 1
-one_fewer js rest j is = ap items_count is ∙ omega arith
 
 -- what is appended for a member of a oneof that holds none before
 one_held : (nested : ℕ → Json → Option (List ℕ)) (ms : Members) (f : NamedField) (fs : List NamedField) (j : Json) →

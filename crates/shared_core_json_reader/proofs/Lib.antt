@@ -9,6 +9,7 @@ pub mod Agreeing
 pub mod Whole
 pub mod Fitting
 pub mod ScalarsBack
+pub mod ShortNumbers
 pub mod TreeBack
 pub mod LawOfJson
 pub mod ReadAgain

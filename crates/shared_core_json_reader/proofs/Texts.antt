@@ -30,17 +30,6 @@ pub failed_with : (s : List ℕ) (e : DecodeAllocError) (d : DecodeError) → e 
     standard_pad_indifferent s e → decode_of standard_pad_indifferent s ≡ Err d
 failed_with s e d is f = subst (IsDecodeFailure standard_pad_indifferent s) is f
 
--- a text against a byte and more
-byte_then : (text : List ℕ) (b : ℕ) (bs : List ℕ) → bytes_eq text (b ∷ bs) ≡ elim (after_byte b text) as (λ _. Bool)
-    [ None ↦ false | Some rest ↦ bytes_eq rest bs ]
-byte_then [] b bs = refl
-byte_then (x ∷ xs) b bs = by_test (eqb x b)
-  where
-    by_test : (t : Bool) → t && bytes_eq xs bs ≡ elim (cond t (Some xs) None) as (λ _. Bool)
-        [ None ↦ false | Some rest ↦ bytes_eq rest bs ]
-    by_test true = refl
-    by_test false = refl
-
 pub text_is : (j : Json) (s t : List ℕ) → Some s ≡ as_str j → t ≡ s → is_utf8 t ≡ true → text_read j ≡ Some t
 text_is j s t e q u = ap (λ (o : Option (List ℕ)). option_and_then utf8_text o) (sym e) ∙ ap utf8_text (sym q) ∙ ap
     (λ (b : Bool). cond b (Some t) None) u

@@ -107,7 +107,7 @@ fn append_base64(out: &mut Vec<u8>, plain: bool, number: u32, text: &[u8]) -> Re
     Ok(())
 }
 
-/// Whether no record is written, as of a plain field if no bytes were appended behind the room for their length.
+/// Whether no record is written, as of a plain field if no bytes were appended after the room for their length.
 fn is_left_out(plain: bool, len: usize, end: usize) -> bool
     ensures { result ≡ plain && nat_eq len end }
 {

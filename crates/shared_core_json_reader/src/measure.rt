@@ -6,7 +6,7 @@
 ghost use Rattle.shared_core_json_reader.specs.Places.{ArePlaces};
 
 use crate::bytes::decoded_len;
-use crate::members::{Places, likely, places_of};
+use crate::members::{PLACES, Place, Places, find_places, likely};
 use crate::rows::{Field, named, rows_of};
 use crate::scalars::{extended, marked_text, read_boolean, read_enumeration, read_u32, read_u64};
 use json_table::{Items, Members, Node, Shape};
@@ -92,7 +92,11 @@ fn measure_members<'t, 'a>(
     members: &Members<'t, 'a>,
     left: u32,
 ) -> Result<u64, AllocError> {
-    let Ok(places) = places_of(schema, members) else {
+    let mut places = Places {
+        schema,
+        numbered: [Place::Absent; PLACES],
+    };
+    let Ok(()) = find_places(schema, members, &mut places.numbered) else {
         return Ok(0);
     };
     let mut length: u64 = 0;

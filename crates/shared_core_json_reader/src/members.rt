@@ -6,9 +6,10 @@
 //! The original name of a field is defined by that in lower camel case: for a capital letter an underscore and the
 //! small letter. So one table of names serves for both.
 
-ghost use Rattle.std.specs.Prelude.{◌≡◌, true, false, Some, None, map, option_map, IfOk, IfErr, IfSome, IsTrue};
-ghost use Rattle.std.specs.Prelude.{MatchResult};
+ghost use Rattle.std.specs.Prelude.{◌≡◌, true, false, Some, None, map, option_map, IfErr, IfSome, IsTrue, OnOk};
+ghost use Rattle.std.specs.Prelude.{MatchResult, replicate};
 ghost use Rattle.std.specs.Str.{bytes_eq};
+ghost use Rattle.json.specs.Json.{no_members};
 ghost use Rattle.json_table.specs.Tails.{last_members, IsTail};
 ghost use Rattle.shared_core_codec.specs.ProgramRows as codec;
 ghost use Rattle.shared_core_json.specs.Fields.{name_view};
@@ -16,8 +17,9 @@ ghost use Rattle.shared_core_json_reader.specs.Rows.{field_view, named_rows};
 ghost use Rattle.shared_core_json_reader.specs.Original.{after_byte, after_original};
 ghost use Rattle.shared_core_json_reader.specs.Reading.{original_name, is_named, are_known, given, present};
 ghost use Rattle.shared_core_json_reader.specs.Places.{number_by, as_it_is, number_of, place_after};
-ghost use Rattle.shared_core_json_reader.specs.Places.{first_value, ArePlaces, IsOf, IsNameAt};
+ghost use Rattle.shared_core_json_reader.specs.Places.{first_value, place_count, Say, ArePlaces, IsOf, IsNameAt};
 ghost use Rattle.shared_core_json_reader.specs.Places.{IsAbsent, Lacks};
+ghost use Rattle.shared_core_json_reader.specs.declared.members.Place.TheVariants.{Absent};
 ghost use Rattle.shared_core_json_reader.specs.FirstError.{first_unknown};
 
 use crate::error::Reason;
@@ -27,7 +29,7 @@ use shared_core_codec::rows::{self, Row};
 use shared_core_json::names::{Name, names_of};
 
 /// How many numbers of fields have a place: those below it.
-const PLACES: usize = 20;
+pub const PLACES: usize = 20;
 
 /// Where the value of a field is among the members of an object: nowhere, once or several times. Once: with how many
 /// entries the members end that begin with it.
@@ -42,7 +44,7 @@ pub enum Place {
 #[derive(Clone, Copy)]
 pub struct Places {
     pub schema: u32,
-    pub numbered: [Place; 20],
+    pub numbered: [Place; PLACES],
 }
 
 /// What comes after a byte, if the text begins with it.
@@ -139,7 +141,7 @@ fn index_from(names: &[Name], from: usize, key: &str) -> Option<usize>
 }
 
 /// The number of the field of a schema of which a key is a name. The names from `next` on are tried first, and `next`
-/// is set behind the key's: most objects have their members in the order of the names.
+/// is set after the key's: most objects have their members in the order of the names.
 #[inline(always)]
 fn next_number(schema: u32, next: &mut usize, key: &str) -> Option<u32>
     ensures { result ≡ number_of schema key.now }
@@ -164,11 +166,16 @@ fn place_after(place: Place, left: usize) -> Place
     }
 }
 
-/// Where an object of a schema has the values of its fields, or the first key that is no name of a field.
+/// Finds where an object of a schema has the values of its fields. The error is the first key that is no name of a
+/// field.
 #[inline(always)]
-pub fn places_of<'t, 'a>(schema: u32, members: &Members<'t, 'a>) -> Result<Places, &'a str>
-    ensures schema { IfOk result (λ places. places.schema ≡ schema) }
-    ensures places { IfOk result (λ places. ArePlaces members.now places) }
+pub fn find_places<'t, 'a>(
+    schema: u32,
+    members: &Members<'t, 'a>,
+    numbered: &mut [Place; PLACES],
+) -> Result<(), &'a str>
+    requires { numbered.old ≡ replicate place_count Absent }
+    ensures places { OnOk result (Say schema members.now no_members numbered.new) }
     ensures known { MatchResult result
         (λ _. are_known (named_rows schema) members.now ≡ true)
         (λ _. are_known (named_rows schema) members.now ≡ false) }
@@ -176,13 +183,12 @@ pub fn places_of<'t, 'a>(schema: u32, members: &Members<'t, 'a>) -> Result<Place
         (λ _. first_unknown (named_rows schema) members.now ≡ None)
         (λ key. first_unknown (named_rows schema) members.now ≡ Some key.now) }
 {
-    let mut numbered = [Place::Absent; 20];
     let mut rest = members.copy();
     let mut next = 0;
     loop {
         let left = rest.left();
         let Some((key, _)) = rest.next() else {
-            return Ok(Places { schema, numbered });
+            return Ok(());
         };
         let Some(number) = next_number(schema, &mut next, key) else {
             return Err(key);

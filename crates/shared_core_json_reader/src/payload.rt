@@ -25,7 +25,7 @@ ghost use Rattle.shared_core_json_reader.specs.FirstError.{members_error, object
 use crate::bytes::append_bytes;
 use crate::error::Reason;
 use crate::measure::Lengths;
-use crate::members::{Places, given, is_absent, lacks, places_of};
+use crate::members::{PLACES, Place, Places, find_places, given, is_absent, lacks};
 use crate::rows::{Field, named, rows_of};
 use crate::scalars::{extended, read_boolean, read_enumeration, read_text, read_u32, read_u64};
 use json_table::{Items, Members, Node, Shape};
@@ -125,13 +125,14 @@ fn append_members<'a>(
         (λ path. members_error (message_error left) (named_rows schema) path members.now)
         walk.old.path.items walk.new.path.items }
 {
-    let places = match places_of(schema, members) {
-        Ok(places) => places,
-        Err(key) => {
-            walk.enter(Step::Member(key))?;
-            return Err(Reason::UnknownMember);
-        }
+    let mut places = Places {
+        schema,
+        numbered: [Place::Absent; PLACES],
     };
+    if let Err(key) = find_places(schema, members, &mut places.numbered) {
+        walk.enter(Step::Member(key))?;
+        return Err(Reason::UnknownMember);
+    }
     append_rows(walk, out, members, &places, left)
 }
 

@@ -114,7 +114,7 @@ pub fn table_of_text<'a>(
     ensures rejected { IfErr result (λ error. error.reason ≢ Reason.OutOfMemory → json_of_text text.now ≡ None) }
     ensures place { IfErr result (λ error. error.reason ≢ Reason.OutOfMemory → IsNotJson error text.now) }
 {
-    let text = match std::str::from_utf8(text) {
+    let text = match simdutf8::compat::from_utf8(text) {
         Ok(text) => text,
         Err(error) => return Err(error_at(alloc, Reason::NotJson, error.valid_up_to())),
     };
@@ -145,14 +145,37 @@ pub fn payload_of_node(
         (λ error. error.reason ≢ Reason.OutOfMemory
         → SaysError error (value_error schema node.now)) }
 {
+    let Ok(buffer) = Vec::with_capacity(alloc, ROOM) else {
+        return Err(error_at(alloc, Reason::OutOfMemory, 0));
+    };
+    payload_in_buffer(alloc, schema, node, buffer)
+}
+
+/// Returns what `payload_of_node` does, in a buffer, which is emptied first and grows where it has too little room.
+pub fn payload_in_buffer(
+    alloc: Global,
+    schema: u32,
+    node: &Node<'_, '_>,
+    buffer: Vec<u8>,
+) -> Result<Vec<u8>, JsonReadError>
+    ensures ok { IfOk result (λ payload. value_payload schema node.now ≡ Some payload.items) }
+    // the payload is accepted, and means what the value means
+    ensures means { IfOk result (λ payload. IsAccepted schema payload.items
+        × (message_read 101 schema node.now ≡ Some (payload_meaning schema payload.items))) }
+    ensures rejected { IfErr result (λ error. error.reason ≢ Reason.OutOfMemory
+        → value_payload schema node.now ≡ None) }
+    // the first error of the value, and the path to the rejected value
+    ensures error { MatchResult result (λ _. value_error schema node.now ≡ None)
+        (λ error. error.reason ≢ Reason.OutOfMemory
+        → SaysError error (value_error schema node.now)) }
+{
     let mut walk = Walk {
         alloc,
         path: Vec::new(alloc),
         lengths: Lengths::new(alloc),
     };
-    let Ok(mut payload) = Vec::with_capacity(alloc, ROOM) else {
-        return Err(error_at(alloc, Reason::OutOfMemory, 0));
-    };
+    let mut payload = buffer;
+    payload.clear();
     match append_message(&mut walk, &mut payload, schema, node, LEVELS + 1) {
         Ok(()) => Ok(payload),
         Err(reason) => Err(error_on(alloc, reason, &walk.path)),

@@ -1,6 +1,7 @@
 //! The numbers, texts and bytes that single JSON values mean.
 
 ghost use Rattle.std.specs.Prelude.{◌≡◌, ◌≢◌, ◌<◌, ◌^◌, Some, None, option_map, IfOk, IfErr, OnErr, MatchResult};
+ghost use Rattle.std.specs.Prelude.{IfSome, decimal};
 ghost use Rattle.json.specs.Word.{after_minus, head};
 ghost use Rattle.shared_core_json_reader.specs.Rows.{value_view};
 ghost use Rattle.std.specs.Prelude.{map};
@@ -48,6 +49,27 @@ fn skip_minus(text: &[u8]) -> &[u8]
     }
 }
 
+/// How many digits a number may have that is surely below 2 ^ 64.
+const SHORT: usize = 19;
+
+/// The number that a text writes with digits alone, as most numbers are written: with few, of which the first is not 0.
+#[inline(always)]
+fn short_number(text: &[u8]) -> Option<u64>
+    ensures { IfSome result (λ number. (number < 2 ^ 64) × (text.now ≡ decimal number)) }
+{
+    if text.is_empty() || text.len() > SHORT || text[0] == b'0' {
+        return None;
+    }
+    let mut number: u64 = 0;
+    for byte in text {
+        if !byte.is_ascii_digit() {
+            return None;
+        }
+        number = 10 * number + u64::from(*byte - b'0');
+    }
+    Some(number)
+}
+
 /// The whole number that a text writes.
 fn whole_of(text: &str) -> Result<Whole, Reason>
     ensures value { MatchResult result (λ whole. whole_of_text text.now ≡ Some (whole_view whole))
@@ -55,6 +77,12 @@ fn whole_of(text: &str) -> Result<Whole, Reason>
     ensures reason { MatchResult result (λ _. number_text_reason (Some text.now) ≡ Reason.OutOfRange)
         (λ reason. number_text_reason (Some text.now) ≡ reason) }
 {
+    if let Some(magnitude) = short_number(text.as_bytes()) {
+        return Ok(Whole {
+            negative: false,
+            magnitude,
+        });
+    }
     if !is_number(text) {
         return Err(Reason::WrongKind);
     }

@@ -1,36 +1,53 @@
-use Rattle.std.proofs.Common.{◌≡◌, ℕ, Some, slice_set, sym, ap, subst, ◌∙◌}
+use Rattle.std.proofs.Common.{◌≡◌, ℕ, Some, None, slice_set, sym, ap, subst, ◌∙◌}
 use Rattle.json.specs.Json.{Members, member}
 use Rattle.json_table.specs.Tails.{members_len}
-use Rattle.make_lines.proofs.Placing.{ArePlacesSoFar, nones, no_places, passed_over, placed}
+use Rattle.make_lines.specs.Places.{place_of}
+use Rattle.make_lines.proofs.Placing.{ArePlacesSoFar, AreWellSoFar, nones, no_places, no_keys, placed, taken}
+use Rattle.make_lines.proofs.Placing.{no_place_fault, taken_fault}
 use Rattle.make_lines.proofs.members.places_of.Goals as goal
 
-pub loop-key-init : goal.loop-key-init
-loop-key-init c =
-    subst (λ (rest : Members). ArePlacesSoFar c.args.members.now rest nones) (sym c.copy-rest.ensures) (no_places
-    c.args.members.now)
+pub loop-next-init : goal.loop-next-init
+loop-next-init c =
+    let ms = c.args.members.now in (
+      subst (λ (rest : Members). ArePlacesSoFar ms rest nones) (sym c.copy-rest.ensures) (no_places ms),
+      subst (λ (rest : Members). AreWellSoFar ms rest nones) (sym c.copy-rest.ensures) (no_keys ms),
+    )
 
-pub loop-key-preserved-in-Some-place_of : goal.loop-key-preserved-in-Some-place_of
-loop-key-preserved-in-Some-place_of c =
-    let l = c.loop-key in
+pub returns-in_default-next_place-clause-fault : goal.returns-in_default-next_place-clause-fault
+returns-in_default-next_place-clause-fault c =
+    let l = c.loop-next in
+    let ms = c.args.members.now in
+    let k = c.in-Some.key.now in
+    let none : place_of k ≡ None = cc in
+    no_place_fault ms c.next.new.self k c.in-Some.field-0-1 l.places
+    (subst (λ (r : Members). AreWellSoFar ms r l.places) c.in-Some.ensures l.invariant.1) none
+
+pub returns-then-is_some-clause-fault : goal.returns-then-is_some-clause-fault
+returns-then-is_some-clause-fault c =
+    let l = c.loop-next in
+    let ms = c.args.members.now in
+    let k = c.in-Some.key.now in
+    let found : place_of k ≡ Some c.in-Some-next_place.place = cc in
+    taken_fault ms c.next.new.self k c.in-Some.field-0-1 l.places c.in-Some-next_place.place l.invariant.0.many found
+    (subst (λ (r : Members). AreWellSoFar ms r l.places) c.in-Some.ensures l.invariant.1)
+    (sym c.is_some.ensures ∙ c.if-is_some.true)
+
+pub loop-next-preserved : goal.loop-next-preserved
+loop-next-preserved c =
+    let l = c.loop-next in
     let ms = c.args.members.now in
     let k = c.in-Some.key.now in
     let j = c.in-Some.field-0-1 in
     let rest = c.next.new.self in
-    let at = c.in-Some-place_of.place in
+    let place = c.in-Some-next_place.place in
     let next : l.rest ≡ member k j rest = c.in-Some.ensures in
-    let so_far = subst (λ (r : Members). ArePlacesSoFar ms r l.places) next l.invariant in
+    let found : place_of k ≡ Some place = cc in
+    let so_far = subst (λ (r : Members). ArePlacesSoFar ms r l.places) next l.invariant.0 in
+    let well = subst (λ (r : Members). AreWellSoFar ms r l.places) next l.invariant.1 in
     let left : members_len (member k j rest) ≡ c.left-left.result = ap members_len (sym next)
-    ∙ sym c.left-left.ensures in
-    subst (λ (n : ℕ). ArePlacesSoFar ms rest (slice_set l.places at (Some n))) left (placed ms rest k j l.places so_far
-    at (sym c.place_of.ensures.value ∙ c.in-Some-place_of.is))
-
-pub loop-key-preserved : goal.loop-key-preserved
-loop-key-preserved c =
-    let l = c.loop-key in
-    let ms = c.args.members.now in
-    let k = c.in-Some.key.now in
-    let j = c.in-Some.field-0-1 in
-    let rest = c.next.new.self in
-    let next : l.rest ≡ member k j rest = c.in-Some.ensures in
-    let so_far = subst (λ (r : Members). ArePlacesSoFar ms r l.places) next l.invariant in
-    passed_over ms rest k j l.places so_far (sym c.place_of.ensures.value ∙ c.in_default-place_of.is)
+    ∙ sym c.left-left.ensures in (
+      subst (λ (n : ℕ). ArePlacesSoFar ms rest (slice_set l.places place (Some n))) left
+          (placed ms rest k j l.places so_far place found),
+      taken ms rest k j l.places place so_far.many found well c.left-left.result
+          (sym c.is_some.ensures ∙ c.if-is_some.false),
+    )

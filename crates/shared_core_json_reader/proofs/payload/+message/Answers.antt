@@ -91,8 +91,7 @@ append_members-returns-clause-appended t c =
     let nested = message_bytes c.args.left in
     let ms = c.args.members.now in
     subst (λ (o : Option (List ℕ)). Appends c.append_rows.result o c.args.out.now.items c.append_rows.new.out.items)
-    (ap (λ s. rows_bytes nested ms (named_rows s)) c.in-Ok.ensures.schema
-    ∙ sym (ap (λ b. cond b (rows_bytes nested ms (named_rows c.args.schema)) None) c.in-Ok.ensures.known))
+    (sym (ap (λ b. cond b (rows_bytes nested ms (named_rows c.args.schema)) None) c.in_default.ensures.known))
     c.append_rows.ensures.appended
 
 pub append_oneof-enter_given-requires-clause-field : goal.append_oneof-enter_given-requires-clause-field

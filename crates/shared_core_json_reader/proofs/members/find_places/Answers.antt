@@ -6,12 +6,13 @@ use Rattle.shared_core_json_reader.specs.Places.{number_of}
 use Rattle.shared_core_json_reader.specs.FirstError.{first_unknown}
 use Rattle.shared_core_json_reader.proofs.Givens.{Steps, known_true, known_false, unknown_here, first_step}
 use Rattle.shared_core_json_reader.proofs.Givens.{step_placed, step_past}
-use Rattle.shared_core_json_reader.proofs.members.places_of.Goals as goal
+use Rattle.shared_core_json_reader.proofs.members.find_places.Goals as goal
 
 pub loop-next-init : goal.loop-next-init
 loop-next-init c =
-    subst (λ (ms : Members). Steps c.args.schema c.args.members.now ms _) (sym c.copy-rest.ensures)
-    (first_step c.args.schema c.args.members.now _ refl)
+    subst (λ (ms : Members). Steps c.args.schema c.args.members.now ms c.args.numbered.now)
+    (sym c.copy-rest.ensures)
+    (first_step c.args.schema c.args.members.now c.args.numbered.now c.requires)
 
 pub returns-in_default-clause-known : goal.returns-in_default-clause-known
 returns-in_default-clause-known c =

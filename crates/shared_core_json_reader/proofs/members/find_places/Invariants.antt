@@ -1,6 +1,6 @@
 use Rattle.json_table.specs.Counts.{members_count}
 use Rattle.shared_core_json_reader.proofs.Givens.{Steps}
-use Rattle.shared_core_json_reader.proofs.members.places_of.Given as goal
+use Rattle.shared_core_json_reader.proofs.members.find_places.Given as goal
 
 abbrev pub invariant-loop-next : goal.invariant-loop-next
 invariant-loop-next l = Steps l.schema l.members l.rest l.numbered
