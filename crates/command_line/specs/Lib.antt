@@ -4,3 +4,4 @@ pub mod Painting
 pub mod Pipe
 pub mod Protocol
 pub mod TerminalText
+pub mod Colors

@@ -1,6 +1,9 @@
 //! Colors on a terminal.
 
-ghost use Rattle.std.specs.Prelude.{◌≡◌, ◌++◌, OnOk};
+ghost use Rattle.std.specs.Prelude.{◌≡◌, ◌≢◌, ◌++◌, OnOk, Some, codes, true, false};
+ghost use Rattle.clap.specs.Matches.{found_of};
+ghost use Rattle.command_line.specs.Colors.{color_value};
+ghost use Rattle.command_line.specs.declared.colors.ColorChoice.TheVariants as variant;
 ghost use Rattle.command_line.specs.Painting.{closing, opening, painted_part};
 
 use crate::terminal::{takes_sequences, wants_no_color};
@@ -66,8 +69,13 @@ pub enum ColorChoice {
     Never,
 }
 
-/// What the option `--color` says.
-pub fn color_of(matches: &ArgMatches<'_>) -> ColorChoice {
+/// What the option `--color` says: `always`, `never`, or else `auto`.
+pub fn color_of(matches: &ArgMatches<'_>) -> ColorChoice
+    ensures always { color_value (found_of matches.now) ≡ Some (codes "always") → result ≡ variant.Always }
+    ensures never { color_value (found_of matches.now) ≡ Some (codes "never") → result ≡ variant.Never }
+    ensures auto { color_value (found_of matches.now) ≢ Some (codes "always")
+        → color_value (found_of matches.now) ≢ Some (codes "never") → result ≡ variant.Auto }
+{
     match matches.get_str("color") {
         Some("always") => ColorChoice::Always,
         Some("never") => ColorChoice::Never,
@@ -76,7 +84,10 @@ pub fn color_of(matches: &ArgMatches<'_>) -> ColorChoice {
 }
 
 /// Whether the standard output has colors.
-pub fn has_color(rt: &HostRuntime, choice: ColorChoice) -> bool {
+pub fn has_color(rt: &HostRuntime, choice: ColorChoice) -> bool
+    ensures always { choice ≡ variant.Always → result ≡ true }
+    ensures never { choice ≡ variant.Never → result ≡ false }
+{
     match choice {
         ColorChoice::Always => true,
         ColorChoice::Never => false,

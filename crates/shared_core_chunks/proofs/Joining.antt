@@ -3,9 +3,11 @@ use Rattle.std.proofs.Common.{◌≡◌, ℕ, ◌+◌, ◌≤◌, List, [], ◌�
 use Rattle.std.proofs.Common.{refl, ap, sym, ◌∙◌, arith, take-append-drop, true, false}
 use Rattle.std.proofs.lemmas.Grind.{take_at_read}
 use Rattle.std.proofs.lemmas.List.{drop_all, take_all}
+use Rattle.std.proofs.lemmas.List.Elements.{All-append, All-head, All-push, All-tail}
 use Rattle.std.proofs.lemmas.List.Folds.{concat-append}
 use Rattle.std.specs.List.{concat}
-use Rattle.std.specs.Prelude.{Result, Ok, Err, OnOk, is_ok, if◌then◌else◌, ◌<◌, ◌^◌, get_or}
+use Rattle.std.specs.Prelude.{Result, Ok, Err, OnOk, is_ok, if◌then◌else◌, ◌<◌, ◌^◌, get_or, All, Option, Some, None}
+use Rattle.std.specs.Option.{option_to_list}
 use Rattle.bytes.proofs.Chunks.{concat_push}
 use Rattle.shared_core_chunks.proofs.Appending.{payload_after, row_joined}
 use Rattle.shared_core_chunks.specs.Appending.{after_row, after_rows}
@@ -55,6 +57,34 @@ after_all (Ok t) cs new more small none old frame is here before there other =
     let others : concat more ≡ frame = sym (append-nil (concat more)) ∙ rw there at other in
     rw here (append-nil (concat new) ∙ ap concat is ∙ concat-append cs more ∙ rw (alone, others) refl)
 after_all (Err e) cs new more small none old frame is here before there other = tt
+
+-- ---- no chunk is empty
+
+pub shared_filled : (cs new : List (List ℕ)) (c : List ℕ) → new ≡ cs ++ c ∷ [] → 0 < length c
+    → All (λ chunk. 0 < length chunk) cs → All (λ chunk. 0 < length chunk) new
+shared_filled cs new c is some filled = rw is (All-push (λ chunk. 0 < length chunk) cs c filled some)
+
+pub small_filled : (c xs : List ℕ) → c ≡ take (length xs) xs → 0 < length xs → 0 < length c
+small_filled c xs front some = rw (front ∙ take_all (length xs) xs (omega arith)) some
+
+pub tail_filled : (cs new : List (List ℕ)) (c xs : List ℕ) → new ≡ cs ++ c ∷ [] → c ≡ take (length xs) xs
+    → 0 < length xs → All (λ chunk. 0 < length chunk) cs → All (λ chunk. 0 < length chunk) new
+tail_filled cs new c xs is front some filled = shared_filled cs new c is (small_filled c xs front some) filled
+
+pub all_filled : {T E : Type 0} (result : Result T E) (cs new more : List (List ℕ))
+    → new ≡ (if is_ok result then cs ++ more else cs) → All (λ chunk. 0 < length chunk) cs
+    → All (λ chunk. 0 < length chunk) more → All (λ chunk. 0 < length chunk) new
+all_filled (Ok t) cs new more is filled others = rw is (All-append (λ chunk. 0 < length chunk) cs more filled others)
+all_filled (Err e) cs new more is filled others = rw is filled
+
+pub first_filled : (cs new : List (List ℕ)) (c : List ℕ) → cs ≡ c ∷ new → All (λ chunk. 0 < length chunk) cs
+    → 0 < length c
+first_filled cs new c is filled = All-head (λ chunk. 0 < length chunk) c new (rw is at filled)
+
+pub rest_filled : (found : Option (List ℕ)) (cs new : List (List ℕ)) → cs ≡ option_to_list found ++ new
+    → All (λ chunk. 0 < length chunk) cs → All (λ chunk. 0 < length chunk) new
+rest_filled (Some c) cs new is filled = All-tail (λ chunk. 0 < length chunk) c new (rw is at filled)
+rest_filled None cs new is filled = rw is at filled
 
 -- ---- a copy of all
 
@@ -166,12 +196,13 @@ present_after at k (Member v p) xs h = refl
 pub row_after : (row : Row) (p : Part) (xs : List ℕ) → xs ++ before_row row p [] ≡ after_row row p xs
 row_after row p xs = sym (row_joined row p xs []) ∙ append-nil (after_row row p xs)
 
-pub after_member : {T E : Type 0} (result : Result T E) (row : Row) (p : Part) (cs : List (List ℕ)) (old new : List ℕ)
-    → OnOk result (new ≡ old ++ before_row row p [])
-    → OnOk result (concat cs ++ new ≡ after_row row p (concat cs ++ old))
-after_member (Ok t) row p cs old new is =
+pub after_member : {T E : Type 0} (result : Result T E) (row : Row) (p : Part) (cs : List (List ℕ))
+    (old new all : List ℕ) → concat cs ++ old ≡ all → OnOk result (new ≡ old ++ before_row row p [])
+    → OnOk result (concat cs ++ new ≡ after_row row p all)
+after_member (Ok t) row p cs old new all before is =
     ap (λ (l : List ℕ). concat cs ++ l) is ∙ sym (append_assoc (concat cs) old _) ∙ row_after row p (concat cs ++ old)
-after_member (Err e) row p cs old new is = is
+    ∙ ap (after_row row p) before
+after_member (Err e) row p cs old new all before is = is
 
 -- a payload that is copied
 pub after_payload : {T E : Type 0} (result : Result T E) (s : ℕ) (ps : Parts) (cs : List (List ℕ)) (old new : List ℕ)

@@ -1,6 +1,6 @@
 //! The chunks of frames.
 
-ghost use Rattle.std.specs.Prelude.{◌≡◌, ◌++◌, [], length, OnOk, OnErr, IfOk, MatchOption};
+ghost use Rattle.std.specs.Prelude.{◌≡◌, ◌<◌, ◌++◌, [], length, All, OnOk, OnErr, IfOk, MatchOption};
 ghost use Rattle.shared_core_wire.specs.Encoding.{shortest_varint, key_bytes};
 ghost use Rattle.std.specs.List.{concat};
 
@@ -28,12 +28,14 @@ pub struct FrameChunks {
 }
 
 impl Model for FrameChunks {
-    ghost use Rattle.std.specs.Prelude.{ℕ, List, ◌++◌};
+    ghost use Rattle.std.specs.Prelude.{ℕ, List, ◌++◌, ◌<◌, All, length};
     ghost use Rattle.std.specs.List.{concat};
 
     ghost Value = { List ℕ };
 
     ghost view = { λ frames. concat frames.chunks.items ++ frames.tail.items };
+
+    ghost invariant = { λ frames. All (λ chunk. 0 < length chunk) frames.chunks.items };
 }
 
 impl FrameChunks {
@@ -53,11 +55,12 @@ impl FrameChunks {
         self.alloc
     }
 
-    /// Takes the first chunk, or `None` if there is no byte left. After an error nothing is taken.
-    #[tactic(auto, using(crate::proofs::Joining::first_chunk, crate::proofs::Joining::small_chunk))]
+    /// Takes the first chunk, which has a byte at least, or `None` if there is no byte left. After an error nothing is
+    /// taken.
+    #[tactic(auto, using(crate::proofs::Joining::first_chunk, crate::proofs::Joining::small_chunk, crate::proofs::Joining::first_filled, crate::proofs::Joining::small_filled))]
     pub fn pop(&mut self) -> Result<Option<Bytes>, AllocError>
         ensures ok { IfOk result (λ found. MatchOption found ((self.old ≡ []) × (self.new ≡ []))
-            (λ chunk. self.old ≡ chunk ++ self.new)) }
+            (λ chunk. (0 < length chunk) × (self.old ≡ chunk ++ self.new))) }
         ensures err { OnErr result (self.new ≡ self.old) }
     {
         if let Some(chunk) = self.chunks.pop_front() {
@@ -121,8 +124,9 @@ impl FrameChunks {
     }
 
     /// Appends bytes, which are shared.
-    #[tactic(auto, using(crate::proofs::Joining::after_shared))]
+    #[tactic(auto, using(crate::proofs::Joining::after_shared, crate::proofs::Joining::shared_filled))]
     fn share(&mut self, content: &Bytes) -> Result<(), AllocError>
+        requires { 0 < length content.now }
         ensures ok { OnOk result (self.new ≡ self.old ++ content.now) }
         ensures err { OnErr result (self.new ≡ self.old) }
     {
@@ -134,7 +138,7 @@ impl FrameChunks {
     }
 
     /// Appends all of others, or nothing after an error.
-    #[tactic(auto, using(crate::proofs::Joining::after_all))]
+    #[tactic(auto, using(crate::proofs::Joining::after_all, crate::proofs::Joining::all_filled))]
     pub(crate) fn append(&mut self, frame: FrameChunks) -> Result<(), AllocError>
         ensures ok { OnOk result (self.new ≡ self.old ++ frame) }
         ensures err { OnErr result (self.new ≡ self.old) }
@@ -151,9 +155,11 @@ impl FrameChunks {
 }
 
 /// Makes a chunk of what is small. After an error all is as it was.
-#[tactic(auto, using(crate::proofs::Joining::tail_pushed, crate::proofs::Joining::none_left))]
+#[tactic(auto, using(crate::proofs::Joining::tail_pushed, crate::proofs::Joining::none_left, crate::proofs::Joining::tail_filled))]
 fn freeze_tail(chunks: &mut VecDeque<Bytes>, tail: &mut BytesMut) -> Result<(), AllocError>
+    requires { All (λ chunk. 0 < length chunk) chunks.old.items }
     ensures same { concat chunks.new.items ++ tail.new.items ≡ concat chunks.old.items ++ tail.old.items }
+    ensures filled { All (λ chunk. 0 < length chunk) chunks.new.items }
     ensures empty { OnOk result (tail.new.items ≡ []) }
 {
     if tail.is_empty() {

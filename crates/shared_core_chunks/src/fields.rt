@@ -61,7 +61,6 @@ pub(crate) fn repeated<V: Element + ChunkValue>(
 /// The members of a oneof that are appended as chunks.
 pub trait ChunkOneOf: OneOf {
     /// Appends the member: without a `bytes` field in it there is nothing to share, and it is copied.
-    #[tactic(auto, using(crate::proofs::Joining::after_member))]
     fn append_member(&self, out: &mut FrameChunks) -> Result<(), EncodingError>
         ensures { OnOk result (out.new ≡ after_row (row.OneOf Self.members) (Self.part self.now) out.old) }
     {
