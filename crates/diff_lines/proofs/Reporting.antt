@@ -14,7 +14,7 @@ use Rattle.diff_lines.specs.declared.journals.Form.{Form}
 use Rattle.diff_lines.specs.declared.passed_over.Trouble.{Trouble}
 use Rattle.diff_lines.specs.Moved.{ReportsAligned, ReportsMoved, alignment_limit}
 use Rattle.diff_lines.specs.PassedOver.{strict_trouble}
-use Rattle.diff_lines.specs.Verdicts.{Reports, ReportsFound, ReportsWithColors, WritesWithColors}
+use Rattle.diff_lines.specs.Verdicts.{IsFaulty, Reports, ReportsFound, ReportsWithColors, WritesWithColors}
 
 -- an allocation may always fail
 pub out_of_memory : (version : Version) (ignore : Bool) (a b : Option (List ℕ)) → ComparesKnown version ignore a b
@@ -38,6 +38,14 @@ reported version ignore is_strict form a b found (Err (NoVerdict why)) written c
   subst (λ w. ComparesKnown version ignore a b (Err w)) (sym reports.0) (out_of_memory version ignore a b),
   reports.1,
 )
+
+-- what is wrong with a journal is the error, and nothing is written
+pub faulty : (version : Version) (ignore is_strict : Bool) (form : Form) (a b : Option (List ℕ)) (found : Comparison)
+    (error : DiffError) → IsComparison version ignore is_strict a b found → IsFaulty is_strict found error
+    → Reports version ignore is_strict form a b (Err error) []
+faulty version ignore is_strict form a b found error compared (trouble, is, has) =
+    subst (λ e. Reports version ignore is_strict form a b (Err e) []) (sym is)
+    (found, record { compared = compared; trouble_is = has }, refl)
 
 -- what is reported in colors is what is reported without them
 reported_with_colors : (version : Version) (ignore is_strict : Bool) (form : Form) (a b : Option (List ℕ))
@@ -94,3 +102,12 @@ reported_moved version ignore is_strict form is_colored a b found (Err (NoVerdic
   subst (λ w. ComparesKnown version ignore a b (Err w)) (sym reports.0) (out_of_memory version ignore a b),
   reports.1,
 )
+
+-- the same of what is wrong with a journal
+pub faulty_moved : (version : Version) (ignore is_strict : Bool) (form : Form) (is_colored : Bool)
+    (a b : Option (List ℕ)) (found : AlignedComparison) (error : DiffError)
+    → IsAligned version ignore is_strict alignment_limit a b found → IsFaulty is_strict found.comparison error
+    → ReportsMoved version ignore is_strict form is_colored a b (Err error) []
+faulty_moved version ignore is_strict form is_colored a b found error aligned (trouble, is, has) =
+    subst (λ e. ReportsMoved version ignore is_strict form is_colored a b (Err e) []) (sym is)
+    (found, record { aligned = aligned; trouble_is = has }, refl)

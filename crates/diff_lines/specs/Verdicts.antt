@@ -77,6 +77,12 @@ ReportsFound form found (Err (NoVerdict why)) written = (why ≡ Bench OutOfMemo
 ReportsFound form found (Err (Faulty trouble)) written = ⊥
 ReportsFound form found (Err Output) written = (rest : List ℕ) × (found_line form found ≡ written ++ rest)
 
+-- This error is what is wrong with one of two journals, whose comparison is strict.
+abbrev pub IsFaulty : Bool → Comparison → DiffError → Type 0
+IsFaulty is_strict found error =
+    (trouble : Trouble) × (error ≡ Faulty trouble)
+    × (strict_trouble is_strict found.recorded found.replayed ≡ Some trouble)
+
 -- Two journals have this comparison, and this is what is wrong with them, if that is an error.
 pub record HasFound (version : Version) (ignore is_strict : Bool) (recorded replayed : Option (List ℕ))
     (found : Comparison) (trouble : Option Trouble) : Type 0 where

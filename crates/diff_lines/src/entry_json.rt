@@ -47,14 +47,14 @@ fn whole_line(alloc: Global, found: &AlignedComparison, limit: u32) -> Result<Ve
 {
     let sentence = sentence(alloc, found, limit, false)?;
     let mut out = Writer::new(Vec::new(alloc));
-    write_whole(alloc, found, sentence.as_str(), &mut out)?;
+    write_whole_alignment(alloc, found, sentence.as_str(), &mut out)?;
     let mut line = out.into_inner();
     line.extend_from_slice(b"\n")?;
     Ok(line)
 }
 
 /// Writes the object of the whole alignment, with its sentence.
-fn write_whole(
+fn write_whole_alignment(
     alloc: Global,
     found: &AlignedComparison,
     sentence: &str,

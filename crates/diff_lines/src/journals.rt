@@ -1,11 +1,13 @@
 //! The calls that compare two journals from any readers, and write the verdict to any writer.
 
-ghost use Rattle.std.specs.Prelude.{◌≡◌, ◌≤◌, ◌++◌, ℕ, List, IfOk};
+ghost use Rattle.std.specs.Prelude.{◌≡◌, ◌≤◌, ◌++◌, ℕ, List, IfErr, IfOk, None, OnOk};
 ghost use Rattle.std.specs.Io.KnownBytes.{Appends};
 ghost use Rattle.std.specs.String.{string_bytes};
 ghost use Rattle.shared_core_base.specs.Version.{version_number};
 ghost use Rattle.diff_lines.specs.Moved.{IsFormText, IsShownForm, ReportsAligned, ReportsMoved};
-ghost use Rattle.diff_lines.specs.Verdicts.{Reports, ReportsFound, ReportsWithColors, WritesWithColors, IsWritten};
+ghost use Rattle.diff_lines.specs.PassedOver.{strict_trouble};
+ghost use Rattle.diff_lines.specs.Verdicts.{IsFaulty, IsWritten, Reports, ReportsFound, ReportsWithColors};
+ghost use Rattle.diff_lines.specs.Verdicts.{WritesWithColors};
 ghost use Rattle.diff_lines.specs.Verdicts.{commands_word, findings_of, found_line, is_same, terminal_line};
 ghost use Rattle.diff_lines.specs.Verdicts.{verdict_line};
 
@@ -140,9 +142,7 @@ pub fn diff<A: Read + Drop, B: Read + Drop, W: Write>(
         ignore_payloads,
         is_strict,
     )?;
-    if let Some(trouble) = strict_trouble(is_strict, &found.recorded, &found.replayed) {
-        return Err(DiffError::Faulty(trouble));
-    }
+    pass_strictly(is_strict, &found)?;
     report(alloc, found, form, output)
 }
 
@@ -179,14 +179,19 @@ pub fn diff_all<A: Read + Drop, B: Read + Drop, W: Write>(
         is_strict,
         ALIGNMENT_LIMIT,
     )?;
-    if let Some(trouble) = strict_trouble(
-        is_strict,
-        &found.comparison.recorded,
-        &found.comparison.replayed,
-    ) {
-        return Err(DiffError::Faulty(trouble));
-    }
+    pass_strictly(is_strict, &found.comparison)?;
     report_moved(alloc, &found, ignore_payloads, form, is_colored, output)
+}
+
+/// Fails with what is wrong with one of two journals, if their comparison is strict.
+fn pass_strictly(is_strict: bool, found: &Comparison) -> Result<(), DiffError>
+    ensures passed { OnOk result (strict_trouble is_strict found.now.recorded found.now.replayed ≡ None) }
+    ensures failed { IfErr result (IsFaulty is_strict found.now) }
+{
+    match strict_trouble(is_strict, &found.recorded, &found.replayed) {
+        Some(trouble) => Err(DiffError::Faulty(trouble)),
+        None => Ok(()),
+    }
 }
 
 /// Writes what moved between two journals, and returns what was found.

@@ -5,7 +5,7 @@ use shared_core_base::version::Version;
 /// Which items have lines, and what these contain.
 #[derive(Clone, Copy)]
 pub struct Options<'a> {
-    /// The version of the protocol.
+    /// The version of the protocol, at least V5 where a stream is dumped.
     pub version: Version,
     /// The greatest length of a payload that is taken; `u32::MAX` is no limit.
     pub limit: u32,

@@ -3,8 +3,10 @@
 ghost use Rattle.std.specs.Prelude.{◌≤◌, ℕ, List};
 ghost use Rattle.std.specs.Io.KnownBytes.{Appends, Consumes};
 ghost use Rattle.shared_core_base.specs.Version.{version_number};
-ghost use Rattle.dump_lines.specs.Dump.{IsDumped};
-ghost use Rattle.dump_lines.specs.Terminal.{IsShown};
+ghost use Rattle.stream_lines.specs.Printing.{ArePrinted};
+ghost use Rattle.dump_lines.specs.Dump.{IsDumped, IsLong, trouble_of};
+ghost use Rattle.dump_lines.specs.Lines.{line_of};
+ghost use Rattle.dump_lines.specs.Terminal.{IsShown, last_line};
 
 use crate::canonicalizer::Canonicalizer;
 use crate::options::Options;
@@ -37,20 +39,7 @@ pub fn dump<C: Canonicalizer, R: Read, W: Write>(
         × Appends (W.contents output.old) (W.contents output.new) written
         × IsDumped options.now result read written (R.remaining input.new) }
 {
-    let printer = Printer {
-        options: *options,
-        canonicalizer,
-        is_terminal: false,
-    };
-    print_lines(
-        alloc,
-        options.version,
-        options.limit,
-        &printer,
-        input,
-        output,
-        CHUNK,
-    )
+    print_stream(alloc, options, canonicalizer, false, input, output)
 }
 
 /// Dumps a stream as `dump` does, but for the last line, which is without the bytes in no item if there are more of
@@ -68,10 +57,29 @@ pub fn dump_on_terminal<C: Canonicalizer, R: Read, W: Write>(
         × Appends (W.contents output.old) (W.contents output.new) written
         × IsShown options.now result read written (R.remaining input.new) }
 {
+    print_stream(alloc, options, canonicalizer, true, input, output)
+}
+
+/// Dumps a stream, on a terminal or not.
+fn print_stream<C: Canonicalizer, R: Read, W: Write>(
+    alloc: Global,
+    options: &Options<'_>,
+    canonicalizer: &C,
+    is_terminal: bool,
+    input: &mut R,
+    output: &mut W,
+) -> Result<Report, PrintError>
+    requires spoken { 5 ≤ version_number options.now.version }
+    ensures { (read : List ℕ) × (written : List ℕ)
+        × Consumes (R.remaining input.old) (R.remaining input.new) read
+        × Appends (W.contents output.old) (W.contents output.new) written
+        × ArePrinted (line_of options.now) (last_line is_terminal options.now) (IsLong options.now)
+        (trouble_of options.now) options.now.version options.now.limit result read written (R.remaining input.new) }
+{
     let printer = Printer {
         options: *options,
         canonicalizer,
-        is_terminal: true,
+        is_terminal,
     };
     print_lines(
         alloc,

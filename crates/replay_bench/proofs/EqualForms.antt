@@ -180,12 +180,6 @@ made_form_of ignore schema s payload form decoded compared own means erases shal
     subst (λ (o : Option ℕ). IsSomeAnd o (IsForm ignore payload form)) (sym own)
     (made_form ignore s payload form decoded compared means erases shallow fits is reads)
 
--- the same where the payload is rejected
-pub malformed_of : (schema : Option ℕ) (s : ℕ) (payload : List ℕ) → schema ≡ Some s → ¬ (IsAccepted s payload)
-    → IfSome schema (λ t. ¬ (IsAccepted t payload))
-malformed_of schema s payload own rejected =
-    subst (λ (o : Option ℕ). IfSome o (λ t. ¬ (IsAccepted t payload))) (sym own) rejected
-
 -- ---- forms compared
 
 module _ (ignore : Bool) (recorded replayed : RawMessage) (typed : recorded.header.ty ≡ replayed.header.ty) where

@@ -14,12 +14,6 @@ pub text_is : (output : Option (List ℕ)) (text : List ℕ) → IsSome output �
 text_is None text some is = absurd (both_ways _ refl some)
 text_is (Some bytes) text some is = is
 
--- A field after others.
-pub listed_after : (fields : List FieldDifference) (field : FieldDifference) → listed_texts (fields ++ (field ∷ [])) ≡
-    listed_texts fields ++ (texts_of field ∷ [])
-listed_after [] field = refl
-listed_after (first ∷ fields) field = ap (λ (rest : List FieldTexts). texts_of first ∷ rest) (listed_after fields field)
-
 module _ {T : Type 0} (texts : T → List FieldTexts) where
   -- How a field is written to what has fields already.
   abbrev pub Lists : T → FieldTexts → T → Type 0

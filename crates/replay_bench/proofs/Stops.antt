@@ -76,12 +76,6 @@ module _ (version : Version) (index : ℕ) where
       subst (λ (all : List RawMessage). HasAfter version journal index all)
       (sym (append_assoc held (command ∷ []) (next ∷ commands))) (holds (next ∷ commands) (takes commands is))
 
-  -- all is held
-  pub holds_all : (held : List RawMessage) (first left : Option (List ℕ)) → IsHeld version first index held None left
-      → IfSome first (λ journal. HasAfter version journal index held)
-  holds_all held None left holds = tt
-  holds_all held (Some journal) left holds = holds
-
 -- one more offset is held
 pub offsets_more : (version : Version) (first : Option (List ℕ)) (number : ℕ) (offsets : List (Option ℕ))
     (at : Option ℕ)

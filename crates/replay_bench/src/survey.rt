@@ -57,7 +57,8 @@ impl Survey {
         }
     }
 
-    /// Counts the item that comes next in a stream of this version.
+    /// Counts the item that comes next in a stream of this version. Those before it, which this survey has counted, are
+    /// fewer than 2^127 bytes together.
     pub fn note(&mut self, version: Version, item: &Item)
         requires { (is_strict : Bool) × (items : List AnyItem)
             × (self.old ≡ survey_of version is_strict items 0) × (items_size items < 2 ^ 127) }

@@ -3,7 +3,7 @@ use Rattle.std.proofs.lemmas.Result.{on_ok_weaker}
 use Rattle.json.specs.Token.{Token, begin_object}
 use Rattle.json.specs.Tree.{members_tokens}
 use Rattle.diff_lines.specs.MovedJson.{counts_members, said_member}
-use Rattle.diff_lines.proofs.entry_json.write_whole.Goals as goal
+use Rattle.diff_lines.proofs.entry_json.write_whole_alignment.Goals as goal
 
 pub returns-clause-tokens : goal.returns-clause-tokens
 returns-clause-tokens c =
