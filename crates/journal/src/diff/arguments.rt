@@ -4,8 +4,8 @@ ghost use Rattle.std.specs.Prelude.{◌≤◌, IfOk};
 ghost use Rattle.shared_core_base.specs.Version.{version_number};
 
 use crate::definitions;
-use clap::Error;
 use clap::error::ErrorKind;
+use clap::{ArgMatches, Command, Error};
 use command_line::{ColorChoice, color_of, max_message_of, protocol_of};
 use shared_core_base::version::Version;
 use std::alloc::Global;
@@ -43,6 +43,16 @@ pub fn parse_arguments<'a>(
 {
     let mut command = definitions::diff(alloc, name)?.no_binary_name(true);
     let matches = command.try_get_matches_from_mut(words)?;
+    arguments_of(&mut command, &matches)
+}
+
+/// The arguments by what was found of them.
+fn arguments_of<'a>(
+    command: &mut Command<'_>,
+    matches: &ArgMatches<'a>,
+) -> Result<Arguments<'a>, Error>
+    ensures { IfOk result (λ parsed. 5 ≤ version_number parsed.version) }
+{
     let (Some(recorded), Some(replayed)) = (
         matches.get_str("recorded"),
         matches.get_str("replayed"),
@@ -58,16 +68,16 @@ pub fn parse_arguments<'a>(
             "only one journal can come from the standard input",
         )?);
     }
-    let limit = max_message_of(&mut command, &matches)?;
+    let limit = max_message_of(command, matches)?;
     Ok(Arguments {
         recorded,
         replayed,
-        version: protocol_of(&matches),
+        version: protocol_of(matches),
         limit,
         is_all: matches.get_flag("all"),
         ignore_payloads: matches.get_flag("ignore-payloads"),
         is_strict: matches.get_flag("strict"),
         is_json: matches.get_flag("json"),
-        color: color_of(&matches),
+        color: color_of(matches),
     })
 }

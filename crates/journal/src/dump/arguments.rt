@@ -5,8 +5,8 @@ ghost use Rattle.shared_core_base.specs.Version.{version_number};
 
 use crate::definitions;
 use crate::dump::suggestions::unknown_type;
-use clap::Error;
 use clap::error::ErrorKind;
+use clap::{ArgMatches, Command, Error};
 use command_line::{max_message_of, protocol_of};
 use shared_core_base::header::MessageType;
 use shared_core_base::version::Version;
@@ -75,20 +75,22 @@ pub fn parse_arguments<'a>(
 {
     let mut command = definitions::dump(alloc, name)?.no_binary_name(true);
     let matches = command.try_get_matches_from_mut(words)?;
-    let mut codes = Vec::new(alloc);
-    if let Some(names) = matches.get_strs("type") {
-        for name in names.iter().flat_map(|names| names.split(',')) {
-            let Some(code) = code_of(alloc, name)? else {
-                let why = unknown_type(alloc, name)?;
-                return Err(command.error(ErrorKind::InvalidValue, why.as_str())?);
-            };
-            codes.push(code)?;
-        }
-    }
-    let limit = max_message_of(&mut command, &matches)?;
+    arguments_of(alloc, &mut command, &matches)
+}
+
+/// The arguments by what was found of them.
+fn arguments_of<'a>(
+    alloc: Global,
+    command: &mut Command<'_>,
+    matches: &ArgMatches<'a>,
+) -> Result<Arguments<'a>, Error>
+    ensures { IfOk result (λ parsed. 5 ≤ version_number parsed.version) }
+{
+    let codes = codes_of(alloc, command, matches)?;
+    let limit = max_message_of(command, matches)?;
     Ok(Arguments {
         path: matches.get_str("file").unwrap_or("-"),
-        version: protocol_of(&matches),
+        version: protocol_of(matches),
         limit,
         codes,
         payloads: !matches.get_flag("no-payload"),
@@ -96,4 +98,24 @@ pub fn parse_arguments<'a>(
         pretty: matches.get_flag("pretty"),
         strict: matches.get_flag("strict"),
     })
+}
+
+/// The codes of the types that are named, of each option several between commas.
+fn codes_of(
+    alloc: Global,
+    command: &mut Command<'_>,
+    matches: &ArgMatches<'_>,
+) -> Result<Vec<u16>, Error> {
+    let mut codes = Vec::new(alloc);
+    let Some(names) = matches.get_strs("type") else {
+        return Ok(codes);
+    };
+    for name in names.iter().flat_map(|names| names.split(',')) {
+        let Some(code) = code_of(alloc, name)? else {
+            let why = unknown_type(alloc, name)?;
+            return Err(command.error(ErrorKind::InvalidValue, why.as_str())?);
+        };
+        codes.push(code)?;
+    }
+    Ok(codes)
 }
