@@ -168,30 +168,63 @@ func (t *fieldTable) find(schema int, payload []byte) error {
 	return nil
 }
 
-// A fieldWriter is the table of a record, and the bytes that its entries are places in.
+// How many entries, and how many bytes beside them and of a payload, a writer has room for at first.
+const (
+	writerFields = 32
+	writerBytes  = 512
+)
+
+// A fieldWriter is the table of a record, and the bytes that its entries are places in. Both are used up to a count, so
+// that no pointer is written for an entry.
 type fieldWriter struct {
 	fields []tableField
+	count  int
 	data   []byte
+	length int
+	// out is room for a short payload
+	out [writerBytes]byte
 	// writing is what the library writes: why there is no payload, and the index of the entry
 	writing [writingNumbers]uint64
 }
 
+// next returns the place of the next entry.
+func (w *fieldWriter) next() *tableField {
+	if w.count == len(w.fields) {
+		w.fields = append(w.fields, make([]tableField, len(w.fields))...)
+	}
+	w.count++
+	return &w.fields[w.count-1]
+}
+
 func (w *fieldWriter) number(level, number, kind, value uint64) {
-	w.fields = append(w.fields, tableField{level, number, kind, value, 0, 0})
+	field := w.next()
+	field[fieldLevel], field[fieldNumber], field[fieldKind] = level, number, kind
+	field[fieldValue], field[fieldOffset], field[fieldLength] = value, 0, 0
 }
 
 func (w *fieldWriter) flag(level, number uint64, isSet bool) {
 	w.number(level, number, kindOfFieldBool, uint64(flag(isSet)))
 }
 
+// place returns where the bytes of an entry are written.
+func (w *fieldWriter) place(level, number, kind uint64, length int) []byte {
+	begin := w.length
+	if length > len(w.data)-begin {
+		w.data = append(w.data, make([]byte, len(w.data)+length)...)
+	}
+	w.length += length
+	field := w.next()
+	field[fieldLevel], field[fieldNumber], field[fieldKind] = level, number, kind
+	field[fieldValue], field[fieldOffset], field[fieldLength] = 0, uint64(begin), uint64(length)
+	return w.data[begin:w.length]
+}
+
 func (w *fieldWriter) bytes(level, number uint64, value []byte) {
-	w.fields = append(w.fields, tableField{level, number, kindOfFieldBytes, 0, uint64(len(w.data)), uint64(len(value))})
-	w.data = append(w.data, value...)
+	copy(w.place(level, number, kindOfFieldBytes, len(value)), value)
 }
 
 func (w *fieldWriter) text(level, number uint64, value string) {
-	w.fields = append(w.fields, tableField{level, number, kindOfFieldString, 0, uint64(len(w.data)), uint64(len(value))})
-	w.data = append(w.data, value...)
+	copy(w.place(level, number, kindOfFieldString, len(value)), value)
 }
 
 func (w *fieldWriter) message(level, number, schema uint64) {
@@ -201,43 +234,78 @@ func (w *fieldWriter) message(level, number, schema uint64) {
 // The most that a writer keeps for the next record.
 const keptWriter = 64 << 10
 
-var writers = sync.Pool{New: func() any { return new(fieldWriter) }}
+var writers = sync.Pool{New: func() any {
+	return &fieldWriter{fields: make([]tableField, writerFields), data: make([]byte, writerBytes)}
+}}
 
-// marshal returns the canonical payload of a record.
-func marshal(record Record) ([]byte, error) {
+// newWriter returns a writer that has no entry.
+func newWriter() *fieldWriter {
 	writer := writers.Get().(*fieldWriter)
-	writer.fields, writer.data = writer.fields[:0], writer.data[:0]
-	record.write(writer, 0)
-	payload, err := writer.payload(record.Schema())
-	if cap(writer.data) <= keptWriter && cap(writer.fields) <= keptWriter/48 {
-		writers.Put(writer)
+	writer.count, writer.length = 0, 0
+	return writer
+}
+
+// end returns the payload that the table means for a schema, after room for what comes before it, and keeps the writer
+// for another record.
+func (w *fieldWriter) end(schema, before int) ([]byte, error) {
+	payload, err := w.payload(schema, before)
+	if len(w.data) <= keptWriter && len(w.fields) <= keptWriter/48 {
+		writers.Put(w)
 	}
 	return payload, err
 }
 
-// payload returns the payload that the table means for a schema.
-func (w *fieldWriter) payload(schema int) ([]byte, error) {
+func (w *fieldWriter) payload(schema, before int) ([]byte, error) {
+	fields, data := w.fields[:w.count], w.data[:w.length]
 	// what is enough for most
-	out := make([]byte, len(w.data)+6*len(w.fields))
+	made, room := w.out[:], before+w.length+6*w.count
+	if room > len(made) {
+		made = make([]byte, room)
+	}
 	for {
-		length := journalPayloadOfFields(uint32(schema), w.fields, w.data, &w.writing, out)
+		length := journalPayloadOfFields(uint32(schema), fields, data, &w.writing, made[before:])
+		end := before + int(length)
 		switch kind := w.writing[writingKind]; {
 		case length < 0:
-			return nil, schemaError("MarshalBinary", length, schema, bytesText("payload", w.data))
+			return nil, schemaError("MarshalBinary", length, schema, bytesText("payload", data))
 		case kind >= uint64(len(fieldReasons)):
 			return nil, unexpected("kind", kind)
 		case kind != fieldsWritten:
-			return nil, &FieldError{pathOf(schema, w.fields[:w.writing[writingIndex]+1]), fieldReasons[kind]}
-		case length <= int64(len(out)):
-			return out[:length:length], nil
+			return nil, &FieldError{pathOf(schema, fields[:w.writing[writingIndex]+1]), fieldReasons[kind]}
+		case end > len(made):
+			made = make([]byte, end)
+		case len(made) == len(w.out):
+			written := made[:end]
+			copied := make([]byte, len(written))
+			copy(copied, written)
+			return copied, nil
+		default:
+			return made[:end:end], nil
 		}
-		out = make([]byte, length)
 	}
 }
 
-// frameOf returns the frame of a record at a version.
-func frameOf(record Record, version int, code uint16) ([]byte, error) {
-	payload, err := marshal(record)
+// frame returns the frame at a version of the payload that the table means for a schema: its header, and the payload.
+func (w *fieldWriter) frame(schema, version int, code uint16) ([]byte, error) {
+	frame, err := w.end(schema, headerSize)
+	if err != nil {
+		return nil, err
+	}
+	number, err := unsigned("Frame", "version", version)
+	if err != nil {
+		return nil, err
+	}
+	result := journalHeader(number, code, uint32(len(frame)-headerSize), frame[:headerSize])
+	if result < 0 {
+		return nil, versionAndCode(version, code).refusal("Frame", result)
+	}
+	return frame, nil
+}
+
+// laterFrame returns the frame of a record of a type that has another one at earlier versions, which is written of what
+// it has of this one.
+func laterFrame(record Record, version int, code uint16) ([]byte, error) {
+	payload, err := record.MarshalBinary()
 	if err != nil {
 		return nil, err
 	}
@@ -246,7 +314,7 @@ func frameOf(record Record, version int, code uint16) ([]byte, error) {
 
 // earlierFrame returns the frame of a record that a type has at earlier versions only.
 func earlierFrame(record Record, version int, code uint16) ([]byte, error) {
-	payload, err := marshal(record)
+	payload, err := record.MarshalBinary()
 	if err != nil {
 		return nil, err
 	}

@@ -30,7 +30,9 @@ func (r *Void) Schema() int {
 
 // MarshalBinary returns the canonical payload. The error is a *FieldError, ErrTooLong or ErrOutOfMemory.
 func (r *Void) MarshalBinary() ([]byte, error) {
-	return marshal(r)
+	writer := newWriter()
+	r.write(writer, 0)
+	return writer.end(SchemaVoid, 0)
 }
 
 // UnmarshalBinary reads a payload, in any encoding. Bytes in the record are parts of it, without a copy, or of its
@@ -62,7 +64,9 @@ func (r *Value) Schema() int {
 
 // MarshalBinary returns the canonical payload. The error is a *FieldError, ErrTooLong or ErrOutOfMemory.
 func (r *Value) MarshalBinary() ([]byte, error) {
-	return marshal(r)
+	writer := newWriter()
+	r.write(writer, 0)
+	return writer.end(SchemaValue, 0)
 }
 
 // UnmarshalBinary reads a payload, in any encoding. Bytes in the record are parts of it, without a copy, or of its
@@ -108,7 +112,9 @@ func (r *Failure) Schema() int {
 
 // MarshalBinary returns the canonical payload. The error is a *FieldError, ErrTooLong or ErrOutOfMemory.
 func (r *Failure) MarshalBinary() ([]byte, error) {
-	return marshal(r)
+	writer := newWriter()
+	r.write(writer, 0)
+	return writer.end(SchemaFailure, 0)
 }
 
 // UnmarshalBinary reads a payload, in any encoding. Bytes in the record are parts of it, without a copy, or of its
@@ -166,7 +172,9 @@ func (r *FailureMetadata) Schema() int {
 
 // MarshalBinary returns the canonical payload. The error is a *FieldError, ErrTooLong or ErrOutOfMemory.
 func (r *FailureMetadata) MarshalBinary() ([]byte, error) {
-	return marshal(r)
+	writer := newWriter()
+	r.write(writer, 0)
+	return writer.end(SchemaFailureMetadata, 0)
 }
 
 // UnmarshalBinary reads a payload, in any encoding. Bytes in the record are parts of it, without a copy, or of its
@@ -215,7 +223,9 @@ func (r *HeaderRecord) Schema() int {
 
 // MarshalBinary returns the canonical payload. The error is a *FieldError, ErrTooLong or ErrOutOfMemory.
 func (r *HeaderRecord) MarshalBinary() ([]byte, error) {
-	return marshal(r)
+	writer := newWriter()
+	r.write(writer, 0)
+	return writer.end(SchemaHeader, 0)
 }
 
 // UnmarshalBinary reads a payload, in any encoding. Bytes in the record are parts of it, without a copy, or of its
@@ -262,7 +272,9 @@ func (r *StateKeys) Schema() int {
 
 // MarshalBinary returns the canonical payload. The error is a *FieldError, ErrTooLong or ErrOutOfMemory.
 func (r *StateKeys) MarshalBinary() ([]byte, error) {
-	return marshal(r)
+	writer := newWriter()
+	r.write(writer, 0)
+	return writer.end(SchemaStateKeys, 0)
 }
 
 // UnmarshalBinary reads a payload, in any encoding. Bytes in the record are parts of it, without a copy, or of its
@@ -306,7 +318,9 @@ func (r *StateEntry) Schema() int {
 
 // MarshalBinary returns the canonical payload. The error is a *FieldError, ErrTooLong or ErrOutOfMemory.
 func (r *StateEntry) MarshalBinary() ([]byte, error) {
-	return marshal(r)
+	writer := newWriter()
+	r.write(writer, 0)
+	return writer.end(SchemaStateEntry, 0)
 }
 
 // UnmarshalBinary reads a payload, in any encoding. Bytes in the record are parts of it, without a copy, or of its
@@ -361,7 +375,9 @@ func (r *Future) Schema() int {
 
 // MarshalBinary returns the canonical payload. The error is a *FieldError, ErrTooLong or ErrOutOfMemory.
 func (r *Future) MarshalBinary() ([]byte, error) {
-	return marshal(r)
+	writer := newWriter()
+	r.write(writer, 0)
+	return writer.end(SchemaFuture, 0)
 }
 
 // UnmarshalBinary reads a payload, in any encoding. Bytes in the record are parts of it, without a copy, or of its
@@ -431,7 +447,9 @@ func (r *WorkflowTarget) Schema() int {
 
 // MarshalBinary returns the canonical payload. The error is a *FieldError, ErrTooLong or ErrOutOfMemory.
 func (r *WorkflowTarget) MarshalBinary() ([]byte, error) {
-	return marshal(r)
+	writer := newWriter()
+	r.write(writer, 0)
+	return writer.end(SchemaWorkflowTarget, 0)
 }
 
 // UnmarshalBinary reads a payload, in any encoding. Bytes in the record are parts of it, without a copy, or of its
@@ -492,7 +510,9 @@ func (r *IdempotentRequestTarget) Schema() int {
 
 // MarshalBinary returns the canonical payload. The error is a *FieldError, ErrTooLong or ErrOutOfMemory.
 func (r *IdempotentRequestTarget) MarshalBinary() ([]byte, error) {
-	return marshal(r)
+	writer := newWriter()
+	r.write(writer, 0)
+	return writer.end(SchemaIdempotentRequestTarget, 0)
 }
 
 // UnmarshalBinary reads a payload, in any encoding. Bytes in the record are parts of it, without a copy, or of its
@@ -578,7 +598,9 @@ func (r *StartMessage) Schema() int {
 
 // MarshalBinary returns the canonical payload. The error is a *FieldError, ErrTooLong or ErrOutOfMemory.
 func (r *StartMessage) MarshalBinary() ([]byte, error) {
-	return marshal(r)
+	writer := newWriter()
+	r.write(writer, 0)
+	return writer.end(SchemaStartMessage, 0)
 }
 
 // UnmarshalBinary reads a payload, in any encoding. Bytes in the record are parts of it, without a copy, or of its
@@ -589,7 +611,9 @@ func (r *StartMessage) UnmarshalBinary(payload []byte) error {
 
 // Frame returns the message as a frame of a version: its header, and its canonical payload. The errors are those of MarshalBinary and Frame.
 func (r *StartMessage) Frame(version int) ([]byte, error) {
-	return frameOf(r, version, CodeStart)
+	writer := newWriter()
+	r.write(writer, 0)
+	return writer.frame(SchemaStartMessage, version, CodeStart)
 }
 
 func (r *StartMessage) read(table *fieldTable, level uint64) error {
@@ -687,7 +711,9 @@ func (r *SuspensionMessage) Schema() int {
 
 // MarshalBinary returns the canonical payload. The error is a *FieldError, ErrTooLong or ErrOutOfMemory.
 func (r *SuspensionMessage) MarshalBinary() ([]byte, error) {
-	return marshal(r)
+	writer := newWriter()
+	r.write(writer, 0)
+	return writer.end(SchemaSuspensionMessage, 0)
 }
 
 // UnmarshalBinary reads a payload, in any encoding. Bytes in the record are parts of it, without a copy, or of its
@@ -698,7 +724,7 @@ func (r *SuspensionMessage) UnmarshalBinary(payload []byte) error {
 
 // Frame returns the message as a frame of a version: its header, and its canonical payload. The errors are those of MarshalBinary and Frame.
 func (r *SuspensionMessage) Frame(version int) ([]byte, error) {
-	return frameOf(r, version, CodeSuspension)
+	return laterFrame(r, version, CodeSuspension)
 }
 
 func (r *SuspensionMessage) read(table *fieldTable, level uint64) error {
@@ -742,7 +768,9 @@ func (r *SuspensionMessageV6) Schema() int {
 
 // MarshalBinary returns the canonical payload. The error is a *FieldError, ErrTooLong or ErrOutOfMemory.
 func (r *SuspensionMessageV6) MarshalBinary() ([]byte, error) {
-	return marshal(r)
+	writer := newWriter()
+	r.write(writer, 0)
+	return writer.end(SchemaSuspensionMessageV6, 0)
 }
 
 // UnmarshalBinary reads a payload, in any encoding. Bytes in the record are parts of it, without a copy, or of its
@@ -814,7 +842,9 @@ func (r *ErrorMessage) Schema() int {
 
 // MarshalBinary returns the canonical payload. The error is a *FieldError, ErrTooLong or ErrOutOfMemory.
 func (r *ErrorMessage) MarshalBinary() ([]byte, error) {
-	return marshal(r)
+	writer := newWriter()
+	r.write(writer, 0)
+	return writer.end(SchemaErrorMessage, 0)
 }
 
 // UnmarshalBinary reads a payload, in any encoding. Bytes in the record are parts of it, without a copy, or of its
@@ -825,7 +855,9 @@ func (r *ErrorMessage) UnmarshalBinary(payload []byte) error {
 
 // Frame returns the message as a frame of a version: its header, and its canonical payload. The errors are those of MarshalBinary and Frame.
 func (r *ErrorMessage) Frame(version int) ([]byte, error) {
-	return frameOf(r, version, CodeError)
+	writer := newWriter()
+	r.write(writer, 0)
+	return writer.frame(SchemaErrorMessage, version, CodeError)
 }
 
 func (r *ErrorMessage) read(table *fieldTable, level uint64) error {
@@ -897,7 +929,9 @@ func (r *EndMessage) Schema() int {
 
 // MarshalBinary returns the canonical payload. The error is a *FieldError, ErrTooLong or ErrOutOfMemory.
 func (r *EndMessage) MarshalBinary() ([]byte, error) {
-	return marshal(r)
+	writer := newWriter()
+	r.write(writer, 0)
+	return writer.end(SchemaEndMessage, 0)
 }
 
 // UnmarshalBinary reads a payload, in any encoding. Bytes in the record are parts of it, without a copy, or of its
@@ -908,7 +942,9 @@ func (r *EndMessage) UnmarshalBinary(payload []byte) error {
 
 // Frame returns the message as a frame of a version: its header, and its canonical payload. The errors are those of MarshalBinary and Frame.
 func (r *EndMessage) Frame(version int) ([]byte, error) {
-	return frameOf(r, version, CodeEnd)
+	writer := newWriter()
+	r.write(writer, 0)
+	return writer.frame(SchemaEndMessage, version, CodeEnd)
 }
 
 func (r *EndMessage) read(table *fieldTable, level uint64) error {
@@ -947,7 +983,9 @@ func (r *ProposeRunCompletionMessage) Schema() int {
 
 // MarshalBinary returns the canonical payload. The error is a *FieldError, ErrTooLong or ErrOutOfMemory.
 func (r *ProposeRunCompletionMessage) MarshalBinary() ([]byte, error) {
-	return marshal(r)
+	writer := newWriter()
+	r.write(writer, 0)
+	return writer.end(SchemaProposeRunCompletionMessage, 0)
 }
 
 // UnmarshalBinary reads a payload, in any encoding. Bytes in the record are parts of it, without a copy, or of its
@@ -958,7 +996,9 @@ func (r *ProposeRunCompletionMessage) UnmarshalBinary(payload []byte) error {
 
 // Frame returns the message as a frame of a version: its header, and its canonical payload. The errors are those of MarshalBinary and Frame.
 func (r *ProposeRunCompletionMessage) Frame(version int) ([]byte, error) {
-	return frameOf(r, version, CodeProposeRunCompletion)
+	writer := newWriter()
+	r.write(writer, 0)
+	return writer.frame(SchemaProposeRunCompletionMessage, version, CodeProposeRunCompletion)
 }
 
 func (r *ProposeRunCompletionMessage) read(table *fieldTable, level uint64) error {
@@ -1013,7 +1053,9 @@ func (r *AwaitingOnMessage) Schema() int {
 
 // MarshalBinary returns the canonical payload. The error is a *FieldError, ErrTooLong or ErrOutOfMemory.
 func (r *AwaitingOnMessage) MarshalBinary() ([]byte, error) {
-	return marshal(r)
+	writer := newWriter()
+	r.write(writer, 0)
+	return writer.end(SchemaAwaitingOnMessage, 0)
 }
 
 // UnmarshalBinary reads a payload, in any encoding. Bytes in the record are parts of it, without a copy, or of its
@@ -1024,7 +1066,9 @@ func (r *AwaitingOnMessage) UnmarshalBinary(payload []byte) error {
 
 // Frame returns the message as a frame of a version: its header, and its canonical payload. The errors are those of MarshalBinary and Frame.
 func (r *AwaitingOnMessage) Frame(version int) ([]byte, error) {
-	return frameOf(r, version, CodeAwaitingOn)
+	writer := newWriter()
+	r.write(writer, 0)
+	return writer.frame(SchemaAwaitingOnMessage, version, CodeAwaitingOn)
 }
 
 func (r *AwaitingOnMessage) read(table *fieldTable, level uint64) error {
@@ -1069,7 +1113,9 @@ func (r *ProposeRunCompletionAckMessage) Schema() int {
 
 // MarshalBinary returns the canonical payload. The error is a *FieldError, ErrTooLong or ErrOutOfMemory.
 func (r *ProposeRunCompletionAckMessage) MarshalBinary() ([]byte, error) {
-	return marshal(r)
+	writer := newWriter()
+	r.write(writer, 0)
+	return writer.end(SchemaProposeRunCompletionAckMessage, 0)
 }
 
 // UnmarshalBinary reads a payload, in any encoding. Bytes in the record are parts of it, without a copy, or of its
@@ -1080,7 +1126,9 @@ func (r *ProposeRunCompletionAckMessage) UnmarshalBinary(payload []byte) error {
 
 // Frame returns the message as a frame of a version: its header, and its canonical payload. The errors are those of MarshalBinary and Frame.
 func (r *ProposeRunCompletionAckMessage) Frame(version int) ([]byte, error) {
-	return frameOf(r, version, CodeProposeRunCompletionAck)
+	writer := newWriter()
+	r.write(writer, 0)
+	return writer.frame(SchemaProposeRunCompletionAckMessage, version, CodeProposeRunCompletionAck)
 }
 
 func (r *ProposeRunCompletionAckMessage) read(table *fieldTable, level uint64) error {
@@ -1118,7 +1166,9 @@ func (r *GetStateEphemeralCommandMessage) Schema() int {
 
 // MarshalBinary returns the canonical payload. The error is a *FieldError, ErrTooLong or ErrOutOfMemory.
 func (r *GetStateEphemeralCommandMessage) MarshalBinary() ([]byte, error) {
-	return marshal(r)
+	writer := newWriter()
+	r.write(writer, 0)
+	return writer.end(SchemaGetStateEphemeralCommandMessage, 0)
 }
 
 // UnmarshalBinary reads a payload, in any encoding. Bytes in the record are parts of it, without a copy, or of its
@@ -1129,7 +1179,9 @@ func (r *GetStateEphemeralCommandMessage) UnmarshalBinary(payload []byte) error 
 
 // Frame returns the message as a frame of a version: its header, and its canonical payload. The errors are those of MarshalBinary and Frame.
 func (r *GetStateEphemeralCommandMessage) Frame(version int) ([]byte, error) {
-	return frameOf(r, version, CodeGetStateEphemeralCommand)
+	writer := newWriter()
+	r.write(writer, 0)
+	return writer.frame(SchemaGetStateEphemeralCommandMessage, version, CodeGetStateEphemeralCommand)
 }
 
 func (r *GetStateEphemeralCommandMessage) read(table *fieldTable, level uint64) error {
@@ -1180,7 +1232,9 @@ func (r *GetStateEphemeralNotificationMessage) Schema() int {
 
 // MarshalBinary returns the canonical payload. The error is a *FieldError, ErrTooLong or ErrOutOfMemory.
 func (r *GetStateEphemeralNotificationMessage) MarshalBinary() ([]byte, error) {
-	return marshal(r)
+	writer := newWriter()
+	r.write(writer, 0)
+	return writer.end(SchemaGetStateEphemeralNotificationMessage, 0)
 }
 
 // UnmarshalBinary reads a payload, in any encoding. Bytes in the record are parts of it, without a copy, or of its
@@ -1191,7 +1245,9 @@ func (r *GetStateEphemeralNotificationMessage) UnmarshalBinary(payload []byte) e
 
 // Frame returns the message as a frame of a version: its header, and its canonical payload. The errors are those of MarshalBinary and Frame.
 func (r *GetStateEphemeralNotificationMessage) Frame(version int) ([]byte, error) {
-	return frameOf(r, version, CodeGetStateEphemeralNotification)
+	writer := newWriter()
+	r.write(writer, 0)
+	return writer.frame(SchemaGetStateEphemeralNotificationMessage, version, CodeGetStateEphemeralNotification)
 }
 
 func (r *GetStateEphemeralNotificationMessage) read(table *fieldTable, level uint64) error {
@@ -1255,7 +1311,9 @@ func (r *InputCommandMessage) Schema() int {
 
 // MarshalBinary returns the canonical payload. The error is a *FieldError, ErrTooLong or ErrOutOfMemory.
 func (r *InputCommandMessage) MarshalBinary() ([]byte, error) {
-	return marshal(r)
+	writer := newWriter()
+	r.write(writer, 0)
+	return writer.end(SchemaInputCommandMessage, 0)
 }
 
 // UnmarshalBinary reads a payload, in any encoding. Bytes in the record are parts of it, without a copy, or of its
@@ -1266,7 +1324,9 @@ func (r *InputCommandMessage) UnmarshalBinary(payload []byte) error {
 
 // Frame returns the message as a frame of a version: its header, and its canonical payload. The errors are those of MarshalBinary and Frame.
 func (r *InputCommandMessage) Frame(version int) ([]byte, error) {
-	return frameOf(r, version, CodeInputCommand)
+	writer := newWriter()
+	r.write(writer, 0)
+	return writer.frame(SchemaInputCommandMessage, version, CodeInputCommand)
 }
 
 func (r *InputCommandMessage) read(table *fieldTable, level uint64) error {
@@ -1330,7 +1390,9 @@ func (r *OutputCommandMessage) Schema() int {
 
 // MarshalBinary returns the canonical payload. The error is a *FieldError, ErrTooLong or ErrOutOfMemory.
 func (r *OutputCommandMessage) MarshalBinary() ([]byte, error) {
-	return marshal(r)
+	writer := newWriter()
+	r.write(writer, 0)
+	return writer.end(SchemaOutputCommandMessage, 0)
 }
 
 // UnmarshalBinary reads a payload, in any encoding. Bytes in the record are parts of it, without a copy, or of its
@@ -1341,7 +1403,9 @@ func (r *OutputCommandMessage) UnmarshalBinary(payload []byte) error {
 
 // Frame returns the message as a frame of a version: its header, and its canonical payload. The errors are those of MarshalBinary and Frame.
 func (r *OutputCommandMessage) Frame(version int) ([]byte, error) {
-	return frameOf(r, version, CodeOutputCommand)
+	writer := newWriter()
+	r.write(writer, 0)
+	return writer.frame(SchemaOutputCommandMessage, version, CodeOutputCommand)
 }
 
 func (r *OutputCommandMessage) read(table *fieldTable, level uint64) error {
@@ -1405,7 +1469,9 @@ func (r *GetLazyStateCommandMessage) Schema() int {
 
 // MarshalBinary returns the canonical payload. The error is a *FieldError, ErrTooLong or ErrOutOfMemory.
 func (r *GetLazyStateCommandMessage) MarshalBinary() ([]byte, error) {
-	return marshal(r)
+	writer := newWriter()
+	r.write(writer, 0)
+	return writer.end(SchemaGetLazyStateCommandMessage, 0)
 }
 
 // UnmarshalBinary reads a payload, in any encoding. Bytes in the record are parts of it, without a copy, or of its
@@ -1416,7 +1482,9 @@ func (r *GetLazyStateCommandMessage) UnmarshalBinary(payload []byte) error {
 
 // Frame returns the message as a frame of a version: its header, and its canonical payload. The errors are those of MarshalBinary and Frame.
 func (r *GetLazyStateCommandMessage) Frame(version int) ([]byte, error) {
-	return frameOf(r, version, CodeGetLazyStateCommand)
+	writer := newWriter()
+	r.write(writer, 0)
+	return writer.frame(SchemaGetLazyStateCommandMessage, version, CodeGetLazyStateCommand)
 }
 
 func (r *GetLazyStateCommandMessage) read(table *fieldTable, level uint64) error {
@@ -1466,7 +1534,9 @@ func (r *SetStateCommandMessage) Schema() int {
 
 // MarshalBinary returns the canonical payload. The error is a *FieldError, ErrTooLong or ErrOutOfMemory.
 func (r *SetStateCommandMessage) MarshalBinary() ([]byte, error) {
-	return marshal(r)
+	writer := newWriter()
+	r.write(writer, 0)
+	return writer.end(SchemaSetStateCommandMessage, 0)
 }
 
 // UnmarshalBinary reads a payload, in any encoding. Bytes in the record are parts of it, without a copy, or of its
@@ -1477,7 +1547,9 @@ func (r *SetStateCommandMessage) UnmarshalBinary(payload []byte) error {
 
 // Frame returns the message as a frame of a version: its header, and its canonical payload. The errors are those of MarshalBinary and Frame.
 func (r *SetStateCommandMessage) Frame(version int) ([]byte, error) {
-	return frameOf(r, version, CodeSetStateCommand)
+	writer := newWriter()
+	r.write(writer, 0)
+	return writer.frame(SchemaSetStateCommandMessage, version, CodeSetStateCommand)
 }
 
 func (r *SetStateCommandMessage) read(table *fieldTable, level uint64) error {
@@ -1529,7 +1601,9 @@ func (r *ClearStateCommandMessage) Schema() int {
 
 // MarshalBinary returns the canonical payload. The error is a *FieldError, ErrTooLong or ErrOutOfMemory.
 func (r *ClearStateCommandMessage) MarshalBinary() ([]byte, error) {
-	return marshal(r)
+	writer := newWriter()
+	r.write(writer, 0)
+	return writer.end(SchemaClearStateCommandMessage, 0)
 }
 
 // UnmarshalBinary reads a payload, in any encoding. Bytes in the record are parts of it, without a copy, or of its
@@ -1540,7 +1614,9 @@ func (r *ClearStateCommandMessage) UnmarshalBinary(payload []byte) error {
 
 // Frame returns the message as a frame of a version: its header, and its canonical payload. The errors are those of MarshalBinary and Frame.
 func (r *ClearStateCommandMessage) Frame(version int) ([]byte, error) {
-	return frameOf(r, version, CodeClearStateCommand)
+	writer := newWriter()
+	r.write(writer, 0)
+	return writer.frame(SchemaClearStateCommandMessage, version, CodeClearStateCommand)
 }
 
 func (r *ClearStateCommandMessage) read(table *fieldTable, level uint64) error {
@@ -1581,7 +1657,9 @@ func (r *ClearAllStateCommandMessage) Schema() int {
 
 // MarshalBinary returns the canonical payload. The error is a *FieldError, ErrTooLong or ErrOutOfMemory.
 func (r *ClearAllStateCommandMessage) MarshalBinary() ([]byte, error) {
-	return marshal(r)
+	writer := newWriter()
+	r.write(writer, 0)
+	return writer.end(SchemaClearAllStateCommandMessage, 0)
 }
 
 // UnmarshalBinary reads a payload, in any encoding. Bytes in the record are parts of it, without a copy, or of its
@@ -1592,7 +1670,9 @@ func (r *ClearAllStateCommandMessage) UnmarshalBinary(payload []byte) error {
 
 // Frame returns the message as a frame of a version: its header, and its canonical payload. The errors are those of MarshalBinary and Frame.
 func (r *ClearAllStateCommandMessage) Frame(version int) ([]byte, error) {
-	return frameOf(r, version, CodeClearAllStateCommand)
+	writer := newWriter()
+	r.write(writer, 0)
+	return writer.frame(SchemaClearAllStateCommandMessage, version, CodeClearAllStateCommand)
 }
 
 func (r *ClearAllStateCommandMessage) read(table *fieldTable, level uint64) error {
@@ -1630,7 +1710,9 @@ func (r *GetLazyStateKeysCommandMessage) Schema() int {
 
 // MarshalBinary returns the canonical payload. The error is a *FieldError, ErrTooLong or ErrOutOfMemory.
 func (r *GetLazyStateKeysCommandMessage) MarshalBinary() ([]byte, error) {
-	return marshal(r)
+	writer := newWriter()
+	r.write(writer, 0)
+	return writer.end(SchemaGetLazyStateKeysCommandMessage, 0)
 }
 
 // UnmarshalBinary reads a payload, in any encoding. Bytes in the record are parts of it, without a copy, or of its
@@ -1641,7 +1723,9 @@ func (r *GetLazyStateKeysCommandMessage) UnmarshalBinary(payload []byte) error {
 
 // Frame returns the message as a frame of a version: its header, and its canonical payload. The errors are those of MarshalBinary and Frame.
 func (r *GetLazyStateKeysCommandMessage) Frame(version int) ([]byte, error) {
-	return frameOf(r, version, CodeGetLazyStateKeysCommand)
+	writer := newWriter()
+	r.write(writer, 0)
+	return writer.frame(SchemaGetLazyStateKeysCommandMessage, version, CodeGetLazyStateKeysCommand)
 }
 
 func (r *GetLazyStateKeysCommandMessage) read(table *fieldTable, level uint64) error {
@@ -1694,7 +1778,9 @@ func (r *GetEagerStateCommandMessage) Schema() int {
 
 // MarshalBinary returns the canonical payload. The error is a *FieldError, ErrTooLong or ErrOutOfMemory.
 func (r *GetEagerStateCommandMessage) MarshalBinary() ([]byte, error) {
-	return marshal(r)
+	writer := newWriter()
+	r.write(writer, 0)
+	return writer.end(SchemaGetEagerStateCommandMessage, 0)
 }
 
 // UnmarshalBinary reads a payload, in any encoding. Bytes in the record are parts of it, without a copy, or of its
@@ -1705,7 +1791,9 @@ func (r *GetEagerStateCommandMessage) UnmarshalBinary(payload []byte) error {
 
 // Frame returns the message as a frame of a version: its header, and its canonical payload. The errors are those of MarshalBinary and Frame.
 func (r *GetEagerStateCommandMessage) Frame(version int) ([]byte, error) {
-	return frameOf(r, version, CodeGetEagerStateCommand)
+	writer := newWriter()
+	r.write(writer, 0)
+	return writer.frame(SchemaGetEagerStateCommandMessage, version, CodeGetEagerStateCommand)
 }
 
 func (r *GetEagerStateCommandMessage) read(table *fieldTable, level uint64) error {
@@ -1772,7 +1860,9 @@ func (r *GetEagerStateKeysCommandMessage) Schema() int {
 
 // MarshalBinary returns the canonical payload. The error is a *FieldError, ErrTooLong or ErrOutOfMemory.
 func (r *GetEagerStateKeysCommandMessage) MarshalBinary() ([]byte, error) {
-	return marshal(r)
+	writer := newWriter()
+	r.write(writer, 0)
+	return writer.end(SchemaGetEagerStateKeysCommandMessage, 0)
 }
 
 // UnmarshalBinary reads a payload, in any encoding. Bytes in the record are parts of it, without a copy, or of its
@@ -1783,7 +1873,9 @@ func (r *GetEagerStateKeysCommandMessage) UnmarshalBinary(payload []byte) error 
 
 // Frame returns the message as a frame of a version: its header, and its canonical payload. The errors are those of MarshalBinary and Frame.
 func (r *GetEagerStateKeysCommandMessage) Frame(version int) ([]byte, error) {
-	return frameOf(r, version, CodeGetEagerStateKeysCommand)
+	writer := newWriter()
+	r.write(writer, 0)
+	return writer.frame(SchemaGetEagerStateKeysCommandMessage, version, CodeGetEagerStateKeysCommand)
 }
 
 func (r *GetEagerStateKeysCommandMessage) read(table *fieldTable, level uint64) error {
@@ -1832,7 +1924,9 @@ func (r *GetPromiseCommandMessage) Schema() int {
 
 // MarshalBinary returns the canonical payload. The error is a *FieldError, ErrTooLong or ErrOutOfMemory.
 func (r *GetPromiseCommandMessage) MarshalBinary() ([]byte, error) {
-	return marshal(r)
+	writer := newWriter()
+	r.write(writer, 0)
+	return writer.end(SchemaGetPromiseCommandMessage, 0)
 }
 
 // UnmarshalBinary reads a payload, in any encoding. Bytes in the record are parts of it, without a copy, or of its
@@ -1843,7 +1937,9 @@ func (r *GetPromiseCommandMessage) UnmarshalBinary(payload []byte) error {
 
 // Frame returns the message as a frame of a version: its header, and its canonical payload. The errors are those of MarshalBinary and Frame.
 func (r *GetPromiseCommandMessage) Frame(version int) ([]byte, error) {
-	return frameOf(r, version, CodeGetPromiseCommand)
+	writer := newWriter()
+	r.write(writer, 0)
+	return writer.frame(SchemaGetPromiseCommandMessage, version, CodeGetPromiseCommand)
 }
 
 func (r *GetPromiseCommandMessage) read(table *fieldTable, level uint64) error {
@@ -1893,7 +1989,9 @@ func (r *PeekPromiseCommandMessage) Schema() int {
 
 // MarshalBinary returns the canonical payload. The error is a *FieldError, ErrTooLong or ErrOutOfMemory.
 func (r *PeekPromiseCommandMessage) MarshalBinary() ([]byte, error) {
-	return marshal(r)
+	writer := newWriter()
+	r.write(writer, 0)
+	return writer.end(SchemaPeekPromiseCommandMessage, 0)
 }
 
 // UnmarshalBinary reads a payload, in any encoding. Bytes in the record are parts of it, without a copy, or of its
@@ -1904,7 +2002,9 @@ func (r *PeekPromiseCommandMessage) UnmarshalBinary(payload []byte) error {
 
 // Frame returns the message as a frame of a version: its header, and its canonical payload. The errors are those of MarshalBinary and Frame.
 func (r *PeekPromiseCommandMessage) Frame(version int) ([]byte, error) {
-	return frameOf(r, version, CodePeekPromiseCommand)
+	writer := newWriter()
+	r.write(writer, 0)
+	return writer.frame(SchemaPeekPromiseCommandMessage, version, CodePeekPromiseCommand)
 }
 
 func (r *PeekPromiseCommandMessage) read(table *fieldTable, level uint64) error {
@@ -1964,7 +2064,9 @@ func (r *CompletePromiseCommandMessage) Schema() int {
 
 // MarshalBinary returns the canonical payload. The error is a *FieldError, ErrTooLong or ErrOutOfMemory.
 func (r *CompletePromiseCommandMessage) MarshalBinary() ([]byte, error) {
-	return marshal(r)
+	writer := newWriter()
+	r.write(writer, 0)
+	return writer.end(SchemaCompletePromiseCommandMessage, 0)
 }
 
 // UnmarshalBinary reads a payload, in any encoding. Bytes in the record are parts of it, without a copy, or of its
@@ -1975,7 +2077,9 @@ func (r *CompletePromiseCommandMessage) UnmarshalBinary(payload []byte) error {
 
 // Frame returns the message as a frame of a version: its header, and its canonical payload. The errors are those of MarshalBinary and Frame.
 func (r *CompletePromiseCommandMessage) Frame(version int) ([]byte, error) {
-	return frameOf(r, version, CodeCompletePromiseCommand)
+	writer := newWriter()
+	r.write(writer, 0)
+	return writer.frame(SchemaCompletePromiseCommandMessage, version, CodeCompletePromiseCommand)
 }
 
 func (r *CompletePromiseCommandMessage) read(table *fieldTable, level uint64) error {
@@ -2049,7 +2153,9 @@ func (r *SleepCommandMessage) Schema() int {
 
 // MarshalBinary returns the canonical payload. The error is a *FieldError, ErrTooLong or ErrOutOfMemory.
 func (r *SleepCommandMessage) MarshalBinary() ([]byte, error) {
-	return marshal(r)
+	writer := newWriter()
+	r.write(writer, 0)
+	return writer.end(SchemaSleepCommandMessage, 0)
 }
 
 // UnmarshalBinary reads a payload, in any encoding. Bytes in the record are parts of it, without a copy, or of its
@@ -2060,7 +2166,9 @@ func (r *SleepCommandMessage) UnmarshalBinary(payload []byte) error {
 
 // Frame returns the message as a frame of a version: its header, and its canonical payload. The errors are those of MarshalBinary and Frame.
 func (r *SleepCommandMessage) Frame(version int) ([]byte, error) {
-	return frameOf(r, version, CodeSleepCommand)
+	writer := newWriter()
+	r.write(writer, 0)
+	return writer.frame(SchemaSleepCommandMessage, version, CodeSleepCommand)
 }
 
 func (r *SleepCommandMessage) read(table *fieldTable, level uint64) error {
@@ -2126,7 +2234,9 @@ func (r *CallCommandMessage) Schema() int {
 
 // MarshalBinary returns the canonical payload. The error is a *FieldError, ErrTooLong or ErrOutOfMemory.
 func (r *CallCommandMessage) MarshalBinary() ([]byte, error) {
-	return marshal(r)
+	writer := newWriter()
+	r.write(writer, 0)
+	return writer.end(SchemaCallCommandMessage, 0)
 }
 
 // UnmarshalBinary reads a payload, in any encoding. Bytes in the record are parts of it, without a copy, or of its
@@ -2137,7 +2247,9 @@ func (r *CallCommandMessage) UnmarshalBinary(payload []byte) error {
 
 // Frame returns the message as a frame of a version: its header, and its canonical payload. The errors are those of MarshalBinary and Frame.
 func (r *CallCommandMessage) Frame(version int) ([]byte, error) {
-	return frameOf(r, version, CodeCallCommand)
+	writer := newWriter()
+	r.write(writer, 0)
+	return writer.frame(SchemaCallCommandMessage, version, CodeCallCommand)
 }
 
 func (r *CallCommandMessage) read(table *fieldTable, level uint64) error {
@@ -2250,7 +2362,9 @@ func (r *OneWayCallCommandMessage) Schema() int {
 
 // MarshalBinary returns the canonical payload. The error is a *FieldError, ErrTooLong or ErrOutOfMemory.
 func (r *OneWayCallCommandMessage) MarshalBinary() ([]byte, error) {
-	return marshal(r)
+	writer := newWriter()
+	r.write(writer, 0)
+	return writer.end(SchemaOneWayCallCommandMessage, 0)
 }
 
 // UnmarshalBinary reads a payload, in any encoding. Bytes in the record are parts of it, without a copy, or of its
@@ -2261,7 +2375,9 @@ func (r *OneWayCallCommandMessage) UnmarshalBinary(payload []byte) error {
 
 // Frame returns the message as a frame of a version: its header, and its canonical payload. The errors are those of MarshalBinary and Frame.
 func (r *OneWayCallCommandMessage) Frame(version int) ([]byte, error) {
-	return frameOf(r, version, CodeOneWayCallCommand)
+	writer := newWriter()
+	r.write(writer, 0)
+	return writer.frame(SchemaOneWayCallCommandMessage, version, CodeOneWayCallCommand)
 }
 
 func (r *OneWayCallCommandMessage) read(table *fieldTable, level uint64) error {
@@ -2384,7 +2500,9 @@ func (r *SendSignalCommandMessage) Schema() int {
 
 // MarshalBinary returns the canonical payload. The error is a *FieldError, ErrTooLong or ErrOutOfMemory.
 func (r *SendSignalCommandMessage) MarshalBinary() ([]byte, error) {
-	return marshal(r)
+	writer := newWriter()
+	r.write(writer, 0)
+	return writer.end(SchemaSendSignalCommandMessage, 0)
 }
 
 // UnmarshalBinary reads a payload, in any encoding. Bytes in the record are parts of it, without a copy, or of its
@@ -2395,7 +2513,9 @@ func (r *SendSignalCommandMessage) UnmarshalBinary(payload []byte) error {
 
 // Frame returns the message as a frame of a version: its header, and its canonical payload. The errors are those of MarshalBinary and Frame.
 func (r *SendSignalCommandMessage) Frame(version int) ([]byte, error) {
-	return frameOf(r, version, CodeSendSignalCommand)
+	writer := newWriter()
+	r.write(writer, 0)
+	return writer.frame(SchemaSendSignalCommandMessage, version, CodeSendSignalCommand)
 }
 
 func (r *SendSignalCommandMessage) read(table *fieldTable, level uint64) error {
@@ -2483,7 +2603,9 @@ func (r *RunCommandMessage) Schema() int {
 
 // MarshalBinary returns the canonical payload. The error is a *FieldError, ErrTooLong or ErrOutOfMemory.
 func (r *RunCommandMessage) MarshalBinary() ([]byte, error) {
-	return marshal(r)
+	writer := newWriter()
+	r.write(writer, 0)
+	return writer.end(SchemaRunCommandMessage, 0)
 }
 
 // UnmarshalBinary reads a payload, in any encoding. Bytes in the record are parts of it, without a copy, or of its
@@ -2494,7 +2616,9 @@ func (r *RunCommandMessage) UnmarshalBinary(payload []byte) error {
 
 // Frame returns the message as a frame of a version: its header, and its canonical payload. The errors are those of MarshalBinary and Frame.
 func (r *RunCommandMessage) Frame(version int) ([]byte, error) {
-	return frameOf(r, version, CodeRunCommand)
+	writer := newWriter()
+	r.write(writer, 0)
+	return writer.frame(SchemaRunCommandMessage, version, CodeRunCommand)
 }
 
 func (r *RunCommandMessage) read(table *fieldTable, level uint64) error {
@@ -2552,7 +2676,9 @@ func (r *AttachInvocationCommandMessage) Schema() int {
 
 // MarshalBinary returns the canonical payload. The error is a *FieldError, ErrTooLong or ErrOutOfMemory.
 func (r *AttachInvocationCommandMessage) MarshalBinary() ([]byte, error) {
-	return marshal(r)
+	writer := newWriter()
+	r.write(writer, 0)
+	return writer.end(SchemaAttachInvocationCommandMessage, 0)
 }
 
 // UnmarshalBinary reads a payload, in any encoding. Bytes in the record are parts of it, without a copy, or of its
@@ -2563,7 +2689,9 @@ func (r *AttachInvocationCommandMessage) UnmarshalBinary(payload []byte) error {
 
 // Frame returns the message as a frame of a version: its header, and its canonical payload. The errors are those of MarshalBinary and Frame.
 func (r *AttachInvocationCommandMessage) Frame(version int) ([]byte, error) {
-	return frameOf(r, version, CodeAttachInvocationCommand)
+	writer := newWriter()
+	r.write(writer, 0)
+	return writer.frame(SchemaAttachInvocationCommandMessage, version, CodeAttachInvocationCommand)
 }
 
 func (r *AttachInvocationCommandMessage) read(table *fieldTable, level uint64) error {
@@ -2649,7 +2777,9 @@ func (r *GetInvocationOutputCommandMessage) Schema() int {
 
 // MarshalBinary returns the canonical payload. The error is a *FieldError, ErrTooLong or ErrOutOfMemory.
 func (r *GetInvocationOutputCommandMessage) MarshalBinary() ([]byte, error) {
-	return marshal(r)
+	writer := newWriter()
+	r.write(writer, 0)
+	return writer.end(SchemaGetInvocationOutputCommandMessage, 0)
 }
 
 // UnmarshalBinary reads a payload, in any encoding. Bytes in the record are parts of it, without a copy, or of its
@@ -2660,7 +2790,9 @@ func (r *GetInvocationOutputCommandMessage) UnmarshalBinary(payload []byte) erro
 
 // Frame returns the message as a frame of a version: its header, and its canonical payload. The errors are those of MarshalBinary and Frame.
 func (r *GetInvocationOutputCommandMessage) Frame(version int) ([]byte, error) {
-	return frameOf(r, version, CodeGetInvocationOutputCommand)
+	writer := newWriter()
+	r.write(writer, 0)
+	return writer.frame(SchemaGetInvocationOutputCommandMessage, version, CodeGetInvocationOutputCommand)
 }
 
 func (r *GetInvocationOutputCommandMessage) read(table *fieldTable, level uint64) error {
@@ -2741,7 +2873,9 @@ func (r *CompleteAwakeableCommandMessage) Schema() int {
 
 // MarshalBinary returns the canonical payload. The error is a *FieldError, ErrTooLong or ErrOutOfMemory.
 func (r *CompleteAwakeableCommandMessage) MarshalBinary() ([]byte, error) {
-	return marshal(r)
+	writer := newWriter()
+	r.write(writer, 0)
+	return writer.end(SchemaCompleteAwakeableCommandMessage, 0)
 }
 
 // UnmarshalBinary reads a payload, in any encoding. Bytes in the record are parts of it, without a copy, or of its
@@ -2752,7 +2886,9 @@ func (r *CompleteAwakeableCommandMessage) UnmarshalBinary(payload []byte) error 
 
 // Frame returns the message as a frame of a version: its header, and its canonical payload. The errors are those of MarshalBinary and Frame.
 func (r *CompleteAwakeableCommandMessage) Frame(version int) ([]byte, error) {
-	return frameOf(r, version, CodeCompleteAwakeableCommand)
+	writer := newWriter()
+	r.write(writer, 0)
+	return writer.frame(SchemaCompleteAwakeableCommandMessage, version, CodeCompleteAwakeableCommand)
 }
 
 func (r *CompleteAwakeableCommandMessage) read(table *fieldTable, level uint64) error {
@@ -2827,7 +2963,9 @@ func (r *GetLazyStateCompletionNotificationMessage) Schema() int {
 
 // MarshalBinary returns the canonical payload. The error is a *FieldError, ErrTooLong or ErrOutOfMemory.
 func (r *GetLazyStateCompletionNotificationMessage) MarshalBinary() ([]byte, error) {
-	return marshal(r)
+	writer := newWriter()
+	r.write(writer, 0)
+	return writer.end(SchemaGetLazyStateCompletionNotificationMessage, 0)
 }
 
 // UnmarshalBinary reads a payload, in any encoding. Bytes in the record are parts of it, without a copy, or of its
@@ -2838,7 +2976,9 @@ func (r *GetLazyStateCompletionNotificationMessage) UnmarshalBinary(payload []by
 
 // Frame returns the message as a frame of a version: its header, and its canonical payload. The errors are those of MarshalBinary and Frame.
 func (r *GetLazyStateCompletionNotificationMessage) Frame(version int) ([]byte, error) {
-	return frameOf(r, version, CodeGetLazyStateCompletionNotification)
+	writer := newWriter()
+	r.write(writer, 0)
+	return writer.frame(SchemaGetLazyStateCompletionNotificationMessage, version, CodeGetLazyStateCompletionNotification)
 }
 
 func (r *GetLazyStateCompletionNotificationMessage) read(table *fieldTable, level uint64) error {
@@ -2909,7 +3049,9 @@ func (r *GetPromiseCompletionNotificationMessage) Schema() int {
 
 // MarshalBinary returns the canonical payload. The error is a *FieldError, ErrTooLong or ErrOutOfMemory.
 func (r *GetPromiseCompletionNotificationMessage) MarshalBinary() ([]byte, error) {
-	return marshal(r)
+	writer := newWriter()
+	r.write(writer, 0)
+	return writer.end(SchemaGetPromiseCompletionNotificationMessage, 0)
 }
 
 // UnmarshalBinary reads a payload, in any encoding. Bytes in the record are parts of it, without a copy, or of its
@@ -2920,7 +3062,9 @@ func (r *GetPromiseCompletionNotificationMessage) UnmarshalBinary(payload []byte
 
 // Frame returns the message as a frame of a version: its header, and its canonical payload. The errors are those of MarshalBinary and Frame.
 func (r *GetPromiseCompletionNotificationMessage) Frame(version int) ([]byte, error) {
-	return frameOf(r, version, CodeGetPromiseCompletionNotification)
+	writer := newWriter()
+	r.write(writer, 0)
+	return writer.frame(SchemaGetPromiseCompletionNotificationMessage, version, CodeGetPromiseCompletionNotification)
 }
 
 func (r *GetPromiseCompletionNotificationMessage) read(table *fieldTable, level uint64) error {
@@ -3002,7 +3146,9 @@ func (r *PeekPromiseCompletionNotificationMessage) Schema() int {
 
 // MarshalBinary returns the canonical payload. The error is a *FieldError, ErrTooLong or ErrOutOfMemory.
 func (r *PeekPromiseCompletionNotificationMessage) MarshalBinary() ([]byte, error) {
-	return marshal(r)
+	writer := newWriter()
+	r.write(writer, 0)
+	return writer.end(SchemaPeekPromiseCompletionNotificationMessage, 0)
 }
 
 // UnmarshalBinary reads a payload, in any encoding. Bytes in the record are parts of it, without a copy, or of its
@@ -3013,7 +3159,9 @@ func (r *PeekPromiseCompletionNotificationMessage) UnmarshalBinary(payload []byt
 
 // Frame returns the message as a frame of a version: its header, and its canonical payload. The errors are those of MarshalBinary and Frame.
 func (r *PeekPromiseCompletionNotificationMessage) Frame(version int) ([]byte, error) {
-	return frameOf(r, version, CodePeekPromiseCompletionNotification)
+	writer := newWriter()
+	r.write(writer, 0)
+	return writer.frame(SchemaPeekPromiseCompletionNotificationMessage, version, CodePeekPromiseCompletionNotification)
 }
 
 func (r *PeekPromiseCompletionNotificationMessage) read(table *fieldTable, level uint64) error {
@@ -3095,7 +3243,9 @@ func (r *GetInvocationOutputCompletionNotificationMessage) Schema() int {
 
 // MarshalBinary returns the canonical payload. The error is a *FieldError, ErrTooLong or ErrOutOfMemory.
 func (r *GetInvocationOutputCompletionNotificationMessage) MarshalBinary() ([]byte, error) {
-	return marshal(r)
+	writer := newWriter()
+	r.write(writer, 0)
+	return writer.end(SchemaGetInvocationOutputCompletionNotificationMessage, 0)
 }
 
 // UnmarshalBinary reads a payload, in any encoding. Bytes in the record are parts of it, without a copy, or of its
@@ -3106,7 +3256,9 @@ func (r *GetInvocationOutputCompletionNotificationMessage) UnmarshalBinary(paylo
 
 // Frame returns the message as a frame of a version: its header, and its canonical payload. The errors are those of MarshalBinary and Frame.
 func (r *GetInvocationOutputCompletionNotificationMessage) Frame(version int) ([]byte, error) {
-	return frameOf(r, version, CodeGetInvocationOutputCompletionNotification)
+	writer := newWriter()
+	r.write(writer, 0)
+	return writer.frame(SchemaGetInvocationOutputCompletionNotificationMessage, version, CodeGetInvocationOutputCompletionNotification)
 }
 
 func (r *GetInvocationOutputCompletionNotificationMessage) read(table *fieldTable, level uint64) error {
@@ -3187,7 +3339,9 @@ func (r *CompletePromiseCompletionNotificationMessage) Schema() int {
 
 // MarshalBinary returns the canonical payload. The error is a *FieldError, ErrTooLong or ErrOutOfMemory.
 func (r *CompletePromiseCompletionNotificationMessage) MarshalBinary() ([]byte, error) {
-	return marshal(r)
+	writer := newWriter()
+	r.write(writer, 0)
+	return writer.end(SchemaCompletePromiseCompletionNotificationMessage, 0)
 }
 
 // UnmarshalBinary reads a payload, in any encoding. Bytes in the record are parts of it, without a copy, or of its
@@ -3198,7 +3352,9 @@ func (r *CompletePromiseCompletionNotificationMessage) UnmarshalBinary(payload [
 
 // Frame returns the message as a frame of a version: its header, and its canonical payload. The errors are those of MarshalBinary and Frame.
 func (r *CompletePromiseCompletionNotificationMessage) Frame(version int) ([]byte, error) {
-	return frameOf(r, version, CodeCompletePromiseCompletionNotification)
+	writer := newWriter()
+	r.write(writer, 0)
+	return writer.frame(SchemaCompletePromiseCompletionNotificationMessage, version, CodeCompletePromiseCompletionNotification)
 }
 
 func (r *CompletePromiseCompletionNotificationMessage) read(table *fieldTable, level uint64) error {
@@ -3268,7 +3424,9 @@ func (r *CallCompletionNotificationMessage) Schema() int {
 
 // MarshalBinary returns the canonical payload. The error is a *FieldError, ErrTooLong or ErrOutOfMemory.
 func (r *CallCompletionNotificationMessage) MarshalBinary() ([]byte, error) {
-	return marshal(r)
+	writer := newWriter()
+	r.write(writer, 0)
+	return writer.end(SchemaCallCompletionNotificationMessage, 0)
 }
 
 // UnmarshalBinary reads a payload, in any encoding. Bytes in the record are parts of it, without a copy, or of its
@@ -3279,7 +3437,9 @@ func (r *CallCompletionNotificationMessage) UnmarshalBinary(payload []byte) erro
 
 // Frame returns the message as a frame of a version: its header, and its canonical payload. The errors are those of MarshalBinary and Frame.
 func (r *CallCompletionNotificationMessage) Frame(version int) ([]byte, error) {
-	return frameOf(r, version, CodeCallCompletionNotification)
+	writer := newWriter()
+	r.write(writer, 0)
+	return writer.frame(SchemaCallCompletionNotificationMessage, version, CodeCallCompletionNotification)
 }
 
 func (r *CallCompletionNotificationMessage) read(table *fieldTable, level uint64) error {
@@ -3349,7 +3509,9 @@ func (r *RunCompletionNotificationMessage) Schema() int {
 
 // MarshalBinary returns the canonical payload. The error is a *FieldError, ErrTooLong or ErrOutOfMemory.
 func (r *RunCompletionNotificationMessage) MarshalBinary() ([]byte, error) {
-	return marshal(r)
+	writer := newWriter()
+	r.write(writer, 0)
+	return writer.end(SchemaRunCompletionNotificationMessage, 0)
 }
 
 // UnmarshalBinary reads a payload, in any encoding. Bytes in the record are parts of it, without a copy, or of its
@@ -3360,7 +3522,9 @@ func (r *RunCompletionNotificationMessage) UnmarshalBinary(payload []byte) error
 
 // Frame returns the message as a frame of a version: its header, and its canonical payload. The errors are those of MarshalBinary and Frame.
 func (r *RunCompletionNotificationMessage) Frame(version int) ([]byte, error) {
-	return frameOf(r, version, CodeRunCompletionNotification)
+	writer := newWriter()
+	r.write(writer, 0)
+	return writer.frame(SchemaRunCompletionNotificationMessage, version, CodeRunCompletionNotification)
 }
 
 func (r *RunCompletionNotificationMessage) read(table *fieldTable, level uint64) error {
@@ -3430,7 +3594,9 @@ func (r *AttachInvocationCompletionNotificationMessage) Schema() int {
 
 // MarshalBinary returns the canonical payload. The error is a *FieldError, ErrTooLong or ErrOutOfMemory.
 func (r *AttachInvocationCompletionNotificationMessage) MarshalBinary() ([]byte, error) {
-	return marshal(r)
+	writer := newWriter()
+	r.write(writer, 0)
+	return writer.end(SchemaAttachInvocationCompletionNotificationMessage, 0)
 }
 
 // UnmarshalBinary reads a payload, in any encoding. Bytes in the record are parts of it, without a copy, or of its
@@ -3441,7 +3607,9 @@ func (r *AttachInvocationCompletionNotificationMessage) UnmarshalBinary(payload 
 
 // Frame returns the message as a frame of a version: its header, and its canonical payload. The errors are those of MarshalBinary and Frame.
 func (r *AttachInvocationCompletionNotificationMessage) Frame(version int) ([]byte, error) {
-	return frameOf(r, version, CodeAttachInvocationCompletionNotification)
+	writer := newWriter()
+	r.write(writer, 0)
+	return writer.frame(SchemaAttachInvocationCompletionNotificationMessage, version, CodeAttachInvocationCompletionNotification)
 }
 
 func (r *AttachInvocationCompletionNotificationMessage) read(table *fieldTable, level uint64) error {
@@ -3503,7 +3671,9 @@ func (r *SleepCompletionNotificationMessage) Schema() int {
 
 // MarshalBinary returns the canonical payload. The error is a *FieldError, ErrTooLong or ErrOutOfMemory.
 func (r *SleepCompletionNotificationMessage) MarshalBinary() ([]byte, error) {
-	return marshal(r)
+	writer := newWriter()
+	r.write(writer, 0)
+	return writer.end(SchemaSleepCompletionNotificationMessage, 0)
 }
 
 // UnmarshalBinary reads a payload, in any encoding. Bytes in the record are parts of it, without a copy, or of its
@@ -3514,7 +3684,9 @@ func (r *SleepCompletionNotificationMessage) UnmarshalBinary(payload []byte) err
 
 // Frame returns the message as a frame of a version: its header, and its canonical payload. The errors are those of MarshalBinary and Frame.
 func (r *SleepCompletionNotificationMessage) Frame(version int) ([]byte, error) {
-	return frameOf(r, version, CodeSleepCompletionNotification)
+	writer := newWriter()
+	r.write(writer, 0)
+	return writer.frame(SchemaSleepCompletionNotificationMessage, version, CodeSleepCompletionNotification)
 }
 
 func (r *SleepCompletionNotificationMessage) read(table *fieldTable, level uint64) error {
@@ -3561,7 +3733,9 @@ func (r *GetLazyStateKeysCompletionNotificationMessage) Schema() int {
 
 // MarshalBinary returns the canonical payload. The error is a *FieldError, ErrTooLong or ErrOutOfMemory.
 func (r *GetLazyStateKeysCompletionNotificationMessage) MarshalBinary() ([]byte, error) {
-	return marshal(r)
+	writer := newWriter()
+	r.write(writer, 0)
+	return writer.end(SchemaGetLazyStateKeysCompletionNotificationMessage, 0)
 }
 
 // UnmarshalBinary reads a payload, in any encoding. Bytes in the record are parts of it, without a copy, or of its
@@ -3572,7 +3746,9 @@ func (r *GetLazyStateKeysCompletionNotificationMessage) UnmarshalBinary(payload 
 
 // Frame returns the message as a frame of a version: its header, and its canonical payload. The errors are those of MarshalBinary and Frame.
 func (r *GetLazyStateKeysCompletionNotificationMessage) Frame(version int) ([]byte, error) {
-	return frameOf(r, version, CodeGetLazyStateKeysCompletionNotification)
+	writer := newWriter()
+	r.write(writer, 0)
+	return writer.frame(SchemaGetLazyStateKeysCompletionNotificationMessage, version, CodeGetLazyStateKeysCompletionNotification)
 }
 
 func (r *GetLazyStateKeysCompletionNotificationMessage) read(table *fieldTable, level uint64) error {
@@ -3619,7 +3795,9 @@ func (r *CallInvocationIdCompletionNotificationMessage) Schema() int {
 
 // MarshalBinary returns the canonical payload. The error is a *FieldError, ErrTooLong or ErrOutOfMemory.
 func (r *CallInvocationIdCompletionNotificationMessage) MarshalBinary() ([]byte, error) {
-	return marshal(r)
+	writer := newWriter()
+	r.write(writer, 0)
+	return writer.end(SchemaCallInvocationIdCompletionNotificationMessage, 0)
 }
 
 // UnmarshalBinary reads a payload, in any encoding. Bytes in the record are parts of it, without a copy, or of its
@@ -3630,7 +3808,9 @@ func (r *CallInvocationIdCompletionNotificationMessage) UnmarshalBinary(payload 
 
 // Frame returns the message as a frame of a version: its header, and its canonical payload. The errors are those of MarshalBinary and Frame.
 func (r *CallInvocationIdCompletionNotificationMessage) Frame(version int) ([]byte, error) {
-	return frameOf(r, version, CodeCallInvocationIdCompletionNotification)
+	writer := newWriter()
+	r.write(writer, 0)
+	return writer.frame(SchemaCallInvocationIdCompletionNotificationMessage, version, CodeCallInvocationIdCompletionNotification)
 }
 
 func (r *CallInvocationIdCompletionNotificationMessage) read(table *fieldTable, level uint64) error {
@@ -3697,7 +3877,9 @@ func (r *SignalNotificationMessage) Schema() int {
 
 // MarshalBinary returns the canonical payload. The error is a *FieldError, ErrTooLong or ErrOutOfMemory.
 func (r *SignalNotificationMessage) MarshalBinary() ([]byte, error) {
-	return marshal(r)
+	writer := newWriter()
+	r.write(writer, 0)
+	return writer.end(SchemaSignalNotificationMessage, 0)
 }
 
 // UnmarshalBinary reads a payload, in any encoding. Bytes in the record are parts of it, without a copy, or of its
@@ -3708,7 +3890,9 @@ func (r *SignalNotificationMessage) UnmarshalBinary(payload []byte) error {
 
 // Frame returns the message as a frame of a version: its header, and its canonical payload. The errors are those of MarshalBinary and Frame.
 func (r *SignalNotificationMessage) Frame(version int) ([]byte, error) {
-	return frameOf(r, version, CodeSignalNotification)
+	writer := newWriter()
+	r.write(writer, 0)
+	return writer.frame(SchemaSignalNotificationMessage, version, CodeSignalNotification)
 }
 
 func (r *SignalNotificationMessage) read(table *fieldTable, level uint64) error {
@@ -3820,7 +4004,9 @@ func (r *NotificationTemplate) Schema() int {
 
 // MarshalBinary returns the canonical payload. The error is a *FieldError, ErrTooLong or ErrOutOfMemory.
 func (r *NotificationTemplate) MarshalBinary() ([]byte, error) {
-	return marshal(r)
+	writer := newWriter()
+	r.write(writer, 0)
+	return writer.end(SchemaNotificationTemplate, 0)
 }
 
 // UnmarshalBinary reads a payload, in any encoding. Bytes in the record are parts of it, without a copy, or of its

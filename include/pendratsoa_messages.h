@@ -15,8 +15,8 @@
  * are read point into the payload, which has to stay for as long as they are used; if it is not canonical, its
  * canonical encoding is made in the arena, and they point there. An arena is memory of the caller's: what is repeated
  * is taken from its end, and stays until the caller sets `left` to what it was before. While a function runs it takes
- * more, from the front: 48 bytes for each field that is there, and in writing also the slices, unless all of them are
- * within `source`.
+ * more: 48 bytes for each field that is there, from the front, and in writing also the slices, from the end, unless all
+ * of them are within `source`.
  *
  * Errors are those of the calls. After an error of reading the record is empty, after any the arena has what it had.
  */
@@ -1005,300 +1005,18 @@ union journal_record {
 };
 
 /*
- * What the functions below know of the records. Names that end with _ are not for callers.
+ * What the functions below share. Names that end with _ are not for callers.
  */
 
 /* Messages are nested at most this deep. */
 #define JOURNAL_LEVELS_ 100
 
-/* How a member is there. */
-#define JOURNAL_PLAIN_ 0
-#define JOURNAL_OPTIONAL_ 1
-#define JOURNAL_REPEATED_ 2
-#define JOURNAL_MEMBER_ 3
-
-/* A member: its field number and kind, how it is there, where it is in the struct, where its has_, _count or _case is,
-   and the schema of the record in it. */
-struct journal_member_ {
-    uint16_t number;
-    uint8_t kind;
-    uint8_t shape;
-    uint16_t offset;
-    uint16_t presence;
-    uint32_t schema;
-};
-
-/* A record: its members, in the order of the description, the size of its struct, and whether a message of its may be
-   nested in one of the same schema. */
-struct journal_record_ {
-    uint16_t first;
-    uint16_t count;
-    uint16_t size;
-    bool is_recursive;
-};
-
-#define JOURNAL_AT_(record, name) offsetof(struct journal_##record, name)
-#define JOURNAL_PLAIN_OF_(record, name, number, kind) \
-    {number, JOURNAL_FIELD_##kind, JOURNAL_PLAIN_, JOURNAL_AT_(record, name), 0, 0}
-#define JOURNAL_OPTIONAL_OF_(record, name, number, kind, schema) \
-    {number, JOURNAL_FIELD_##kind, JOURNAL_OPTIONAL_, JOURNAL_AT_(record, name), JOURNAL_AT_(record, has_##name), \
-     schema}
-#define JOURNAL_FLAG_OF_(record, name, number, schema) \
-    {number, JOURNAL_FIELD_MESSAGE, JOURNAL_OPTIONAL_, 0, JOURNAL_AT_(record, has_##name), schema}
-#define JOURNAL_REPEATED_OF_(record, name, number, kind, schema) \
-    {number, JOURNAL_FIELD_##kind, JOURNAL_REPEATED_, JOURNAL_AT_(record, name), JOURNAL_AT_(record, name##_count), \
-     schema}
-#define JOURNAL_CASE_OF_(record, name, number, schema) \
-    {number, JOURNAL_FIELD_MESSAGE, JOURNAL_MEMBER_, 0, JOURNAL_AT_(record, name##_case), schema}
-#define JOURNAL_MEMBER_OF_(record, name, number, kind, schema) \
-    {number, JOURNAL_FIELD_##kind, JOURNAL_MEMBER_, JOURNAL_AT_(record, name), JOURNAL_AT_(record, name##_case), schema}
-
-static const struct journal_member_ journal_members_[] = {
-    JOURNAL_PLAIN_OF_(Value, content, 1, BYTES),
-    JOURNAL_PLAIN_OF_(Failure, code, 1, UINT32),
-    JOURNAL_PLAIN_OF_(Failure, message, 2, STRING),
-    JOURNAL_REPEATED_OF_(Failure, metadata, 3, MESSAGE, JOURNAL_SCHEMA_FAILURE_METADATA),
-    JOURNAL_PLAIN_OF_(FailureMetadata, key, 1, STRING),
-    JOURNAL_PLAIN_OF_(FailureMetadata, value, 2, STRING),
-    JOURNAL_PLAIN_OF_(Header, key, 1, STRING),
-    JOURNAL_PLAIN_OF_(Header, value, 2, STRING),
-    JOURNAL_REPEATED_OF_(StateKeys, keys, 1, BYTES, 0),
-    JOURNAL_PLAIN_OF_(StateEntry, key, 1, BYTES),
-    JOURNAL_PLAIN_OF_(StateEntry, value, 2, BYTES),
-    JOURNAL_REPEATED_OF_(Future, waiting_completions, 1, UINT32, 0),
-    JOURNAL_REPEATED_OF_(Future, waiting_signals, 2, UINT32, 0),
-    JOURNAL_REPEATED_OF_(Future, waiting_named_signals, 3, STRING, 0),
-    JOURNAL_REPEATED_OF_(Future, nested_futures, 4, MESSAGE, JOURNAL_SCHEMA_FUTURE),
-    JOURNAL_PLAIN_OF_(Future, combinator_type, 5, ENUM),
-    JOURNAL_PLAIN_OF_(WorkflowTarget, workflow_name, 1, STRING),
-    JOURNAL_PLAIN_OF_(WorkflowTarget, workflow_key, 2, STRING),
-    JOURNAL_OPTIONAL_OF_(WorkflowTarget, scope, 3, STRING, 0),
-    JOURNAL_PLAIN_OF_(IdempotentRequestTarget, service_name, 1, STRING),
-    JOURNAL_OPTIONAL_OF_(IdempotentRequestTarget, service_key, 2, STRING, 0),
-    JOURNAL_PLAIN_OF_(IdempotentRequestTarget, handler_name, 3, STRING),
-    JOURNAL_PLAIN_OF_(IdempotentRequestTarget, idempotency_key, 4, STRING),
-    JOURNAL_OPTIONAL_OF_(IdempotentRequestTarget, scope, 5, STRING, 0),
-    JOURNAL_PLAIN_OF_(StartMessage, id, 1, BYTES),
-    JOURNAL_PLAIN_OF_(StartMessage, debug_id, 2, STRING),
-    JOURNAL_PLAIN_OF_(StartMessage, known_entries, 3, UINT32),
-    JOURNAL_REPEATED_OF_(StartMessage, state_map, 4, MESSAGE, JOURNAL_SCHEMA_STATE_ENTRY),
-    JOURNAL_PLAIN_OF_(StartMessage, partial_state, 5, BOOL),
-    JOURNAL_PLAIN_OF_(StartMessage, key, 6, STRING),
-    JOURNAL_PLAIN_OF_(StartMessage, retry_count_since_last_stored_entry, 7, UINT32),
-    JOURNAL_PLAIN_OF_(StartMessage, duration_since_last_stored_entry, 8, UINT64),
-    JOURNAL_PLAIN_OF_(StartMessage, random_seed, 9, UINT64),
-    JOURNAL_OPTIONAL_OF_(StartMessage, scope, 10, STRING, 0),
-    JOURNAL_OPTIONAL_OF_(StartMessage, limit_key, 11, STRING, 0),
-    JOURNAL_OPTIONAL_OF_(StartMessage, idempotency_key, 12, STRING, 0),
-    JOURNAL_OPTIONAL_OF_(SuspensionMessage, awaiting_on, 4, MESSAGE, JOURNAL_SCHEMA_FUTURE),
-    JOURNAL_REPEATED_OF_(SuspensionMessageV6, waiting_completions, 1, UINT32, 0),
-    JOURNAL_REPEATED_OF_(SuspensionMessageV6, waiting_signals, 2, UINT32, 0),
-    JOURNAL_REPEATED_OF_(SuspensionMessageV6, waiting_named_signals, 3, STRING, 0),
-    JOURNAL_PLAIN_OF_(ErrorMessage, code, 1, UINT32),
-    JOURNAL_PLAIN_OF_(ErrorMessage, message, 2, STRING),
-    JOURNAL_PLAIN_OF_(ErrorMessage, stacktrace, 3, STRING),
-    JOURNAL_OPTIONAL_OF_(ErrorMessage, related_command_index, 4, UINT32, 0),
-    JOURNAL_OPTIONAL_OF_(ErrorMessage, related_command_name, 5, STRING, 0),
-    JOURNAL_OPTIONAL_OF_(ErrorMessage, related_command_type, 6, UINT32, 0),
-    JOURNAL_OPTIONAL_OF_(ErrorMessage, next_retry_delay, 8, UINT64, 0),
-    JOURNAL_PLAIN_OF_(ErrorMessage, behavior, 9, ENUM),
-    JOURNAL_PLAIN_OF_(ProposeRunCompletionMessage, result_completion_id, 1, UINT32),
-    JOURNAL_MEMBER_OF_(ProposeRunCompletionMessage, result, 14, BYTES, 0),
-    JOURNAL_MEMBER_OF_(ProposeRunCompletionMessage, result, 15, MESSAGE, JOURNAL_SCHEMA_FAILURE),
-    JOURNAL_OPTIONAL_OF_(AwaitingOnMessage, awaiting_on, 1, MESSAGE, JOURNAL_SCHEMA_FUTURE),
-    JOURNAL_PLAIN_OF_(AwaitingOnMessage, executing_side_effects, 2, BOOL),
-    JOURNAL_PLAIN_OF_(ProposeRunCompletionAckMessage, completion_id, 1, UINT32),
-    JOURNAL_PLAIN_OF_(GetStateEphemeralCommandMessage, key, 1, BYTES),
-    JOURNAL_PLAIN_OF_(GetStateEphemeralCommandMessage, completion_id, 2, UINT32),
-    JOURNAL_PLAIN_OF_(GetStateEphemeralNotificationMessage, completion_id, 1, UINT32),
-    JOURNAL_MEMBER_OF_(GetStateEphemeralNotificationMessage, result, 4, MESSAGE, JOURNAL_SCHEMA_VOID),
-    JOURNAL_MEMBER_OF_(GetStateEphemeralNotificationMessage, result, 5, MESSAGE, JOURNAL_SCHEMA_VALUE),
-    JOURNAL_REPEATED_OF_(InputCommandMessage, headers, 1, MESSAGE, JOURNAL_SCHEMA_HEADER),
-    JOURNAL_PLAIN_OF_(InputCommandMessage, name, 12, STRING),
-    JOURNAL_OPTIONAL_OF_(InputCommandMessage, value, 14, MESSAGE, JOURNAL_SCHEMA_VALUE),
-    JOURNAL_PLAIN_OF_(OutputCommandMessage, name, 12, STRING),
-    JOURNAL_MEMBER_OF_(OutputCommandMessage, result, 14, MESSAGE, JOURNAL_SCHEMA_VALUE),
-    JOURNAL_MEMBER_OF_(OutputCommandMessage, result, 15, MESSAGE, JOURNAL_SCHEMA_FAILURE),
-    JOURNAL_PLAIN_OF_(GetLazyStateCommandMessage, key, 1, BYTES),
-    JOURNAL_PLAIN_OF_(GetLazyStateCommandMessage, result_completion_id, 11, UINT32),
-    JOURNAL_PLAIN_OF_(GetLazyStateCommandMessage, name, 12, STRING),
-    JOURNAL_PLAIN_OF_(SetStateCommandMessage, key, 1, BYTES),
-    JOURNAL_OPTIONAL_OF_(SetStateCommandMessage, value, 3, MESSAGE, JOURNAL_SCHEMA_VALUE),
-    JOURNAL_PLAIN_OF_(SetStateCommandMessage, name, 12, STRING),
-    JOURNAL_PLAIN_OF_(ClearStateCommandMessage, key, 1, BYTES),
-    JOURNAL_PLAIN_OF_(ClearStateCommandMessage, name, 12, STRING),
-    JOURNAL_PLAIN_OF_(ClearAllStateCommandMessage, name, 12, STRING),
-    JOURNAL_PLAIN_OF_(GetLazyStateKeysCommandMessage, result_completion_id, 11, UINT32),
-    JOURNAL_PLAIN_OF_(GetLazyStateKeysCommandMessage, name, 12, STRING),
-    JOURNAL_PLAIN_OF_(GetEagerStateCommandMessage, key, 1, BYTES),
-    JOURNAL_PLAIN_OF_(GetEagerStateCommandMessage, name, 12, STRING),
-    JOURNAL_MEMBER_OF_(GetEagerStateCommandMessage, result, 13, MESSAGE, JOURNAL_SCHEMA_VOID),
-    JOURNAL_MEMBER_OF_(GetEagerStateCommandMessage, result, 14, MESSAGE, JOURNAL_SCHEMA_VALUE),
-    JOURNAL_PLAIN_OF_(GetEagerStateKeysCommandMessage, name, 12, STRING),
-    JOURNAL_OPTIONAL_OF_(GetEagerStateKeysCommandMessage, value, 14, MESSAGE, JOURNAL_SCHEMA_STATE_KEYS),
-    JOURNAL_PLAIN_OF_(GetPromiseCommandMessage, key, 1, STRING),
-    JOURNAL_PLAIN_OF_(GetPromiseCommandMessage, result_completion_id, 11, UINT32),
-    JOURNAL_PLAIN_OF_(GetPromiseCommandMessage, name, 12, STRING),
-    JOURNAL_PLAIN_OF_(PeekPromiseCommandMessage, key, 1, STRING),
-    JOURNAL_PLAIN_OF_(PeekPromiseCommandMessage, result_completion_id, 11, UINT32),
-    JOURNAL_PLAIN_OF_(PeekPromiseCommandMessage, name, 12, STRING),
-    JOURNAL_PLAIN_OF_(CompletePromiseCommandMessage, key, 1, STRING),
-    JOURNAL_MEMBER_OF_(CompletePromiseCommandMessage, completion, 2, MESSAGE, JOURNAL_SCHEMA_VALUE),
-    JOURNAL_MEMBER_OF_(CompletePromiseCommandMessage, completion, 3, MESSAGE, JOURNAL_SCHEMA_FAILURE),
-    JOURNAL_PLAIN_OF_(CompletePromiseCommandMessage, result_completion_id, 11, UINT32),
-    JOURNAL_PLAIN_OF_(CompletePromiseCommandMessage, name, 12, STRING),
-    JOURNAL_PLAIN_OF_(SleepCommandMessage, wake_up_time, 1, UINT64),
-    JOURNAL_PLAIN_OF_(SleepCommandMessage, result_completion_id, 11, UINT32),
-    JOURNAL_PLAIN_OF_(SleepCommandMessage, name, 12, STRING),
-    JOURNAL_PLAIN_OF_(CallCommandMessage, service_name, 1, STRING),
-    JOURNAL_PLAIN_OF_(CallCommandMessage, handler_name, 2, STRING),
-    JOURNAL_PLAIN_OF_(CallCommandMessage, parameter, 3, BYTES),
-    JOURNAL_REPEATED_OF_(CallCommandMessage, headers, 4, MESSAGE, JOURNAL_SCHEMA_HEADER),
-    JOURNAL_PLAIN_OF_(CallCommandMessage, key, 5, STRING),
-    JOURNAL_OPTIONAL_OF_(CallCommandMessage, idempotency_key, 6, STRING, 0),
-    JOURNAL_OPTIONAL_OF_(CallCommandMessage, scope, 7, STRING, 0),
-    JOURNAL_OPTIONAL_OF_(CallCommandMessage, limit_key, 8, STRING, 0),
-    JOURNAL_PLAIN_OF_(CallCommandMessage, invocation_id_notification_idx, 10, UINT32),
-    JOURNAL_PLAIN_OF_(CallCommandMessage, result_completion_id, 11, UINT32),
-    JOURNAL_PLAIN_OF_(CallCommandMessage, name, 12, STRING),
-    JOURNAL_PLAIN_OF_(OneWayCallCommandMessage, service_name, 1, STRING),
-    JOURNAL_PLAIN_OF_(OneWayCallCommandMessage, handler_name, 2, STRING),
-    JOURNAL_PLAIN_OF_(OneWayCallCommandMessage, parameter, 3, BYTES),
-    JOURNAL_PLAIN_OF_(OneWayCallCommandMessage, invoke_time, 4, UINT64),
-    JOURNAL_REPEATED_OF_(OneWayCallCommandMessage, headers, 5, MESSAGE, JOURNAL_SCHEMA_HEADER),
-    JOURNAL_PLAIN_OF_(OneWayCallCommandMessage, key, 6, STRING),
-    JOURNAL_OPTIONAL_OF_(OneWayCallCommandMessage, idempotency_key, 7, STRING, 0),
-    JOURNAL_OPTIONAL_OF_(OneWayCallCommandMessage, scope, 8, STRING, 0),
-    JOURNAL_OPTIONAL_OF_(OneWayCallCommandMessage, limit_key, 9, STRING, 0),
-    JOURNAL_PLAIN_OF_(OneWayCallCommandMessage, invocation_id_notification_idx, 10, UINT32),
-    JOURNAL_PLAIN_OF_(OneWayCallCommandMessage, name, 12, STRING),
-    JOURNAL_PLAIN_OF_(SendSignalCommandMessage, target_invocation_id, 1, STRING),
-    JOURNAL_MEMBER_OF_(SendSignalCommandMessage, signal_id, 2, UINT32, 0),
-    JOURNAL_MEMBER_OF_(SendSignalCommandMessage, signal_id, 3, STRING, 0),
-    JOURNAL_MEMBER_OF_(SendSignalCommandMessage, result, 4, MESSAGE, JOURNAL_SCHEMA_VOID),
-    JOURNAL_MEMBER_OF_(SendSignalCommandMessage, result, 5, MESSAGE, JOURNAL_SCHEMA_VALUE),
-    JOURNAL_MEMBER_OF_(SendSignalCommandMessage, result, 6, MESSAGE, JOURNAL_SCHEMA_FAILURE),
-    JOURNAL_PLAIN_OF_(SendSignalCommandMessage, entry_name, 12, STRING),
-    JOURNAL_PLAIN_OF_(RunCommandMessage, result_completion_id, 11, UINT32),
-    JOURNAL_PLAIN_OF_(RunCommandMessage, name, 12, STRING),
-    JOURNAL_MEMBER_OF_(AttachInvocationCommandMessage, target, 1, STRING, 0),
-    JOURNAL_MEMBER_OF_(AttachInvocationCommandMessage, target, 3, MESSAGE, JOURNAL_SCHEMA_IDEMPOTENT_REQUEST_TARGET),
-    JOURNAL_MEMBER_OF_(AttachInvocationCommandMessage, target, 4, MESSAGE, JOURNAL_SCHEMA_WORKFLOW_TARGET),
-    JOURNAL_PLAIN_OF_(AttachInvocationCommandMessage, result_completion_id, 11, UINT32),
-    JOURNAL_PLAIN_OF_(AttachInvocationCommandMessage, name, 12, STRING),
-    JOURNAL_MEMBER_OF_(GetInvocationOutputCommandMessage, target, 1, STRING, 0),
-    JOURNAL_MEMBER_OF_(GetInvocationOutputCommandMessage, target, 3, MESSAGE, JOURNAL_SCHEMA_IDEMPOTENT_REQUEST_TARGET),
-    JOURNAL_MEMBER_OF_(GetInvocationOutputCommandMessage, target, 4, MESSAGE, JOURNAL_SCHEMA_WORKFLOW_TARGET),
-    JOURNAL_PLAIN_OF_(GetInvocationOutputCommandMessage, result_completion_id, 11, UINT32),
-    JOURNAL_PLAIN_OF_(GetInvocationOutputCommandMessage, name, 12, STRING),
-    JOURNAL_PLAIN_OF_(CompleteAwakeableCommandMessage, awakeable_id, 1, STRING),
-    JOURNAL_MEMBER_OF_(CompleteAwakeableCommandMessage, result, 2, MESSAGE, JOURNAL_SCHEMA_VALUE),
-    JOURNAL_MEMBER_OF_(CompleteAwakeableCommandMessage, result, 3, MESSAGE, JOURNAL_SCHEMA_FAILURE),
-    JOURNAL_PLAIN_OF_(CompleteAwakeableCommandMessage, name, 12, STRING),
-    JOURNAL_PLAIN_OF_(GetLazyStateCompletionNotificationMessage, completion_id, 1, UINT32),
-    JOURNAL_MEMBER_OF_(GetLazyStateCompletionNotificationMessage, result, 4, MESSAGE, JOURNAL_SCHEMA_VOID),
-    JOURNAL_MEMBER_OF_(GetLazyStateCompletionNotificationMessage, result, 5, MESSAGE, JOURNAL_SCHEMA_VALUE),
-    JOURNAL_PLAIN_OF_(GetPromiseCompletionNotificationMessage, completion_id, 1, UINT32),
-    JOURNAL_MEMBER_OF_(GetPromiseCompletionNotificationMessage, result, 4, MESSAGE, JOURNAL_SCHEMA_VOID),
-    JOURNAL_MEMBER_OF_(GetPromiseCompletionNotificationMessage, result, 5, MESSAGE, JOURNAL_SCHEMA_VALUE),
-    JOURNAL_MEMBER_OF_(GetPromiseCompletionNotificationMessage, result, 6, MESSAGE, JOURNAL_SCHEMA_FAILURE),
-    JOURNAL_PLAIN_OF_(PeekPromiseCompletionNotificationMessage, completion_id, 1, UINT32),
-    JOURNAL_MEMBER_OF_(PeekPromiseCompletionNotificationMessage, result, 4, MESSAGE, JOURNAL_SCHEMA_VOID),
-    JOURNAL_MEMBER_OF_(PeekPromiseCompletionNotificationMessage, result, 5, MESSAGE, JOURNAL_SCHEMA_VALUE),
-    JOURNAL_MEMBER_OF_(PeekPromiseCompletionNotificationMessage, result, 6, MESSAGE, JOURNAL_SCHEMA_FAILURE),
-    JOURNAL_PLAIN_OF_(GetInvocationOutputCompletionNotificationMessage, completion_id, 1, UINT32),
-    JOURNAL_MEMBER_OF_(GetInvocationOutputCompletionNotificationMessage, result, 4, MESSAGE, JOURNAL_SCHEMA_VOID),
-    JOURNAL_MEMBER_OF_(GetInvocationOutputCompletionNotificationMessage, result, 5, MESSAGE, JOURNAL_SCHEMA_VALUE),
-    JOURNAL_MEMBER_OF_(GetInvocationOutputCompletionNotificationMessage, result, 6, MESSAGE, JOURNAL_SCHEMA_FAILURE),
-    JOURNAL_PLAIN_OF_(CompletePromiseCompletionNotificationMessage, completion_id, 1, UINT32),
-    JOURNAL_MEMBER_OF_(CompletePromiseCompletionNotificationMessage, result, 4, MESSAGE, JOURNAL_SCHEMA_VOID),
-    JOURNAL_MEMBER_OF_(CompletePromiseCompletionNotificationMessage, result, 6, MESSAGE, JOURNAL_SCHEMA_FAILURE),
-    JOURNAL_PLAIN_OF_(CallCompletionNotificationMessage, completion_id, 1, UINT32),
-    JOURNAL_MEMBER_OF_(CallCompletionNotificationMessage, result, 5, MESSAGE, JOURNAL_SCHEMA_VALUE),
-    JOURNAL_MEMBER_OF_(CallCompletionNotificationMessage, result, 6, MESSAGE, JOURNAL_SCHEMA_FAILURE),
-    JOURNAL_PLAIN_OF_(RunCompletionNotificationMessage, completion_id, 1, UINT32),
-    JOURNAL_MEMBER_OF_(RunCompletionNotificationMessage, result, 5, MESSAGE, JOURNAL_SCHEMA_VALUE),
-    JOURNAL_MEMBER_OF_(RunCompletionNotificationMessage, result, 6, MESSAGE, JOURNAL_SCHEMA_FAILURE),
-    JOURNAL_PLAIN_OF_(AttachInvocationCompletionNotificationMessage, completion_id, 1, UINT32),
-    JOURNAL_MEMBER_OF_(AttachInvocationCompletionNotificationMessage, result, 5, MESSAGE, JOURNAL_SCHEMA_VALUE),
-    JOURNAL_MEMBER_OF_(AttachInvocationCompletionNotificationMessage, result, 6, MESSAGE, JOURNAL_SCHEMA_FAILURE),
-    JOURNAL_PLAIN_OF_(SleepCompletionNotificationMessage, completion_id, 1, UINT32),
-    JOURNAL_FLAG_OF_(SleepCompletionNotificationMessage, void_, 4, JOURNAL_SCHEMA_VOID),
-    JOURNAL_PLAIN_OF_(GetLazyStateKeysCompletionNotificationMessage, completion_id, 1, UINT32),
-    JOURNAL_OPTIONAL_OF_(GetLazyStateKeysCompletionNotificationMessage, state_keys, 17, MESSAGE,
-                         JOURNAL_SCHEMA_STATE_KEYS),
-    JOURNAL_PLAIN_OF_(CallInvocationIdCompletionNotificationMessage, completion_id, 1, UINT32),
-    JOURNAL_PLAIN_OF_(CallInvocationIdCompletionNotificationMessage, invocation_id, 16, STRING),
-    JOURNAL_MEMBER_OF_(SignalNotificationMessage, signal_id, 2, UINT32, 0),
-    JOURNAL_MEMBER_OF_(SignalNotificationMessage, signal_id, 3, STRING, 0),
-    JOURNAL_MEMBER_OF_(SignalNotificationMessage, result, 4, MESSAGE, JOURNAL_SCHEMA_VOID),
-    JOURNAL_MEMBER_OF_(SignalNotificationMessage, result, 5, MESSAGE, JOURNAL_SCHEMA_VALUE),
-    JOURNAL_MEMBER_OF_(SignalNotificationMessage, result, 6, MESSAGE, JOURNAL_SCHEMA_FAILURE),
-    JOURNAL_MEMBER_OF_(NotificationTemplate, id, 1, UINT32, 0),
-    JOURNAL_MEMBER_OF_(NotificationTemplate, id, 2, UINT32, 0),
-    JOURNAL_MEMBER_OF_(NotificationTemplate, id, 3, STRING, 0),
-    JOURNAL_MEMBER_OF_(NotificationTemplate, result, 4, MESSAGE, JOURNAL_SCHEMA_VOID),
-    JOURNAL_MEMBER_OF_(NotificationTemplate, result, 5, MESSAGE, JOURNAL_SCHEMA_VALUE),
-    JOURNAL_MEMBER_OF_(NotificationTemplate, result, 6, MESSAGE, JOURNAL_SCHEMA_FAILURE),
-    JOURNAL_MEMBER_OF_(NotificationTemplate, result, 16, STRING, 0),
-    JOURNAL_MEMBER_OF_(NotificationTemplate, result, 17, MESSAGE, JOURNAL_SCHEMA_STATE_KEYS),
-};
-
-static const struct journal_record_ journal_records_[JOURNAL_SCHEMAS] = {
-    {0, 0, sizeof(struct journal_Void), false},
-    {0, 1, sizeof(struct journal_Value), false},
-    {1, 3, sizeof(struct journal_Failure), false},
-    {4, 2, sizeof(struct journal_FailureMetadata), false},
-    {6, 2, sizeof(struct journal_Header), false},
-    {8, 1, sizeof(struct journal_StateKeys), false},
-    {9, 2, sizeof(struct journal_StateEntry), false},
-    {11, 5, sizeof(struct journal_Future), true},
-    {16, 3, sizeof(struct journal_WorkflowTarget), false},
-    {19, 5, sizeof(struct journal_IdempotentRequestTarget), false},
-    {24, 12, sizeof(struct journal_StartMessage), false},
-    {36, 1, sizeof(struct journal_SuspensionMessage), true},
-    {37, 3, sizeof(struct journal_SuspensionMessageV6), false},
-    {40, 8, sizeof(struct journal_ErrorMessage), false},
-    {48, 0, sizeof(struct journal_EndMessage), false},
-    {48, 3, sizeof(struct journal_ProposeRunCompletionMessage), false},
-    {51, 2, sizeof(struct journal_AwaitingOnMessage), true},
-    {53, 1, sizeof(struct journal_ProposeRunCompletionAckMessage), false},
-    {54, 2, sizeof(struct journal_GetStateEphemeralCommandMessage), false},
-    {56, 3, sizeof(struct journal_GetStateEphemeralNotificationMessage), false},
-    {59, 3, sizeof(struct journal_InputCommandMessage), false},
-    {62, 3, sizeof(struct journal_OutputCommandMessage), false},
-    {65, 3, sizeof(struct journal_GetLazyStateCommandMessage), false},
-    {68, 3, sizeof(struct journal_SetStateCommandMessage), false},
-    {71, 2, sizeof(struct journal_ClearStateCommandMessage), false},
-    {73, 1, sizeof(struct journal_ClearAllStateCommandMessage), false},
-    {74, 2, sizeof(struct journal_GetLazyStateKeysCommandMessage), false},
-    {76, 4, sizeof(struct journal_GetEagerStateCommandMessage), false},
-    {80, 2, sizeof(struct journal_GetEagerStateKeysCommandMessage), false},
-    {82, 3, sizeof(struct journal_GetPromiseCommandMessage), false},
-    {85, 3, sizeof(struct journal_PeekPromiseCommandMessage), false},
-    {88, 5, sizeof(struct journal_CompletePromiseCommandMessage), false},
-    {93, 3, sizeof(struct journal_SleepCommandMessage), false},
-    {96, 11, sizeof(struct journal_CallCommandMessage), false},
-    {107, 11, sizeof(struct journal_OneWayCallCommandMessage), false},
-    {118, 7, sizeof(struct journal_SendSignalCommandMessage), false},
-    {125, 2, sizeof(struct journal_RunCommandMessage), false},
-    {127, 5, sizeof(struct journal_AttachInvocationCommandMessage), false},
-    {132, 5, sizeof(struct journal_GetInvocationOutputCommandMessage), false},
-    {137, 4, sizeof(struct journal_CompleteAwakeableCommandMessage), false},
-    {141, 3, sizeof(struct journal_GetLazyStateCompletionNotificationMessage), false},
-    {144, 4, sizeof(struct journal_GetPromiseCompletionNotificationMessage), false},
-    {148, 4, sizeof(struct journal_PeekPromiseCompletionNotificationMessage), false},
-    {152, 4, sizeof(struct journal_GetInvocationOutputCompletionNotificationMessage), false},
-    {156, 3, sizeof(struct journal_CompletePromiseCompletionNotificationMessage), false},
-    {159, 3, sizeof(struct journal_CallCompletionNotificationMessage), false},
-    {162, 3, sizeof(struct journal_RunCompletionNotificationMessage), false},
-    {165, 3, sizeof(struct journal_AttachInvocationCompletionNotificationMessage), false},
-    {168, 2, sizeof(struct journal_SleepCompletionNotificationMessage), false},
-    {170, 2, sizeof(struct journal_GetLazyStateKeysCompletionNotificationMessage), false},
-    {172, 2, sizeof(struct journal_CallInvocationIdCompletionNotificationMessage), false},
-    {174, 5, sizeof(struct journal_SignalNotificationMessage), false},
-    {179, 8, sizeof(struct journal_NotificationTemplate), false},
-};
+/* What is done for each field is inlined also in a program that has the functions of all records. */
+#if defined(__GNUC__)
+#define JOURNAL_INLINE_ static inline __attribute__((always_inline))
+#else
+#define JOURNAL_INLINE_ static inline
+#endif
 
 /* What an element takes of the arena at most. */
 union journal_element_ {
@@ -1308,10 +1026,6 @@ union journal_element_ {
     struct journal_StateEntry StateEntry;
     struct journal_Future Future;
 };
-
-/* The _case of a oneof is written as four bytes. */
-typedef char journal_case_has_four_bytes_[
-    sizeof(enum journal_ProposeRunCompletionMessage_result) == sizeof(uint32_t) ? 1 : -1];
 
 /* Sets what the arena lacks of what is needed, and returns the error. */
 static inline int64_t journal_lacks_(struct journal_arena *arena, size_t needed) {
@@ -1324,58 +1038,72 @@ static inline size_t journal_unaligned_(const struct journal_arena *arena) {
     return (size_t)(0 - (uintptr_t)arena->memory) % sizeof(uint64_t);
 }
 
-/* How many entries there is room for, and where. */
-static inline size_t journal_table_room_(const struct journal_arena *arena) {
-    size_t unaligned = journal_unaligned_(arena);
-
+/* How many entries there is room for after these. */
+static inline size_t journal_table_room_(const struct journal_arena *arena, size_t unaligned) {
     return arena->left < unaligned ? 0 : (arena->left - unaligned) / sizeof(struct journal_field);
-}
-
-static inline struct journal_field *journal_table_(const struct journal_arena *arena) {
-    return journal_table_room_(arena) == 0
-               ? NULL
-               : (struct journal_field *)(void *)(arena->memory + journal_unaligned_(arena));
 }
 
 /*
  * Reading.
  */
 
-/* The entries that are left, what their offsets are in, and the memory for elements, of which the end is taken. */
+/* The entries that are left, what their offsets are in, the memory for elements, of which the end is taken, and the
+   first error; how much memory there was, and what was left of the arena before. */
 struct journal_reader_ {
     const struct journal_field *next;
     const struct journal_field *end;
     const uint8_t *payload;
     uint8_t *free;
     size_t left;
+    int64_t error;
+    size_t payload_length;
+    size_t count;
+    size_t given;
+    struct journal_arena *arena;
+    size_t arena_left;
 };
 
-/* Takes memory for elements, or returns null. */
-static inline uint8_t *journal_take_(struct journal_reader_ *reader, size_t count, size_t size) {
+/* Sets what the arena lacks for a table of this many entries and all of their elements, and returns the error. */
+static inline int64_t journal_lacks_read_(struct journal_arena *arena, size_t count) {
+    size_t most = sizeof(struct journal_field) + sizeof(union journal_element_);
+
+    return journal_lacks_(arena, journal_unaligned_(arena) + sizeof(uint64_t) + count * most);
+}
+
+/* Leaves all entries behind, for an error. */
+static inline void journal_stop_(struct journal_reader_ *reader, int64_t error) {
+    reader->error = error;
+    reader->next = reader->end;
+}
+
+/* The next entry, which is left behind, or null if it is of another level. */
+JOURNAL_INLINE_ const struct journal_field *journal_next_(struct journal_reader_ *reader, uint64_t level) {
+    const struct journal_field *field = reader->next;
+
+    if (field == reader->end || field->level != level) {
+        return NULL;
+    }
+    reader->next = field + 1;
+    return field;
+}
+
+JOURNAL_INLINE_ struct journal_slice journal_slice_of_(const struct journal_reader_ *reader,
+                                                       const struct journal_field *field) {
+    struct journal_slice slice = {reader->payload + field->offset, (size_t)field->length};
+
+    return slice;
+}
+
+/* Takes memory for elements, or ends reading and returns null. */
+static inline void *journal_take_(struct journal_reader_ *reader, size_t count, size_t size) {
     size_t bytes = (count * size + sizeof(uint64_t) - 1) / sizeof(uint64_t) * sizeof(uint64_t);
 
     if (bytes > reader->left) {
+        journal_stop_(reader, journal_lacks_read_(reader->arena, reader->count));
         return NULL;
     }
     reader->left -= bytes;
     return reader->free + reader->left;
-}
-
-/* The size of an element. */
-static inline size_t journal_size_of_(const struct journal_member_ *member) {
-    switch (member->kind) {
-    case JOURNAL_FIELD_UINT32:
-    case JOURNAL_FIELD_ENUM:
-        return sizeof(uint32_t);
-    case JOURNAL_FIELD_UINT64:
-        return sizeof(uint64_t);
-    case JOURNAL_FIELD_BOOL:
-        return sizeof(bool);
-    case JOURNAL_FIELD_MESSAGE:
-        return journal_records_[member->schema].size;
-    default:
-        return sizeof(struct journal_slice);
-    }
 }
 
 /* Writes into each message of a table how many elements of its field come from it on, itself among them, in the place
@@ -1405,15 +1133,11 @@ static inline void journal_count_elements_(struct journal_field *fields, size_t 
     }
 }
 
-/* How many elements of a field come, from the next entry on. */
-static inline size_t journal_elements_(const struct journal_reader_ *reader, const struct journal_member_ *member) {
-    const struct journal_field *first = reader->next, *field = first;
+/* How many elements of a field come, from its first entry on. */
+static inline size_t journal_elements_(const struct journal_reader_ *reader, const struct journal_field *first) {
     size_t count = 0;
 
-    if (member->kind == JOURNAL_FIELD_MESSAGE && journal_records_[member->schema].is_recursive) {
-        return (size_t)first->length;
-    }
-    for (; field != reader->end && field->level >= first->level; field++) {
+    for (const struct journal_field *field = first; field != reader->end && field->level >= first->level; field++) {
         if (field->level == first->level) {
             if (field->number != first->number) {
                 break;
@@ -1424,147 +1148,3848 @@ static inline size_t journal_elements_(const struct journal_reader_ *reader, con
     return count;
 }
 
-static inline int64_t journal_read_fields_(struct journal_reader_ *reader, uint64_t level, uint32_t schema,
-                                           uint8_t *record);
-
-/* Reads the value of the next entry, which is left behind, and of a message those within it. */
-static inline int64_t journal_read_value_(struct journal_reader_ *reader, const struct journal_member_ *member,
-                                          uint8_t *place) {
-    const struct journal_field *field = reader->next++;
-
-    switch (member->kind) {
-    case JOURNAL_FIELD_UINT32:
-        *(uint32_t *)(void *)place = (uint32_t)field->value;
-        return 0;
-    case JOURNAL_FIELD_UINT64:
-        *(uint64_t *)(void *)place = field->value;
-        return 0;
-    case JOURNAL_FIELD_BOOL:
-        *(bool *)(void *)place = field->value != 0;
-        return 0;
-    case JOURNAL_FIELD_ENUM:
-        *(int32_t *)(void *)place = (int32_t)(int64_t)field->value;
-        return 0;
-    case JOURNAL_FIELD_MESSAGE:
-        return journal_read_fields_(reader, field->level + 1, member->schema, place);
-    default:
-        ((struct journal_slice *)(void *)place)->at = reader->payload + field->offset;
-        ((struct journal_slice *)(void *)place)->length = (size_t)field->length;
-        return 0;
-    }
-}
-
-/* Reads the elements of a repeated field, whose first entry is the next one. */
-static inline int64_t journal_read_elements_(struct journal_reader_ *reader, const struct journal_member_ *member,
-                                             uint8_t *record) {
-    size_t count = journal_elements_(reader, member), size = journal_size_of_(member);
-    uint8_t *elements = journal_take_(reader, count, size);
-
-    if (elements == NULL) {
-        return JOURNAL_NO_ROOM;
-    }
-    if (member->kind == JOURNAL_FIELD_MESSAGE) {
-        memset(elements, 0, count * size);
-    }
-    /* whatever the pointer points to, it has the same form */
-    memcpy(record + member->offset, &elements, sizeof elements);
-    memcpy(record + member->presence, &count, sizeof count);
-    for (size_t i = 0; i < count; i++) {
-        int64_t error = journal_read_value_(reader, member, elements + i * size);
-
-        if (error < 0) {
-            return error;
-        }
-    }
-    return 0;
-}
-
-/* Reads the fields of a record, which are at a level, into its struct. */
-static inline int64_t journal_read_fields_(struct journal_reader_ *reader, uint64_t level, uint32_t schema,
-                                           uint8_t *record) {
-    const struct journal_member_ *member = &journal_members_[journal_records_[schema].first];
-    const struct journal_member_ *end = member + journal_records_[schema].count;
-    int64_t error;
-
-    while (reader->next != reader->end && reader->next->level == level) {
-        uint32_t number = (uint32_t)reader->next->number;
-
-        /* entries come in the order of the members */
-        while (member != end && member->number != number) {
-            member++;
-        }
-        if (member == end) {
-            return JOURNAL_UNKNOWN;
-        }
-        switch (member->shape) {
-        case JOURNAL_REPEATED_:
-            error = journal_read_elements_(reader, member, record);
-            if (error < 0) {
-                return error;
-            }
-            continue;
-        case JOURNAL_OPTIONAL_:
-            *(bool *)(void *)(record + member->presence) = true;
-            break;
-        case JOURNAL_MEMBER_:
-            memcpy(record + member->presence, &number, sizeof number);
-            break;
-        default:
-            break;
-        }
-        error = journal_read_value_(reader, member, record + member->offset);
-        if (error < 0) {
-            return error;
-        }
-    }
-    return 0;
-}
-
-/* Reads the record of a canonical payload, or returns JOURNAL_NOT_CANONICAL. */
-static inline int64_t journal_read_canonical_(uint32_t schema, const uint8_t *payload, size_t payload_length,
-                                              void *record, struct journal_arena *arena) {
-    struct journal_field *fields = journal_table_(arena);
-    size_t room = journal_table_room_(arena), front = journal_unaligned_(arena), count, left;
-    struct journal_reader_ reader;
+/* Finds the fields of a canonical payload; or returns an error, which may be JOURNAL_NOT_CANONICAL. */
+static inline int64_t journal_find_fields_(struct journal_reader_ *reader, uint32_t schema, bool is_recursive,
+                                           const uint8_t *payload, size_t payload_length,
+                                           struct journal_arena *arena) {
+    size_t front = journal_unaligned_(arena), room = journal_table_room_(arena, front), count;
+    struct journal_field *fields = room == 0 ? NULL : (struct journal_field *)(void *)(arena->memory + front);
     int64_t result = journal_fields(schema, payload, payload_length, fields, room);
 
-    if (result <= 0) {
-        arena->source = payload;
-        arena->source_length = result < 0 ? 0 : payload_length;
+    if (result < 0) {
         return result;
     }
     count = (size_t)result;
-    if (count <= room) {
-        if (journal_records_[schema].is_recursive) {
-            journal_count_elements_(fields, count);
-        }
-        reader.next = fields;
-        reader.end = fields + count;
-        reader.payload = payload;
-        reader.free = arena->memory + front + count * sizeof *fields;
-        left = (arena->left - front - count * sizeof *fields) / sizeof(uint64_t) * sizeof(uint64_t);
-        reader.left = left;
-        result = journal_read_fields_(&reader, 0, schema, (uint8_t *)record);
-        if (result == 0 && reader.next != reader.end) {
-            result = JOURNAL_UNKNOWN;
-        }
-        if (result == 0) {
-            if (reader.left != left) {
-                arena->left = (size_t)(reader.free - arena->memory) + reader.left;
-            }
-            arena->source = payload;
-            arena->source_length = payload_length;
-            return 0;
-        }
-    } else {
-        result = JOURNAL_NO_ROOM;
+    if (count > room) {
+        return journal_lacks_read_(arena, count);
     }
-    memset(record, 0, journal_records_[schema].size);
-    return result == JOURNAL_NO_ROOM
-               ? journal_lacks_(arena, front + sizeof(uint64_t) +
-                                           count * (sizeof *fields + sizeof(union journal_element_)))
-               : result;
+    if (is_recursive) {
+        journal_count_elements_(fields, count);
+    }
+    reader->next = fields;
+    reader->end = fields;
+    reader->free = NULL;
+    reader->left = 0;
+    if (count > 0) {
+        reader->end = fields + count;
+        reader->free = (uint8_t *)(fields + count);
+        reader->left = (arena->left - front - count * sizeof *fields) / sizeof(uint64_t) * sizeof(uint64_t);
+    }
+    reader->payload = payload;
+    reader->payload_length = payload_length;
+    reader->count = count;
+    reader->given = reader->left;
+    reader->arena = arena;
+    return 0;
 }
+
+/* Finds the fields of the canonical encoding of a payload, which is made at the end of the arena. */
+static inline int64_t journal_find_canonical_(struct journal_reader_ *reader, uint32_t schema, bool is_recursive,
+                                              const uint8_t *payload, size_t payload_length,
+                                              struct journal_arena *arena) {
+    int64_t result = journal_canonical(schema, payload, payload_length, arena->memory, arena->left);
+    const uint8_t *canonical = NULL;
+    size_t length = (size_t)result;
+
+    if (result < 0) {
+        return result;
+    }
+    if (length > arena->left) {
+        return journal_lacks_(arena, length);
+    }
+    arena->left -= length;
+    if (length > 0) {
+        canonical = (const uint8_t *)memmove(arena->memory + arena->left, arena->memory, length);
+    }
+    return journal_find_fields_(reader, schema, is_recursive, canonical, length, arena);
+}
+
+/* Begins to read a payload; returns whether there was no error. */
+static inline bool journal_begin_reading_(struct journal_reader_ *reader, uint32_t schema, bool is_recursive,
+                                          const uint8_t *payload, size_t payload_length, struct journal_arena *arena) {
+    int64_t result = journal_find_fields_(reader, schema, is_recursive, payload, payload_length, arena);
+
+    reader->arena_left = arena->left;
+    if (result == JOURNAL_NOT_CANONICAL) {
+        result = journal_find_canonical_(reader, schema, is_recursive, payload, payload_length, arena);
+    }
+    reader->error = result;
+    return result == 0;
+}
+
+/* Ends reading: what was taken of the arena stays; after an error it has what it had, and the record is empty. */
+static inline int64_t journal_end_reading_(struct journal_reader_ *reader, struct journal_arena *arena, void *record,
+                                           size_t size) {
+    if (reader->error == 0 && reader->next != reader->end) {
+        reader->error = JOURNAL_UNKNOWN;
+    }
+    if (reader->error != 0) {
+        memset(record, 0, size);
+        arena->left = reader->arena_left;
+        return reader->error;
+    }
+    if (reader->left != reader->given) {
+        arena->left = (size_t)(reader->free - arena->memory) + reader->left;
+    }
+    arena->source = reader->payload;
+    arena->source_length = reader->payload_length;
+    return 0;
+}
+
+/*
+ * Of each record: reads its fields, which are at a level.
+ */
+
+static inline void journal_read_Future_(struct journal_reader_ *reader, uint64_t level, struct journal_Future *record);
+
+static inline void journal_read_Void_(struct journal_reader_ *reader, uint64_t level) {
+    if (journal_next_(reader, level) != NULL) {
+        journal_stop_(reader, JOURNAL_UNKNOWN);
+    }
+}
+
+static inline void journal_read_Value_(struct journal_reader_ *reader, uint64_t level, struct journal_Value *record) {
+    const struct journal_field *field;
+
+    while ((field = journal_next_(reader, level)) != NULL) {
+        switch (field->number) {
+        case 1:
+            record->content = journal_slice_of_(reader, field);
+            break;
+        default:
+            journal_stop_(reader, JOURNAL_UNKNOWN);
+        }
+    }
+}
+
+static inline void journal_read_FailureMetadata_(struct journal_reader_ *reader, uint64_t level,
+                                                 struct journal_FailureMetadata *record) {
+    const struct journal_field *field;
+
+    while ((field = journal_next_(reader, level)) != NULL) {
+        switch (field->number) {
+        case 1:
+            record->key = journal_slice_of_(reader, field);
+            break;
+        case 2:
+            record->value = journal_slice_of_(reader, field);
+            break;
+        default:
+            journal_stop_(reader, JOURNAL_UNKNOWN);
+        }
+    }
+}
+
+static inline void journal_read_Failure_(struct journal_reader_ *reader, uint64_t level,
+                                         struct journal_Failure *record) {
+    const struct journal_field *field;
+
+    while ((field = journal_next_(reader, level)) != NULL) {
+        switch (field->number) {
+        case 1:
+            record->code = (uint32_t)field->value;
+            break;
+        case 2:
+            record->message = journal_slice_of_(reader, field);
+            break;
+        case 3: {
+            size_t count = journal_elements_(reader, field);
+            struct journal_FailureMetadata *elements =
+                (struct journal_FailureMetadata *)journal_take_(reader, count, sizeof(struct journal_FailureMetadata));
+
+            if (elements == NULL) {
+                break;
+            }
+            memset(elements, 0, count * sizeof *elements);
+            record->metadata = elements;
+            record->metadata_count = count;
+            reader->next = field;
+            for (size_t i = 0; i < count && reader->next != reader->end; i++) {
+                reader->next++;
+                journal_read_FailureMetadata_(reader, level + 1, &elements[i]);
+            }
+            break;
+        }
+        default:
+            journal_stop_(reader, JOURNAL_UNKNOWN);
+        }
+    }
+}
+
+static inline void journal_read_Header_(struct journal_reader_ *reader, uint64_t level, struct journal_Header *record) {
+    const struct journal_field *field;
+
+    while ((field = journal_next_(reader, level)) != NULL) {
+        switch (field->number) {
+        case 1:
+            record->key = journal_slice_of_(reader, field);
+            break;
+        case 2:
+            record->value = journal_slice_of_(reader, field);
+            break;
+        default:
+            journal_stop_(reader, JOURNAL_UNKNOWN);
+        }
+    }
+}
+
+static inline void journal_read_StateKeys_(struct journal_reader_ *reader, uint64_t level,
+                                           struct journal_StateKeys *record) {
+    const struct journal_field *field;
+
+    while ((field = journal_next_(reader, level)) != NULL) {
+        switch (field->number) {
+        case 1: {
+            size_t count = journal_elements_(reader, field);
+            struct journal_slice *elements =
+                (struct journal_slice *)journal_take_(reader, count, sizeof(struct journal_slice));
+
+            if (elements == NULL) {
+                break;
+            }
+            record->keys = elements;
+            record->keys_count = count;
+            for (size_t i = 0; i < count; i++, field++) {
+                elements[i] = journal_slice_of_(reader, field);
+            }
+            reader->next = field;
+            break;
+        }
+        default:
+            journal_stop_(reader, JOURNAL_UNKNOWN);
+        }
+    }
+}
+
+static inline void journal_read_StateEntry_(struct journal_reader_ *reader, uint64_t level,
+                                            struct journal_StateEntry *record) {
+    const struct journal_field *field;
+
+    while ((field = journal_next_(reader, level)) != NULL) {
+        switch (field->number) {
+        case 1:
+            record->key = journal_slice_of_(reader, field);
+            break;
+        case 2:
+            record->value = journal_slice_of_(reader, field);
+            break;
+        default:
+            journal_stop_(reader, JOURNAL_UNKNOWN);
+        }
+    }
+}
+
+static inline void journal_read_Future_(struct journal_reader_ *reader, uint64_t level, struct journal_Future *record) {
+    const struct journal_field *field;
+
+    while ((field = journal_next_(reader, level)) != NULL) {
+        switch (field->number) {
+        case 1: {
+            size_t count = journal_elements_(reader, field);
+            uint32_t *elements = (uint32_t *)journal_take_(reader, count, sizeof(uint32_t));
+
+            if (elements == NULL) {
+                break;
+            }
+            record->waiting_completions = elements;
+            record->waiting_completions_count = count;
+            for (size_t i = 0; i < count; i++, field++) {
+                elements[i] = (uint32_t)field->value;
+            }
+            reader->next = field;
+            break;
+        }
+        case 2: {
+            size_t count = journal_elements_(reader, field);
+            uint32_t *elements = (uint32_t *)journal_take_(reader, count, sizeof(uint32_t));
+
+            if (elements == NULL) {
+                break;
+            }
+            record->waiting_signals = elements;
+            record->waiting_signals_count = count;
+            for (size_t i = 0; i < count; i++, field++) {
+                elements[i] = (uint32_t)field->value;
+            }
+            reader->next = field;
+            break;
+        }
+        case 3: {
+            size_t count = journal_elements_(reader, field);
+            struct journal_slice *elements =
+                (struct journal_slice *)journal_take_(reader, count, sizeof(struct journal_slice));
+
+            if (elements == NULL) {
+                break;
+            }
+            record->waiting_named_signals = elements;
+            record->waiting_named_signals_count = count;
+            for (size_t i = 0; i < count; i++, field++) {
+                elements[i] = journal_slice_of_(reader, field);
+            }
+            reader->next = field;
+            break;
+        }
+        case 4: {
+            size_t count = (size_t)field->length;
+            struct journal_Future *elements =
+                (struct journal_Future *)journal_take_(reader, count, sizeof(struct journal_Future));
+
+            if (elements == NULL) {
+                break;
+            }
+            memset(elements, 0, count * sizeof *elements);
+            record->nested_futures = elements;
+            record->nested_futures_count = count;
+            reader->next = field;
+            for (size_t i = 0; i < count && reader->next != reader->end; i++) {
+                reader->next++;
+                journal_read_Future_(reader, level + 1, &elements[i]);
+            }
+            break;
+        }
+        case 5:
+            record->combinator_type = (int32_t)(int64_t)field->value;
+            break;
+        default:
+            journal_stop_(reader, JOURNAL_UNKNOWN);
+        }
+    }
+}
+
+static inline void journal_read_WorkflowTarget_(struct journal_reader_ *reader, uint64_t level,
+                                                struct journal_WorkflowTarget *record) {
+    const struct journal_field *field;
+
+    while ((field = journal_next_(reader, level)) != NULL) {
+        switch (field->number) {
+        case 1:
+            record->workflow_name = journal_slice_of_(reader, field);
+            break;
+        case 2:
+            record->workflow_key = journal_slice_of_(reader, field);
+            break;
+        case 3:
+            record->has_scope = true;
+            record->scope = journal_slice_of_(reader, field);
+            break;
+        default:
+            journal_stop_(reader, JOURNAL_UNKNOWN);
+        }
+    }
+}
+
+static inline void journal_read_IdempotentRequestTarget_(struct journal_reader_ *reader, uint64_t level,
+                                                         struct journal_IdempotentRequestTarget *record) {
+    const struct journal_field *field;
+
+    while ((field = journal_next_(reader, level)) != NULL) {
+        switch (field->number) {
+        case 1:
+            record->service_name = journal_slice_of_(reader, field);
+            break;
+        case 2:
+            record->has_service_key = true;
+            record->service_key = journal_slice_of_(reader, field);
+            break;
+        case 3:
+            record->handler_name = journal_slice_of_(reader, field);
+            break;
+        case 4:
+            record->idempotency_key = journal_slice_of_(reader, field);
+            break;
+        case 5:
+            record->has_scope = true;
+            record->scope = journal_slice_of_(reader, field);
+            break;
+        default:
+            journal_stop_(reader, JOURNAL_UNKNOWN);
+        }
+    }
+}
+
+static inline void journal_read_StartMessage_(struct journal_reader_ *reader, uint64_t level,
+                                              struct journal_StartMessage *record) {
+    const struct journal_field *field;
+
+    while ((field = journal_next_(reader, level)) != NULL) {
+        switch (field->number) {
+        case 1:
+            record->id = journal_slice_of_(reader, field);
+            break;
+        case 2:
+            record->debug_id = journal_slice_of_(reader, field);
+            break;
+        case 3:
+            record->known_entries = (uint32_t)field->value;
+            break;
+        case 4: {
+            size_t count = journal_elements_(reader, field);
+            struct journal_StateEntry *elements =
+                (struct journal_StateEntry *)journal_take_(reader, count, sizeof(struct journal_StateEntry));
+
+            if (elements == NULL) {
+                break;
+            }
+            memset(elements, 0, count * sizeof *elements);
+            record->state_map = elements;
+            record->state_map_count = count;
+            reader->next = field;
+            for (size_t i = 0; i < count && reader->next != reader->end; i++) {
+                reader->next++;
+                journal_read_StateEntry_(reader, level + 1, &elements[i]);
+            }
+            break;
+        }
+        case 5:
+            record->partial_state = field->value != 0;
+            break;
+        case 6:
+            record->key = journal_slice_of_(reader, field);
+            break;
+        case 7:
+            record->retry_count_since_last_stored_entry = (uint32_t)field->value;
+            break;
+        case 8:
+            record->duration_since_last_stored_entry = field->value;
+            break;
+        case 9:
+            record->random_seed = field->value;
+            break;
+        case 10:
+            record->has_scope = true;
+            record->scope = journal_slice_of_(reader, field);
+            break;
+        case 11:
+            record->has_limit_key = true;
+            record->limit_key = journal_slice_of_(reader, field);
+            break;
+        case 12:
+            record->has_idempotency_key = true;
+            record->idempotency_key = journal_slice_of_(reader, field);
+            break;
+        default:
+            journal_stop_(reader, JOURNAL_UNKNOWN);
+        }
+    }
+}
+
+static inline void journal_read_SuspensionMessage_(struct journal_reader_ *reader, uint64_t level,
+                                                   struct journal_SuspensionMessage *record) {
+    const struct journal_field *field;
+
+    while ((field = journal_next_(reader, level)) != NULL) {
+        switch (field->number) {
+        case 4:
+            record->has_awaiting_on = true;
+            journal_read_Future_(reader, level + 1, &record->awaiting_on);
+            break;
+        default:
+            journal_stop_(reader, JOURNAL_UNKNOWN);
+        }
+    }
+}
+
+static inline void journal_read_SuspensionMessageV6_(struct journal_reader_ *reader, uint64_t level,
+                                                     struct journal_SuspensionMessageV6 *record) {
+    const struct journal_field *field;
+
+    while ((field = journal_next_(reader, level)) != NULL) {
+        switch (field->number) {
+        case 1: {
+            size_t count = journal_elements_(reader, field);
+            uint32_t *elements = (uint32_t *)journal_take_(reader, count, sizeof(uint32_t));
+
+            if (elements == NULL) {
+                break;
+            }
+            record->waiting_completions = elements;
+            record->waiting_completions_count = count;
+            for (size_t i = 0; i < count; i++, field++) {
+                elements[i] = (uint32_t)field->value;
+            }
+            reader->next = field;
+            break;
+        }
+        case 2: {
+            size_t count = journal_elements_(reader, field);
+            uint32_t *elements = (uint32_t *)journal_take_(reader, count, sizeof(uint32_t));
+
+            if (elements == NULL) {
+                break;
+            }
+            record->waiting_signals = elements;
+            record->waiting_signals_count = count;
+            for (size_t i = 0; i < count; i++, field++) {
+                elements[i] = (uint32_t)field->value;
+            }
+            reader->next = field;
+            break;
+        }
+        case 3: {
+            size_t count = journal_elements_(reader, field);
+            struct journal_slice *elements =
+                (struct journal_slice *)journal_take_(reader, count, sizeof(struct journal_slice));
+
+            if (elements == NULL) {
+                break;
+            }
+            record->waiting_named_signals = elements;
+            record->waiting_named_signals_count = count;
+            for (size_t i = 0; i < count; i++, field++) {
+                elements[i] = journal_slice_of_(reader, field);
+            }
+            reader->next = field;
+            break;
+        }
+        default:
+            journal_stop_(reader, JOURNAL_UNKNOWN);
+        }
+    }
+}
+
+static inline void journal_read_ErrorMessage_(struct journal_reader_ *reader, uint64_t level,
+                                              struct journal_ErrorMessage *record) {
+    const struct journal_field *field;
+
+    while ((field = journal_next_(reader, level)) != NULL) {
+        switch (field->number) {
+        case 1:
+            record->code = (uint32_t)field->value;
+            break;
+        case 2:
+            record->message = journal_slice_of_(reader, field);
+            break;
+        case 3:
+            record->stacktrace = journal_slice_of_(reader, field);
+            break;
+        case 4:
+            record->has_related_command_index = true;
+            record->related_command_index = (uint32_t)field->value;
+            break;
+        case 5:
+            record->has_related_command_name = true;
+            record->related_command_name = journal_slice_of_(reader, field);
+            break;
+        case 6:
+            record->has_related_command_type = true;
+            record->related_command_type = (uint32_t)field->value;
+            break;
+        case 8:
+            record->has_next_retry_delay = true;
+            record->next_retry_delay = field->value;
+            break;
+        case 9:
+            record->behavior = (int32_t)(int64_t)field->value;
+            break;
+        default:
+            journal_stop_(reader, JOURNAL_UNKNOWN);
+        }
+    }
+}
+
+static inline void journal_read_EndMessage_(struct journal_reader_ *reader, uint64_t level) {
+    if (journal_next_(reader, level) != NULL) {
+        journal_stop_(reader, JOURNAL_UNKNOWN);
+    }
+}
+
+static inline void journal_read_ProposeRunCompletionMessage_(struct journal_reader_ *reader, uint64_t level,
+                                                             struct journal_ProposeRunCompletionMessage *record) {
+    const struct journal_field *field;
+
+    while ((field = journal_next_(reader, level)) != NULL) {
+        switch (field->number) {
+        case 1:
+            record->result_completion_id = (uint32_t)field->value;
+            break;
+        case 14:
+            record->result_case = JOURNAL_PROPOSE_RUN_COMPLETION_RESULT_VALUE;
+            record->result.value = journal_slice_of_(reader, field);
+            break;
+        case 15:
+            record->result_case = JOURNAL_PROPOSE_RUN_COMPLETION_RESULT_FAILURE;
+            journal_read_Failure_(reader, level + 1, &record->result.failure);
+            break;
+        default:
+            journal_stop_(reader, JOURNAL_UNKNOWN);
+        }
+    }
+}
+
+static inline void journal_read_AwaitingOnMessage_(struct journal_reader_ *reader, uint64_t level,
+                                                   struct journal_AwaitingOnMessage *record) {
+    const struct journal_field *field;
+
+    while ((field = journal_next_(reader, level)) != NULL) {
+        switch (field->number) {
+        case 1:
+            record->has_awaiting_on = true;
+            journal_read_Future_(reader, level + 1, &record->awaiting_on);
+            break;
+        case 2:
+            record->executing_side_effects = field->value != 0;
+            break;
+        default:
+            journal_stop_(reader, JOURNAL_UNKNOWN);
+        }
+    }
+}
+
+static inline void journal_read_ProposeRunCompletionAckMessage_(struct journal_reader_ *reader, uint64_t level,
+                                                                struct journal_ProposeRunCompletionAckMessage *record) {
+    const struct journal_field *field;
+
+    while ((field = journal_next_(reader, level)) != NULL) {
+        switch (field->number) {
+        case 1:
+            record->completion_id = (uint32_t)field->value;
+            break;
+        default:
+            journal_stop_(reader, JOURNAL_UNKNOWN);
+        }
+    }
+}
+
+static inline void journal_read_GetStateEphemeralCommandMessage_(
+    struct journal_reader_ *reader, uint64_t level, struct journal_GetStateEphemeralCommandMessage *record) {
+    const struct journal_field *field;
+
+    while ((field = journal_next_(reader, level)) != NULL) {
+        switch (field->number) {
+        case 1:
+            record->key = journal_slice_of_(reader, field);
+            break;
+        case 2:
+            record->completion_id = (uint32_t)field->value;
+            break;
+        default:
+            journal_stop_(reader, JOURNAL_UNKNOWN);
+        }
+    }
+}
+
+static inline void journal_read_GetStateEphemeralNotificationMessage_(
+    struct journal_reader_ *reader, uint64_t level, struct journal_GetStateEphemeralNotificationMessage *record) {
+    const struct journal_field *field;
+
+    while ((field = journal_next_(reader, level)) != NULL) {
+        switch (field->number) {
+        case 1:
+            record->completion_id = (uint32_t)field->value;
+            break;
+        case 4:
+            record->result_case = JOURNAL_GET_STATE_EPHEMERAL_NOTIFICATION_RESULT_VOID;
+            journal_read_Void_(reader, level + 1);
+            break;
+        case 5:
+            record->result_case = JOURNAL_GET_STATE_EPHEMERAL_NOTIFICATION_RESULT_VALUE;
+            journal_read_Value_(reader, level + 1, &record->result.value);
+            break;
+        default:
+            journal_stop_(reader, JOURNAL_UNKNOWN);
+        }
+    }
+}
+
+static inline void journal_read_InputCommandMessage_(struct journal_reader_ *reader, uint64_t level,
+                                                     struct journal_InputCommandMessage *record) {
+    const struct journal_field *field;
+
+    while ((field = journal_next_(reader, level)) != NULL) {
+        switch (field->number) {
+        case 1: {
+            size_t count = journal_elements_(reader, field);
+            struct journal_Header *elements =
+                (struct journal_Header *)journal_take_(reader, count, sizeof(struct journal_Header));
+
+            if (elements == NULL) {
+                break;
+            }
+            memset(elements, 0, count * sizeof *elements);
+            record->headers = elements;
+            record->headers_count = count;
+            reader->next = field;
+            for (size_t i = 0; i < count && reader->next != reader->end; i++) {
+                reader->next++;
+                journal_read_Header_(reader, level + 1, &elements[i]);
+            }
+            break;
+        }
+        case 12:
+            record->name = journal_slice_of_(reader, field);
+            break;
+        case 14:
+            record->has_value = true;
+            journal_read_Value_(reader, level + 1, &record->value);
+            break;
+        default:
+            journal_stop_(reader, JOURNAL_UNKNOWN);
+        }
+    }
+}
+
+static inline void journal_read_OutputCommandMessage_(struct journal_reader_ *reader, uint64_t level,
+                                                      struct journal_OutputCommandMessage *record) {
+    const struct journal_field *field;
+
+    while ((field = journal_next_(reader, level)) != NULL) {
+        switch (field->number) {
+        case 12:
+            record->name = journal_slice_of_(reader, field);
+            break;
+        case 14:
+            record->result_case = JOURNAL_OUTPUT_COMMAND_RESULT_VALUE;
+            journal_read_Value_(reader, level + 1, &record->result.value);
+            break;
+        case 15:
+            record->result_case = JOURNAL_OUTPUT_COMMAND_RESULT_FAILURE;
+            journal_read_Failure_(reader, level + 1, &record->result.failure);
+            break;
+        default:
+            journal_stop_(reader, JOURNAL_UNKNOWN);
+        }
+    }
+}
+
+static inline void journal_read_GetLazyStateCommandMessage_(struct journal_reader_ *reader, uint64_t level,
+                                                            struct journal_GetLazyStateCommandMessage *record) {
+    const struct journal_field *field;
+
+    while ((field = journal_next_(reader, level)) != NULL) {
+        switch (field->number) {
+        case 1:
+            record->key = journal_slice_of_(reader, field);
+            break;
+        case 11:
+            record->result_completion_id = (uint32_t)field->value;
+            break;
+        case 12:
+            record->name = journal_slice_of_(reader, field);
+            break;
+        default:
+            journal_stop_(reader, JOURNAL_UNKNOWN);
+        }
+    }
+}
+
+static inline void journal_read_SetStateCommandMessage_(struct journal_reader_ *reader, uint64_t level,
+                                                        struct journal_SetStateCommandMessage *record) {
+    const struct journal_field *field;
+
+    while ((field = journal_next_(reader, level)) != NULL) {
+        switch (field->number) {
+        case 1:
+            record->key = journal_slice_of_(reader, field);
+            break;
+        case 3:
+            record->has_value = true;
+            journal_read_Value_(reader, level + 1, &record->value);
+            break;
+        case 12:
+            record->name = journal_slice_of_(reader, field);
+            break;
+        default:
+            journal_stop_(reader, JOURNAL_UNKNOWN);
+        }
+    }
+}
+
+static inline void journal_read_ClearStateCommandMessage_(struct journal_reader_ *reader, uint64_t level,
+                                                          struct journal_ClearStateCommandMessage *record) {
+    const struct journal_field *field;
+
+    while ((field = journal_next_(reader, level)) != NULL) {
+        switch (field->number) {
+        case 1:
+            record->key = journal_slice_of_(reader, field);
+            break;
+        case 12:
+            record->name = journal_slice_of_(reader, field);
+            break;
+        default:
+            journal_stop_(reader, JOURNAL_UNKNOWN);
+        }
+    }
+}
+
+static inline void journal_read_ClearAllStateCommandMessage_(struct journal_reader_ *reader, uint64_t level,
+                                                             struct journal_ClearAllStateCommandMessage *record) {
+    const struct journal_field *field;
+
+    while ((field = journal_next_(reader, level)) != NULL) {
+        switch (field->number) {
+        case 12:
+            record->name = journal_slice_of_(reader, field);
+            break;
+        default:
+            journal_stop_(reader, JOURNAL_UNKNOWN);
+        }
+    }
+}
+
+static inline void journal_read_GetLazyStateKeysCommandMessage_(struct journal_reader_ *reader, uint64_t level,
+                                                                struct journal_GetLazyStateKeysCommandMessage *record) {
+    const struct journal_field *field;
+
+    while ((field = journal_next_(reader, level)) != NULL) {
+        switch (field->number) {
+        case 11:
+            record->result_completion_id = (uint32_t)field->value;
+            break;
+        case 12:
+            record->name = journal_slice_of_(reader, field);
+            break;
+        default:
+            journal_stop_(reader, JOURNAL_UNKNOWN);
+        }
+    }
+}
+
+static inline void journal_read_GetEagerStateCommandMessage_(struct journal_reader_ *reader, uint64_t level,
+                                                             struct journal_GetEagerStateCommandMessage *record) {
+    const struct journal_field *field;
+
+    while ((field = journal_next_(reader, level)) != NULL) {
+        switch (field->number) {
+        case 1:
+            record->key = journal_slice_of_(reader, field);
+            break;
+        case 12:
+            record->name = journal_slice_of_(reader, field);
+            break;
+        case 13:
+            record->result_case = JOURNAL_GET_EAGER_STATE_COMMAND_RESULT_VOID;
+            journal_read_Void_(reader, level + 1);
+            break;
+        case 14:
+            record->result_case = JOURNAL_GET_EAGER_STATE_COMMAND_RESULT_VALUE;
+            journal_read_Value_(reader, level + 1, &record->result.value);
+            break;
+        default:
+            journal_stop_(reader, JOURNAL_UNKNOWN);
+        }
+    }
+}
+
+static inline void journal_read_GetEagerStateKeysCommandMessage_(
+    struct journal_reader_ *reader, uint64_t level, struct journal_GetEagerStateKeysCommandMessage *record) {
+    const struct journal_field *field;
+
+    while ((field = journal_next_(reader, level)) != NULL) {
+        switch (field->number) {
+        case 12:
+            record->name = journal_slice_of_(reader, field);
+            break;
+        case 14:
+            record->has_value = true;
+            journal_read_StateKeys_(reader, level + 1, &record->value);
+            break;
+        default:
+            journal_stop_(reader, JOURNAL_UNKNOWN);
+        }
+    }
+}
+
+static inline void journal_read_GetPromiseCommandMessage_(struct journal_reader_ *reader, uint64_t level,
+                                                          struct journal_GetPromiseCommandMessage *record) {
+    const struct journal_field *field;
+
+    while ((field = journal_next_(reader, level)) != NULL) {
+        switch (field->number) {
+        case 1:
+            record->key = journal_slice_of_(reader, field);
+            break;
+        case 11:
+            record->result_completion_id = (uint32_t)field->value;
+            break;
+        case 12:
+            record->name = journal_slice_of_(reader, field);
+            break;
+        default:
+            journal_stop_(reader, JOURNAL_UNKNOWN);
+        }
+    }
+}
+
+static inline void journal_read_PeekPromiseCommandMessage_(struct journal_reader_ *reader, uint64_t level,
+                                                           struct journal_PeekPromiseCommandMessage *record) {
+    const struct journal_field *field;
+
+    while ((field = journal_next_(reader, level)) != NULL) {
+        switch (field->number) {
+        case 1:
+            record->key = journal_slice_of_(reader, field);
+            break;
+        case 11:
+            record->result_completion_id = (uint32_t)field->value;
+            break;
+        case 12:
+            record->name = journal_slice_of_(reader, field);
+            break;
+        default:
+            journal_stop_(reader, JOURNAL_UNKNOWN);
+        }
+    }
+}
+
+static inline void journal_read_CompletePromiseCommandMessage_(struct journal_reader_ *reader, uint64_t level,
+                                                               struct journal_CompletePromiseCommandMessage *record) {
+    const struct journal_field *field;
+
+    while ((field = journal_next_(reader, level)) != NULL) {
+        switch (field->number) {
+        case 1:
+            record->key = journal_slice_of_(reader, field);
+            break;
+        case 2:
+            record->completion_case = JOURNAL_COMPLETE_PROMISE_COMMAND_COMPLETION_COMPLETION_VALUE;
+            journal_read_Value_(reader, level + 1, &record->completion.completion_value);
+            break;
+        case 3:
+            record->completion_case = JOURNAL_COMPLETE_PROMISE_COMMAND_COMPLETION_COMPLETION_FAILURE;
+            journal_read_Failure_(reader, level + 1, &record->completion.completion_failure);
+            break;
+        case 11:
+            record->result_completion_id = (uint32_t)field->value;
+            break;
+        case 12:
+            record->name = journal_slice_of_(reader, field);
+            break;
+        default:
+            journal_stop_(reader, JOURNAL_UNKNOWN);
+        }
+    }
+}
+
+static inline void journal_read_SleepCommandMessage_(struct journal_reader_ *reader, uint64_t level,
+                                                     struct journal_SleepCommandMessage *record) {
+    const struct journal_field *field;
+
+    while ((field = journal_next_(reader, level)) != NULL) {
+        switch (field->number) {
+        case 1:
+            record->wake_up_time = field->value;
+            break;
+        case 11:
+            record->result_completion_id = (uint32_t)field->value;
+            break;
+        case 12:
+            record->name = journal_slice_of_(reader, field);
+            break;
+        default:
+            journal_stop_(reader, JOURNAL_UNKNOWN);
+        }
+    }
+}
+
+static inline void journal_read_CallCommandMessage_(struct journal_reader_ *reader, uint64_t level,
+                                                    struct journal_CallCommandMessage *record) {
+    const struct journal_field *field;
+
+    while ((field = journal_next_(reader, level)) != NULL) {
+        switch (field->number) {
+        case 1:
+            record->service_name = journal_slice_of_(reader, field);
+            break;
+        case 2:
+            record->handler_name = journal_slice_of_(reader, field);
+            break;
+        case 3:
+            record->parameter = journal_slice_of_(reader, field);
+            break;
+        case 4: {
+            size_t count = journal_elements_(reader, field);
+            struct journal_Header *elements =
+                (struct journal_Header *)journal_take_(reader, count, sizeof(struct journal_Header));
+
+            if (elements == NULL) {
+                break;
+            }
+            memset(elements, 0, count * sizeof *elements);
+            record->headers = elements;
+            record->headers_count = count;
+            reader->next = field;
+            for (size_t i = 0; i < count && reader->next != reader->end; i++) {
+                reader->next++;
+                journal_read_Header_(reader, level + 1, &elements[i]);
+            }
+            break;
+        }
+        case 5:
+            record->key = journal_slice_of_(reader, field);
+            break;
+        case 6:
+            record->has_idempotency_key = true;
+            record->idempotency_key = journal_slice_of_(reader, field);
+            break;
+        case 7:
+            record->has_scope = true;
+            record->scope = journal_slice_of_(reader, field);
+            break;
+        case 8:
+            record->has_limit_key = true;
+            record->limit_key = journal_slice_of_(reader, field);
+            break;
+        case 10:
+            record->invocation_id_notification_idx = (uint32_t)field->value;
+            break;
+        case 11:
+            record->result_completion_id = (uint32_t)field->value;
+            break;
+        case 12:
+            record->name = journal_slice_of_(reader, field);
+            break;
+        default:
+            journal_stop_(reader, JOURNAL_UNKNOWN);
+        }
+    }
+}
+
+static inline void journal_read_OneWayCallCommandMessage_(struct journal_reader_ *reader, uint64_t level,
+                                                          struct journal_OneWayCallCommandMessage *record) {
+    const struct journal_field *field;
+
+    while ((field = journal_next_(reader, level)) != NULL) {
+        switch (field->number) {
+        case 1:
+            record->service_name = journal_slice_of_(reader, field);
+            break;
+        case 2:
+            record->handler_name = journal_slice_of_(reader, field);
+            break;
+        case 3:
+            record->parameter = journal_slice_of_(reader, field);
+            break;
+        case 4:
+            record->invoke_time = field->value;
+            break;
+        case 5: {
+            size_t count = journal_elements_(reader, field);
+            struct journal_Header *elements =
+                (struct journal_Header *)journal_take_(reader, count, sizeof(struct journal_Header));
+
+            if (elements == NULL) {
+                break;
+            }
+            memset(elements, 0, count * sizeof *elements);
+            record->headers = elements;
+            record->headers_count = count;
+            reader->next = field;
+            for (size_t i = 0; i < count && reader->next != reader->end; i++) {
+                reader->next++;
+                journal_read_Header_(reader, level + 1, &elements[i]);
+            }
+            break;
+        }
+        case 6:
+            record->key = journal_slice_of_(reader, field);
+            break;
+        case 7:
+            record->has_idempotency_key = true;
+            record->idempotency_key = journal_slice_of_(reader, field);
+            break;
+        case 8:
+            record->has_scope = true;
+            record->scope = journal_slice_of_(reader, field);
+            break;
+        case 9:
+            record->has_limit_key = true;
+            record->limit_key = journal_slice_of_(reader, field);
+            break;
+        case 10:
+            record->invocation_id_notification_idx = (uint32_t)field->value;
+            break;
+        case 12:
+            record->name = journal_slice_of_(reader, field);
+            break;
+        default:
+            journal_stop_(reader, JOURNAL_UNKNOWN);
+        }
+    }
+}
+
+static inline void journal_read_SendSignalCommandMessage_(struct journal_reader_ *reader, uint64_t level,
+                                                          struct journal_SendSignalCommandMessage *record) {
+    const struct journal_field *field;
+
+    while ((field = journal_next_(reader, level)) != NULL) {
+        switch (field->number) {
+        case 1:
+            record->target_invocation_id = journal_slice_of_(reader, field);
+            break;
+        case 2:
+            record->signal_id_case = JOURNAL_SEND_SIGNAL_COMMAND_SIGNAL_ID_IDX;
+            record->signal_id.idx = (uint32_t)field->value;
+            break;
+        case 3:
+            record->signal_id_case = JOURNAL_SEND_SIGNAL_COMMAND_SIGNAL_ID_NAME;
+            record->signal_id.name = journal_slice_of_(reader, field);
+            break;
+        case 4:
+            record->result_case = JOURNAL_SEND_SIGNAL_COMMAND_RESULT_VOID;
+            journal_read_Void_(reader, level + 1);
+            break;
+        case 5:
+            record->result_case = JOURNAL_SEND_SIGNAL_COMMAND_RESULT_VALUE;
+            journal_read_Value_(reader, level + 1, &record->result.value);
+            break;
+        case 6:
+            record->result_case = JOURNAL_SEND_SIGNAL_COMMAND_RESULT_FAILURE;
+            journal_read_Failure_(reader, level + 1, &record->result.failure);
+            break;
+        case 12:
+            record->entry_name = journal_slice_of_(reader, field);
+            break;
+        default:
+            journal_stop_(reader, JOURNAL_UNKNOWN);
+        }
+    }
+}
+
+static inline void journal_read_RunCommandMessage_(struct journal_reader_ *reader, uint64_t level,
+                                                   struct journal_RunCommandMessage *record) {
+    const struct journal_field *field;
+
+    while ((field = journal_next_(reader, level)) != NULL) {
+        switch (field->number) {
+        case 11:
+            record->result_completion_id = (uint32_t)field->value;
+            break;
+        case 12:
+            record->name = journal_slice_of_(reader, field);
+            break;
+        default:
+            journal_stop_(reader, JOURNAL_UNKNOWN);
+        }
+    }
+}
+
+static inline void journal_read_AttachInvocationCommandMessage_(struct journal_reader_ *reader, uint64_t level,
+                                                                struct journal_AttachInvocationCommandMessage *record) {
+    const struct journal_field *field;
+
+    while ((field = journal_next_(reader, level)) != NULL) {
+        switch (field->number) {
+        case 1:
+            record->target_case = JOURNAL_ATTACH_INVOCATION_COMMAND_TARGET_INVOCATION_ID;
+            record->target.invocation_id = journal_slice_of_(reader, field);
+            break;
+        case 3:
+            record->target_case = JOURNAL_ATTACH_INVOCATION_COMMAND_TARGET_IDEMPOTENT_REQUEST_TARGET;
+            journal_read_IdempotentRequestTarget_(reader, level + 1, &record->target.idempotent_request_target);
+            break;
+        case 4:
+            record->target_case = JOURNAL_ATTACH_INVOCATION_COMMAND_TARGET_WORKFLOW_TARGET;
+            journal_read_WorkflowTarget_(reader, level + 1, &record->target.workflow_target);
+            break;
+        case 11:
+            record->result_completion_id = (uint32_t)field->value;
+            break;
+        case 12:
+            record->name = journal_slice_of_(reader, field);
+            break;
+        default:
+            journal_stop_(reader, JOURNAL_UNKNOWN);
+        }
+    }
+}
+
+static inline void journal_read_GetInvocationOutputCommandMessage_(
+    struct journal_reader_ *reader, uint64_t level, struct journal_GetInvocationOutputCommandMessage *record) {
+    const struct journal_field *field;
+
+    while ((field = journal_next_(reader, level)) != NULL) {
+        switch (field->number) {
+        case 1:
+            record->target_case = JOURNAL_GET_INVOCATION_OUTPUT_COMMAND_TARGET_INVOCATION_ID;
+            record->target.invocation_id = journal_slice_of_(reader, field);
+            break;
+        case 3:
+            record->target_case = JOURNAL_GET_INVOCATION_OUTPUT_COMMAND_TARGET_IDEMPOTENT_REQUEST_TARGET;
+            journal_read_IdempotentRequestTarget_(reader, level + 1, &record->target.idempotent_request_target);
+            break;
+        case 4:
+            record->target_case = JOURNAL_GET_INVOCATION_OUTPUT_COMMAND_TARGET_WORKFLOW_TARGET;
+            journal_read_WorkflowTarget_(reader, level + 1, &record->target.workflow_target);
+            break;
+        case 11:
+            record->result_completion_id = (uint32_t)field->value;
+            break;
+        case 12:
+            record->name = journal_slice_of_(reader, field);
+            break;
+        default:
+            journal_stop_(reader, JOURNAL_UNKNOWN);
+        }
+    }
+}
+
+static inline void journal_read_CompleteAwakeableCommandMessage_(
+    struct journal_reader_ *reader, uint64_t level, struct journal_CompleteAwakeableCommandMessage *record) {
+    const struct journal_field *field;
+
+    while ((field = journal_next_(reader, level)) != NULL) {
+        switch (field->number) {
+        case 1:
+            record->awakeable_id = journal_slice_of_(reader, field);
+            break;
+        case 2:
+            record->result_case = JOURNAL_COMPLETE_AWAKEABLE_COMMAND_RESULT_VALUE;
+            journal_read_Value_(reader, level + 1, &record->result.value);
+            break;
+        case 3:
+            record->result_case = JOURNAL_COMPLETE_AWAKEABLE_COMMAND_RESULT_FAILURE;
+            journal_read_Failure_(reader, level + 1, &record->result.failure);
+            break;
+        case 12:
+            record->name = journal_slice_of_(reader, field);
+            break;
+        default:
+            journal_stop_(reader, JOURNAL_UNKNOWN);
+        }
+    }
+}
+
+static inline void journal_read_GetLazyStateCompletionNotificationMessage_(
+    struct journal_reader_ *reader, uint64_t level, struct journal_GetLazyStateCompletionNotificationMessage *record) {
+    const struct journal_field *field;
+
+    while ((field = journal_next_(reader, level)) != NULL) {
+        switch (field->number) {
+        case 1:
+            record->completion_id = (uint32_t)field->value;
+            break;
+        case 4:
+            record->result_case = JOURNAL_GET_LAZY_STATE_COMPLETION_NOTIFICATION_RESULT_VOID;
+            journal_read_Void_(reader, level + 1);
+            break;
+        case 5:
+            record->result_case = JOURNAL_GET_LAZY_STATE_COMPLETION_NOTIFICATION_RESULT_VALUE;
+            journal_read_Value_(reader, level + 1, &record->result.value);
+            break;
+        default:
+            journal_stop_(reader, JOURNAL_UNKNOWN);
+        }
+    }
+}
+
+static inline void journal_read_GetPromiseCompletionNotificationMessage_(
+    struct journal_reader_ *reader, uint64_t level, struct journal_GetPromiseCompletionNotificationMessage *record) {
+    const struct journal_field *field;
+
+    while ((field = journal_next_(reader, level)) != NULL) {
+        switch (field->number) {
+        case 1:
+            record->completion_id = (uint32_t)field->value;
+            break;
+        case 4:
+            record->result_case = JOURNAL_GET_PROMISE_COMPLETION_NOTIFICATION_RESULT_VOID;
+            journal_read_Void_(reader, level + 1);
+            break;
+        case 5:
+            record->result_case = JOURNAL_GET_PROMISE_COMPLETION_NOTIFICATION_RESULT_VALUE;
+            journal_read_Value_(reader, level + 1, &record->result.value);
+            break;
+        case 6:
+            record->result_case = JOURNAL_GET_PROMISE_COMPLETION_NOTIFICATION_RESULT_FAILURE;
+            journal_read_Failure_(reader, level + 1, &record->result.failure);
+            break;
+        default:
+            journal_stop_(reader, JOURNAL_UNKNOWN);
+        }
+    }
+}
+
+static inline void journal_read_PeekPromiseCompletionNotificationMessage_(
+    struct journal_reader_ *reader, uint64_t level, struct journal_PeekPromiseCompletionNotificationMessage *record) {
+    const struct journal_field *field;
+
+    while ((field = journal_next_(reader, level)) != NULL) {
+        switch (field->number) {
+        case 1:
+            record->completion_id = (uint32_t)field->value;
+            break;
+        case 4:
+            record->result_case = JOURNAL_PEEK_PROMISE_COMPLETION_NOTIFICATION_RESULT_VOID;
+            journal_read_Void_(reader, level + 1);
+            break;
+        case 5:
+            record->result_case = JOURNAL_PEEK_PROMISE_COMPLETION_NOTIFICATION_RESULT_VALUE;
+            journal_read_Value_(reader, level + 1, &record->result.value);
+            break;
+        case 6:
+            record->result_case = JOURNAL_PEEK_PROMISE_COMPLETION_NOTIFICATION_RESULT_FAILURE;
+            journal_read_Failure_(reader, level + 1, &record->result.failure);
+            break;
+        default:
+            journal_stop_(reader, JOURNAL_UNKNOWN);
+        }
+    }
+}
+
+static inline void journal_read_GetInvocationOutputCompletionNotificationMessage_(
+    struct journal_reader_ *reader, uint64_t level,
+    struct journal_GetInvocationOutputCompletionNotificationMessage *record) {
+    const struct journal_field *field;
+
+    while ((field = journal_next_(reader, level)) != NULL) {
+        switch (field->number) {
+        case 1:
+            record->completion_id = (uint32_t)field->value;
+            break;
+        case 4:
+            record->result_case = JOURNAL_GET_INVOCATION_OUTPUT_COMPLETION_NOTIFICATION_RESULT_VOID;
+            journal_read_Void_(reader, level + 1);
+            break;
+        case 5:
+            record->result_case = JOURNAL_GET_INVOCATION_OUTPUT_COMPLETION_NOTIFICATION_RESULT_VALUE;
+            journal_read_Value_(reader, level + 1, &record->result.value);
+            break;
+        case 6:
+            record->result_case = JOURNAL_GET_INVOCATION_OUTPUT_COMPLETION_NOTIFICATION_RESULT_FAILURE;
+            journal_read_Failure_(reader, level + 1, &record->result.failure);
+            break;
+        default:
+            journal_stop_(reader, JOURNAL_UNKNOWN);
+        }
+    }
+}
+
+static inline void journal_read_CompletePromiseCompletionNotificationMessage_(
+    struct journal_reader_ *reader, uint64_t level,
+    struct journal_CompletePromiseCompletionNotificationMessage *record) {
+    const struct journal_field *field;
+
+    while ((field = journal_next_(reader, level)) != NULL) {
+        switch (field->number) {
+        case 1:
+            record->completion_id = (uint32_t)field->value;
+            break;
+        case 4:
+            record->result_case = JOURNAL_COMPLETE_PROMISE_COMPLETION_NOTIFICATION_RESULT_VOID;
+            journal_read_Void_(reader, level + 1);
+            break;
+        case 6:
+            record->result_case = JOURNAL_COMPLETE_PROMISE_COMPLETION_NOTIFICATION_RESULT_FAILURE;
+            journal_read_Failure_(reader, level + 1, &record->result.failure);
+            break;
+        default:
+            journal_stop_(reader, JOURNAL_UNKNOWN);
+        }
+    }
+}
+
+static inline void journal_read_CallCompletionNotificationMessage_(
+    struct journal_reader_ *reader, uint64_t level, struct journal_CallCompletionNotificationMessage *record) {
+    const struct journal_field *field;
+
+    while ((field = journal_next_(reader, level)) != NULL) {
+        switch (field->number) {
+        case 1:
+            record->completion_id = (uint32_t)field->value;
+            break;
+        case 5:
+            record->result_case = JOURNAL_CALL_COMPLETION_NOTIFICATION_RESULT_VALUE;
+            journal_read_Value_(reader, level + 1, &record->result.value);
+            break;
+        case 6:
+            record->result_case = JOURNAL_CALL_COMPLETION_NOTIFICATION_RESULT_FAILURE;
+            journal_read_Failure_(reader, level + 1, &record->result.failure);
+            break;
+        default:
+            journal_stop_(reader, JOURNAL_UNKNOWN);
+        }
+    }
+}
+
+static inline void journal_read_RunCompletionNotificationMessage_(
+    struct journal_reader_ *reader, uint64_t level, struct journal_RunCompletionNotificationMessage *record) {
+    const struct journal_field *field;
+
+    while ((field = journal_next_(reader, level)) != NULL) {
+        switch (field->number) {
+        case 1:
+            record->completion_id = (uint32_t)field->value;
+            break;
+        case 5:
+            record->result_case = JOURNAL_RUN_COMPLETION_NOTIFICATION_RESULT_VALUE;
+            journal_read_Value_(reader, level + 1, &record->result.value);
+            break;
+        case 6:
+            record->result_case = JOURNAL_RUN_COMPLETION_NOTIFICATION_RESULT_FAILURE;
+            journal_read_Failure_(reader, level + 1, &record->result.failure);
+            break;
+        default:
+            journal_stop_(reader, JOURNAL_UNKNOWN);
+        }
+    }
+}
+
+static inline void journal_read_AttachInvocationCompletionNotificationMessage_(
+    struct journal_reader_ *reader, uint64_t level,
+    struct journal_AttachInvocationCompletionNotificationMessage *record) {
+    const struct journal_field *field;
+
+    while ((field = journal_next_(reader, level)) != NULL) {
+        switch (field->number) {
+        case 1:
+            record->completion_id = (uint32_t)field->value;
+            break;
+        case 5:
+            record->result_case = JOURNAL_ATTACH_INVOCATION_COMPLETION_NOTIFICATION_RESULT_VALUE;
+            journal_read_Value_(reader, level + 1, &record->result.value);
+            break;
+        case 6:
+            record->result_case = JOURNAL_ATTACH_INVOCATION_COMPLETION_NOTIFICATION_RESULT_FAILURE;
+            journal_read_Failure_(reader, level + 1, &record->result.failure);
+            break;
+        default:
+            journal_stop_(reader, JOURNAL_UNKNOWN);
+        }
+    }
+}
+
+static inline void journal_read_SleepCompletionNotificationMessage_(
+    struct journal_reader_ *reader, uint64_t level, struct journal_SleepCompletionNotificationMessage *record) {
+    const struct journal_field *field;
+
+    while ((field = journal_next_(reader, level)) != NULL) {
+        switch (field->number) {
+        case 1:
+            record->completion_id = (uint32_t)field->value;
+            break;
+        case 4:
+            record->has_void_ = true;
+            journal_read_Void_(reader, level + 1);
+            break;
+        default:
+            journal_stop_(reader, JOURNAL_UNKNOWN);
+        }
+    }
+}
+
+static inline void journal_read_GetLazyStateKeysCompletionNotificationMessage_(
+    struct journal_reader_ *reader, uint64_t level,
+    struct journal_GetLazyStateKeysCompletionNotificationMessage *record) {
+    const struct journal_field *field;
+
+    while ((field = journal_next_(reader, level)) != NULL) {
+        switch (field->number) {
+        case 1:
+            record->completion_id = (uint32_t)field->value;
+            break;
+        case 17:
+            record->has_state_keys = true;
+            journal_read_StateKeys_(reader, level + 1, &record->state_keys);
+            break;
+        default:
+            journal_stop_(reader, JOURNAL_UNKNOWN);
+        }
+    }
+}
+
+static inline void journal_read_CallInvocationIdCompletionNotificationMessage_(
+    struct journal_reader_ *reader, uint64_t level,
+    struct journal_CallInvocationIdCompletionNotificationMessage *record) {
+    const struct journal_field *field;
+
+    while ((field = journal_next_(reader, level)) != NULL) {
+        switch (field->number) {
+        case 1:
+            record->completion_id = (uint32_t)field->value;
+            break;
+        case 16:
+            record->invocation_id = journal_slice_of_(reader, field);
+            break;
+        default:
+            journal_stop_(reader, JOURNAL_UNKNOWN);
+        }
+    }
+}
+
+static inline void journal_read_SignalNotificationMessage_(struct journal_reader_ *reader, uint64_t level,
+                                                           struct journal_SignalNotificationMessage *record) {
+    const struct journal_field *field;
+
+    while ((field = journal_next_(reader, level)) != NULL) {
+        switch (field->number) {
+        case 2:
+            record->signal_id_case = JOURNAL_SIGNAL_NOTIFICATION_SIGNAL_ID_IDX;
+            record->signal_id.idx = (uint32_t)field->value;
+            break;
+        case 3:
+            record->signal_id_case = JOURNAL_SIGNAL_NOTIFICATION_SIGNAL_ID_NAME;
+            record->signal_id.name = journal_slice_of_(reader, field);
+            break;
+        case 4:
+            record->result_case = JOURNAL_SIGNAL_NOTIFICATION_RESULT_VOID;
+            journal_read_Void_(reader, level + 1);
+            break;
+        case 5:
+            record->result_case = JOURNAL_SIGNAL_NOTIFICATION_RESULT_VALUE;
+            journal_read_Value_(reader, level + 1, &record->result.value);
+            break;
+        case 6:
+            record->result_case = JOURNAL_SIGNAL_NOTIFICATION_RESULT_FAILURE;
+            journal_read_Failure_(reader, level + 1, &record->result.failure);
+            break;
+        default:
+            journal_stop_(reader, JOURNAL_UNKNOWN);
+        }
+    }
+}
+
+static inline void journal_read_NotificationTemplate_(struct journal_reader_ *reader, uint64_t level,
+                                                      struct journal_NotificationTemplate *record) {
+    const struct journal_field *field;
+
+    while ((field = journal_next_(reader, level)) != NULL) {
+        switch (field->number) {
+        case 1:
+            record->id_case = JOURNAL_NOTIFICATION_TEMPLATE_ID_COMPLETION_ID;
+            record->id.completion_id = (uint32_t)field->value;
+            break;
+        case 2:
+            record->id_case = JOURNAL_NOTIFICATION_TEMPLATE_ID_SIGNAL_ID;
+            record->id.signal_id = (uint32_t)field->value;
+            break;
+        case 3:
+            record->id_case = JOURNAL_NOTIFICATION_TEMPLATE_ID_SIGNAL_NAME;
+            record->id.signal_name = journal_slice_of_(reader, field);
+            break;
+        case 4:
+            record->result_case = JOURNAL_NOTIFICATION_TEMPLATE_RESULT_VOID;
+            journal_read_Void_(reader, level + 1);
+            break;
+        case 5:
+            record->result_case = JOURNAL_NOTIFICATION_TEMPLATE_RESULT_VALUE;
+            journal_read_Value_(reader, level + 1, &record->result.value);
+            break;
+        case 6:
+            record->result_case = JOURNAL_NOTIFICATION_TEMPLATE_RESULT_FAILURE;
+            journal_read_Failure_(reader, level + 1, &record->result.failure);
+            break;
+        case 16:
+            record->result_case = JOURNAL_NOTIFICATION_TEMPLATE_RESULT_INVOCATION_ID;
+            record->result.invocation_id = journal_slice_of_(reader, field);
+            break;
+        case 17:
+            record->result_case = JOURNAL_NOTIFICATION_TEMPLATE_RESULT_STATE_KEYS;
+            journal_read_StateKeys_(reader, level + 1, &record->result.state_keys);
+            break;
+        default:
+            journal_stop_(reader, JOURNAL_UNKNOWN);
+        }
+    }
+}
+
+/*
+ * Writing.
+ */
+
+/* Where the next entry is written, and how many bytes are left from there on, at whose end slices are copied; where the
+   table begins, and how many bytes there are from there on; how many more are needed; and while all slices are within
+   the source, where that is, and how many bytes have no entry of those that were appended. */
+struct journal_writer_ {
+    struct journal_field *next;
+    size_t left;
+    uint8_t *table;
+    size_t given;
+    size_t lacking;
+    bool is_within;
+    uintptr_t source;
+    size_t source_length;
+    size_t unlisted;
+};
+
+static inline void journal_begin_writing_(struct journal_writer_ *writer, const struct journal_arena *arena) {
+    size_t unaligned = journal_unaligned_(arena);
+
+    writer->table = NULL;
+    writer->left = 0;
+    if (arena->left > unaligned) {
+        writer->table = arena->memory + unaligned;
+        writer->left = arena->left - unaligned;
+    }
+    writer->next = (struct journal_field *)(void *)writer->table;
+    writer->given = writer->left;
+    writer->lacking = 0;
+    writer->is_within = arena->source_length > 0;
+    writer->source = (uintptr_t)arena->source;
+    writer->source_length = arena->source_length;
+    writer->unlisted = 0;
+}
+
+/* Appends an entry, if there is room. */
+JOURNAL_INLINE_ void journal_put_(struct journal_writer_ *writer, uint64_t level, uint64_t number, uint64_t kind,
+                                  uint64_t value) {
+    struct journal_field *field = writer->next;
+
+    if (writer->left < sizeof *field) {
+        writer->lacking += sizeof *field;
+        return;
+    }
+    writer->next = field + 1;
+    writer->left -= sizeof *field;
+    field->level = level;
+    field->number = number;
+    field->kind = kind;
+    field->value = value;
+    field->offset = 0;
+    field->length = 0;
+}
+
+/* Copies the slices of all entries, which were within the source until now. */
+static inline void journal_leave_source_(struct journal_writer_ *writer) {
+    struct journal_field *field = (struct journal_field *)(void *)writer->table;
+
+    for (; field != writer->next; field++) {
+        size_t length = (size_t)field->length;
+
+        if (length > writer->left) {
+            writer->lacking += length;
+        } else if (length > 0) {
+            const uint8_t *slice = (const uint8_t *)(writer->source + (uintptr_t)field->offset);
+
+            writer->left -= length;
+            field->offset = (size_t)((uint8_t *)writer->next - writer->table) + writer->left;
+            memcpy(writer->table + field->offset, slice, length);
+        }
+    }
+    writer->lacking += writer->unlisted;
+    writer->is_within = false;
+}
+
+/* Appends the entry of a slice within the source; false if it is outside. */
+static inline bool journal_put_within_(struct journal_writer_ *writer, uint64_t level, uint64_t number, uint64_t kind,
+                                       struct journal_slice slice) {
+    uintptr_t offset = slice.length == 0 ? 0 : (uintptr_t)slice.at - writer->source;
+    struct journal_field *field = writer->next;
+
+    if (offset > writer->source_length || slice.length > writer->source_length - (size_t)offset) {
+        return false;
+    }
+    journal_put_(writer, level, number, kind, 0);
+    if (writer->next == field) {
+        writer->unlisted += slice.length;
+    } else {
+        field->offset = offset;
+        field->length = slice.length;
+    }
+    return true;
+}
+
+/* Appends the entry of a slice, and copies it, if there is room for both. */
+JOURNAL_INLINE_ bool journal_put_copied_(struct journal_writer_ *writer, uint64_t level, uint64_t number, uint64_t kind,
+                                         struct journal_slice slice) {
+    struct journal_field *field = writer->next;
+
+    if (writer->left < sizeof *field || slice.length > writer->left - sizeof *field) {
+        return false;
+    }
+    writer->next = field + 1;
+    writer->left -= sizeof *field + slice.length;
+    field->level = level;
+    field->number = number;
+    field->kind = kind;
+    field->value = 0;
+    field->offset = (size_t)((uint8_t *)writer->next - writer->table) + writer->left;
+    field->length = slice.length;
+    if (slice.length > 0) {
+        memcpy(writer->table + field->offset, slice.at, slice.length);
+    }
+    return true;
+}
+
+/* Appends the entry of a slice that may be within the source, or for which there may be no room. */
+static inline void journal_put_any_(struct journal_writer_ *writer, uint64_t level, uint64_t number, uint64_t kind,
+                                    struct journal_slice slice) {
+    if (writer->is_within) {
+        if (journal_put_within_(writer, level, number, kind, slice)) {
+            return;
+        }
+        journal_leave_source_(writer);
+    }
+    if (!journal_put_copied_(writer, level, number, kind, slice)) {
+        writer->lacking += sizeof(struct journal_field) + slice.length;
+    }
+}
+
+/* Appends the entry of a slice, which is copied unless it is within the source, if there is room. */
+JOURNAL_INLINE_ void journal_put_slice_(struct journal_writer_ *writer, uint64_t level, uint64_t number, uint64_t kind,
+                                        struct journal_slice slice) {
+    if (writer->is_within || !journal_put_copied_(writer, level, number, kind, slice)) {
+        journal_put_any_(writer, level, number, kind, slice);
+    }
+}
+
+/* Says in the arena which entry may not come, and returns the error. */
+static inline int64_t journal_rejected_(const struct journal_field *fields, const struct journal_writing *writing,
+                                        uint32_t schema, struct journal_arena *arena) {
+    size_t index = (size_t)writing->index;
+
+    arena->rejected_kind = (uint32_t)writing->kind;
+    arena->rejected_schema = schema;
+    arena->rejected_number = (uint32_t)fields[index].number;
+    for (size_t i = index; i > 0; i--) {
+        if (fields[i - 1].level < fields[index].level) {
+            arena->rejected_schema = (uint32_t)fields[i - 1].value;
+            break;
+        }
+    }
+    return JOURNAL_MALFORMED;
+}
+
+/* Writes the payload of a schema whose entries are there. */
+static inline int64_t journal_end_writing_(const struct journal_writer_ *writer, uint32_t schema,
+                                           struct journal_arena *arena, uint8_t *out, size_t room) {
+    const struct journal_field *fields = (const struct journal_field *)(const void *)writer->table;
+    struct journal_writing writing = {JOURNAL_WRITTEN, 0};
+    int64_t result;
+
+    if (writer->lacking > 0) {
+        return journal_lacks_(arena, journal_unaligned_(arena) + writer->given - writer->left + writer->lacking);
+    }
+    result = journal_payload_of_fields(schema, fields, (size_t)(writer->next - fields),
+                                       writer->is_within ? arena->source : writer->table,
+                                       writer->is_within ? arena->source_length : writer->given, &writing,
+                                       JOURNAL_WRITING_NUMBERS, out, room);
+    return result < 0 || writing.kind == JOURNAL_WRITTEN ? result : journal_rejected_(fields, &writing, schema, arena);
+}
+
+/*
+ * Of each record: appends the entries of its fields, which are at a level.
+ */
+
+static inline void journal_put_Future_(struct journal_writer_ *writer, uint64_t level,
+                                       const struct journal_Future *record);
+
+static inline void journal_put_Value_(struct journal_writer_ *writer, uint64_t level,
+                                      const struct journal_Value *record) {
+    if (record->content.length > 0) {
+        journal_put_slice_(writer, level, 1, JOURNAL_FIELD_BYTES, record->content);
+    }
+}
+
+static inline void journal_put_FailureMetadata_(struct journal_writer_ *writer, uint64_t level,
+                                                const struct journal_FailureMetadata *record) {
+    if (record->key.length > 0) {
+        journal_put_slice_(writer, level, 1, JOURNAL_FIELD_STRING, record->key);
+    }
+    if (record->value.length > 0) {
+        journal_put_slice_(writer, level, 2, JOURNAL_FIELD_STRING, record->value);
+    }
+}
+
+static inline void journal_put_Failure_(struct journal_writer_ *writer, uint64_t level,
+                                        const struct journal_Failure *record) {
+    if (record->code != 0) {
+        journal_put_(writer, level, 1, JOURNAL_FIELD_UINT32, record->code);
+    }
+    if (record->message.length > 0) {
+        journal_put_slice_(writer, level, 2, JOURNAL_FIELD_STRING, record->message);
+    }
+    for (size_t i = 0; i < record->metadata_count; i++) {
+        journal_put_(writer, level, 3, JOURNAL_FIELD_MESSAGE, JOURNAL_SCHEMA_FAILURE_METADATA);
+        journal_put_FailureMetadata_(writer, level + 1, &record->metadata[i]);
+    }
+}
+
+static inline void journal_put_Header_(struct journal_writer_ *writer, uint64_t level,
+                                       const struct journal_Header *record) {
+    if (record->key.length > 0) {
+        journal_put_slice_(writer, level, 1, JOURNAL_FIELD_STRING, record->key);
+    }
+    if (record->value.length > 0) {
+        journal_put_slice_(writer, level, 2, JOURNAL_FIELD_STRING, record->value);
+    }
+}
+
+static inline void journal_put_StateKeys_(struct journal_writer_ *writer, uint64_t level,
+                                          const struct journal_StateKeys *record) {
+    for (size_t i = 0; i < record->keys_count; i++) {
+        journal_put_slice_(writer, level, 1, JOURNAL_FIELD_BYTES, record->keys[i]);
+    }
+}
+
+static inline void journal_put_StateEntry_(struct journal_writer_ *writer, uint64_t level,
+                                           const struct journal_StateEntry *record) {
+    if (record->key.length > 0) {
+        journal_put_slice_(writer, level, 1, JOURNAL_FIELD_BYTES, record->key);
+    }
+    if (record->value.length > 0) {
+        journal_put_slice_(writer, level, 2, JOURNAL_FIELD_BYTES, record->value);
+    }
+}
+
+static inline void journal_put_Future_(struct journal_writer_ *writer, uint64_t level,
+                                       const struct journal_Future *record) {
+    for (size_t i = 0; i < record->waiting_completions_count; i++) {
+        journal_put_(writer, level, 1, JOURNAL_FIELD_UINT32, record->waiting_completions[i]);
+    }
+    for (size_t i = 0; i < record->waiting_signals_count; i++) {
+        journal_put_(writer, level, 2, JOURNAL_FIELD_UINT32, record->waiting_signals[i]);
+    }
+    for (size_t i = 0; i < record->waiting_named_signals_count; i++) {
+        journal_put_slice_(writer, level, 3, JOURNAL_FIELD_STRING, record->waiting_named_signals[i]);
+    }
+    for (size_t i = 0; i < record->nested_futures_count; i++) {
+        journal_put_(writer, level, 4, JOURNAL_FIELD_MESSAGE, JOURNAL_SCHEMA_FUTURE);
+        if (level < JOURNAL_LEVELS_) {
+            journal_put_Future_(writer, level + 1, &record->nested_futures[i]);
+        }
+    }
+    if (record->combinator_type != 0) {
+        journal_put_(writer, level, 5, JOURNAL_FIELD_ENUM, (uint64_t)(int64_t)record->combinator_type);
+    }
+}
+
+static inline void journal_put_WorkflowTarget_(struct journal_writer_ *writer, uint64_t level,
+                                               const struct journal_WorkflowTarget *record) {
+    if (record->workflow_name.length > 0) {
+        journal_put_slice_(writer, level, 1, JOURNAL_FIELD_STRING, record->workflow_name);
+    }
+    if (record->workflow_key.length > 0) {
+        journal_put_slice_(writer, level, 2, JOURNAL_FIELD_STRING, record->workflow_key);
+    }
+    if (record->has_scope) {
+        journal_put_slice_(writer, level, 3, JOURNAL_FIELD_STRING, record->scope);
+    }
+}
+
+static inline void journal_put_IdempotentRequestTarget_(struct journal_writer_ *writer, uint64_t level,
+                                                        const struct journal_IdempotentRequestTarget *record) {
+    if (record->service_name.length > 0) {
+        journal_put_slice_(writer, level, 1, JOURNAL_FIELD_STRING, record->service_name);
+    }
+    if (record->has_service_key) {
+        journal_put_slice_(writer, level, 2, JOURNAL_FIELD_STRING, record->service_key);
+    }
+    if (record->handler_name.length > 0) {
+        journal_put_slice_(writer, level, 3, JOURNAL_FIELD_STRING, record->handler_name);
+    }
+    if (record->idempotency_key.length > 0) {
+        journal_put_slice_(writer, level, 4, JOURNAL_FIELD_STRING, record->idempotency_key);
+    }
+    if (record->has_scope) {
+        journal_put_slice_(writer, level, 5, JOURNAL_FIELD_STRING, record->scope);
+    }
+}
+
+static inline void journal_put_StartMessage_(struct journal_writer_ *writer, uint64_t level,
+                                             const struct journal_StartMessage *record) {
+    if (record->id.length > 0) {
+        journal_put_slice_(writer, level, 1, JOURNAL_FIELD_BYTES, record->id);
+    }
+    if (record->debug_id.length > 0) {
+        journal_put_slice_(writer, level, 2, JOURNAL_FIELD_STRING, record->debug_id);
+    }
+    if (record->known_entries != 0) {
+        journal_put_(writer, level, 3, JOURNAL_FIELD_UINT32, record->known_entries);
+    }
+    for (size_t i = 0; i < record->state_map_count; i++) {
+        journal_put_(writer, level, 4, JOURNAL_FIELD_MESSAGE, JOURNAL_SCHEMA_STATE_ENTRY);
+        journal_put_StateEntry_(writer, level + 1, &record->state_map[i]);
+    }
+    if (record->partial_state) {
+        journal_put_(writer, level, 5, JOURNAL_FIELD_BOOL, record->partial_state);
+    }
+    if (record->key.length > 0) {
+        journal_put_slice_(writer, level, 6, JOURNAL_FIELD_STRING, record->key);
+    }
+    if (record->retry_count_since_last_stored_entry != 0) {
+        journal_put_(writer, level, 7, JOURNAL_FIELD_UINT32, record->retry_count_since_last_stored_entry);
+    }
+    if (record->duration_since_last_stored_entry != 0) {
+        journal_put_(writer, level, 8, JOURNAL_FIELD_UINT64, record->duration_since_last_stored_entry);
+    }
+    if (record->random_seed != 0) {
+        journal_put_(writer, level, 9, JOURNAL_FIELD_UINT64, record->random_seed);
+    }
+    if (record->has_scope) {
+        journal_put_slice_(writer, level, 10, JOURNAL_FIELD_STRING, record->scope);
+    }
+    if (record->has_limit_key) {
+        journal_put_slice_(writer, level, 11, JOURNAL_FIELD_STRING, record->limit_key);
+    }
+    if (record->has_idempotency_key) {
+        journal_put_slice_(writer, level, 12, JOURNAL_FIELD_STRING, record->idempotency_key);
+    }
+}
+
+static inline void journal_put_SuspensionMessage_(struct journal_writer_ *writer, uint64_t level,
+                                                  const struct journal_SuspensionMessage *record) {
+    if (record->has_awaiting_on) {
+        journal_put_(writer, level, 4, JOURNAL_FIELD_MESSAGE, JOURNAL_SCHEMA_FUTURE);
+        if (level < JOURNAL_LEVELS_) {
+            journal_put_Future_(writer, level + 1, &record->awaiting_on);
+        }
+    }
+}
+
+static inline void journal_put_SuspensionMessageV6_(struct journal_writer_ *writer, uint64_t level,
+                                                    const struct journal_SuspensionMessageV6 *record) {
+    for (size_t i = 0; i < record->waiting_completions_count; i++) {
+        journal_put_(writer, level, 1, JOURNAL_FIELD_UINT32, record->waiting_completions[i]);
+    }
+    for (size_t i = 0; i < record->waiting_signals_count; i++) {
+        journal_put_(writer, level, 2, JOURNAL_FIELD_UINT32, record->waiting_signals[i]);
+    }
+    for (size_t i = 0; i < record->waiting_named_signals_count; i++) {
+        journal_put_slice_(writer, level, 3, JOURNAL_FIELD_STRING, record->waiting_named_signals[i]);
+    }
+}
+
+static inline void journal_put_ErrorMessage_(struct journal_writer_ *writer, uint64_t level,
+                                             const struct journal_ErrorMessage *record) {
+    if (record->code != 0) {
+        journal_put_(writer, level, 1, JOURNAL_FIELD_UINT32, record->code);
+    }
+    if (record->message.length > 0) {
+        journal_put_slice_(writer, level, 2, JOURNAL_FIELD_STRING, record->message);
+    }
+    if (record->stacktrace.length > 0) {
+        journal_put_slice_(writer, level, 3, JOURNAL_FIELD_STRING, record->stacktrace);
+    }
+    if (record->has_related_command_index) {
+        journal_put_(writer, level, 4, JOURNAL_FIELD_UINT32, record->related_command_index);
+    }
+    if (record->has_related_command_name) {
+        journal_put_slice_(writer, level, 5, JOURNAL_FIELD_STRING, record->related_command_name);
+    }
+    if (record->has_related_command_type) {
+        journal_put_(writer, level, 6, JOURNAL_FIELD_UINT32, record->related_command_type);
+    }
+    if (record->has_next_retry_delay) {
+        journal_put_(writer, level, 8, JOURNAL_FIELD_UINT64, record->next_retry_delay);
+    }
+    if (record->behavior != 0) {
+        journal_put_(writer, level, 9, JOURNAL_FIELD_ENUM, (uint64_t)(int64_t)record->behavior);
+    }
+}
+
+static inline void journal_put_ProposeRunCompletionMessage_(struct journal_writer_ *writer, uint64_t level,
+                                                            const struct journal_ProposeRunCompletionMessage *record) {
+    if (record->result_completion_id != 0) {
+        journal_put_(writer, level, 1, JOURNAL_FIELD_UINT32, record->result_completion_id);
+    }
+    switch (record->result_case) {
+    case JOURNAL_PROPOSE_RUN_COMPLETION_RESULT_VALUE:
+        journal_put_slice_(writer, level, 14, JOURNAL_FIELD_BYTES, record->result.value);
+        break;
+    case JOURNAL_PROPOSE_RUN_COMPLETION_RESULT_FAILURE:
+        journal_put_(writer, level, 15, JOURNAL_FIELD_MESSAGE, JOURNAL_SCHEMA_FAILURE);
+        journal_put_Failure_(writer, level + 1, &record->result.failure);
+        break;
+    case JOURNAL_PROPOSE_RUN_COMPLETION_RESULT_ABSENT:
+        break;
+    }
+}
+
+static inline void journal_put_AwaitingOnMessage_(struct journal_writer_ *writer, uint64_t level,
+                                                  const struct journal_AwaitingOnMessage *record) {
+    if (record->has_awaiting_on) {
+        journal_put_(writer, level, 1, JOURNAL_FIELD_MESSAGE, JOURNAL_SCHEMA_FUTURE);
+        if (level < JOURNAL_LEVELS_) {
+            journal_put_Future_(writer, level + 1, &record->awaiting_on);
+        }
+    }
+    if (record->executing_side_effects) {
+        journal_put_(writer, level, 2, JOURNAL_FIELD_BOOL, record->executing_side_effects);
+    }
+}
+
+static inline void journal_put_ProposeRunCompletionAckMessage_(
+    struct journal_writer_ *writer, uint64_t level, const struct journal_ProposeRunCompletionAckMessage *record) {
+    if (record->completion_id != 0) {
+        journal_put_(writer, level, 1, JOURNAL_FIELD_UINT32, record->completion_id);
+    }
+}
+
+static inline void journal_put_GetStateEphemeralCommandMessage_(
+    struct journal_writer_ *writer, uint64_t level, const struct journal_GetStateEphemeralCommandMessage *record) {
+    if (record->key.length > 0) {
+        journal_put_slice_(writer, level, 1, JOURNAL_FIELD_BYTES, record->key);
+    }
+    if (record->completion_id != 0) {
+        journal_put_(writer, level, 2, JOURNAL_FIELD_UINT32, record->completion_id);
+    }
+}
+
+static inline void journal_put_GetStateEphemeralNotificationMessage_(
+    struct journal_writer_ *writer, uint64_t level, const struct journal_GetStateEphemeralNotificationMessage *record) {
+    if (record->completion_id != 0) {
+        journal_put_(writer, level, 1, JOURNAL_FIELD_UINT32, record->completion_id);
+    }
+    switch (record->result_case) {
+    case JOURNAL_GET_STATE_EPHEMERAL_NOTIFICATION_RESULT_VOID:
+        journal_put_(writer, level, 4, JOURNAL_FIELD_MESSAGE, JOURNAL_SCHEMA_VOID);
+        break;
+    case JOURNAL_GET_STATE_EPHEMERAL_NOTIFICATION_RESULT_VALUE:
+        journal_put_(writer, level, 5, JOURNAL_FIELD_MESSAGE, JOURNAL_SCHEMA_VALUE);
+        journal_put_Value_(writer, level + 1, &record->result.value);
+        break;
+    case JOURNAL_GET_STATE_EPHEMERAL_NOTIFICATION_RESULT_ABSENT:
+        break;
+    }
+}
+
+static inline void journal_put_InputCommandMessage_(struct journal_writer_ *writer, uint64_t level,
+                                                    const struct journal_InputCommandMessage *record) {
+    for (size_t i = 0; i < record->headers_count; i++) {
+        journal_put_(writer, level, 1, JOURNAL_FIELD_MESSAGE, JOURNAL_SCHEMA_HEADER);
+        journal_put_Header_(writer, level + 1, &record->headers[i]);
+    }
+    if (record->name.length > 0) {
+        journal_put_slice_(writer, level, 12, JOURNAL_FIELD_STRING, record->name);
+    }
+    if (record->has_value) {
+        journal_put_(writer, level, 14, JOURNAL_FIELD_MESSAGE, JOURNAL_SCHEMA_VALUE);
+        journal_put_Value_(writer, level + 1, &record->value);
+    }
+}
+
+static inline void journal_put_OutputCommandMessage_(struct journal_writer_ *writer, uint64_t level,
+                                                     const struct journal_OutputCommandMessage *record) {
+    if (record->name.length > 0) {
+        journal_put_slice_(writer, level, 12, JOURNAL_FIELD_STRING, record->name);
+    }
+    switch (record->result_case) {
+    case JOURNAL_OUTPUT_COMMAND_RESULT_VALUE:
+        journal_put_(writer, level, 14, JOURNAL_FIELD_MESSAGE, JOURNAL_SCHEMA_VALUE);
+        journal_put_Value_(writer, level + 1, &record->result.value);
+        break;
+    case JOURNAL_OUTPUT_COMMAND_RESULT_FAILURE:
+        journal_put_(writer, level, 15, JOURNAL_FIELD_MESSAGE, JOURNAL_SCHEMA_FAILURE);
+        journal_put_Failure_(writer, level + 1, &record->result.failure);
+        break;
+    case JOURNAL_OUTPUT_COMMAND_RESULT_ABSENT:
+        break;
+    }
+}
+
+static inline void journal_put_GetLazyStateCommandMessage_(struct journal_writer_ *writer, uint64_t level,
+                                                           const struct journal_GetLazyStateCommandMessage *record) {
+    if (record->key.length > 0) {
+        journal_put_slice_(writer, level, 1, JOURNAL_FIELD_BYTES, record->key);
+    }
+    if (record->result_completion_id != 0) {
+        journal_put_(writer, level, 11, JOURNAL_FIELD_UINT32, record->result_completion_id);
+    }
+    if (record->name.length > 0) {
+        journal_put_slice_(writer, level, 12, JOURNAL_FIELD_STRING, record->name);
+    }
+}
+
+static inline void journal_put_SetStateCommandMessage_(struct journal_writer_ *writer, uint64_t level,
+                                                       const struct journal_SetStateCommandMessage *record) {
+    if (record->key.length > 0) {
+        journal_put_slice_(writer, level, 1, JOURNAL_FIELD_BYTES, record->key);
+    }
+    if (record->has_value) {
+        journal_put_(writer, level, 3, JOURNAL_FIELD_MESSAGE, JOURNAL_SCHEMA_VALUE);
+        journal_put_Value_(writer, level + 1, &record->value);
+    }
+    if (record->name.length > 0) {
+        journal_put_slice_(writer, level, 12, JOURNAL_FIELD_STRING, record->name);
+    }
+}
+
+static inline void journal_put_ClearStateCommandMessage_(struct journal_writer_ *writer, uint64_t level,
+                                                         const struct journal_ClearStateCommandMessage *record) {
+    if (record->key.length > 0) {
+        journal_put_slice_(writer, level, 1, JOURNAL_FIELD_BYTES, record->key);
+    }
+    if (record->name.length > 0) {
+        journal_put_slice_(writer, level, 12, JOURNAL_FIELD_STRING, record->name);
+    }
+}
+
+static inline void journal_put_ClearAllStateCommandMessage_(struct journal_writer_ *writer, uint64_t level,
+                                                            const struct journal_ClearAllStateCommandMessage *record) {
+    if (record->name.length > 0) {
+        journal_put_slice_(writer, level, 12, JOURNAL_FIELD_STRING, record->name);
+    }
+}
+
+static inline void journal_put_GetLazyStateKeysCommandMessage_(
+    struct journal_writer_ *writer, uint64_t level, const struct journal_GetLazyStateKeysCommandMessage *record) {
+    if (record->result_completion_id != 0) {
+        journal_put_(writer, level, 11, JOURNAL_FIELD_UINT32, record->result_completion_id);
+    }
+    if (record->name.length > 0) {
+        journal_put_slice_(writer, level, 12, JOURNAL_FIELD_STRING, record->name);
+    }
+}
+
+static inline void journal_put_GetEagerStateCommandMessage_(struct journal_writer_ *writer, uint64_t level,
+                                                            const struct journal_GetEagerStateCommandMessage *record) {
+    if (record->key.length > 0) {
+        journal_put_slice_(writer, level, 1, JOURNAL_FIELD_BYTES, record->key);
+    }
+    if (record->name.length > 0) {
+        journal_put_slice_(writer, level, 12, JOURNAL_FIELD_STRING, record->name);
+    }
+    switch (record->result_case) {
+    case JOURNAL_GET_EAGER_STATE_COMMAND_RESULT_VOID:
+        journal_put_(writer, level, 13, JOURNAL_FIELD_MESSAGE, JOURNAL_SCHEMA_VOID);
+        break;
+    case JOURNAL_GET_EAGER_STATE_COMMAND_RESULT_VALUE:
+        journal_put_(writer, level, 14, JOURNAL_FIELD_MESSAGE, JOURNAL_SCHEMA_VALUE);
+        journal_put_Value_(writer, level + 1, &record->result.value);
+        break;
+    case JOURNAL_GET_EAGER_STATE_COMMAND_RESULT_ABSENT:
+        break;
+    }
+}
+
+static inline void journal_put_GetEagerStateKeysCommandMessage_(
+    struct journal_writer_ *writer, uint64_t level, const struct journal_GetEagerStateKeysCommandMessage *record) {
+    if (record->name.length > 0) {
+        journal_put_slice_(writer, level, 12, JOURNAL_FIELD_STRING, record->name);
+    }
+    if (record->has_value) {
+        journal_put_(writer, level, 14, JOURNAL_FIELD_MESSAGE, JOURNAL_SCHEMA_STATE_KEYS);
+        journal_put_StateKeys_(writer, level + 1, &record->value);
+    }
+}
+
+static inline void journal_put_GetPromiseCommandMessage_(struct journal_writer_ *writer, uint64_t level,
+                                                         const struct journal_GetPromiseCommandMessage *record) {
+    if (record->key.length > 0) {
+        journal_put_slice_(writer, level, 1, JOURNAL_FIELD_STRING, record->key);
+    }
+    if (record->result_completion_id != 0) {
+        journal_put_(writer, level, 11, JOURNAL_FIELD_UINT32, record->result_completion_id);
+    }
+    if (record->name.length > 0) {
+        journal_put_slice_(writer, level, 12, JOURNAL_FIELD_STRING, record->name);
+    }
+}
+
+static inline void journal_put_PeekPromiseCommandMessage_(struct journal_writer_ *writer, uint64_t level,
+                                                          const struct journal_PeekPromiseCommandMessage *record) {
+    if (record->key.length > 0) {
+        journal_put_slice_(writer, level, 1, JOURNAL_FIELD_STRING, record->key);
+    }
+    if (record->result_completion_id != 0) {
+        journal_put_(writer, level, 11, JOURNAL_FIELD_UINT32, record->result_completion_id);
+    }
+    if (record->name.length > 0) {
+        journal_put_slice_(writer, level, 12, JOURNAL_FIELD_STRING, record->name);
+    }
+}
+
+static inline void journal_put_CompletePromiseCommandMessage_(
+    struct journal_writer_ *writer, uint64_t level, const struct journal_CompletePromiseCommandMessage *record) {
+    if (record->key.length > 0) {
+        journal_put_slice_(writer, level, 1, JOURNAL_FIELD_STRING, record->key);
+    }
+    switch (record->completion_case) {
+    case JOURNAL_COMPLETE_PROMISE_COMMAND_COMPLETION_COMPLETION_VALUE:
+        journal_put_(writer, level, 2, JOURNAL_FIELD_MESSAGE, JOURNAL_SCHEMA_VALUE);
+        journal_put_Value_(writer, level + 1, &record->completion.completion_value);
+        break;
+    case JOURNAL_COMPLETE_PROMISE_COMMAND_COMPLETION_COMPLETION_FAILURE:
+        journal_put_(writer, level, 3, JOURNAL_FIELD_MESSAGE, JOURNAL_SCHEMA_FAILURE);
+        journal_put_Failure_(writer, level + 1, &record->completion.completion_failure);
+        break;
+    case JOURNAL_COMPLETE_PROMISE_COMMAND_COMPLETION_ABSENT:
+        break;
+    }
+    if (record->result_completion_id != 0) {
+        journal_put_(writer, level, 11, JOURNAL_FIELD_UINT32, record->result_completion_id);
+    }
+    if (record->name.length > 0) {
+        journal_put_slice_(writer, level, 12, JOURNAL_FIELD_STRING, record->name);
+    }
+}
+
+static inline void journal_put_SleepCommandMessage_(struct journal_writer_ *writer, uint64_t level,
+                                                    const struct journal_SleepCommandMessage *record) {
+    if (record->wake_up_time != 0) {
+        journal_put_(writer, level, 1, JOURNAL_FIELD_UINT64, record->wake_up_time);
+    }
+    if (record->result_completion_id != 0) {
+        journal_put_(writer, level, 11, JOURNAL_FIELD_UINT32, record->result_completion_id);
+    }
+    if (record->name.length > 0) {
+        journal_put_slice_(writer, level, 12, JOURNAL_FIELD_STRING, record->name);
+    }
+}
+
+static inline void journal_put_CallCommandMessage_(struct journal_writer_ *writer, uint64_t level,
+                                                   const struct journal_CallCommandMessage *record) {
+    if (record->service_name.length > 0) {
+        journal_put_slice_(writer, level, 1, JOURNAL_FIELD_STRING, record->service_name);
+    }
+    if (record->handler_name.length > 0) {
+        journal_put_slice_(writer, level, 2, JOURNAL_FIELD_STRING, record->handler_name);
+    }
+    if (record->parameter.length > 0) {
+        journal_put_slice_(writer, level, 3, JOURNAL_FIELD_BYTES, record->parameter);
+    }
+    for (size_t i = 0; i < record->headers_count; i++) {
+        journal_put_(writer, level, 4, JOURNAL_FIELD_MESSAGE, JOURNAL_SCHEMA_HEADER);
+        journal_put_Header_(writer, level + 1, &record->headers[i]);
+    }
+    if (record->key.length > 0) {
+        journal_put_slice_(writer, level, 5, JOURNAL_FIELD_STRING, record->key);
+    }
+    if (record->has_idempotency_key) {
+        journal_put_slice_(writer, level, 6, JOURNAL_FIELD_STRING, record->idempotency_key);
+    }
+    if (record->has_scope) {
+        journal_put_slice_(writer, level, 7, JOURNAL_FIELD_STRING, record->scope);
+    }
+    if (record->has_limit_key) {
+        journal_put_slice_(writer, level, 8, JOURNAL_FIELD_STRING, record->limit_key);
+    }
+    if (record->invocation_id_notification_idx != 0) {
+        journal_put_(writer, level, 10, JOURNAL_FIELD_UINT32, record->invocation_id_notification_idx);
+    }
+    if (record->result_completion_id != 0) {
+        journal_put_(writer, level, 11, JOURNAL_FIELD_UINT32, record->result_completion_id);
+    }
+    if (record->name.length > 0) {
+        journal_put_slice_(writer, level, 12, JOURNAL_FIELD_STRING, record->name);
+    }
+}
+
+static inline void journal_put_OneWayCallCommandMessage_(struct journal_writer_ *writer, uint64_t level,
+                                                         const struct journal_OneWayCallCommandMessage *record) {
+    if (record->service_name.length > 0) {
+        journal_put_slice_(writer, level, 1, JOURNAL_FIELD_STRING, record->service_name);
+    }
+    if (record->handler_name.length > 0) {
+        journal_put_slice_(writer, level, 2, JOURNAL_FIELD_STRING, record->handler_name);
+    }
+    if (record->parameter.length > 0) {
+        journal_put_slice_(writer, level, 3, JOURNAL_FIELD_BYTES, record->parameter);
+    }
+    if (record->invoke_time != 0) {
+        journal_put_(writer, level, 4, JOURNAL_FIELD_UINT64, record->invoke_time);
+    }
+    for (size_t i = 0; i < record->headers_count; i++) {
+        journal_put_(writer, level, 5, JOURNAL_FIELD_MESSAGE, JOURNAL_SCHEMA_HEADER);
+        journal_put_Header_(writer, level + 1, &record->headers[i]);
+    }
+    if (record->key.length > 0) {
+        journal_put_slice_(writer, level, 6, JOURNAL_FIELD_STRING, record->key);
+    }
+    if (record->has_idempotency_key) {
+        journal_put_slice_(writer, level, 7, JOURNAL_FIELD_STRING, record->idempotency_key);
+    }
+    if (record->has_scope) {
+        journal_put_slice_(writer, level, 8, JOURNAL_FIELD_STRING, record->scope);
+    }
+    if (record->has_limit_key) {
+        journal_put_slice_(writer, level, 9, JOURNAL_FIELD_STRING, record->limit_key);
+    }
+    if (record->invocation_id_notification_idx != 0) {
+        journal_put_(writer, level, 10, JOURNAL_FIELD_UINT32, record->invocation_id_notification_idx);
+    }
+    if (record->name.length > 0) {
+        journal_put_slice_(writer, level, 12, JOURNAL_FIELD_STRING, record->name);
+    }
+}
+
+static inline void journal_put_SendSignalCommandMessage_(struct journal_writer_ *writer, uint64_t level,
+                                                         const struct journal_SendSignalCommandMessage *record) {
+    if (record->target_invocation_id.length > 0) {
+        journal_put_slice_(writer, level, 1, JOURNAL_FIELD_STRING, record->target_invocation_id);
+    }
+    switch (record->signal_id_case) {
+    case JOURNAL_SEND_SIGNAL_COMMAND_SIGNAL_ID_IDX:
+        journal_put_(writer, level, 2, JOURNAL_FIELD_UINT32, record->signal_id.idx);
+        break;
+    case JOURNAL_SEND_SIGNAL_COMMAND_SIGNAL_ID_NAME:
+        journal_put_slice_(writer, level, 3, JOURNAL_FIELD_STRING, record->signal_id.name);
+        break;
+    case JOURNAL_SEND_SIGNAL_COMMAND_SIGNAL_ID_ABSENT:
+        break;
+    }
+    switch (record->result_case) {
+    case JOURNAL_SEND_SIGNAL_COMMAND_RESULT_VOID:
+        journal_put_(writer, level, 4, JOURNAL_FIELD_MESSAGE, JOURNAL_SCHEMA_VOID);
+        break;
+    case JOURNAL_SEND_SIGNAL_COMMAND_RESULT_VALUE:
+        journal_put_(writer, level, 5, JOURNAL_FIELD_MESSAGE, JOURNAL_SCHEMA_VALUE);
+        journal_put_Value_(writer, level + 1, &record->result.value);
+        break;
+    case JOURNAL_SEND_SIGNAL_COMMAND_RESULT_FAILURE:
+        journal_put_(writer, level, 6, JOURNAL_FIELD_MESSAGE, JOURNAL_SCHEMA_FAILURE);
+        journal_put_Failure_(writer, level + 1, &record->result.failure);
+        break;
+    case JOURNAL_SEND_SIGNAL_COMMAND_RESULT_ABSENT:
+        break;
+    }
+    if (record->entry_name.length > 0) {
+        journal_put_slice_(writer, level, 12, JOURNAL_FIELD_STRING, record->entry_name);
+    }
+}
+
+static inline void journal_put_RunCommandMessage_(struct journal_writer_ *writer, uint64_t level,
+                                                  const struct journal_RunCommandMessage *record) {
+    if (record->result_completion_id != 0) {
+        journal_put_(writer, level, 11, JOURNAL_FIELD_UINT32, record->result_completion_id);
+    }
+    if (record->name.length > 0) {
+        journal_put_slice_(writer, level, 12, JOURNAL_FIELD_STRING, record->name);
+    }
+}
+
+static inline void journal_put_AttachInvocationCommandMessage_(
+    struct journal_writer_ *writer, uint64_t level, const struct journal_AttachInvocationCommandMessage *record) {
+    switch (record->target_case) {
+    case JOURNAL_ATTACH_INVOCATION_COMMAND_TARGET_INVOCATION_ID:
+        journal_put_slice_(writer, level, 1, JOURNAL_FIELD_STRING, record->target.invocation_id);
+        break;
+    case JOURNAL_ATTACH_INVOCATION_COMMAND_TARGET_IDEMPOTENT_REQUEST_TARGET:
+        journal_put_(writer, level, 3, JOURNAL_FIELD_MESSAGE, JOURNAL_SCHEMA_IDEMPOTENT_REQUEST_TARGET);
+        journal_put_IdempotentRequestTarget_(writer, level + 1, &record->target.idempotent_request_target);
+        break;
+    case JOURNAL_ATTACH_INVOCATION_COMMAND_TARGET_WORKFLOW_TARGET:
+        journal_put_(writer, level, 4, JOURNAL_FIELD_MESSAGE, JOURNAL_SCHEMA_WORKFLOW_TARGET);
+        journal_put_WorkflowTarget_(writer, level + 1, &record->target.workflow_target);
+        break;
+    case JOURNAL_ATTACH_INVOCATION_COMMAND_TARGET_ABSENT:
+        break;
+    }
+    if (record->result_completion_id != 0) {
+        journal_put_(writer, level, 11, JOURNAL_FIELD_UINT32, record->result_completion_id);
+    }
+    if (record->name.length > 0) {
+        journal_put_slice_(writer, level, 12, JOURNAL_FIELD_STRING, record->name);
+    }
+}
+
+static inline void journal_put_GetInvocationOutputCommandMessage_(
+    struct journal_writer_ *writer, uint64_t level, const struct journal_GetInvocationOutputCommandMessage *record) {
+    switch (record->target_case) {
+    case JOURNAL_GET_INVOCATION_OUTPUT_COMMAND_TARGET_INVOCATION_ID:
+        journal_put_slice_(writer, level, 1, JOURNAL_FIELD_STRING, record->target.invocation_id);
+        break;
+    case JOURNAL_GET_INVOCATION_OUTPUT_COMMAND_TARGET_IDEMPOTENT_REQUEST_TARGET:
+        journal_put_(writer, level, 3, JOURNAL_FIELD_MESSAGE, JOURNAL_SCHEMA_IDEMPOTENT_REQUEST_TARGET);
+        journal_put_IdempotentRequestTarget_(writer, level + 1, &record->target.idempotent_request_target);
+        break;
+    case JOURNAL_GET_INVOCATION_OUTPUT_COMMAND_TARGET_WORKFLOW_TARGET:
+        journal_put_(writer, level, 4, JOURNAL_FIELD_MESSAGE, JOURNAL_SCHEMA_WORKFLOW_TARGET);
+        journal_put_WorkflowTarget_(writer, level + 1, &record->target.workflow_target);
+        break;
+    case JOURNAL_GET_INVOCATION_OUTPUT_COMMAND_TARGET_ABSENT:
+        break;
+    }
+    if (record->result_completion_id != 0) {
+        journal_put_(writer, level, 11, JOURNAL_FIELD_UINT32, record->result_completion_id);
+    }
+    if (record->name.length > 0) {
+        journal_put_slice_(writer, level, 12, JOURNAL_FIELD_STRING, record->name);
+    }
+}
+
+static inline void journal_put_CompleteAwakeableCommandMessage_(
+    struct journal_writer_ *writer, uint64_t level, const struct journal_CompleteAwakeableCommandMessage *record) {
+    if (record->awakeable_id.length > 0) {
+        journal_put_slice_(writer, level, 1, JOURNAL_FIELD_STRING, record->awakeable_id);
+    }
+    switch (record->result_case) {
+    case JOURNAL_COMPLETE_AWAKEABLE_COMMAND_RESULT_VALUE:
+        journal_put_(writer, level, 2, JOURNAL_FIELD_MESSAGE, JOURNAL_SCHEMA_VALUE);
+        journal_put_Value_(writer, level + 1, &record->result.value);
+        break;
+    case JOURNAL_COMPLETE_AWAKEABLE_COMMAND_RESULT_FAILURE:
+        journal_put_(writer, level, 3, JOURNAL_FIELD_MESSAGE, JOURNAL_SCHEMA_FAILURE);
+        journal_put_Failure_(writer, level + 1, &record->result.failure);
+        break;
+    case JOURNAL_COMPLETE_AWAKEABLE_COMMAND_RESULT_ABSENT:
+        break;
+    }
+    if (record->name.length > 0) {
+        journal_put_slice_(writer, level, 12, JOURNAL_FIELD_STRING, record->name);
+    }
+}
+
+static inline void journal_put_GetLazyStateCompletionNotificationMessage_(
+    struct journal_writer_ *writer, uint64_t level,
+    const struct journal_GetLazyStateCompletionNotificationMessage *record) {
+    if (record->completion_id != 0) {
+        journal_put_(writer, level, 1, JOURNAL_FIELD_UINT32, record->completion_id);
+    }
+    switch (record->result_case) {
+    case JOURNAL_GET_LAZY_STATE_COMPLETION_NOTIFICATION_RESULT_VOID:
+        journal_put_(writer, level, 4, JOURNAL_FIELD_MESSAGE, JOURNAL_SCHEMA_VOID);
+        break;
+    case JOURNAL_GET_LAZY_STATE_COMPLETION_NOTIFICATION_RESULT_VALUE:
+        journal_put_(writer, level, 5, JOURNAL_FIELD_MESSAGE, JOURNAL_SCHEMA_VALUE);
+        journal_put_Value_(writer, level + 1, &record->result.value);
+        break;
+    case JOURNAL_GET_LAZY_STATE_COMPLETION_NOTIFICATION_RESULT_ABSENT:
+        break;
+    }
+}
+
+static inline void journal_put_GetPromiseCompletionNotificationMessage_(
+    struct journal_writer_ *writer, uint64_t level,
+    const struct journal_GetPromiseCompletionNotificationMessage *record) {
+    if (record->completion_id != 0) {
+        journal_put_(writer, level, 1, JOURNAL_FIELD_UINT32, record->completion_id);
+    }
+    switch (record->result_case) {
+    case JOURNAL_GET_PROMISE_COMPLETION_NOTIFICATION_RESULT_VOID:
+        journal_put_(writer, level, 4, JOURNAL_FIELD_MESSAGE, JOURNAL_SCHEMA_VOID);
+        break;
+    case JOURNAL_GET_PROMISE_COMPLETION_NOTIFICATION_RESULT_VALUE:
+        journal_put_(writer, level, 5, JOURNAL_FIELD_MESSAGE, JOURNAL_SCHEMA_VALUE);
+        journal_put_Value_(writer, level + 1, &record->result.value);
+        break;
+    case JOURNAL_GET_PROMISE_COMPLETION_NOTIFICATION_RESULT_FAILURE:
+        journal_put_(writer, level, 6, JOURNAL_FIELD_MESSAGE, JOURNAL_SCHEMA_FAILURE);
+        journal_put_Failure_(writer, level + 1, &record->result.failure);
+        break;
+    case JOURNAL_GET_PROMISE_COMPLETION_NOTIFICATION_RESULT_ABSENT:
+        break;
+    }
+}
+
+static inline void journal_put_PeekPromiseCompletionNotificationMessage_(
+    struct journal_writer_ *writer, uint64_t level,
+    const struct journal_PeekPromiseCompletionNotificationMessage *record) {
+    if (record->completion_id != 0) {
+        journal_put_(writer, level, 1, JOURNAL_FIELD_UINT32, record->completion_id);
+    }
+    switch (record->result_case) {
+    case JOURNAL_PEEK_PROMISE_COMPLETION_NOTIFICATION_RESULT_VOID:
+        journal_put_(writer, level, 4, JOURNAL_FIELD_MESSAGE, JOURNAL_SCHEMA_VOID);
+        break;
+    case JOURNAL_PEEK_PROMISE_COMPLETION_NOTIFICATION_RESULT_VALUE:
+        journal_put_(writer, level, 5, JOURNAL_FIELD_MESSAGE, JOURNAL_SCHEMA_VALUE);
+        journal_put_Value_(writer, level + 1, &record->result.value);
+        break;
+    case JOURNAL_PEEK_PROMISE_COMPLETION_NOTIFICATION_RESULT_FAILURE:
+        journal_put_(writer, level, 6, JOURNAL_FIELD_MESSAGE, JOURNAL_SCHEMA_FAILURE);
+        journal_put_Failure_(writer, level + 1, &record->result.failure);
+        break;
+    case JOURNAL_PEEK_PROMISE_COMPLETION_NOTIFICATION_RESULT_ABSENT:
+        break;
+    }
+}
+
+static inline void journal_put_GetInvocationOutputCompletionNotificationMessage_(
+    struct journal_writer_ *writer, uint64_t level,
+    const struct journal_GetInvocationOutputCompletionNotificationMessage *record) {
+    if (record->completion_id != 0) {
+        journal_put_(writer, level, 1, JOURNAL_FIELD_UINT32, record->completion_id);
+    }
+    switch (record->result_case) {
+    case JOURNAL_GET_INVOCATION_OUTPUT_COMPLETION_NOTIFICATION_RESULT_VOID:
+        journal_put_(writer, level, 4, JOURNAL_FIELD_MESSAGE, JOURNAL_SCHEMA_VOID);
+        break;
+    case JOURNAL_GET_INVOCATION_OUTPUT_COMPLETION_NOTIFICATION_RESULT_VALUE:
+        journal_put_(writer, level, 5, JOURNAL_FIELD_MESSAGE, JOURNAL_SCHEMA_VALUE);
+        journal_put_Value_(writer, level + 1, &record->result.value);
+        break;
+    case JOURNAL_GET_INVOCATION_OUTPUT_COMPLETION_NOTIFICATION_RESULT_FAILURE:
+        journal_put_(writer, level, 6, JOURNAL_FIELD_MESSAGE, JOURNAL_SCHEMA_FAILURE);
+        journal_put_Failure_(writer, level + 1, &record->result.failure);
+        break;
+    case JOURNAL_GET_INVOCATION_OUTPUT_COMPLETION_NOTIFICATION_RESULT_ABSENT:
+        break;
+    }
+}
+
+static inline void journal_put_CompletePromiseCompletionNotificationMessage_(
+    struct journal_writer_ *writer, uint64_t level,
+    const struct journal_CompletePromiseCompletionNotificationMessage *record) {
+    if (record->completion_id != 0) {
+        journal_put_(writer, level, 1, JOURNAL_FIELD_UINT32, record->completion_id);
+    }
+    switch (record->result_case) {
+    case JOURNAL_COMPLETE_PROMISE_COMPLETION_NOTIFICATION_RESULT_VOID:
+        journal_put_(writer, level, 4, JOURNAL_FIELD_MESSAGE, JOURNAL_SCHEMA_VOID);
+        break;
+    case JOURNAL_COMPLETE_PROMISE_COMPLETION_NOTIFICATION_RESULT_FAILURE:
+        journal_put_(writer, level, 6, JOURNAL_FIELD_MESSAGE, JOURNAL_SCHEMA_FAILURE);
+        journal_put_Failure_(writer, level + 1, &record->result.failure);
+        break;
+    case JOURNAL_COMPLETE_PROMISE_COMPLETION_NOTIFICATION_RESULT_ABSENT:
+        break;
+    }
+}
+
+static inline void journal_put_CallCompletionNotificationMessage_(
+    struct journal_writer_ *writer, uint64_t level, const struct journal_CallCompletionNotificationMessage *record) {
+    if (record->completion_id != 0) {
+        journal_put_(writer, level, 1, JOURNAL_FIELD_UINT32, record->completion_id);
+    }
+    switch (record->result_case) {
+    case JOURNAL_CALL_COMPLETION_NOTIFICATION_RESULT_VALUE:
+        journal_put_(writer, level, 5, JOURNAL_FIELD_MESSAGE, JOURNAL_SCHEMA_VALUE);
+        journal_put_Value_(writer, level + 1, &record->result.value);
+        break;
+    case JOURNAL_CALL_COMPLETION_NOTIFICATION_RESULT_FAILURE:
+        journal_put_(writer, level, 6, JOURNAL_FIELD_MESSAGE, JOURNAL_SCHEMA_FAILURE);
+        journal_put_Failure_(writer, level + 1, &record->result.failure);
+        break;
+    case JOURNAL_CALL_COMPLETION_NOTIFICATION_RESULT_ABSENT:
+        break;
+    }
+}
+
+static inline void journal_put_RunCompletionNotificationMessage_(
+    struct journal_writer_ *writer, uint64_t level, const struct journal_RunCompletionNotificationMessage *record) {
+    if (record->completion_id != 0) {
+        journal_put_(writer, level, 1, JOURNAL_FIELD_UINT32, record->completion_id);
+    }
+    switch (record->result_case) {
+    case JOURNAL_RUN_COMPLETION_NOTIFICATION_RESULT_VALUE:
+        journal_put_(writer, level, 5, JOURNAL_FIELD_MESSAGE, JOURNAL_SCHEMA_VALUE);
+        journal_put_Value_(writer, level + 1, &record->result.value);
+        break;
+    case JOURNAL_RUN_COMPLETION_NOTIFICATION_RESULT_FAILURE:
+        journal_put_(writer, level, 6, JOURNAL_FIELD_MESSAGE, JOURNAL_SCHEMA_FAILURE);
+        journal_put_Failure_(writer, level + 1, &record->result.failure);
+        break;
+    case JOURNAL_RUN_COMPLETION_NOTIFICATION_RESULT_ABSENT:
+        break;
+    }
+}
+
+static inline void journal_put_AttachInvocationCompletionNotificationMessage_(
+    struct journal_writer_ *writer, uint64_t level,
+    const struct journal_AttachInvocationCompletionNotificationMessage *record) {
+    if (record->completion_id != 0) {
+        journal_put_(writer, level, 1, JOURNAL_FIELD_UINT32, record->completion_id);
+    }
+    switch (record->result_case) {
+    case JOURNAL_ATTACH_INVOCATION_COMPLETION_NOTIFICATION_RESULT_VALUE:
+        journal_put_(writer, level, 5, JOURNAL_FIELD_MESSAGE, JOURNAL_SCHEMA_VALUE);
+        journal_put_Value_(writer, level + 1, &record->result.value);
+        break;
+    case JOURNAL_ATTACH_INVOCATION_COMPLETION_NOTIFICATION_RESULT_FAILURE:
+        journal_put_(writer, level, 6, JOURNAL_FIELD_MESSAGE, JOURNAL_SCHEMA_FAILURE);
+        journal_put_Failure_(writer, level + 1, &record->result.failure);
+        break;
+    case JOURNAL_ATTACH_INVOCATION_COMPLETION_NOTIFICATION_RESULT_ABSENT:
+        break;
+    }
+}
+
+static inline void journal_put_SleepCompletionNotificationMessage_(
+    struct journal_writer_ *writer, uint64_t level, const struct journal_SleepCompletionNotificationMessage *record) {
+    if (record->completion_id != 0) {
+        journal_put_(writer, level, 1, JOURNAL_FIELD_UINT32, record->completion_id);
+    }
+    if (record->has_void_) {
+        journal_put_(writer, level, 4, JOURNAL_FIELD_MESSAGE, JOURNAL_SCHEMA_VOID);
+    }
+}
+
+static inline void journal_put_GetLazyStateKeysCompletionNotificationMessage_(
+    struct journal_writer_ *writer, uint64_t level,
+    const struct journal_GetLazyStateKeysCompletionNotificationMessage *record) {
+    if (record->completion_id != 0) {
+        journal_put_(writer, level, 1, JOURNAL_FIELD_UINT32, record->completion_id);
+    }
+    if (record->has_state_keys) {
+        journal_put_(writer, level, 17, JOURNAL_FIELD_MESSAGE, JOURNAL_SCHEMA_STATE_KEYS);
+        journal_put_StateKeys_(writer, level + 1, &record->state_keys);
+    }
+}
+
+static inline void journal_put_CallInvocationIdCompletionNotificationMessage_(
+    struct journal_writer_ *writer, uint64_t level,
+    const struct journal_CallInvocationIdCompletionNotificationMessage *record) {
+    if (record->completion_id != 0) {
+        journal_put_(writer, level, 1, JOURNAL_FIELD_UINT32, record->completion_id);
+    }
+    if (record->invocation_id.length > 0) {
+        journal_put_slice_(writer, level, 16, JOURNAL_FIELD_STRING, record->invocation_id);
+    }
+}
+
+static inline void journal_put_SignalNotificationMessage_(struct journal_writer_ *writer, uint64_t level,
+                                                          const struct journal_SignalNotificationMessage *record) {
+    switch (record->signal_id_case) {
+    case JOURNAL_SIGNAL_NOTIFICATION_SIGNAL_ID_IDX:
+        journal_put_(writer, level, 2, JOURNAL_FIELD_UINT32, record->signal_id.idx);
+        break;
+    case JOURNAL_SIGNAL_NOTIFICATION_SIGNAL_ID_NAME:
+        journal_put_slice_(writer, level, 3, JOURNAL_FIELD_STRING, record->signal_id.name);
+        break;
+    case JOURNAL_SIGNAL_NOTIFICATION_SIGNAL_ID_ABSENT:
+        break;
+    }
+    switch (record->result_case) {
+    case JOURNAL_SIGNAL_NOTIFICATION_RESULT_VOID:
+        journal_put_(writer, level, 4, JOURNAL_FIELD_MESSAGE, JOURNAL_SCHEMA_VOID);
+        break;
+    case JOURNAL_SIGNAL_NOTIFICATION_RESULT_VALUE:
+        journal_put_(writer, level, 5, JOURNAL_FIELD_MESSAGE, JOURNAL_SCHEMA_VALUE);
+        journal_put_Value_(writer, level + 1, &record->result.value);
+        break;
+    case JOURNAL_SIGNAL_NOTIFICATION_RESULT_FAILURE:
+        journal_put_(writer, level, 6, JOURNAL_FIELD_MESSAGE, JOURNAL_SCHEMA_FAILURE);
+        journal_put_Failure_(writer, level + 1, &record->result.failure);
+        break;
+    case JOURNAL_SIGNAL_NOTIFICATION_RESULT_ABSENT:
+        break;
+    }
+}
+
+static inline void journal_put_NotificationTemplate_(struct journal_writer_ *writer, uint64_t level,
+                                                     const struct journal_NotificationTemplate *record) {
+    switch (record->id_case) {
+    case JOURNAL_NOTIFICATION_TEMPLATE_ID_COMPLETION_ID:
+        journal_put_(writer, level, 1, JOURNAL_FIELD_UINT32, record->id.completion_id);
+        break;
+    case JOURNAL_NOTIFICATION_TEMPLATE_ID_SIGNAL_ID:
+        journal_put_(writer, level, 2, JOURNAL_FIELD_UINT32, record->id.signal_id);
+        break;
+    case JOURNAL_NOTIFICATION_TEMPLATE_ID_SIGNAL_NAME:
+        journal_put_slice_(writer, level, 3, JOURNAL_FIELD_STRING, record->id.signal_name);
+        break;
+    case JOURNAL_NOTIFICATION_TEMPLATE_ID_ABSENT:
+        break;
+    }
+    switch (record->result_case) {
+    case JOURNAL_NOTIFICATION_TEMPLATE_RESULT_VOID:
+        journal_put_(writer, level, 4, JOURNAL_FIELD_MESSAGE, JOURNAL_SCHEMA_VOID);
+        break;
+    case JOURNAL_NOTIFICATION_TEMPLATE_RESULT_VALUE:
+        journal_put_(writer, level, 5, JOURNAL_FIELD_MESSAGE, JOURNAL_SCHEMA_VALUE);
+        journal_put_Value_(writer, level + 1, &record->result.value);
+        break;
+    case JOURNAL_NOTIFICATION_TEMPLATE_RESULT_FAILURE:
+        journal_put_(writer, level, 6, JOURNAL_FIELD_MESSAGE, JOURNAL_SCHEMA_FAILURE);
+        journal_put_Failure_(writer, level + 1, &record->result.failure);
+        break;
+    case JOURNAL_NOTIFICATION_TEMPLATE_RESULT_INVOCATION_ID:
+        journal_put_slice_(writer, level, 16, JOURNAL_FIELD_STRING, record->result.invocation_id);
+        break;
+    case JOURNAL_NOTIFICATION_TEMPLATE_RESULT_STATE_KEYS:
+        journal_put_(writer, level, 17, JOURNAL_FIELD_MESSAGE, JOURNAL_SCHEMA_STATE_KEYS);
+        journal_put_StateKeys_(writer, level + 1, &record->result.state_keys);
+        break;
+    case JOURNAL_NOTIFICATION_TEMPLATE_RESULT_ABSENT:
+        break;
+    }
+}
+
+/*
+ * Each record, read and written.
+ */
+
+static inline int64_t journal_read_Void(const uint8_t *payload, size_t payload_length, struct journal_Void *record,
+                                        struct journal_arena *arena) {
+    struct journal_reader_ reader;
+
+    memset(record, 0, sizeof *record);
+    if (journal_begin_reading_(&reader, JOURNAL_SCHEMA_VOID, false, payload, payload_length, arena)) {
+        journal_read_Void_(&reader, 0);
+    }
+    return journal_end_reading_(&reader, arena, record, sizeof *record);
+}
+
+static inline int64_t journal_write_Void(const struct journal_Void *record, struct journal_arena *arena, uint8_t *out,
+                                         size_t room) {
+    struct journal_writer_ writer;
+
+    journal_begin_writing_(&writer, arena);
+    (void)record;
+    return journal_end_writing_(&writer, JOURNAL_SCHEMA_VOID, arena, out, room);
+}
+
+static inline int64_t journal_read_Value(const uint8_t *payload, size_t payload_length, struct journal_Value *record,
+                                         struct journal_arena *arena) {
+    struct journal_reader_ reader;
+
+    memset(record, 0, sizeof *record);
+    if (journal_begin_reading_(&reader, JOURNAL_SCHEMA_VALUE, false, payload, payload_length, arena)) {
+        journal_read_Value_(&reader, 0, record);
+    }
+    return journal_end_reading_(&reader, arena, record, sizeof *record);
+}
+
+static inline int64_t journal_write_Value(const struct journal_Value *record, struct journal_arena *arena, uint8_t *out,
+                                          size_t room) {
+    struct journal_writer_ writer;
+
+    journal_begin_writing_(&writer, arena);
+    journal_put_Value_(&writer, 0, record);
+    return journal_end_writing_(&writer, JOURNAL_SCHEMA_VALUE, arena, out, room);
+}
+
+static inline int64_t journal_read_Failure(const uint8_t *payload, size_t payload_length,
+                                           struct journal_Failure *record, struct journal_arena *arena) {
+    struct journal_reader_ reader;
+
+    memset(record, 0, sizeof *record);
+    if (journal_begin_reading_(&reader, JOURNAL_SCHEMA_FAILURE, false, payload, payload_length, arena)) {
+        journal_read_Failure_(&reader, 0, record);
+    }
+    return journal_end_reading_(&reader, arena, record, sizeof *record);
+}
+
+static inline int64_t journal_write_Failure(const struct journal_Failure *record, struct journal_arena *arena,
+                                            uint8_t *out, size_t room) {
+    struct journal_writer_ writer;
+
+    journal_begin_writing_(&writer, arena);
+    journal_put_Failure_(&writer, 0, record);
+    return journal_end_writing_(&writer, JOURNAL_SCHEMA_FAILURE, arena, out, room);
+}
+
+static inline int64_t journal_read_FailureMetadata(const uint8_t *payload, size_t payload_length,
+                                                   struct journal_FailureMetadata *record,
+                                                   struct journal_arena *arena) {
+    struct journal_reader_ reader;
+
+    memset(record, 0, sizeof *record);
+    if (journal_begin_reading_(&reader, JOURNAL_SCHEMA_FAILURE_METADATA, false, payload, payload_length, arena)) {
+        journal_read_FailureMetadata_(&reader, 0, record);
+    }
+    return journal_end_reading_(&reader, arena, record, sizeof *record);
+}
+
+static inline int64_t journal_write_FailureMetadata(const struct journal_FailureMetadata *record,
+                                                    struct journal_arena *arena, uint8_t *out, size_t room) {
+    struct journal_writer_ writer;
+
+    journal_begin_writing_(&writer, arena);
+    journal_put_FailureMetadata_(&writer, 0, record);
+    return journal_end_writing_(&writer, JOURNAL_SCHEMA_FAILURE_METADATA, arena, out, room);
+}
+
+static inline int64_t journal_read_Header(const uint8_t *payload, size_t payload_length, struct journal_Header *record,
+                                          struct journal_arena *arena) {
+    struct journal_reader_ reader;
+
+    memset(record, 0, sizeof *record);
+    if (journal_begin_reading_(&reader, JOURNAL_SCHEMA_HEADER, false, payload, payload_length, arena)) {
+        journal_read_Header_(&reader, 0, record);
+    }
+    return journal_end_reading_(&reader, arena, record, sizeof *record);
+}
+
+static inline int64_t journal_write_Header(const struct journal_Header *record, struct journal_arena *arena,
+                                           uint8_t *out, size_t room) {
+    struct journal_writer_ writer;
+
+    journal_begin_writing_(&writer, arena);
+    journal_put_Header_(&writer, 0, record);
+    return journal_end_writing_(&writer, JOURNAL_SCHEMA_HEADER, arena, out, room);
+}
+
+static inline int64_t journal_read_StateKeys(const uint8_t *payload, size_t payload_length,
+                                             struct journal_StateKeys *record, struct journal_arena *arena) {
+    struct journal_reader_ reader;
+
+    memset(record, 0, sizeof *record);
+    if (journal_begin_reading_(&reader, JOURNAL_SCHEMA_STATE_KEYS, false, payload, payload_length, arena)) {
+        journal_read_StateKeys_(&reader, 0, record);
+    }
+    return journal_end_reading_(&reader, arena, record, sizeof *record);
+}
+
+static inline int64_t journal_write_StateKeys(const struct journal_StateKeys *record, struct journal_arena *arena,
+                                              uint8_t *out, size_t room) {
+    struct journal_writer_ writer;
+
+    journal_begin_writing_(&writer, arena);
+    journal_put_StateKeys_(&writer, 0, record);
+    return journal_end_writing_(&writer, JOURNAL_SCHEMA_STATE_KEYS, arena, out, room);
+}
+
+static inline int64_t journal_read_StateEntry(const uint8_t *payload, size_t payload_length,
+                                              struct journal_StateEntry *record, struct journal_arena *arena) {
+    struct journal_reader_ reader;
+
+    memset(record, 0, sizeof *record);
+    if (journal_begin_reading_(&reader, JOURNAL_SCHEMA_STATE_ENTRY, false, payload, payload_length, arena)) {
+        journal_read_StateEntry_(&reader, 0, record);
+    }
+    return journal_end_reading_(&reader, arena, record, sizeof *record);
+}
+
+static inline int64_t journal_write_StateEntry(const struct journal_StateEntry *record, struct journal_arena *arena,
+                                               uint8_t *out, size_t room) {
+    struct journal_writer_ writer;
+
+    journal_begin_writing_(&writer, arena);
+    journal_put_StateEntry_(&writer, 0, record);
+    return journal_end_writing_(&writer, JOURNAL_SCHEMA_STATE_ENTRY, arena, out, room);
+}
+
+static inline int64_t journal_read_Future(const uint8_t *payload, size_t payload_length, struct journal_Future *record,
+                                          struct journal_arena *arena) {
+    struct journal_reader_ reader;
+
+    memset(record, 0, sizeof *record);
+    if (journal_begin_reading_(&reader, JOURNAL_SCHEMA_FUTURE, true, payload, payload_length, arena)) {
+        journal_read_Future_(&reader, 0, record);
+    }
+    return journal_end_reading_(&reader, arena, record, sizeof *record);
+}
+
+static inline int64_t journal_write_Future(const struct journal_Future *record, struct journal_arena *arena,
+                                           uint8_t *out, size_t room) {
+    struct journal_writer_ writer;
+
+    journal_begin_writing_(&writer, arena);
+    journal_put_Future_(&writer, 0, record);
+    return journal_end_writing_(&writer, JOURNAL_SCHEMA_FUTURE, arena, out, room);
+}
+
+static inline int64_t journal_read_WorkflowTarget(const uint8_t *payload, size_t payload_length,
+                                                  struct journal_WorkflowTarget *record, struct journal_arena *arena) {
+    struct journal_reader_ reader;
+
+    memset(record, 0, sizeof *record);
+    if (journal_begin_reading_(&reader, JOURNAL_SCHEMA_WORKFLOW_TARGET, false, payload, payload_length, arena)) {
+        journal_read_WorkflowTarget_(&reader, 0, record);
+    }
+    return journal_end_reading_(&reader, arena, record, sizeof *record);
+}
+
+static inline int64_t journal_write_WorkflowTarget(const struct journal_WorkflowTarget *record,
+                                                   struct journal_arena *arena, uint8_t *out, size_t room) {
+    struct journal_writer_ writer;
+
+    journal_begin_writing_(&writer, arena);
+    journal_put_WorkflowTarget_(&writer, 0, record);
+    return journal_end_writing_(&writer, JOURNAL_SCHEMA_WORKFLOW_TARGET, arena, out, room);
+}
+
+static inline int64_t journal_read_IdempotentRequestTarget(const uint8_t *payload, size_t payload_length,
+                                                           struct journal_IdempotentRequestTarget *record,
+                                                           struct journal_arena *arena) {
+    struct journal_reader_ reader;
+
+    memset(record, 0, sizeof *record);
+    if (journal_begin_reading_(&reader, JOURNAL_SCHEMA_IDEMPOTENT_REQUEST_TARGET, false, payload, payload_length,
+                               arena)) {
+        journal_read_IdempotentRequestTarget_(&reader, 0, record);
+    }
+    return journal_end_reading_(&reader, arena, record, sizeof *record);
+}
+
+static inline int64_t journal_write_IdempotentRequestTarget(const struct journal_IdempotentRequestTarget *record,
+                                                            struct journal_arena *arena, uint8_t *out, size_t room) {
+    struct journal_writer_ writer;
+
+    journal_begin_writing_(&writer, arena);
+    journal_put_IdempotentRequestTarget_(&writer, 0, record);
+    return journal_end_writing_(&writer, JOURNAL_SCHEMA_IDEMPOTENT_REQUEST_TARGET, arena, out, room);
+}
+
+static inline int64_t journal_read_StartMessage(const uint8_t *payload, size_t payload_length,
+                                                struct journal_StartMessage *record, struct journal_arena *arena) {
+    struct journal_reader_ reader;
+
+    memset(record, 0, sizeof *record);
+    if (journal_begin_reading_(&reader, JOURNAL_SCHEMA_START, false, payload, payload_length, arena)) {
+        journal_read_StartMessage_(&reader, 0, record);
+    }
+    return journal_end_reading_(&reader, arena, record, sizeof *record);
+}
+
+static inline int64_t journal_write_StartMessage(const struct journal_StartMessage *record, struct journal_arena *arena,
+                                                 uint8_t *out, size_t room) {
+    struct journal_writer_ writer;
+
+    journal_begin_writing_(&writer, arena);
+    journal_put_StartMessage_(&writer, 0, record);
+    return journal_end_writing_(&writer, JOURNAL_SCHEMA_START, arena, out, room);
+}
+
+static inline int64_t journal_read_SuspensionMessage(const uint8_t *payload, size_t payload_length,
+                                                     struct journal_SuspensionMessage *record,
+                                                     struct journal_arena *arena) {
+    struct journal_reader_ reader;
+
+    memset(record, 0, sizeof *record);
+    if (journal_begin_reading_(&reader, JOURNAL_SCHEMA_SUSPENSION, true, payload, payload_length, arena)) {
+        journal_read_SuspensionMessage_(&reader, 0, record);
+    }
+    return journal_end_reading_(&reader, arena, record, sizeof *record);
+}
+
+static inline int64_t journal_write_SuspensionMessage(const struct journal_SuspensionMessage *record,
+                                                      struct journal_arena *arena, uint8_t *out, size_t room) {
+    struct journal_writer_ writer;
+
+    journal_begin_writing_(&writer, arena);
+    journal_put_SuspensionMessage_(&writer, 0, record);
+    return journal_end_writing_(&writer, JOURNAL_SCHEMA_SUSPENSION, arena, out, room);
+}
+
+static inline int64_t journal_read_SuspensionMessageV6(const uint8_t *payload, size_t payload_length,
+                                                       struct journal_SuspensionMessageV6 *record,
+                                                       struct journal_arena *arena) {
+    struct journal_reader_ reader;
+
+    memset(record, 0, sizeof *record);
+    if (journal_begin_reading_(&reader, JOURNAL_SCHEMA_SUSPENSION_V6, false, payload, payload_length, arena)) {
+        journal_read_SuspensionMessageV6_(&reader, 0, record);
+    }
+    return journal_end_reading_(&reader, arena, record, sizeof *record);
+}
+
+static inline int64_t journal_write_SuspensionMessageV6(const struct journal_SuspensionMessageV6 *record,
+                                                        struct journal_arena *arena, uint8_t *out, size_t room) {
+    struct journal_writer_ writer;
+
+    journal_begin_writing_(&writer, arena);
+    journal_put_SuspensionMessageV6_(&writer, 0, record);
+    return journal_end_writing_(&writer, JOURNAL_SCHEMA_SUSPENSION_V6, arena, out, room);
+}
+
+static inline int64_t journal_read_ErrorMessage(const uint8_t *payload, size_t payload_length,
+                                                struct journal_ErrorMessage *record, struct journal_arena *arena) {
+    struct journal_reader_ reader;
+
+    memset(record, 0, sizeof *record);
+    if (journal_begin_reading_(&reader, JOURNAL_SCHEMA_ERROR, false, payload, payload_length, arena)) {
+        journal_read_ErrorMessage_(&reader, 0, record);
+    }
+    return journal_end_reading_(&reader, arena, record, sizeof *record);
+}
+
+static inline int64_t journal_write_ErrorMessage(const struct journal_ErrorMessage *record, struct journal_arena *arena,
+                                                 uint8_t *out, size_t room) {
+    struct journal_writer_ writer;
+
+    journal_begin_writing_(&writer, arena);
+    journal_put_ErrorMessage_(&writer, 0, record);
+    return journal_end_writing_(&writer, JOURNAL_SCHEMA_ERROR, arena, out, room);
+}
+
+static inline int64_t journal_read_EndMessage(const uint8_t *payload, size_t payload_length,
+                                              struct journal_EndMessage *record, struct journal_arena *arena) {
+    struct journal_reader_ reader;
+
+    memset(record, 0, sizeof *record);
+    if (journal_begin_reading_(&reader, JOURNAL_SCHEMA_END, false, payload, payload_length, arena)) {
+        journal_read_EndMessage_(&reader, 0);
+    }
+    return journal_end_reading_(&reader, arena, record, sizeof *record);
+}
+
+static inline int64_t journal_write_EndMessage(const struct journal_EndMessage *record, struct journal_arena *arena,
+                                               uint8_t *out, size_t room) {
+    struct journal_writer_ writer;
+
+    journal_begin_writing_(&writer, arena);
+    (void)record;
+    return journal_end_writing_(&writer, JOURNAL_SCHEMA_END, arena, out, room);
+}
+
+static inline int64_t journal_read_ProposeRunCompletionMessage(const uint8_t *payload, size_t payload_length,
+                                                               struct journal_ProposeRunCompletionMessage *record,
+                                                               struct journal_arena *arena) {
+    struct journal_reader_ reader;
+
+    memset(record, 0, sizeof *record);
+    if (journal_begin_reading_(&reader, JOURNAL_SCHEMA_PROPOSE_RUN_COMPLETION, false, payload, payload_length, arena)) {
+        journal_read_ProposeRunCompletionMessage_(&reader, 0, record);
+    }
+    return journal_end_reading_(&reader, arena, record, sizeof *record);
+}
+
+static inline int64_t journal_write_ProposeRunCompletionMessage(
+    const struct journal_ProposeRunCompletionMessage *record, struct journal_arena *arena, uint8_t *out, size_t room) {
+    struct journal_writer_ writer;
+
+    journal_begin_writing_(&writer, arena);
+    journal_put_ProposeRunCompletionMessage_(&writer, 0, record);
+    return journal_end_writing_(&writer, JOURNAL_SCHEMA_PROPOSE_RUN_COMPLETION, arena, out, room);
+}
+
+static inline int64_t journal_read_AwaitingOnMessage(const uint8_t *payload, size_t payload_length,
+                                                     struct journal_AwaitingOnMessage *record,
+                                                     struct journal_arena *arena) {
+    struct journal_reader_ reader;
+
+    memset(record, 0, sizeof *record);
+    if (journal_begin_reading_(&reader, JOURNAL_SCHEMA_AWAITING_ON, true, payload, payload_length, arena)) {
+        journal_read_AwaitingOnMessage_(&reader, 0, record);
+    }
+    return journal_end_reading_(&reader, arena, record, sizeof *record);
+}
+
+static inline int64_t journal_write_AwaitingOnMessage(const struct journal_AwaitingOnMessage *record,
+                                                      struct journal_arena *arena, uint8_t *out, size_t room) {
+    struct journal_writer_ writer;
+
+    journal_begin_writing_(&writer, arena);
+    journal_put_AwaitingOnMessage_(&writer, 0, record);
+    return journal_end_writing_(&writer, JOURNAL_SCHEMA_AWAITING_ON, arena, out, room);
+}
+
+static inline int64_t journal_read_ProposeRunCompletionAckMessage(const uint8_t *payload, size_t payload_length,
+                                                                  struct journal_ProposeRunCompletionAckMessage *record,
+                                                                  struct journal_arena *arena) {
+    struct journal_reader_ reader;
+
+    memset(record, 0, sizeof *record);
+    if (journal_begin_reading_(&reader, JOURNAL_SCHEMA_PROPOSE_RUN_COMPLETION_ACK, false, payload, payload_length,
+                               arena)) {
+        journal_read_ProposeRunCompletionAckMessage_(&reader, 0, record);
+    }
+    return journal_end_reading_(&reader, arena, record, sizeof *record);
+}
+
+static inline int64_t journal_write_ProposeRunCompletionAckMessage(
+    const struct journal_ProposeRunCompletionAckMessage *record, struct journal_arena *arena, uint8_t *out,
+    size_t room) {
+    struct journal_writer_ writer;
+
+    journal_begin_writing_(&writer, arena);
+    journal_put_ProposeRunCompletionAckMessage_(&writer, 0, record);
+    return journal_end_writing_(&writer, JOURNAL_SCHEMA_PROPOSE_RUN_COMPLETION_ACK, arena, out, room);
+}
+
+static inline int64_t journal_read_GetStateEphemeralCommandMessage(
+    const uint8_t *payload, size_t payload_length, struct journal_GetStateEphemeralCommandMessage *record,
+    struct journal_arena *arena) {
+    struct journal_reader_ reader;
+
+    memset(record, 0, sizeof *record);
+    if (journal_begin_reading_(&reader, JOURNAL_SCHEMA_GET_STATE_EPHEMERAL_COMMAND, false, payload, payload_length,
+                               arena)) {
+        journal_read_GetStateEphemeralCommandMessage_(&reader, 0, record);
+    }
+    return journal_end_reading_(&reader, arena, record, sizeof *record);
+}
+
+static inline int64_t journal_write_GetStateEphemeralCommandMessage(
+    const struct journal_GetStateEphemeralCommandMessage *record, struct journal_arena *arena, uint8_t *out,
+    size_t room) {
+    struct journal_writer_ writer;
+
+    journal_begin_writing_(&writer, arena);
+    journal_put_GetStateEphemeralCommandMessage_(&writer, 0, record);
+    return journal_end_writing_(&writer, JOURNAL_SCHEMA_GET_STATE_EPHEMERAL_COMMAND, arena, out, room);
+}
+
+static inline int64_t journal_read_GetStateEphemeralNotificationMessage(
+    const uint8_t *payload, size_t payload_length, struct journal_GetStateEphemeralNotificationMessage *record,
+    struct journal_arena *arena) {
+    struct journal_reader_ reader;
+
+    memset(record, 0, sizeof *record);
+    if (journal_begin_reading_(&reader, JOURNAL_SCHEMA_GET_STATE_EPHEMERAL_NOTIFICATION, false, payload, payload_length,
+                               arena)) {
+        journal_read_GetStateEphemeralNotificationMessage_(&reader, 0, record);
+    }
+    return journal_end_reading_(&reader, arena, record, sizeof *record);
+}
+
+static inline int64_t journal_write_GetStateEphemeralNotificationMessage(
+    const struct journal_GetStateEphemeralNotificationMessage *record, struct journal_arena *arena, uint8_t *out,
+    size_t room) {
+    struct journal_writer_ writer;
+
+    journal_begin_writing_(&writer, arena);
+    journal_put_GetStateEphemeralNotificationMessage_(&writer, 0, record);
+    return journal_end_writing_(&writer, JOURNAL_SCHEMA_GET_STATE_EPHEMERAL_NOTIFICATION, arena, out, room);
+}
+
+static inline int64_t journal_read_InputCommandMessage(const uint8_t *payload, size_t payload_length,
+                                                       struct journal_InputCommandMessage *record,
+                                                       struct journal_arena *arena) {
+    struct journal_reader_ reader;
+
+    memset(record, 0, sizeof *record);
+    if (journal_begin_reading_(&reader, JOURNAL_SCHEMA_INPUT_COMMAND, false, payload, payload_length, arena)) {
+        journal_read_InputCommandMessage_(&reader, 0, record);
+    }
+    return journal_end_reading_(&reader, arena, record, sizeof *record);
+}
+
+static inline int64_t journal_write_InputCommandMessage(const struct journal_InputCommandMessage *record,
+                                                        struct journal_arena *arena, uint8_t *out, size_t room) {
+    struct journal_writer_ writer;
+
+    journal_begin_writing_(&writer, arena);
+    journal_put_InputCommandMessage_(&writer, 0, record);
+    return journal_end_writing_(&writer, JOURNAL_SCHEMA_INPUT_COMMAND, arena, out, room);
+}
+
+static inline int64_t journal_read_OutputCommandMessage(const uint8_t *payload, size_t payload_length,
+                                                        struct journal_OutputCommandMessage *record,
+                                                        struct journal_arena *arena) {
+    struct journal_reader_ reader;
+
+    memset(record, 0, sizeof *record);
+    if (journal_begin_reading_(&reader, JOURNAL_SCHEMA_OUTPUT_COMMAND, false, payload, payload_length, arena)) {
+        journal_read_OutputCommandMessage_(&reader, 0, record);
+    }
+    return journal_end_reading_(&reader, arena, record, sizeof *record);
+}
+
+static inline int64_t journal_write_OutputCommandMessage(const struct journal_OutputCommandMessage *record,
+                                                         struct journal_arena *arena, uint8_t *out, size_t room) {
+    struct journal_writer_ writer;
+
+    journal_begin_writing_(&writer, arena);
+    journal_put_OutputCommandMessage_(&writer, 0, record);
+    return journal_end_writing_(&writer, JOURNAL_SCHEMA_OUTPUT_COMMAND, arena, out, room);
+}
+
+static inline int64_t journal_read_GetLazyStateCommandMessage(const uint8_t *payload, size_t payload_length,
+                                                              struct journal_GetLazyStateCommandMessage *record,
+                                                              struct journal_arena *arena) {
+    struct journal_reader_ reader;
+
+    memset(record, 0, sizeof *record);
+    if (journal_begin_reading_(&reader, JOURNAL_SCHEMA_GET_LAZY_STATE_COMMAND, false, payload, payload_length, arena)) {
+        journal_read_GetLazyStateCommandMessage_(&reader, 0, record);
+    }
+    return journal_end_reading_(&reader, arena, record, sizeof *record);
+}
+
+static inline int64_t journal_write_GetLazyStateCommandMessage(const struct journal_GetLazyStateCommandMessage *record,
+                                                               struct journal_arena *arena, uint8_t *out, size_t room) {
+    struct journal_writer_ writer;
+
+    journal_begin_writing_(&writer, arena);
+    journal_put_GetLazyStateCommandMessage_(&writer, 0, record);
+    return journal_end_writing_(&writer, JOURNAL_SCHEMA_GET_LAZY_STATE_COMMAND, arena, out, room);
+}
+
+static inline int64_t journal_read_SetStateCommandMessage(const uint8_t *payload, size_t payload_length,
+                                                          struct journal_SetStateCommandMessage *record,
+                                                          struct journal_arena *arena) {
+    struct journal_reader_ reader;
+
+    memset(record, 0, sizeof *record);
+    if (journal_begin_reading_(&reader, JOURNAL_SCHEMA_SET_STATE_COMMAND, false, payload, payload_length, arena)) {
+        journal_read_SetStateCommandMessage_(&reader, 0, record);
+    }
+    return journal_end_reading_(&reader, arena, record, sizeof *record);
+}
+
+static inline int64_t journal_write_SetStateCommandMessage(const struct journal_SetStateCommandMessage *record,
+                                                           struct journal_arena *arena, uint8_t *out, size_t room) {
+    struct journal_writer_ writer;
+
+    journal_begin_writing_(&writer, arena);
+    journal_put_SetStateCommandMessage_(&writer, 0, record);
+    return journal_end_writing_(&writer, JOURNAL_SCHEMA_SET_STATE_COMMAND, arena, out, room);
+}
+
+static inline int64_t journal_read_ClearStateCommandMessage(const uint8_t *payload, size_t payload_length,
+                                                            struct journal_ClearStateCommandMessage *record,
+                                                            struct journal_arena *arena) {
+    struct journal_reader_ reader;
+
+    memset(record, 0, sizeof *record);
+    if (journal_begin_reading_(&reader, JOURNAL_SCHEMA_CLEAR_STATE_COMMAND, false, payload, payload_length, arena)) {
+        journal_read_ClearStateCommandMessage_(&reader, 0, record);
+    }
+    return journal_end_reading_(&reader, arena, record, sizeof *record);
+}
+
+static inline int64_t journal_write_ClearStateCommandMessage(const struct journal_ClearStateCommandMessage *record,
+                                                             struct journal_arena *arena, uint8_t *out, size_t room) {
+    struct journal_writer_ writer;
+
+    journal_begin_writing_(&writer, arena);
+    journal_put_ClearStateCommandMessage_(&writer, 0, record);
+    return journal_end_writing_(&writer, JOURNAL_SCHEMA_CLEAR_STATE_COMMAND, arena, out, room);
+}
+
+static inline int64_t journal_read_ClearAllStateCommandMessage(const uint8_t *payload, size_t payload_length,
+                                                               struct journal_ClearAllStateCommandMessage *record,
+                                                               struct journal_arena *arena) {
+    struct journal_reader_ reader;
+
+    memset(record, 0, sizeof *record);
+    if (journal_begin_reading_(&reader, JOURNAL_SCHEMA_CLEAR_ALL_STATE_COMMAND, false, payload, payload_length,
+                               arena)) {
+        journal_read_ClearAllStateCommandMessage_(&reader, 0, record);
+    }
+    return journal_end_reading_(&reader, arena, record, sizeof *record);
+}
+
+static inline int64_t journal_write_ClearAllStateCommandMessage(
+    const struct journal_ClearAllStateCommandMessage *record, struct journal_arena *arena, uint8_t *out, size_t room) {
+    struct journal_writer_ writer;
+
+    journal_begin_writing_(&writer, arena);
+    journal_put_ClearAllStateCommandMessage_(&writer, 0, record);
+    return journal_end_writing_(&writer, JOURNAL_SCHEMA_CLEAR_ALL_STATE_COMMAND, arena, out, room);
+}
+
+static inline int64_t journal_read_GetLazyStateKeysCommandMessage(const uint8_t *payload, size_t payload_length,
+                                                                  struct journal_GetLazyStateKeysCommandMessage *record,
+                                                                  struct journal_arena *arena) {
+    struct journal_reader_ reader;
+
+    memset(record, 0, sizeof *record);
+    if (journal_begin_reading_(&reader, JOURNAL_SCHEMA_GET_LAZY_STATE_KEYS_COMMAND, false, payload, payload_length,
+                               arena)) {
+        journal_read_GetLazyStateKeysCommandMessage_(&reader, 0, record);
+    }
+    return journal_end_reading_(&reader, arena, record, sizeof *record);
+}
+
+static inline int64_t journal_write_GetLazyStateKeysCommandMessage(
+    const struct journal_GetLazyStateKeysCommandMessage *record, struct journal_arena *arena, uint8_t *out,
+    size_t room) {
+    struct journal_writer_ writer;
+
+    journal_begin_writing_(&writer, arena);
+    journal_put_GetLazyStateKeysCommandMessage_(&writer, 0, record);
+    return journal_end_writing_(&writer, JOURNAL_SCHEMA_GET_LAZY_STATE_KEYS_COMMAND, arena, out, room);
+}
+
+static inline int64_t journal_read_GetEagerStateCommandMessage(const uint8_t *payload, size_t payload_length,
+                                                               struct journal_GetEagerStateCommandMessage *record,
+                                                               struct journal_arena *arena) {
+    struct journal_reader_ reader;
+
+    memset(record, 0, sizeof *record);
+    if (journal_begin_reading_(&reader, JOURNAL_SCHEMA_GET_EAGER_STATE_COMMAND, false, payload, payload_length,
+                               arena)) {
+        journal_read_GetEagerStateCommandMessage_(&reader, 0, record);
+    }
+    return journal_end_reading_(&reader, arena, record, sizeof *record);
+}
+
+static inline int64_t journal_write_GetEagerStateCommandMessage(
+    const struct journal_GetEagerStateCommandMessage *record, struct journal_arena *arena, uint8_t *out, size_t room) {
+    struct journal_writer_ writer;
+
+    journal_begin_writing_(&writer, arena);
+    journal_put_GetEagerStateCommandMessage_(&writer, 0, record);
+    return journal_end_writing_(&writer, JOURNAL_SCHEMA_GET_EAGER_STATE_COMMAND, arena, out, room);
+}
+
+static inline int64_t journal_read_GetEagerStateKeysCommandMessage(
+    const uint8_t *payload, size_t payload_length, struct journal_GetEagerStateKeysCommandMessage *record,
+    struct journal_arena *arena) {
+    struct journal_reader_ reader;
+
+    memset(record, 0, sizeof *record);
+    if (journal_begin_reading_(&reader, JOURNAL_SCHEMA_GET_EAGER_STATE_KEYS_COMMAND, false, payload, payload_length,
+                               arena)) {
+        journal_read_GetEagerStateKeysCommandMessage_(&reader, 0, record);
+    }
+    return journal_end_reading_(&reader, arena, record, sizeof *record);
+}
+
+static inline int64_t journal_write_GetEagerStateKeysCommandMessage(
+    const struct journal_GetEagerStateKeysCommandMessage *record, struct journal_arena *arena, uint8_t *out,
+    size_t room) {
+    struct journal_writer_ writer;
+
+    journal_begin_writing_(&writer, arena);
+    journal_put_GetEagerStateKeysCommandMessage_(&writer, 0, record);
+    return journal_end_writing_(&writer, JOURNAL_SCHEMA_GET_EAGER_STATE_KEYS_COMMAND, arena, out, room);
+}
+
+static inline int64_t journal_read_GetPromiseCommandMessage(const uint8_t *payload, size_t payload_length,
+                                                            struct journal_GetPromiseCommandMessage *record,
+                                                            struct journal_arena *arena) {
+    struct journal_reader_ reader;
+
+    memset(record, 0, sizeof *record);
+    if (journal_begin_reading_(&reader, JOURNAL_SCHEMA_GET_PROMISE_COMMAND, false, payload, payload_length, arena)) {
+        journal_read_GetPromiseCommandMessage_(&reader, 0, record);
+    }
+    return journal_end_reading_(&reader, arena, record, sizeof *record);
+}
+
+static inline int64_t journal_write_GetPromiseCommandMessage(const struct journal_GetPromiseCommandMessage *record,
+                                                             struct journal_arena *arena, uint8_t *out, size_t room) {
+    struct journal_writer_ writer;
+
+    journal_begin_writing_(&writer, arena);
+    journal_put_GetPromiseCommandMessage_(&writer, 0, record);
+    return journal_end_writing_(&writer, JOURNAL_SCHEMA_GET_PROMISE_COMMAND, arena, out, room);
+}
+
+static inline int64_t journal_read_PeekPromiseCommandMessage(const uint8_t *payload, size_t payload_length,
+                                                             struct journal_PeekPromiseCommandMessage *record,
+                                                             struct journal_arena *arena) {
+    struct journal_reader_ reader;
+
+    memset(record, 0, sizeof *record);
+    if (journal_begin_reading_(&reader, JOURNAL_SCHEMA_PEEK_PROMISE_COMMAND, false, payload, payload_length, arena)) {
+        journal_read_PeekPromiseCommandMessage_(&reader, 0, record);
+    }
+    return journal_end_reading_(&reader, arena, record, sizeof *record);
+}
+
+static inline int64_t journal_write_PeekPromiseCommandMessage(const struct journal_PeekPromiseCommandMessage *record,
+                                                              struct journal_arena *arena, uint8_t *out, size_t room) {
+    struct journal_writer_ writer;
+
+    journal_begin_writing_(&writer, arena);
+    journal_put_PeekPromiseCommandMessage_(&writer, 0, record);
+    return journal_end_writing_(&writer, JOURNAL_SCHEMA_PEEK_PROMISE_COMMAND, arena, out, room);
+}
+
+static inline int64_t journal_read_CompletePromiseCommandMessage(const uint8_t *payload, size_t payload_length,
+                                                                 struct journal_CompletePromiseCommandMessage *record,
+                                                                 struct journal_arena *arena) {
+    struct journal_reader_ reader;
+
+    memset(record, 0, sizeof *record);
+    if (journal_begin_reading_(&reader, JOURNAL_SCHEMA_COMPLETE_PROMISE_COMMAND, false, payload, payload_length,
+                               arena)) {
+        journal_read_CompletePromiseCommandMessage_(&reader, 0, record);
+    }
+    return journal_end_reading_(&reader, arena, record, sizeof *record);
+}
+
+static inline int64_t journal_write_CompletePromiseCommandMessage(
+    const struct journal_CompletePromiseCommandMessage *record, struct journal_arena *arena, uint8_t *out,
+    size_t room) {
+    struct journal_writer_ writer;
+
+    journal_begin_writing_(&writer, arena);
+    journal_put_CompletePromiseCommandMessage_(&writer, 0, record);
+    return journal_end_writing_(&writer, JOURNAL_SCHEMA_COMPLETE_PROMISE_COMMAND, arena, out, room);
+}
+
+static inline int64_t journal_read_SleepCommandMessage(const uint8_t *payload, size_t payload_length,
+                                                       struct journal_SleepCommandMessage *record,
+                                                       struct journal_arena *arena) {
+    struct journal_reader_ reader;
+
+    memset(record, 0, sizeof *record);
+    if (journal_begin_reading_(&reader, JOURNAL_SCHEMA_SLEEP_COMMAND, false, payload, payload_length, arena)) {
+        journal_read_SleepCommandMessage_(&reader, 0, record);
+    }
+    return journal_end_reading_(&reader, arena, record, sizeof *record);
+}
+
+static inline int64_t journal_write_SleepCommandMessage(const struct journal_SleepCommandMessage *record,
+                                                        struct journal_arena *arena, uint8_t *out, size_t room) {
+    struct journal_writer_ writer;
+
+    journal_begin_writing_(&writer, arena);
+    journal_put_SleepCommandMessage_(&writer, 0, record);
+    return journal_end_writing_(&writer, JOURNAL_SCHEMA_SLEEP_COMMAND, arena, out, room);
+}
+
+static inline int64_t journal_read_CallCommandMessage(const uint8_t *payload, size_t payload_length,
+                                                      struct journal_CallCommandMessage *record,
+                                                      struct journal_arena *arena) {
+    struct journal_reader_ reader;
+
+    memset(record, 0, sizeof *record);
+    if (journal_begin_reading_(&reader, JOURNAL_SCHEMA_CALL_COMMAND, false, payload, payload_length, arena)) {
+        journal_read_CallCommandMessage_(&reader, 0, record);
+    }
+    return journal_end_reading_(&reader, arena, record, sizeof *record);
+}
+
+static inline int64_t journal_write_CallCommandMessage(const struct journal_CallCommandMessage *record,
+                                                       struct journal_arena *arena, uint8_t *out, size_t room) {
+    struct journal_writer_ writer;
+
+    journal_begin_writing_(&writer, arena);
+    journal_put_CallCommandMessage_(&writer, 0, record);
+    return journal_end_writing_(&writer, JOURNAL_SCHEMA_CALL_COMMAND, arena, out, room);
+}
+
+static inline int64_t journal_read_OneWayCallCommandMessage(const uint8_t *payload, size_t payload_length,
+                                                            struct journal_OneWayCallCommandMessage *record,
+                                                            struct journal_arena *arena) {
+    struct journal_reader_ reader;
+
+    memset(record, 0, sizeof *record);
+    if (journal_begin_reading_(&reader, JOURNAL_SCHEMA_ONE_WAY_CALL_COMMAND, false, payload, payload_length, arena)) {
+        journal_read_OneWayCallCommandMessage_(&reader, 0, record);
+    }
+    return journal_end_reading_(&reader, arena, record, sizeof *record);
+}
+
+static inline int64_t journal_write_OneWayCallCommandMessage(const struct journal_OneWayCallCommandMessage *record,
+                                                             struct journal_arena *arena, uint8_t *out, size_t room) {
+    struct journal_writer_ writer;
+
+    journal_begin_writing_(&writer, arena);
+    journal_put_OneWayCallCommandMessage_(&writer, 0, record);
+    return journal_end_writing_(&writer, JOURNAL_SCHEMA_ONE_WAY_CALL_COMMAND, arena, out, room);
+}
+
+static inline int64_t journal_read_SendSignalCommandMessage(const uint8_t *payload, size_t payload_length,
+                                                            struct journal_SendSignalCommandMessage *record,
+                                                            struct journal_arena *arena) {
+    struct journal_reader_ reader;
+
+    memset(record, 0, sizeof *record);
+    if (journal_begin_reading_(&reader, JOURNAL_SCHEMA_SEND_SIGNAL_COMMAND, false, payload, payload_length, arena)) {
+        journal_read_SendSignalCommandMessage_(&reader, 0, record);
+    }
+    return journal_end_reading_(&reader, arena, record, sizeof *record);
+}
+
+static inline int64_t journal_write_SendSignalCommandMessage(const struct journal_SendSignalCommandMessage *record,
+                                                             struct journal_arena *arena, uint8_t *out, size_t room) {
+    struct journal_writer_ writer;
+
+    journal_begin_writing_(&writer, arena);
+    journal_put_SendSignalCommandMessage_(&writer, 0, record);
+    return journal_end_writing_(&writer, JOURNAL_SCHEMA_SEND_SIGNAL_COMMAND, arena, out, room);
+}
+
+static inline int64_t journal_read_RunCommandMessage(const uint8_t *payload, size_t payload_length,
+                                                     struct journal_RunCommandMessage *record,
+                                                     struct journal_arena *arena) {
+    struct journal_reader_ reader;
+
+    memset(record, 0, sizeof *record);
+    if (journal_begin_reading_(&reader, JOURNAL_SCHEMA_RUN_COMMAND, false, payload, payload_length, arena)) {
+        journal_read_RunCommandMessage_(&reader, 0, record);
+    }
+    return journal_end_reading_(&reader, arena, record, sizeof *record);
+}
+
+static inline int64_t journal_write_RunCommandMessage(const struct journal_RunCommandMessage *record,
+                                                      struct journal_arena *arena, uint8_t *out, size_t room) {
+    struct journal_writer_ writer;
+
+    journal_begin_writing_(&writer, arena);
+    journal_put_RunCommandMessage_(&writer, 0, record);
+    return journal_end_writing_(&writer, JOURNAL_SCHEMA_RUN_COMMAND, arena, out, room);
+}
+
+static inline int64_t journal_read_AttachInvocationCommandMessage(const uint8_t *payload, size_t payload_length,
+                                                                  struct journal_AttachInvocationCommandMessage *record,
+                                                                  struct journal_arena *arena) {
+    struct journal_reader_ reader;
+
+    memset(record, 0, sizeof *record);
+    if (journal_begin_reading_(&reader, JOURNAL_SCHEMA_ATTACH_INVOCATION_COMMAND, false, payload, payload_length,
+                               arena)) {
+        journal_read_AttachInvocationCommandMessage_(&reader, 0, record);
+    }
+    return journal_end_reading_(&reader, arena, record, sizeof *record);
+}
+
+static inline int64_t journal_write_AttachInvocationCommandMessage(
+    const struct journal_AttachInvocationCommandMessage *record, struct journal_arena *arena, uint8_t *out,
+    size_t room) {
+    struct journal_writer_ writer;
+
+    journal_begin_writing_(&writer, arena);
+    journal_put_AttachInvocationCommandMessage_(&writer, 0, record);
+    return journal_end_writing_(&writer, JOURNAL_SCHEMA_ATTACH_INVOCATION_COMMAND, arena, out, room);
+}
+
+static inline int64_t journal_read_GetInvocationOutputCommandMessage(
+    const uint8_t *payload, size_t payload_length, struct journal_GetInvocationOutputCommandMessage *record,
+    struct journal_arena *arena) {
+    struct journal_reader_ reader;
+
+    memset(record, 0, sizeof *record);
+    if (journal_begin_reading_(&reader, JOURNAL_SCHEMA_GET_INVOCATION_OUTPUT_COMMAND, false, payload, payload_length,
+                               arena)) {
+        journal_read_GetInvocationOutputCommandMessage_(&reader, 0, record);
+    }
+    return journal_end_reading_(&reader, arena, record, sizeof *record);
+}
+
+static inline int64_t journal_write_GetInvocationOutputCommandMessage(
+    const struct journal_GetInvocationOutputCommandMessage *record, struct journal_arena *arena, uint8_t *out,
+    size_t room) {
+    struct journal_writer_ writer;
+
+    journal_begin_writing_(&writer, arena);
+    journal_put_GetInvocationOutputCommandMessage_(&writer, 0, record);
+    return journal_end_writing_(&writer, JOURNAL_SCHEMA_GET_INVOCATION_OUTPUT_COMMAND, arena, out, room);
+}
+
+static inline int64_t journal_read_CompleteAwakeableCommandMessage(
+    const uint8_t *payload, size_t payload_length, struct journal_CompleteAwakeableCommandMessage *record,
+    struct journal_arena *arena) {
+    struct journal_reader_ reader;
+
+    memset(record, 0, sizeof *record);
+    if (journal_begin_reading_(&reader, JOURNAL_SCHEMA_COMPLETE_AWAKEABLE_COMMAND, false, payload, payload_length,
+                               arena)) {
+        journal_read_CompleteAwakeableCommandMessage_(&reader, 0, record);
+    }
+    return journal_end_reading_(&reader, arena, record, sizeof *record);
+}
+
+static inline int64_t journal_write_CompleteAwakeableCommandMessage(
+    const struct journal_CompleteAwakeableCommandMessage *record, struct journal_arena *arena, uint8_t *out,
+    size_t room) {
+    struct journal_writer_ writer;
+
+    journal_begin_writing_(&writer, arena);
+    journal_put_CompleteAwakeableCommandMessage_(&writer, 0, record);
+    return journal_end_writing_(&writer, JOURNAL_SCHEMA_COMPLETE_AWAKEABLE_COMMAND, arena, out, room);
+}
+
+static inline int64_t journal_read_GetLazyStateCompletionNotificationMessage(
+    const uint8_t *payload, size_t payload_length, struct journal_GetLazyStateCompletionNotificationMessage *record,
+    struct journal_arena *arena) {
+    struct journal_reader_ reader;
+
+    memset(record, 0, sizeof *record);
+    if (journal_begin_reading_(&reader, JOURNAL_SCHEMA_GET_LAZY_STATE_COMPLETION_NOTIFICATION, false, payload,
+                               payload_length, arena)) {
+        journal_read_GetLazyStateCompletionNotificationMessage_(&reader, 0, record);
+    }
+    return journal_end_reading_(&reader, arena, record, sizeof *record);
+}
+
+static inline int64_t journal_write_GetLazyStateCompletionNotificationMessage(
+    const struct journal_GetLazyStateCompletionNotificationMessage *record, struct journal_arena *arena, uint8_t *out,
+    size_t room) {
+    struct journal_writer_ writer;
+
+    journal_begin_writing_(&writer, arena);
+    journal_put_GetLazyStateCompletionNotificationMessage_(&writer, 0, record);
+    return journal_end_writing_(&writer, JOURNAL_SCHEMA_GET_LAZY_STATE_COMPLETION_NOTIFICATION, arena, out, room);
+}
+
+static inline int64_t journal_read_GetPromiseCompletionNotificationMessage(
+    const uint8_t *payload, size_t payload_length, struct journal_GetPromiseCompletionNotificationMessage *record,
+    struct journal_arena *arena) {
+    struct journal_reader_ reader;
+
+    memset(record, 0, sizeof *record);
+    if (journal_begin_reading_(&reader, JOURNAL_SCHEMA_GET_PROMISE_COMPLETION_NOTIFICATION, false, payload,
+                               payload_length, arena)) {
+        journal_read_GetPromiseCompletionNotificationMessage_(&reader, 0, record);
+    }
+    return journal_end_reading_(&reader, arena, record, sizeof *record);
+}
+
+static inline int64_t journal_write_GetPromiseCompletionNotificationMessage(
+    const struct journal_GetPromiseCompletionNotificationMessage *record, struct journal_arena *arena, uint8_t *out,
+    size_t room) {
+    struct journal_writer_ writer;
+
+    journal_begin_writing_(&writer, arena);
+    journal_put_GetPromiseCompletionNotificationMessage_(&writer, 0, record);
+    return journal_end_writing_(&writer, JOURNAL_SCHEMA_GET_PROMISE_COMPLETION_NOTIFICATION, arena, out, room);
+}
+
+static inline int64_t journal_read_PeekPromiseCompletionNotificationMessage(
+    const uint8_t *payload, size_t payload_length, struct journal_PeekPromiseCompletionNotificationMessage *record,
+    struct journal_arena *arena) {
+    struct journal_reader_ reader;
+
+    memset(record, 0, sizeof *record);
+    if (journal_begin_reading_(&reader, JOURNAL_SCHEMA_PEEK_PROMISE_COMPLETION_NOTIFICATION, false, payload,
+                               payload_length, arena)) {
+        journal_read_PeekPromiseCompletionNotificationMessage_(&reader, 0, record);
+    }
+    return journal_end_reading_(&reader, arena, record, sizeof *record);
+}
+
+static inline int64_t journal_write_PeekPromiseCompletionNotificationMessage(
+    const struct journal_PeekPromiseCompletionNotificationMessage *record, struct journal_arena *arena, uint8_t *out,
+    size_t room) {
+    struct journal_writer_ writer;
+
+    journal_begin_writing_(&writer, arena);
+    journal_put_PeekPromiseCompletionNotificationMessage_(&writer, 0, record);
+    return journal_end_writing_(&writer, JOURNAL_SCHEMA_PEEK_PROMISE_COMPLETION_NOTIFICATION, arena, out, room);
+}
+
+static inline int64_t journal_read_GetInvocationOutputCompletionNotificationMessage(
+    const uint8_t *payload, size_t payload_length,
+    struct journal_GetInvocationOutputCompletionNotificationMessage *record, struct journal_arena *arena) {
+    struct journal_reader_ reader;
+
+    memset(record, 0, sizeof *record);
+    if (journal_begin_reading_(&reader, JOURNAL_SCHEMA_GET_INVOCATION_OUTPUT_COMPLETION_NOTIFICATION, false, payload,
+                               payload_length, arena)) {
+        journal_read_GetInvocationOutputCompletionNotificationMessage_(&reader, 0, record);
+    }
+    return journal_end_reading_(&reader, arena, record, sizeof *record);
+}
+
+static inline int64_t journal_write_GetInvocationOutputCompletionNotificationMessage(
+    const struct journal_GetInvocationOutputCompletionNotificationMessage *record, struct journal_arena *arena,
+    uint8_t *out, size_t room) {
+    struct journal_writer_ writer;
+
+    journal_begin_writing_(&writer, arena);
+    journal_put_GetInvocationOutputCompletionNotificationMessage_(&writer, 0, record);
+    return journal_end_writing_(&writer, JOURNAL_SCHEMA_GET_INVOCATION_OUTPUT_COMPLETION_NOTIFICATION, arena, out,
+                                room);
+}
+
+static inline int64_t journal_read_CompletePromiseCompletionNotificationMessage(
+    const uint8_t *payload, size_t payload_length, struct journal_CompletePromiseCompletionNotificationMessage *record,
+    struct journal_arena *arena) {
+    struct journal_reader_ reader;
+
+    memset(record, 0, sizeof *record);
+    if (journal_begin_reading_(&reader, JOURNAL_SCHEMA_COMPLETE_PROMISE_COMPLETION_NOTIFICATION, false, payload,
+                               payload_length, arena)) {
+        journal_read_CompletePromiseCompletionNotificationMessage_(&reader, 0, record);
+    }
+    return journal_end_reading_(&reader, arena, record, sizeof *record);
+}
+
+static inline int64_t journal_write_CompletePromiseCompletionNotificationMessage(
+    const struct journal_CompletePromiseCompletionNotificationMessage *record, struct journal_arena *arena,
+    uint8_t *out, size_t room) {
+    struct journal_writer_ writer;
+
+    journal_begin_writing_(&writer, arena);
+    journal_put_CompletePromiseCompletionNotificationMessage_(&writer, 0, record);
+    return journal_end_writing_(&writer, JOURNAL_SCHEMA_COMPLETE_PROMISE_COMPLETION_NOTIFICATION, arena, out, room);
+}
+
+static inline int64_t journal_read_CallCompletionNotificationMessage(
+    const uint8_t *payload, size_t payload_length, struct journal_CallCompletionNotificationMessage *record,
+    struct journal_arena *arena) {
+    struct journal_reader_ reader;
+
+    memset(record, 0, sizeof *record);
+    if (journal_begin_reading_(&reader, JOURNAL_SCHEMA_CALL_COMPLETION_NOTIFICATION, false, payload, payload_length,
+                               arena)) {
+        journal_read_CallCompletionNotificationMessage_(&reader, 0, record);
+    }
+    return journal_end_reading_(&reader, arena, record, sizeof *record);
+}
+
+static inline int64_t journal_write_CallCompletionNotificationMessage(
+    const struct journal_CallCompletionNotificationMessage *record, struct journal_arena *arena, uint8_t *out,
+    size_t room) {
+    struct journal_writer_ writer;
+
+    journal_begin_writing_(&writer, arena);
+    journal_put_CallCompletionNotificationMessage_(&writer, 0, record);
+    return journal_end_writing_(&writer, JOURNAL_SCHEMA_CALL_COMPLETION_NOTIFICATION, arena, out, room);
+}
+
+static inline int64_t journal_read_RunCompletionNotificationMessage(
+    const uint8_t *payload, size_t payload_length, struct journal_RunCompletionNotificationMessage *record,
+    struct journal_arena *arena) {
+    struct journal_reader_ reader;
+
+    memset(record, 0, sizeof *record);
+    if (journal_begin_reading_(&reader, JOURNAL_SCHEMA_RUN_COMPLETION_NOTIFICATION, false, payload, payload_length,
+                               arena)) {
+        journal_read_RunCompletionNotificationMessage_(&reader, 0, record);
+    }
+    return journal_end_reading_(&reader, arena, record, sizeof *record);
+}
+
+static inline int64_t journal_write_RunCompletionNotificationMessage(
+    const struct journal_RunCompletionNotificationMessage *record, struct journal_arena *arena, uint8_t *out,
+    size_t room) {
+    struct journal_writer_ writer;
+
+    journal_begin_writing_(&writer, arena);
+    journal_put_RunCompletionNotificationMessage_(&writer, 0, record);
+    return journal_end_writing_(&writer, JOURNAL_SCHEMA_RUN_COMPLETION_NOTIFICATION, arena, out, room);
+}
+
+static inline int64_t journal_read_AttachInvocationCompletionNotificationMessage(
+    const uint8_t *payload, size_t payload_length, struct journal_AttachInvocationCompletionNotificationMessage *record,
+    struct journal_arena *arena) {
+    struct journal_reader_ reader;
+
+    memset(record, 0, sizeof *record);
+    if (journal_begin_reading_(&reader, JOURNAL_SCHEMA_ATTACH_INVOCATION_COMPLETION_NOTIFICATION, false, payload,
+                               payload_length, arena)) {
+        journal_read_AttachInvocationCompletionNotificationMessage_(&reader, 0, record);
+    }
+    return journal_end_reading_(&reader, arena, record, sizeof *record);
+}
+
+static inline int64_t journal_write_AttachInvocationCompletionNotificationMessage(
+    const struct journal_AttachInvocationCompletionNotificationMessage *record, struct journal_arena *arena,
+    uint8_t *out, size_t room) {
+    struct journal_writer_ writer;
+
+    journal_begin_writing_(&writer, arena);
+    journal_put_AttachInvocationCompletionNotificationMessage_(&writer, 0, record);
+    return journal_end_writing_(&writer, JOURNAL_SCHEMA_ATTACH_INVOCATION_COMPLETION_NOTIFICATION, arena, out, room);
+}
+
+static inline int64_t journal_read_SleepCompletionNotificationMessage(
+    const uint8_t *payload, size_t payload_length, struct journal_SleepCompletionNotificationMessage *record,
+    struct journal_arena *arena) {
+    struct journal_reader_ reader;
+
+    memset(record, 0, sizeof *record);
+    if (journal_begin_reading_(&reader, JOURNAL_SCHEMA_SLEEP_COMPLETION_NOTIFICATION, false, payload, payload_length,
+                               arena)) {
+        journal_read_SleepCompletionNotificationMessage_(&reader, 0, record);
+    }
+    return journal_end_reading_(&reader, arena, record, sizeof *record);
+}
+
+static inline int64_t journal_write_SleepCompletionNotificationMessage(
+    const struct journal_SleepCompletionNotificationMessage *record, struct journal_arena *arena, uint8_t *out,
+    size_t room) {
+    struct journal_writer_ writer;
+
+    journal_begin_writing_(&writer, arena);
+    journal_put_SleepCompletionNotificationMessage_(&writer, 0, record);
+    return journal_end_writing_(&writer, JOURNAL_SCHEMA_SLEEP_COMPLETION_NOTIFICATION, arena, out, room);
+}
+
+static inline int64_t journal_read_GetLazyStateKeysCompletionNotificationMessage(
+    const uint8_t *payload, size_t payload_length, struct journal_GetLazyStateKeysCompletionNotificationMessage *record,
+    struct journal_arena *arena) {
+    struct journal_reader_ reader;
+
+    memset(record, 0, sizeof *record);
+    if (journal_begin_reading_(&reader, JOURNAL_SCHEMA_GET_LAZY_STATE_KEYS_COMPLETION_NOTIFICATION, false, payload,
+                               payload_length, arena)) {
+        journal_read_GetLazyStateKeysCompletionNotificationMessage_(&reader, 0, record);
+    }
+    return journal_end_reading_(&reader, arena, record, sizeof *record);
+}
+
+static inline int64_t journal_write_GetLazyStateKeysCompletionNotificationMessage(
+    const struct journal_GetLazyStateKeysCompletionNotificationMessage *record, struct journal_arena *arena,
+    uint8_t *out, size_t room) {
+    struct journal_writer_ writer;
+
+    journal_begin_writing_(&writer, arena);
+    journal_put_GetLazyStateKeysCompletionNotificationMessage_(&writer, 0, record);
+    return journal_end_writing_(&writer, JOURNAL_SCHEMA_GET_LAZY_STATE_KEYS_COMPLETION_NOTIFICATION, arena, out, room);
+}
+
+static inline int64_t journal_read_CallInvocationIdCompletionNotificationMessage(
+    const uint8_t *payload, size_t payload_length, struct journal_CallInvocationIdCompletionNotificationMessage *record,
+    struct journal_arena *arena) {
+    struct journal_reader_ reader;
+
+    memset(record, 0, sizeof *record);
+    if (journal_begin_reading_(&reader, JOURNAL_SCHEMA_CALL_INVOCATION_ID_COMPLETION_NOTIFICATION, false, payload,
+                               payload_length, arena)) {
+        journal_read_CallInvocationIdCompletionNotificationMessage_(&reader, 0, record);
+    }
+    return journal_end_reading_(&reader, arena, record, sizeof *record);
+}
+
+static inline int64_t journal_write_CallInvocationIdCompletionNotificationMessage(
+    const struct journal_CallInvocationIdCompletionNotificationMessage *record, struct journal_arena *arena,
+    uint8_t *out, size_t room) {
+    struct journal_writer_ writer;
+
+    journal_begin_writing_(&writer, arena);
+    journal_put_CallInvocationIdCompletionNotificationMessage_(&writer, 0, record);
+    return journal_end_writing_(&writer, JOURNAL_SCHEMA_CALL_INVOCATION_ID_COMPLETION_NOTIFICATION, arena, out, room);
+}
+
+static inline int64_t journal_read_SignalNotificationMessage(const uint8_t *payload, size_t payload_length,
+                                                             struct journal_SignalNotificationMessage *record,
+                                                             struct journal_arena *arena) {
+    struct journal_reader_ reader;
+
+    memset(record, 0, sizeof *record);
+    if (journal_begin_reading_(&reader, JOURNAL_SCHEMA_SIGNAL_NOTIFICATION, false, payload, payload_length, arena)) {
+        journal_read_SignalNotificationMessage_(&reader, 0, record);
+    }
+    return journal_end_reading_(&reader, arena, record, sizeof *record);
+}
+
+static inline int64_t journal_write_SignalNotificationMessage(const struct journal_SignalNotificationMessage *record,
+                                                              struct journal_arena *arena, uint8_t *out, size_t room) {
+    struct journal_writer_ writer;
+
+    journal_begin_writing_(&writer, arena);
+    journal_put_SignalNotificationMessage_(&writer, 0, record);
+    return journal_end_writing_(&writer, JOURNAL_SCHEMA_SIGNAL_NOTIFICATION, arena, out, room);
+}
+
+static inline int64_t journal_read_NotificationTemplate(const uint8_t *payload, size_t payload_length,
+                                                        struct journal_NotificationTemplate *record,
+                                                        struct journal_arena *arena) {
+    struct journal_reader_ reader;
+
+    memset(record, 0, sizeof *record);
+    if (journal_begin_reading_(&reader, JOURNAL_SCHEMA_NOTIFICATION_TEMPLATE, false, payload, payload_length, arena)) {
+        journal_read_NotificationTemplate_(&reader, 0, record);
+    }
+    return journal_end_reading_(&reader, arena, record, sizeof *record);
+}
+
+static inline int64_t journal_write_NotificationTemplate(const struct journal_NotificationTemplate *record,
+                                                         struct journal_arena *arena, uint8_t *out, size_t room) {
+    struct journal_writer_ writer;
+
+    journal_begin_writing_(&writer, arena);
+    journal_put_NotificationTemplate_(&writer, 0, record);
+    return journal_end_writing_(&writer, JOURNAL_SCHEMA_NOTIFICATION_TEMPLATE, arena, out, room);
+}
+
+/* Each record, with the name of its schema but for JOURNAL_SCHEMA_. */
+#define JOURNAL_EACH_RECORD_(each) \
+    each(Void, VOID) \
+    each(Value, VALUE) \
+    each(Failure, FAILURE) \
+    each(FailureMetadata, FAILURE_METADATA) \
+    each(Header, HEADER) \
+    each(StateKeys, STATE_KEYS) \
+    each(StateEntry, STATE_ENTRY) \
+    each(Future, FUTURE) \
+    each(WorkflowTarget, WORKFLOW_TARGET) \
+    each(IdempotentRequestTarget, IDEMPOTENT_REQUEST_TARGET) \
+    each(StartMessage, START) \
+    each(SuspensionMessage, SUSPENSION) \
+    each(SuspensionMessageV6, SUSPENSION_V6) \
+    each(ErrorMessage, ERROR) \
+    each(EndMessage, END) \
+    each(ProposeRunCompletionMessage, PROPOSE_RUN_COMPLETION) \
+    each(AwaitingOnMessage, AWAITING_ON) \
+    each(ProposeRunCompletionAckMessage, PROPOSE_RUN_COMPLETION_ACK) \
+    each(GetStateEphemeralCommandMessage, GET_STATE_EPHEMERAL_COMMAND) \
+    each(GetStateEphemeralNotificationMessage, GET_STATE_EPHEMERAL_NOTIFICATION) \
+    each(InputCommandMessage, INPUT_COMMAND) \
+    each(OutputCommandMessage, OUTPUT_COMMAND) \
+    each(GetLazyStateCommandMessage, GET_LAZY_STATE_COMMAND) \
+    each(SetStateCommandMessage, SET_STATE_COMMAND) \
+    each(ClearStateCommandMessage, CLEAR_STATE_COMMAND) \
+    each(ClearAllStateCommandMessage, CLEAR_ALL_STATE_COMMAND) \
+    each(GetLazyStateKeysCommandMessage, GET_LAZY_STATE_KEYS_COMMAND) \
+    each(GetEagerStateCommandMessage, GET_EAGER_STATE_COMMAND) \
+    each(GetEagerStateKeysCommandMessage, GET_EAGER_STATE_KEYS_COMMAND) \
+    each(GetPromiseCommandMessage, GET_PROMISE_COMMAND) \
+    each(PeekPromiseCommandMessage, PEEK_PROMISE_COMMAND) \
+    each(CompletePromiseCommandMessage, COMPLETE_PROMISE_COMMAND) \
+    each(SleepCommandMessage, SLEEP_COMMAND) \
+    each(CallCommandMessage, CALL_COMMAND) \
+    each(OneWayCallCommandMessage, ONE_WAY_CALL_COMMAND) \
+    each(SendSignalCommandMessage, SEND_SIGNAL_COMMAND) \
+    each(RunCommandMessage, RUN_COMMAND) \
+    each(AttachInvocationCommandMessage, ATTACH_INVOCATION_COMMAND) \
+    each(GetInvocationOutputCommandMessage, GET_INVOCATION_OUTPUT_COMMAND) \
+    each(CompleteAwakeableCommandMessage, COMPLETE_AWAKEABLE_COMMAND) \
+    each(GetLazyStateCompletionNotificationMessage, GET_LAZY_STATE_COMPLETION_NOTIFICATION) \
+    each(GetPromiseCompletionNotificationMessage, GET_PROMISE_COMPLETION_NOTIFICATION) \
+    each(PeekPromiseCompletionNotificationMessage, PEEK_PROMISE_COMPLETION_NOTIFICATION) \
+    each(GetInvocationOutputCompletionNotificationMessage, GET_INVOCATION_OUTPUT_COMPLETION_NOTIFICATION) \
+    each(CompletePromiseCompletionNotificationMessage, COMPLETE_PROMISE_COMPLETION_NOTIFICATION) \
+    each(CallCompletionNotificationMessage, CALL_COMPLETION_NOTIFICATION) \
+    each(RunCompletionNotificationMessage, RUN_COMPLETION_NOTIFICATION) \
+    each(AttachInvocationCompletionNotificationMessage, ATTACH_INVOCATION_COMPLETION_NOTIFICATION) \
+    each(SleepCompletionNotificationMessage, SLEEP_COMPLETION_NOTIFICATION) \
+    each(GetLazyStateKeysCompletionNotificationMessage, GET_LAZY_STATE_KEYS_COMPLETION_NOTIFICATION) \
+    each(CallInvocationIdCompletionNotificationMessage, CALL_INVOCATION_ID_COMPLETION_NOTIFICATION) \
+    each(SignalNotificationMessage, SIGNAL_NOTIFICATION) \
+    each(NotificationTemplate, NOTIFICATION_TEMPLATE)
+
+#define JOURNAL_READ_CASE_(name, schema) \
+    case JOURNAL_SCHEMA_##schema: \
+        return journal_read_##name(payload, payload_length, (struct journal_##name *)record, arena);
+#define JOURNAL_WRITE_CASE_(name, schema) \
+    case JOURNAL_SCHEMA_##schema: \
+        return journal_write_##name((const struct journal_##name *)record, arena, out, room);
 
 /*
  * Reads the record of a schema from a payload into its struct, whose bytes are all 0 before: what journal_read_NAME
@@ -1576,175 +5001,11 @@ static inline int64_t journal_read_canonical_(uint32_t schema, const uint8_t *pa
  */
 static inline int64_t journal_read_record(uint32_t schema, const uint8_t *payload, size_t payload_length,
                                           void *record, struct journal_arena *arena) {
-    size_t left = arena->left;
-    int64_t result;
-
-    if (schema >= JOURNAL_SCHEMAS) {
+    switch (schema) {
+        JOURNAL_EACH_RECORD_(JOURNAL_READ_CASE_)
+    default:
         return JOURNAL_UNKNOWN_SCHEMA;
     }
-    result = journal_read_canonical_(schema, payload, payload_length, record, arena);
-    if (result != JOURNAL_NOT_CANONICAL) {
-        return result;
-    }
-    result = journal_canonical(schema, payload, payload_length, arena->memory, left);
-    if (result < 0) {
-        return result;
-    }
-    if ((uint64_t)result > left) {
-        return journal_lacks_(arena, (size_t)result);
-    }
-    payload_length = (size_t)result;
-    arena->left -= payload_length;
-    if (payload_length > 0) {
-        memmove(arena->memory + arena->left, arena->memory, payload_length);
-    }
-    result = journal_read_canonical_(schema, payload_length == 0 ? NULL : arena->memory + arena->left, payload_length,
-                                     record, arena);
-    if (result < 0) {
-        arena->left = left;
-    }
-    return result;
-}
-
-/*
- * Writing.
- */
-
-/* Where the next entry is written, and up to where there is room; how many entries there is no room for; how many bytes
-   the slices have, and whether all of them are within the source. */
-struct journal_writer_ {
-    struct journal_field *next;
-    struct journal_field *end;
-    size_t missing;
-    size_t bytes;
-    uintptr_t source;
-    size_t source_length;
-    bool is_within;
-};
-
-/* Appends an entry, if there is room. */
-static inline void journal_append_(struct journal_writer_ *writer, uint64_t level, const struct journal_member_ *member,
-                                   uint64_t value, uint64_t offset, uint64_t length) {
-    struct journal_field *field = writer->next;
-
-    if (field == writer->end) {
-        writer->missing++;
-        return;
-    }
-    field->level = level;
-    field->number = member->number;
-    field->kind = member->kind;
-    field->value = value;
-    field->offset = offset;
-    field->length = length;
-    writer->next = field + 1;
-}
-
-/* Appends the entry of a slice, with its offset from the source, wherever it is. */
-static inline void journal_append_slice_(struct journal_writer_ *writer, uint64_t level,
-                                         const struct journal_member_ *member, const struct journal_slice *slice) {
-    uintptr_t offset = slice->length == 0 ? 0 : (uintptr_t)slice->at - writer->source;
-
-    if (slice->length > 0 &&
-        (offset > writer->source_length || slice->length > writer->source_length - (size_t)offset)) {
-        writer->is_within = false;
-    }
-    writer->bytes += slice->length;
-    journal_append_(writer, level, member, 0, offset, slice->length);
-}
-
-static inline void journal_write_fields_(struct journal_writer_ *writer, uint64_t level, uint32_t schema,
-                                         const uint8_t *record);
-
-/* Appends the entry of a value, unless it is the default of a plain field, and of a message those within it. */
-static inline void journal_write_value_(struct journal_writer_ *writer, uint64_t level,
-                                        const struct journal_member_ *member, const uint8_t *place) {
-    uint64_t value;
-
-    switch (member->kind) {
-    case JOURNAL_FIELD_UINT32:
-        value = *(const uint32_t *)(const void *)place;
-        break;
-    case JOURNAL_FIELD_UINT64:
-        value = *(const uint64_t *)(const void *)place;
-        break;
-    case JOURNAL_FIELD_BOOL:
-        value = *(const bool *)(const void *)place;
-        break;
-    case JOURNAL_FIELD_ENUM:
-        value = (uint64_t)(int64_t) * (const int32_t *)(const void *)place;
-        break;
-    case JOURNAL_FIELD_MESSAGE:
-        journal_append_(writer, level, member, member->schema, 0, 0);
-        /* one that is too deep is rejected for that, whatever it holds */
-        if (level < JOURNAL_LEVELS_) {
-            journal_write_fields_(writer, level + 1, member->schema, place);
-        }
-        return;
-    default:
-        if (member->shape != JOURNAL_PLAIN_ || ((const struct journal_slice *)(const void *)place)->length > 0) {
-            journal_append_slice_(writer, level, member, (const struct journal_slice *)(const void *)place);
-        }
-        return;
-    }
-    if (member->shape != JOURNAL_PLAIN_ || value != 0) {
-        journal_append_(writer, level, member, value, 0, 0);
-    }
-}
-
-/* Appends the entries of a record's fields, which are at a level. */
-static inline void journal_write_fields_(struct journal_writer_ *writer, uint64_t level, uint32_t schema,
-                                         const uint8_t *record) {
-    const struct journal_member_ *member = &journal_members_[journal_records_[schema].first];
-    const struct journal_member_ *end = member + journal_records_[schema].count;
-
-    for (; member != end; member++) {
-        const uint8_t *elements;
-        size_t count, size;
-        uint32_t number;
-
-        switch (member->shape) {
-        case JOURNAL_REPEATED_:
-            memcpy(&elements, record + member->offset, sizeof elements);
-            memcpy(&count, record + member->presence, sizeof count);
-            size = journal_size_of_(member);
-            for (size_t i = 0; i < count; i++) {
-                journal_write_value_(writer, level, member, elements + i * size);
-            }
-            continue;
-        case JOURNAL_OPTIONAL_:
-            if (!*(const bool *)(const void *)(record + member->presence)) {
-                continue;
-            }
-            break;
-        case JOURNAL_MEMBER_:
-            memcpy(&number, record + member->presence, sizeof number);
-            if (number != member->number) {
-                continue;
-            }
-            break;
-        default:
-            break;
-        }
-        journal_write_value_(writer, level, member, record + member->offset);
-    }
-}
-
-/* Copies the slices of a table to after it. */
-static inline uint8_t *journal_copy_slices_(const struct journal_writer_ *writer, struct journal_field *field) {
-    uint8_t *copied = (uint8_t *)writer->next;
-    size_t length = 0;
-
-    for (; field != writer->next; field++) {
-        if (field->length > 0) {
-            const uint8_t *slice = (const uint8_t *)(writer->source + (uintptr_t)field->offset);
-
-            memcpy(copied + length, slice, (size_t)field->length);
-            field->offset = length;
-            length += (size_t)field->length;
-        }
-    }
-    return copied;
 }
 
 /*
@@ -1757,705 +5018,11 @@ static inline uint8_t *journal_copy_slices_(const struct journal_writer_ *writer
  */
 static inline int64_t journal_write_record(uint32_t schema, const void *record, struct journal_arena *arena,
                                            uint8_t *out, size_t room) {
-    struct journal_field *fields = journal_table_(arena);
-    struct journal_writer_ writer;
-    struct journal_writing writing = {JOURNAL_WRITTEN, 0};
-    const uint8_t *bytes = arena->source;
-    size_t length = arena->source_length, count, needed;
-    int64_t result;
-
-    if (schema >= JOURNAL_SCHEMAS) {
+    switch (schema) {
+        JOURNAL_EACH_RECORD_(JOURNAL_WRITE_CASE_)
+    default:
         return JOURNAL_UNKNOWN_SCHEMA;
     }
-    writer.next = fields;
-    writer.end = fields == NULL ? NULL : fields + journal_table_room_(arena);
-    writer.missing = 0;
-    writer.bytes = 0;
-    writer.source = (uintptr_t)arena->source;
-    writer.source_length = arena->source_length;
-    writer.is_within = true;
-    journal_write_fields_(&writer, 0, schema, (const uint8_t *)record);
-    count = (fields == NULL ? 0 : (size_t)(writer.next - fields)) + writer.missing;
-    needed = journal_unaligned_(arena) + count * sizeof *fields + (writer.is_within ? 0 : writer.bytes);
-    if (count > 0 && needed > arena->left) {
-        return journal_lacks_(arena, needed);
-    }
-    if (!writer.is_within) {
-        bytes = journal_copy_slices_(&writer, fields);
-        length = writer.bytes;
-    }
-    result = journal_payload_of_fields(schema, fields, count, bytes, length, &writing, JOURNAL_WRITING_NUMBERS, out,
-                                       room);
-    if (result < 0 || writing.kind == JOURNAL_WRITTEN) {
-        return result;
-    }
-    arena->rejected_kind = (uint32_t)writing.kind;
-    arena->rejected_schema = schema;
-    arena->rejected_number = (uint32_t)fields[writing.index].number;
-    for (size_t i = (size_t)writing.index; i > 0; i--) {
-        if (fields[i - 1].level < fields[writing.index].level) {
-            arena->rejected_schema = (uint32_t)fields[i - 1].value;
-            break;
-        }
-    }
-    return JOURNAL_MALFORMED;
-}
-
-/*
- * Each record, read and written: journal_read_record and journal_write_record with its schema and its struct.
- */
-
-static inline int64_t journal_read_Void(const uint8_t *payload, size_t payload_length, struct journal_Void *record,
-                                        struct journal_arena *arena) {
-    memset(record, 0, sizeof *record);
-    return journal_read_record(JOURNAL_SCHEMA_VOID, payload, payload_length, record, arena);
-}
-
-static inline int64_t journal_write_Void(const struct journal_Void *record, struct journal_arena *arena, uint8_t *out,
-                                         size_t room) {
-    return journal_write_record(JOURNAL_SCHEMA_VOID, record, arena, out, room);
-}
-
-static inline int64_t journal_read_Value(const uint8_t *payload, size_t payload_length, struct journal_Value *record,
-                                         struct journal_arena *arena) {
-    memset(record, 0, sizeof *record);
-    return journal_read_record(JOURNAL_SCHEMA_VALUE, payload, payload_length, record, arena);
-}
-
-static inline int64_t journal_write_Value(const struct journal_Value *record, struct journal_arena *arena, uint8_t *out,
-                                          size_t room) {
-    return journal_write_record(JOURNAL_SCHEMA_VALUE, record, arena, out, room);
-}
-
-static inline int64_t journal_read_Failure(const uint8_t *payload, size_t payload_length,
-                                           struct journal_Failure *record, struct journal_arena *arena) {
-    memset(record, 0, sizeof *record);
-    return journal_read_record(JOURNAL_SCHEMA_FAILURE, payload, payload_length, record, arena);
-}
-
-static inline int64_t journal_write_Failure(const struct journal_Failure *record, struct journal_arena *arena,
-                                            uint8_t *out, size_t room) {
-    return journal_write_record(JOURNAL_SCHEMA_FAILURE, record, arena, out, room);
-}
-
-static inline int64_t journal_read_FailureMetadata(const uint8_t *payload, size_t payload_length,
-                                                   struct journal_FailureMetadata *record,
-                                                   struct journal_arena *arena) {
-    memset(record, 0, sizeof *record);
-    return journal_read_record(JOURNAL_SCHEMA_FAILURE_METADATA, payload, payload_length, record, arena);
-}
-
-static inline int64_t journal_write_FailureMetadata(const struct journal_FailureMetadata *record,
-                                                    struct journal_arena *arena, uint8_t *out, size_t room) {
-    return journal_write_record(JOURNAL_SCHEMA_FAILURE_METADATA, record, arena, out, room);
-}
-
-static inline int64_t journal_read_Header(const uint8_t *payload, size_t payload_length, struct journal_Header *record,
-                                          struct journal_arena *arena) {
-    memset(record, 0, sizeof *record);
-    return journal_read_record(JOURNAL_SCHEMA_HEADER, payload, payload_length, record, arena);
-}
-
-static inline int64_t journal_write_Header(const struct journal_Header *record, struct journal_arena *arena,
-                                           uint8_t *out, size_t room) {
-    return journal_write_record(JOURNAL_SCHEMA_HEADER, record, arena, out, room);
-}
-
-static inline int64_t journal_read_StateKeys(const uint8_t *payload, size_t payload_length,
-                                             struct journal_StateKeys *record, struct journal_arena *arena) {
-    memset(record, 0, sizeof *record);
-    return journal_read_record(JOURNAL_SCHEMA_STATE_KEYS, payload, payload_length, record, arena);
-}
-
-static inline int64_t journal_write_StateKeys(const struct journal_StateKeys *record, struct journal_arena *arena,
-                                              uint8_t *out, size_t room) {
-    return journal_write_record(JOURNAL_SCHEMA_STATE_KEYS, record, arena, out, room);
-}
-
-static inline int64_t journal_read_StateEntry(const uint8_t *payload, size_t payload_length,
-                                              struct journal_StateEntry *record, struct journal_arena *arena) {
-    memset(record, 0, sizeof *record);
-    return journal_read_record(JOURNAL_SCHEMA_STATE_ENTRY, payload, payload_length, record, arena);
-}
-
-static inline int64_t journal_write_StateEntry(const struct journal_StateEntry *record, struct journal_arena *arena,
-                                               uint8_t *out, size_t room) {
-    return journal_write_record(JOURNAL_SCHEMA_STATE_ENTRY, record, arena, out, room);
-}
-
-static inline int64_t journal_read_Future(const uint8_t *payload, size_t payload_length, struct journal_Future *record,
-                                          struct journal_arena *arena) {
-    memset(record, 0, sizeof *record);
-    return journal_read_record(JOURNAL_SCHEMA_FUTURE, payload, payload_length, record, arena);
-}
-
-static inline int64_t journal_write_Future(const struct journal_Future *record, struct journal_arena *arena,
-                                           uint8_t *out, size_t room) {
-    return journal_write_record(JOURNAL_SCHEMA_FUTURE, record, arena, out, room);
-}
-
-static inline int64_t journal_read_WorkflowTarget(const uint8_t *payload, size_t payload_length,
-                                                  struct journal_WorkflowTarget *record, struct journal_arena *arena) {
-    memset(record, 0, sizeof *record);
-    return journal_read_record(JOURNAL_SCHEMA_WORKFLOW_TARGET, payload, payload_length, record, arena);
-}
-
-static inline int64_t journal_write_WorkflowTarget(const struct journal_WorkflowTarget *record,
-                                                   struct journal_arena *arena, uint8_t *out, size_t room) {
-    return journal_write_record(JOURNAL_SCHEMA_WORKFLOW_TARGET, record, arena, out, room);
-}
-
-static inline int64_t journal_read_IdempotentRequestTarget(const uint8_t *payload, size_t payload_length,
-                                                           struct journal_IdempotentRequestTarget *record,
-                                                           struct journal_arena *arena) {
-    memset(record, 0, sizeof *record);
-    return journal_read_record(JOURNAL_SCHEMA_IDEMPOTENT_REQUEST_TARGET, payload, payload_length, record, arena);
-}
-
-static inline int64_t journal_write_IdempotentRequestTarget(const struct journal_IdempotentRequestTarget *record,
-                                                            struct journal_arena *arena, uint8_t *out, size_t room) {
-    return journal_write_record(JOURNAL_SCHEMA_IDEMPOTENT_REQUEST_TARGET, record, arena, out, room);
-}
-
-static inline int64_t journal_read_StartMessage(const uint8_t *payload, size_t payload_length,
-                                                struct journal_StartMessage *record, struct journal_arena *arena) {
-    memset(record, 0, sizeof *record);
-    return journal_read_record(JOURNAL_SCHEMA_START, payload, payload_length, record, arena);
-}
-
-static inline int64_t journal_write_StartMessage(const struct journal_StartMessage *record, struct journal_arena *arena,
-                                                 uint8_t *out, size_t room) {
-    return journal_write_record(JOURNAL_SCHEMA_START, record, arena, out, room);
-}
-
-static inline int64_t journal_read_SuspensionMessage(const uint8_t *payload, size_t payload_length,
-                                                     struct journal_SuspensionMessage *record,
-                                                     struct journal_arena *arena) {
-    memset(record, 0, sizeof *record);
-    return journal_read_record(JOURNAL_SCHEMA_SUSPENSION, payload, payload_length, record, arena);
-}
-
-static inline int64_t journal_write_SuspensionMessage(const struct journal_SuspensionMessage *record,
-                                                      struct journal_arena *arena, uint8_t *out, size_t room) {
-    return journal_write_record(JOURNAL_SCHEMA_SUSPENSION, record, arena, out, room);
-}
-
-static inline int64_t journal_read_SuspensionMessageV6(const uint8_t *payload, size_t payload_length,
-                                                       struct journal_SuspensionMessageV6 *record,
-                                                       struct journal_arena *arena) {
-    memset(record, 0, sizeof *record);
-    return journal_read_record(JOURNAL_SCHEMA_SUSPENSION_V6, payload, payload_length, record, arena);
-}
-
-static inline int64_t journal_write_SuspensionMessageV6(const struct journal_SuspensionMessageV6 *record,
-                                                        struct journal_arena *arena, uint8_t *out, size_t room) {
-    return journal_write_record(JOURNAL_SCHEMA_SUSPENSION_V6, record, arena, out, room);
-}
-
-static inline int64_t journal_read_ErrorMessage(const uint8_t *payload, size_t payload_length,
-                                                struct journal_ErrorMessage *record, struct journal_arena *arena) {
-    memset(record, 0, sizeof *record);
-    return journal_read_record(JOURNAL_SCHEMA_ERROR, payload, payload_length, record, arena);
-}
-
-static inline int64_t journal_write_ErrorMessage(const struct journal_ErrorMessage *record, struct journal_arena *arena,
-                                                 uint8_t *out, size_t room) {
-    return journal_write_record(JOURNAL_SCHEMA_ERROR, record, arena, out, room);
-}
-
-static inline int64_t journal_read_EndMessage(const uint8_t *payload, size_t payload_length,
-                                              struct journal_EndMessage *record, struct journal_arena *arena) {
-    memset(record, 0, sizeof *record);
-    return journal_read_record(JOURNAL_SCHEMA_END, payload, payload_length, record, arena);
-}
-
-static inline int64_t journal_write_EndMessage(const struct journal_EndMessage *record, struct journal_arena *arena,
-                                               uint8_t *out, size_t room) {
-    return journal_write_record(JOURNAL_SCHEMA_END, record, arena, out, room);
-}
-
-static inline int64_t journal_read_ProposeRunCompletionMessage(const uint8_t *payload, size_t payload_length,
-                                                               struct journal_ProposeRunCompletionMessage *record,
-                                                               struct journal_arena *arena) {
-    memset(record, 0, sizeof *record);
-    return journal_read_record(JOURNAL_SCHEMA_PROPOSE_RUN_COMPLETION, payload, payload_length, record, arena);
-}
-
-static inline int64_t journal_write_ProposeRunCompletionMessage(
-    const struct journal_ProposeRunCompletionMessage *record, struct journal_arena *arena, uint8_t *out, size_t room) {
-    return journal_write_record(JOURNAL_SCHEMA_PROPOSE_RUN_COMPLETION, record, arena, out, room);
-}
-
-static inline int64_t journal_read_AwaitingOnMessage(const uint8_t *payload, size_t payload_length,
-                                                     struct journal_AwaitingOnMessage *record,
-                                                     struct journal_arena *arena) {
-    memset(record, 0, sizeof *record);
-    return journal_read_record(JOURNAL_SCHEMA_AWAITING_ON, payload, payload_length, record, arena);
-}
-
-static inline int64_t journal_write_AwaitingOnMessage(const struct journal_AwaitingOnMessage *record,
-                                                      struct journal_arena *arena, uint8_t *out, size_t room) {
-    return journal_write_record(JOURNAL_SCHEMA_AWAITING_ON, record, arena, out, room);
-}
-
-static inline int64_t journal_read_ProposeRunCompletionAckMessage(const uint8_t *payload, size_t payload_length,
-                                                                  struct journal_ProposeRunCompletionAckMessage *record,
-                                                                  struct journal_arena *arena) {
-    memset(record, 0, sizeof *record);
-    return journal_read_record(JOURNAL_SCHEMA_PROPOSE_RUN_COMPLETION_ACK, payload, payload_length, record, arena);
-}
-
-static inline int64_t journal_write_ProposeRunCompletionAckMessage(
-    const struct journal_ProposeRunCompletionAckMessage *record, struct journal_arena *arena, uint8_t *out,
-    size_t room) {
-    return journal_write_record(JOURNAL_SCHEMA_PROPOSE_RUN_COMPLETION_ACK, record, arena, out, room);
-}
-
-static inline int64_t journal_read_GetStateEphemeralCommandMessage(
-    const uint8_t *payload, size_t payload_length, struct journal_GetStateEphemeralCommandMessage *record,
-    struct journal_arena *arena) {
-    memset(record, 0, sizeof *record);
-    return journal_read_record(JOURNAL_SCHEMA_GET_STATE_EPHEMERAL_COMMAND, payload, payload_length, record, arena);
-}
-
-static inline int64_t journal_write_GetStateEphemeralCommandMessage(
-    const struct journal_GetStateEphemeralCommandMessage *record, struct journal_arena *arena, uint8_t *out,
-    size_t room) {
-    return journal_write_record(JOURNAL_SCHEMA_GET_STATE_EPHEMERAL_COMMAND, record, arena, out, room);
-}
-
-static inline int64_t journal_read_GetStateEphemeralNotificationMessage(
-    const uint8_t *payload, size_t payload_length, struct journal_GetStateEphemeralNotificationMessage *record,
-    struct journal_arena *arena) {
-    memset(record, 0, sizeof *record);
-    return journal_read_record(JOURNAL_SCHEMA_GET_STATE_EPHEMERAL_NOTIFICATION, payload, payload_length, record, arena);
-}
-
-static inline int64_t journal_write_GetStateEphemeralNotificationMessage(
-    const struct journal_GetStateEphemeralNotificationMessage *record, struct journal_arena *arena, uint8_t *out,
-    size_t room) {
-    return journal_write_record(JOURNAL_SCHEMA_GET_STATE_EPHEMERAL_NOTIFICATION, record, arena, out, room);
-}
-
-static inline int64_t journal_read_InputCommandMessage(const uint8_t *payload, size_t payload_length,
-                                                       struct journal_InputCommandMessage *record,
-                                                       struct journal_arena *arena) {
-    memset(record, 0, sizeof *record);
-    return journal_read_record(JOURNAL_SCHEMA_INPUT_COMMAND, payload, payload_length, record, arena);
-}
-
-static inline int64_t journal_write_InputCommandMessage(const struct journal_InputCommandMessage *record,
-                                                        struct journal_arena *arena, uint8_t *out, size_t room) {
-    return journal_write_record(JOURNAL_SCHEMA_INPUT_COMMAND, record, arena, out, room);
-}
-
-static inline int64_t journal_read_OutputCommandMessage(const uint8_t *payload, size_t payload_length,
-                                                        struct journal_OutputCommandMessage *record,
-                                                        struct journal_arena *arena) {
-    memset(record, 0, sizeof *record);
-    return journal_read_record(JOURNAL_SCHEMA_OUTPUT_COMMAND, payload, payload_length, record, arena);
-}
-
-static inline int64_t journal_write_OutputCommandMessage(const struct journal_OutputCommandMessage *record,
-                                                         struct journal_arena *arena, uint8_t *out, size_t room) {
-    return journal_write_record(JOURNAL_SCHEMA_OUTPUT_COMMAND, record, arena, out, room);
-}
-
-static inline int64_t journal_read_GetLazyStateCommandMessage(const uint8_t *payload, size_t payload_length,
-                                                              struct journal_GetLazyStateCommandMessage *record,
-                                                              struct journal_arena *arena) {
-    memset(record, 0, sizeof *record);
-    return journal_read_record(JOURNAL_SCHEMA_GET_LAZY_STATE_COMMAND, payload, payload_length, record, arena);
-}
-
-static inline int64_t journal_write_GetLazyStateCommandMessage(const struct journal_GetLazyStateCommandMessage *record,
-                                                               struct journal_arena *arena, uint8_t *out, size_t room) {
-    return journal_write_record(JOURNAL_SCHEMA_GET_LAZY_STATE_COMMAND, record, arena, out, room);
-}
-
-static inline int64_t journal_read_SetStateCommandMessage(const uint8_t *payload, size_t payload_length,
-                                                          struct journal_SetStateCommandMessage *record,
-                                                          struct journal_arena *arena) {
-    memset(record, 0, sizeof *record);
-    return journal_read_record(JOURNAL_SCHEMA_SET_STATE_COMMAND, payload, payload_length, record, arena);
-}
-
-static inline int64_t journal_write_SetStateCommandMessage(const struct journal_SetStateCommandMessage *record,
-                                                           struct journal_arena *arena, uint8_t *out, size_t room) {
-    return journal_write_record(JOURNAL_SCHEMA_SET_STATE_COMMAND, record, arena, out, room);
-}
-
-static inline int64_t journal_read_ClearStateCommandMessage(const uint8_t *payload, size_t payload_length,
-                                                            struct journal_ClearStateCommandMessage *record,
-                                                            struct journal_arena *arena) {
-    memset(record, 0, sizeof *record);
-    return journal_read_record(JOURNAL_SCHEMA_CLEAR_STATE_COMMAND, payload, payload_length, record, arena);
-}
-
-static inline int64_t journal_write_ClearStateCommandMessage(const struct journal_ClearStateCommandMessage *record,
-                                                             struct journal_arena *arena, uint8_t *out, size_t room) {
-    return journal_write_record(JOURNAL_SCHEMA_CLEAR_STATE_COMMAND, record, arena, out, room);
-}
-
-static inline int64_t journal_read_ClearAllStateCommandMessage(const uint8_t *payload, size_t payload_length,
-                                                               struct journal_ClearAllStateCommandMessage *record,
-                                                               struct journal_arena *arena) {
-    memset(record, 0, sizeof *record);
-    return journal_read_record(JOURNAL_SCHEMA_CLEAR_ALL_STATE_COMMAND, payload, payload_length, record, arena);
-}
-
-static inline int64_t journal_write_ClearAllStateCommandMessage(
-    const struct journal_ClearAllStateCommandMessage *record, struct journal_arena *arena, uint8_t *out, size_t room) {
-    return journal_write_record(JOURNAL_SCHEMA_CLEAR_ALL_STATE_COMMAND, record, arena, out, room);
-}
-
-static inline int64_t journal_read_GetLazyStateKeysCommandMessage(const uint8_t *payload, size_t payload_length,
-                                                                  struct journal_GetLazyStateKeysCommandMessage *record,
-                                                                  struct journal_arena *arena) {
-    memset(record, 0, sizeof *record);
-    return journal_read_record(JOURNAL_SCHEMA_GET_LAZY_STATE_KEYS_COMMAND, payload, payload_length, record, arena);
-}
-
-static inline int64_t journal_write_GetLazyStateKeysCommandMessage(
-    const struct journal_GetLazyStateKeysCommandMessage *record, struct journal_arena *arena, uint8_t *out,
-    size_t room) {
-    return journal_write_record(JOURNAL_SCHEMA_GET_LAZY_STATE_KEYS_COMMAND, record, arena, out, room);
-}
-
-static inline int64_t journal_read_GetEagerStateCommandMessage(const uint8_t *payload, size_t payload_length,
-                                                               struct journal_GetEagerStateCommandMessage *record,
-                                                               struct journal_arena *arena) {
-    memset(record, 0, sizeof *record);
-    return journal_read_record(JOURNAL_SCHEMA_GET_EAGER_STATE_COMMAND, payload, payload_length, record, arena);
-}
-
-static inline int64_t journal_write_GetEagerStateCommandMessage(
-    const struct journal_GetEagerStateCommandMessage *record, struct journal_arena *arena, uint8_t *out, size_t room) {
-    return journal_write_record(JOURNAL_SCHEMA_GET_EAGER_STATE_COMMAND, record, arena, out, room);
-}
-
-static inline int64_t journal_read_GetEagerStateKeysCommandMessage(
-    const uint8_t *payload, size_t payload_length, struct journal_GetEagerStateKeysCommandMessage *record,
-    struct journal_arena *arena) {
-    memset(record, 0, sizeof *record);
-    return journal_read_record(JOURNAL_SCHEMA_GET_EAGER_STATE_KEYS_COMMAND, payload, payload_length, record, arena);
-}
-
-static inline int64_t journal_write_GetEagerStateKeysCommandMessage(
-    const struct journal_GetEagerStateKeysCommandMessage *record, struct journal_arena *arena, uint8_t *out,
-    size_t room) {
-    return journal_write_record(JOURNAL_SCHEMA_GET_EAGER_STATE_KEYS_COMMAND, record, arena, out, room);
-}
-
-static inline int64_t journal_read_GetPromiseCommandMessage(const uint8_t *payload, size_t payload_length,
-                                                            struct journal_GetPromiseCommandMessage *record,
-                                                            struct journal_arena *arena) {
-    memset(record, 0, sizeof *record);
-    return journal_read_record(JOURNAL_SCHEMA_GET_PROMISE_COMMAND, payload, payload_length, record, arena);
-}
-
-static inline int64_t journal_write_GetPromiseCommandMessage(const struct journal_GetPromiseCommandMessage *record,
-                                                             struct journal_arena *arena, uint8_t *out, size_t room) {
-    return journal_write_record(JOURNAL_SCHEMA_GET_PROMISE_COMMAND, record, arena, out, room);
-}
-
-static inline int64_t journal_read_PeekPromiseCommandMessage(const uint8_t *payload, size_t payload_length,
-                                                             struct journal_PeekPromiseCommandMessage *record,
-                                                             struct journal_arena *arena) {
-    memset(record, 0, sizeof *record);
-    return journal_read_record(JOURNAL_SCHEMA_PEEK_PROMISE_COMMAND, payload, payload_length, record, arena);
-}
-
-static inline int64_t journal_write_PeekPromiseCommandMessage(const struct journal_PeekPromiseCommandMessage *record,
-                                                              struct journal_arena *arena, uint8_t *out, size_t room) {
-    return journal_write_record(JOURNAL_SCHEMA_PEEK_PROMISE_COMMAND, record, arena, out, room);
-}
-
-static inline int64_t journal_read_CompletePromiseCommandMessage(const uint8_t *payload, size_t payload_length,
-                                                                 struct journal_CompletePromiseCommandMessage *record,
-                                                                 struct journal_arena *arena) {
-    memset(record, 0, sizeof *record);
-    return journal_read_record(JOURNAL_SCHEMA_COMPLETE_PROMISE_COMMAND, payload, payload_length, record, arena);
-}
-
-static inline int64_t journal_write_CompletePromiseCommandMessage(
-    const struct journal_CompletePromiseCommandMessage *record, struct journal_arena *arena, uint8_t *out,
-    size_t room) {
-    return journal_write_record(JOURNAL_SCHEMA_COMPLETE_PROMISE_COMMAND, record, arena, out, room);
-}
-
-static inline int64_t journal_read_SleepCommandMessage(const uint8_t *payload, size_t payload_length,
-                                                       struct journal_SleepCommandMessage *record,
-                                                       struct journal_arena *arena) {
-    memset(record, 0, sizeof *record);
-    return journal_read_record(JOURNAL_SCHEMA_SLEEP_COMMAND, payload, payload_length, record, arena);
-}
-
-static inline int64_t journal_write_SleepCommandMessage(const struct journal_SleepCommandMessage *record,
-                                                        struct journal_arena *arena, uint8_t *out, size_t room) {
-    return journal_write_record(JOURNAL_SCHEMA_SLEEP_COMMAND, record, arena, out, room);
-}
-
-static inline int64_t journal_read_CallCommandMessage(const uint8_t *payload, size_t payload_length,
-                                                      struct journal_CallCommandMessage *record,
-                                                      struct journal_arena *arena) {
-    memset(record, 0, sizeof *record);
-    return journal_read_record(JOURNAL_SCHEMA_CALL_COMMAND, payload, payload_length, record, arena);
-}
-
-static inline int64_t journal_write_CallCommandMessage(const struct journal_CallCommandMessage *record,
-                                                       struct journal_arena *arena, uint8_t *out, size_t room) {
-    return journal_write_record(JOURNAL_SCHEMA_CALL_COMMAND, record, arena, out, room);
-}
-
-static inline int64_t journal_read_OneWayCallCommandMessage(const uint8_t *payload, size_t payload_length,
-                                                            struct journal_OneWayCallCommandMessage *record,
-                                                            struct journal_arena *arena) {
-    memset(record, 0, sizeof *record);
-    return journal_read_record(JOURNAL_SCHEMA_ONE_WAY_CALL_COMMAND, payload, payload_length, record, arena);
-}
-
-static inline int64_t journal_write_OneWayCallCommandMessage(const struct journal_OneWayCallCommandMessage *record,
-                                                             struct journal_arena *arena, uint8_t *out, size_t room) {
-    return journal_write_record(JOURNAL_SCHEMA_ONE_WAY_CALL_COMMAND, record, arena, out, room);
-}
-
-static inline int64_t journal_read_SendSignalCommandMessage(const uint8_t *payload, size_t payload_length,
-                                                            struct journal_SendSignalCommandMessage *record,
-                                                            struct journal_arena *arena) {
-    memset(record, 0, sizeof *record);
-    return journal_read_record(JOURNAL_SCHEMA_SEND_SIGNAL_COMMAND, payload, payload_length, record, arena);
-}
-
-static inline int64_t journal_write_SendSignalCommandMessage(const struct journal_SendSignalCommandMessage *record,
-                                                             struct journal_arena *arena, uint8_t *out, size_t room) {
-    return journal_write_record(JOURNAL_SCHEMA_SEND_SIGNAL_COMMAND, record, arena, out, room);
-}
-
-static inline int64_t journal_read_RunCommandMessage(const uint8_t *payload, size_t payload_length,
-                                                     struct journal_RunCommandMessage *record,
-                                                     struct journal_arena *arena) {
-    memset(record, 0, sizeof *record);
-    return journal_read_record(JOURNAL_SCHEMA_RUN_COMMAND, payload, payload_length, record, arena);
-}
-
-static inline int64_t journal_write_RunCommandMessage(const struct journal_RunCommandMessage *record,
-                                                      struct journal_arena *arena, uint8_t *out, size_t room) {
-    return journal_write_record(JOURNAL_SCHEMA_RUN_COMMAND, record, arena, out, room);
-}
-
-static inline int64_t journal_read_AttachInvocationCommandMessage(const uint8_t *payload, size_t payload_length,
-                                                                  struct journal_AttachInvocationCommandMessage *record,
-                                                                  struct journal_arena *arena) {
-    memset(record, 0, sizeof *record);
-    return journal_read_record(JOURNAL_SCHEMA_ATTACH_INVOCATION_COMMAND, payload, payload_length, record, arena);
-}
-
-static inline int64_t journal_write_AttachInvocationCommandMessage(
-    const struct journal_AttachInvocationCommandMessage *record, struct journal_arena *arena, uint8_t *out,
-    size_t room) {
-    return journal_write_record(JOURNAL_SCHEMA_ATTACH_INVOCATION_COMMAND, record, arena, out, room);
-}
-
-static inline int64_t journal_read_GetInvocationOutputCommandMessage(
-    const uint8_t *payload, size_t payload_length, struct journal_GetInvocationOutputCommandMessage *record,
-    struct journal_arena *arena) {
-    memset(record, 0, sizeof *record);
-    return journal_read_record(JOURNAL_SCHEMA_GET_INVOCATION_OUTPUT_COMMAND, payload, payload_length, record, arena);
-}
-
-static inline int64_t journal_write_GetInvocationOutputCommandMessage(
-    const struct journal_GetInvocationOutputCommandMessage *record, struct journal_arena *arena, uint8_t *out,
-    size_t room) {
-    return journal_write_record(JOURNAL_SCHEMA_GET_INVOCATION_OUTPUT_COMMAND, record, arena, out, room);
-}
-
-static inline int64_t journal_read_CompleteAwakeableCommandMessage(
-    const uint8_t *payload, size_t payload_length, struct journal_CompleteAwakeableCommandMessage *record,
-    struct journal_arena *arena) {
-    memset(record, 0, sizeof *record);
-    return journal_read_record(JOURNAL_SCHEMA_COMPLETE_AWAKEABLE_COMMAND, payload, payload_length, record, arena);
-}
-
-static inline int64_t journal_write_CompleteAwakeableCommandMessage(
-    const struct journal_CompleteAwakeableCommandMessage *record, struct journal_arena *arena, uint8_t *out,
-    size_t room) {
-    return journal_write_record(JOURNAL_SCHEMA_COMPLETE_AWAKEABLE_COMMAND, record, arena, out, room);
-}
-
-static inline int64_t journal_read_GetLazyStateCompletionNotificationMessage(
-    const uint8_t *payload, size_t payload_length, struct journal_GetLazyStateCompletionNotificationMessage *record,
-    struct journal_arena *arena) {
-    memset(record, 0, sizeof *record);
-    return journal_read_record(JOURNAL_SCHEMA_GET_LAZY_STATE_COMPLETION_NOTIFICATION, payload, payload_length, record,
-                               arena);
-}
-
-static inline int64_t journal_write_GetLazyStateCompletionNotificationMessage(
-    const struct journal_GetLazyStateCompletionNotificationMessage *record, struct journal_arena *arena, uint8_t *out,
-    size_t room) {
-    return journal_write_record(JOURNAL_SCHEMA_GET_LAZY_STATE_COMPLETION_NOTIFICATION, record, arena, out, room);
-}
-
-static inline int64_t journal_read_GetPromiseCompletionNotificationMessage(
-    const uint8_t *payload, size_t payload_length, struct journal_GetPromiseCompletionNotificationMessage *record,
-    struct journal_arena *arena) {
-    memset(record, 0, sizeof *record);
-    return journal_read_record(JOURNAL_SCHEMA_GET_PROMISE_COMPLETION_NOTIFICATION, payload, payload_length, record,
-                               arena);
-}
-
-static inline int64_t journal_write_GetPromiseCompletionNotificationMessage(
-    const struct journal_GetPromiseCompletionNotificationMessage *record, struct journal_arena *arena, uint8_t *out,
-    size_t room) {
-    return journal_write_record(JOURNAL_SCHEMA_GET_PROMISE_COMPLETION_NOTIFICATION, record, arena, out, room);
-}
-
-static inline int64_t journal_read_PeekPromiseCompletionNotificationMessage(
-    const uint8_t *payload, size_t payload_length, struct journal_PeekPromiseCompletionNotificationMessage *record,
-    struct journal_arena *arena) {
-    memset(record, 0, sizeof *record);
-    return journal_read_record(JOURNAL_SCHEMA_PEEK_PROMISE_COMPLETION_NOTIFICATION, payload, payload_length, record,
-                               arena);
-}
-
-static inline int64_t journal_write_PeekPromiseCompletionNotificationMessage(
-    const struct journal_PeekPromiseCompletionNotificationMessage *record, struct journal_arena *arena, uint8_t *out,
-    size_t room) {
-    return journal_write_record(JOURNAL_SCHEMA_PEEK_PROMISE_COMPLETION_NOTIFICATION, record, arena, out, room);
-}
-
-static inline int64_t journal_read_GetInvocationOutputCompletionNotificationMessage(
-    const uint8_t *payload, size_t payload_length,
-    struct journal_GetInvocationOutputCompletionNotificationMessage *record, struct journal_arena *arena) {
-    memset(record, 0, sizeof *record);
-    return journal_read_record(JOURNAL_SCHEMA_GET_INVOCATION_OUTPUT_COMPLETION_NOTIFICATION, payload, payload_length,
-                               record, arena);
-}
-
-static inline int64_t journal_write_GetInvocationOutputCompletionNotificationMessage(
-    const struct journal_GetInvocationOutputCompletionNotificationMessage *record, struct journal_arena *arena,
-    uint8_t *out, size_t room) {
-    return journal_write_record(JOURNAL_SCHEMA_GET_INVOCATION_OUTPUT_COMPLETION_NOTIFICATION, record, arena, out, room);
-}
-
-static inline int64_t journal_read_CompletePromiseCompletionNotificationMessage(
-    const uint8_t *payload, size_t payload_length, struct journal_CompletePromiseCompletionNotificationMessage *record,
-    struct journal_arena *arena) {
-    memset(record, 0, sizeof *record);
-    return journal_read_record(JOURNAL_SCHEMA_COMPLETE_PROMISE_COMPLETION_NOTIFICATION, payload, payload_length, record,
-                               arena);
-}
-
-static inline int64_t journal_write_CompletePromiseCompletionNotificationMessage(
-    const struct journal_CompletePromiseCompletionNotificationMessage *record, struct journal_arena *arena,
-    uint8_t *out, size_t room) {
-    return journal_write_record(JOURNAL_SCHEMA_COMPLETE_PROMISE_COMPLETION_NOTIFICATION, record, arena, out, room);
-}
-
-static inline int64_t journal_read_CallCompletionNotificationMessage(
-    const uint8_t *payload, size_t payload_length, struct journal_CallCompletionNotificationMessage *record,
-    struct journal_arena *arena) {
-    memset(record, 0, sizeof *record);
-    return journal_read_record(JOURNAL_SCHEMA_CALL_COMPLETION_NOTIFICATION, payload, payload_length, record, arena);
-}
-
-static inline int64_t journal_write_CallCompletionNotificationMessage(
-    const struct journal_CallCompletionNotificationMessage *record, struct journal_arena *arena, uint8_t *out,
-    size_t room) {
-    return journal_write_record(JOURNAL_SCHEMA_CALL_COMPLETION_NOTIFICATION, record, arena, out, room);
-}
-
-static inline int64_t journal_read_RunCompletionNotificationMessage(
-    const uint8_t *payload, size_t payload_length, struct journal_RunCompletionNotificationMessage *record,
-    struct journal_arena *arena) {
-    memset(record, 0, sizeof *record);
-    return journal_read_record(JOURNAL_SCHEMA_RUN_COMPLETION_NOTIFICATION, payload, payload_length, record, arena);
-}
-
-static inline int64_t journal_write_RunCompletionNotificationMessage(
-    const struct journal_RunCompletionNotificationMessage *record, struct journal_arena *arena, uint8_t *out,
-    size_t room) {
-    return journal_write_record(JOURNAL_SCHEMA_RUN_COMPLETION_NOTIFICATION, record, arena, out, room);
-}
-
-static inline int64_t journal_read_AttachInvocationCompletionNotificationMessage(
-    const uint8_t *payload, size_t payload_length, struct journal_AttachInvocationCompletionNotificationMessage *record,
-    struct journal_arena *arena) {
-    memset(record, 0, sizeof *record);
-    return journal_read_record(JOURNAL_SCHEMA_ATTACH_INVOCATION_COMPLETION_NOTIFICATION, payload, payload_length,
-                               record, arena);
-}
-
-static inline int64_t journal_write_AttachInvocationCompletionNotificationMessage(
-    const struct journal_AttachInvocationCompletionNotificationMessage *record, struct journal_arena *arena,
-    uint8_t *out, size_t room) {
-    return journal_write_record(JOURNAL_SCHEMA_ATTACH_INVOCATION_COMPLETION_NOTIFICATION, record, arena, out, room);
-}
-
-static inline int64_t journal_read_SleepCompletionNotificationMessage(
-    const uint8_t *payload, size_t payload_length, struct journal_SleepCompletionNotificationMessage *record,
-    struct journal_arena *arena) {
-    memset(record, 0, sizeof *record);
-    return journal_read_record(JOURNAL_SCHEMA_SLEEP_COMPLETION_NOTIFICATION, payload, payload_length, record, arena);
-}
-
-static inline int64_t journal_write_SleepCompletionNotificationMessage(
-    const struct journal_SleepCompletionNotificationMessage *record, struct journal_arena *arena, uint8_t *out,
-    size_t room) {
-    return journal_write_record(JOURNAL_SCHEMA_SLEEP_COMPLETION_NOTIFICATION, record, arena, out, room);
-}
-
-static inline int64_t journal_read_GetLazyStateKeysCompletionNotificationMessage(
-    const uint8_t *payload, size_t payload_length, struct journal_GetLazyStateKeysCompletionNotificationMessage *record,
-    struct journal_arena *arena) {
-    memset(record, 0, sizeof *record);
-    return journal_read_record(JOURNAL_SCHEMA_GET_LAZY_STATE_KEYS_COMPLETION_NOTIFICATION, payload, payload_length,
-                               record, arena);
-}
-
-static inline int64_t journal_write_GetLazyStateKeysCompletionNotificationMessage(
-    const struct journal_GetLazyStateKeysCompletionNotificationMessage *record, struct journal_arena *arena,
-    uint8_t *out, size_t room) {
-    return journal_write_record(JOURNAL_SCHEMA_GET_LAZY_STATE_KEYS_COMPLETION_NOTIFICATION, record, arena, out, room);
-}
-
-static inline int64_t journal_read_CallInvocationIdCompletionNotificationMessage(
-    const uint8_t *payload, size_t payload_length, struct journal_CallInvocationIdCompletionNotificationMessage *record,
-    struct journal_arena *arena) {
-    memset(record, 0, sizeof *record);
-    return journal_read_record(JOURNAL_SCHEMA_CALL_INVOCATION_ID_COMPLETION_NOTIFICATION, payload, payload_length,
-                               record, arena);
-}
-
-static inline int64_t journal_write_CallInvocationIdCompletionNotificationMessage(
-    const struct journal_CallInvocationIdCompletionNotificationMessage *record, struct journal_arena *arena,
-    uint8_t *out, size_t room) {
-    return journal_write_record(JOURNAL_SCHEMA_CALL_INVOCATION_ID_COMPLETION_NOTIFICATION, record, arena, out, room);
-}
-
-static inline int64_t journal_read_SignalNotificationMessage(const uint8_t *payload, size_t payload_length,
-                                                             struct journal_SignalNotificationMessage *record,
-                                                             struct journal_arena *arena) {
-    memset(record, 0, sizeof *record);
-    return journal_read_record(JOURNAL_SCHEMA_SIGNAL_NOTIFICATION, payload, payload_length, record, arena);
-}
-
-static inline int64_t journal_write_SignalNotificationMessage(const struct journal_SignalNotificationMessage *record,
-                                                              struct journal_arena *arena, uint8_t *out, size_t room) {
-    return journal_write_record(JOURNAL_SCHEMA_SIGNAL_NOTIFICATION, record, arena, out, room);
-}
-
-static inline int64_t journal_read_NotificationTemplate(const uint8_t *payload, size_t payload_length,
-                                                        struct journal_NotificationTemplate *record,
-                                                        struct journal_arena *arena) {
-    memset(record, 0, sizeof *record);
-    return journal_read_record(JOURNAL_SCHEMA_NOTIFICATION_TEMPLATE, payload, payload_length, record, arena);
-}
-
-static inline int64_t journal_write_NotificationTemplate(const struct journal_NotificationTemplate *record,
-                                                         struct journal_arena *arena, uint8_t *out, size_t room) {
-    return journal_write_record(JOURNAL_SCHEMA_NOTIFICATION_TEMPLATE, record, arena, out, room);
 }
 
 #ifdef __cplusplus

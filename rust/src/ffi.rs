@@ -2,13 +2,17 @@
 #![allow(unsafe_code)]
 #![warn(clippy::undocumented_unsafe_blocks)]
 
+use std::alloc::{alloc, Layout};
+
 #[rustfmt::skip]
 mod declared;
 mod table;
+mod writer;
 
 pub(crate) use declared::*;
 pub use table::Table;
 pub(crate) use table::{Entry, Room};
+pub use writer::Writer;
 
 /// Which argument of a call an error is about.
 #[derive(Clone, Copy, Debug, PartialEq, Eq)]
@@ -70,31 +74,57 @@ unsafe fn written(guess: usize, call: impl FnMut(*mut u8, usize) -> i64) -> Resu
 /// # Safety
 ///
 /// As for `written`.
+#[inline(always)]
 unsafe fn appended(
     out: &mut Vec<u8>,
     guess: usize,
     call: impl FnMut(*mut u8, usize) -> i64,
 ) -> Result<usize> {
     let mut call = call;
-    let mut room = guess;
+    if out.capacity() == 0 {
+        *out = with_room(guess)?;
+    } else if out.capacity() - out.len() < guess {
+        reserve(out, guess)?;
+    }
     loop {
-        // of a vector that holds nothing it is not known that more is appended
-        let reserved = if out.is_empty() {
-            out.try_reserve_exact(room)
-        } else {
-            out.try_reserve(room)
-        };
-        reserved.map_err(|_| Refusal::OutOfMemory)?;
         let spare = out.spare_capacity_mut();
-        let (first, room_there) = (spare.as_mut_ptr().cast(), spare.len());
-        let length = count(call(first, room_there))?;
-        if length <= room_there {
+        let (first, room) = (spare.as_mut_ptr().cast(), spare.len());
+        let length = count(call(first, room))?;
+        if length <= room {
             // SAFETY: the call has written this number of bytes, as its caller promises, and there is room for them
             unsafe { out.set_len(out.len() + length) };
             return Ok(length);
         }
-        room = length;
+        reserve(out, length)?;
     }
+}
+
+/// Makes room for this many bytes more.
+fn reserve(out: &mut Vec<u8>, room: usize) -> Result<()> {
+    // of a vector that holds nothing it is not known that more is appended
+    let reserved = if out.is_empty() {
+        out.try_reserve_exact(room)
+    } else {
+        out.try_reserve(room)
+    };
+    reserved.map_err(|_| Refusal::OutOfMemory)
+}
+
+/// An empty vector with room for this many bytes: as `Vec::with_capacity`, which ends the program where there is no
+/// memory.
+#[inline]
+fn with_room(room: usize) -> Result<Vec<u8>> {
+    if room == 0 {
+        return Ok(Vec::new());
+    }
+    let layout = Layout::array::<u8>(room).map_err(|_| Refusal::OutOfMemory)?;
+    // SAFETY: it has bytes
+    let first = unsafe { alloc(layout) };
+    if first.is_null() {
+        return Err(Refusal::OutOfMemory);
+    }
+    // SAFETY: this is what was allocated, and nothing is in it
+    Ok(unsafe { Vec::from_raw_parts(first, 0, room) })
 }
 
 #[cfg(test)]

@@ -2,16 +2,12 @@
 //! as those of which the library makes one. Nothing is known here of how a payload is encoded.
 
 use std::cell::RefCell;
-use std::collections::TryReserveError;
 use std::error;
 use std::fmt;
-use std::mem::size_of;
 
-use crate::calls::{append_earlier_frame, canonical, frame, of_payload};
-use crate::error::Error;
-use crate::ffi::{self, Entry, Refusal, Room, Table, WRITTEN};
-use crate::ffi::{FIELD_BOOL, FIELD_BYTES, FIELD_ENUM, FIELD_MESSAGE, FIELD_STRING};
-use crate::ffi::{FIELD_UINT32, FIELD_UINT64};
+use crate::calls::{canonical, frame, header, of_payload, schema};
+use crate::error::{Argument, Error};
+use crate::ffi::{Entry, Refusal, Room, Table, Writer, WRITTEN};
 use crate::kinds::FieldReason;
 use crate::message_type::MessageType;
 use crate::messages::listed;
@@ -37,13 +33,13 @@ pub trait Record<'a>: Fields<'a> {
         let schema = Self::SCHEMA.number();
         let mut room = Room::new();
         match room.table(schema, payload) {
-            Ok(mut table) => Self::read(&mut table, 0),
+            Ok(table) => read(table),
             Err(Refusal::NotCanonical) => {
                 let canonical = canonical(schema, payload)?;
-                let mut table = room
+                let table = room
                     .copied(schema, &canonical)
                     .map_err(|refusal| of_payload(refusal, schema, payload))?;
-                Self::read(&mut table, 0)
+                read(table)
             }
             Err(refusal) => Err(of_payload(refusal, schema, payload)),
         }
@@ -61,9 +57,12 @@ pub trait Record<'a>: Fields<'a> {
     /// Appends the canonical payload of the record, and returns its length. The errors are those of [`Record::encode`],
     /// and leave the vector as it was.
     fn append_to(&self, out: &mut Vec<u8>) -> Result<usize, Error> {
+        // there is no kept table while the thread ends
         let appended = WRITER.try_with(|kept| append(self, &mut kept.borrow_mut(), out));
-        // there is none while the thread ends
-        appended.unwrap_or_else(|_| append(self, &mut Writer::empty(), out))
+        match appended {
+            Ok(Some(length)) => Ok(length),
+            _ => append_anew(self, out),
+        }
     }
 }
 
@@ -80,26 +79,37 @@ pub trait MessageRecord<'a>: Record<'a> {
     /// whose messages of the type have another record.
     fn frame(&self, version: impl Into<u32>) -> Result<Vec<u8>, Error> {
         let (version, code) = (version.into(), Self::TYPE.code());
-        let payload = self.encode()?;
-        if Self::BEFORE_VERSION.is_none() {
-            return frame(version, code, &payload);
-        }
         let mut out = Vec::new();
-        append_earlier_frame(version, code, Self::SCHEMA.number(), &payload, &mut out)?;
-        Ok(out)
+        out.try_reserve_exact(FRAME_ROOM)
+            .map_err(|_| Error::OutOfMemory)?;
+        out.extend_from_slice(&[0; HEADER]);
+        let length = self.append_to(&mut out)?;
+        if schema(version, code)? == Self::SCHEMA.number() {
+            out[..HEADER].copy_from_slice(&header(version, code, length)?);
+            return Ok(out);
+        }
+        match Self::BEFORE_VERSION {
+            // the record that the type has at the version is written of what it has of this one
+            None => frame(version, code, &out[HEADER..]),
+            Some(_) => Err(Error::Unknown(Argument::Version(version))),
+        }
     }
 }
 
+/// How many bytes a header has, and what most frames have room in.
+const HEADER: usize = 8;
+const FRAME_ROOM: usize = 128;
+
 /// What the generated code has of each record.
-pub trait Fields<'a>: Sized {
+pub trait Fields<'a>: Default {
     #[doc(hidden)]
     const LISTED: &'static Listed;
 
     #[doc(hidden)]
-    fn read(table: &mut Table<'a, '_>, level: u64) -> Result<Self, Error>;
+    fn read(&mut self, table: &mut Table<'a, '_>, level: u64);
 
     #[doc(hidden)]
-    fn write(&self, writer: &mut Writer, level: u64) -> Result<(), NoMemory>;
+    fn write(&self, writer: &mut Writer, level: u64);
 
     #[doc(hidden)]
     #[cold]
@@ -108,131 +118,62 @@ pub trait Fields<'a>: Sized {
     }
 }
 
-/// An allocation of a table failed.
-pub struct NoMemory;
-
-impl From<TryReserveError> for NoMemory {
-    fn from(_: TryReserveError) -> NoMemory {
-        NoMemory
-    }
-}
-
-/// The table of a record, and the bytes that its entries are places in.
-pub struct Writer {
-    entries: Vec<Entry>,
-    bytes: Vec<u8>,
-}
-
 thread_local! {
     /// The memory of the last table of this thread. Nothing that fills a table makes another.
     static WRITER: RefCell<Writer> = const { RefCell::new(Writer::empty()) };
 }
 
-/// The most bytes of a table, and of those beside it, that are kept.
-const KEPT: usize = 64 << 10;
-
-impl Writer {
-    const fn empty() -> Writer {
-        Writer {
-            entries: Vec::new(),
-            bytes: Vec::new(),
-        }
-    }
-
-    /// Frees the memory if it is much.
-    #[inline]
-    fn keep_little(&mut self) {
-        if self.bytes.capacity() > KEPT || self.entries.capacity() > KEPT / size_of::<Entry>() {
-            *self = Writer::empty();
-        }
-    }
-
-    /// Appends the payload that the table means for a schema.
-    fn append_to(&self, schema: u32, out: &mut Vec<u8>) -> Result<usize, Error> {
-        let mut writing = [0; 2];
-        let length = ffi::payload_of_fields(schema, &self.entries, &self.bytes, &mut writing, out)
-            .map_err(|refusal| of_payload(refusal, schema, &self.bytes))?;
-        match writing {
-            [WRITTEN, _] => Ok(length),
-            [number, index] => Err(self.error(schema, number, index)),
-        }
-    }
-
-    #[inline]
-    fn push(&mut self, entry: Entry) -> Result<(), NoMemory> {
-        self.entries.try_reserve(1)?;
-        self.entries.push(entry);
-        Ok(())
-    }
-
-    pub(crate) fn number32(&mut self, level: u64, number: u64, value: u32) -> Result<(), NoMemory> {
-        self.push([level, number, FIELD_UINT32, value.into(), 0, 0])
-    }
-
-    pub(crate) fn number64(&mut self, level: u64, number: u64, value: u64) -> Result<(), NoMemory> {
-        self.push([level, number, FIELD_UINT64, value, 0, 0])
-    }
-
-    pub(crate) fn flag(&mut self, level: u64, number: u64, value: bool) -> Result<(), NoMemory> {
-        self.push([level, number, FIELD_BOOL, value.into(), 0, 0])
-    }
-
-    pub(crate) fn signed(&mut self, level: u64, number: u64, value: i32) -> Result<(), NoMemory> {
-        self.push([level, number, FIELD_ENUM, i64::from(value) as u64, 0, 0])
-    }
-
-    pub(crate) fn bytes(&mut self, level: u64, number: u64, value: &[u8]) -> Result<(), NoMemory> {
-        self.place(level, number, FIELD_BYTES, value)
-    }
-
-    pub(crate) fn text(&mut self, level: u64, number: u64, value: &str) -> Result<(), NoMemory> {
-        self.place(level, number, FIELD_STRING, value.as_bytes())
-    }
-
-    #[inline]
-    fn place(&mut self, level: u64, number: u64, kind: u64, value: &[u8]) -> Result<(), NoMemory> {
-        let (offset, length) = (self.bytes.len() as u64, value.len() as u64);
-        self.bytes.try_reserve(value.len())?;
-        self.bytes.extend_from_slice(value);
-        self.push([level, number, kind, 0, offset, length])
-    }
-
-    pub(crate) fn record<'a, R: Record<'a>>(
-        &mut self,
-        level: u64,
-        number: u64,
-        record: &R,
-    ) -> Result<(), NoMemory> {
-        let schema = R::SCHEMA.number().into();
-        self.push([level, number, FIELD_MESSAGE, schema, 0, 0])?;
-        record.write(self, level + 1)
-    }
-
-    /// The error that an entry may not come.
-    fn error(&self, schema: u32, number: u64, index: u64) -> Error {
-        let (reason, index) = match (FieldReason::from_number(number), usize::try_from(index)) {
-            (Some(reason), Ok(index)) if index < self.entries.len() => (reason, index),
-            _ => return Error::unexpected("the reason", number),
-        };
-        let path = path(schema as usize, &self.entries[..=index]);
-        Error::Field(FieldError { path, reason })
+/// Reads the record of a table.
+#[inline]
+fn read<'a, R: Record<'a>>(mut table: Table<'a, '_>) -> Result<R, Error> {
+    let mut found = R::default();
+    found.read(&mut table, 0);
+    match table.into_error() {
+        None => Ok(found),
+        Some(error) => Err(error),
     }
 }
 
-/// Appends the canonical payload of a record, by a table in memory that an earlier one had.
-fn append<'a, R: Record<'a>>(
-    record: &R,
-    writer: &mut Writer,
-    out: &mut Vec<u8>,
-) -> Result<usize, Error> {
-    writer.entries.clear();
-    writer.bytes.clear();
-    let appended = match record.write(writer, 0) {
-        Ok(()) => writer.append_to(R::SCHEMA.number(), out),
-        Err(NoMemory) => Err(Error::OutOfMemory),
-    };
+impl Writer {
+    /// Appends the entries of a record that is a field.
+    #[inline]
+    pub(crate) fn record<'a, R: Record<'a>>(&mut self, level: u64, number: u64, record: &R) {
+        self.message(level, number, R::SCHEMA.number());
+        record.write(self, level + 1);
+    }
+}
+
+/// Appends the canonical payload of a record, by a table in memory that an earlier one had, and returns its length, or
+/// `None` if there is none.
+fn append<'a, R: Record<'a>>(record: &R, writer: &mut Writer, out: &mut Vec<u8>) -> Option<usize> {
+    writer.clear();
+    record.write(writer, 0);
+    let appended = writer.append_to(R::SCHEMA.number(), out);
     writer.keep_little();
     appended
+}
+
+/// The same by a table of its own, with why there is no payload.
+#[cold]
+fn append_anew<'a, R: Record<'a>>(record: &R, out: &mut Vec<u8>) -> Result<usize, Error> {
+    let mut writer = Writer::empty();
+    record.write(&mut writer, 0);
+    let schema = R::SCHEMA.number();
+    match writer.payload(schema, out) {
+        Ok((length, [WRITTEN, _])) => Ok(length),
+        Ok((_, [number, index])) => Err(rejected(writer.entries(), schema, number, index)),
+        Err(refusal) => Err(of_payload(refusal, schema, writer.bytes_beside())),
+    }
+}
+
+/// The error that an entry may not come.
+fn rejected(entries: &[Entry], schema: u32, number: u64, index: u64) -> Error {
+    let (reason, index) = match (FieldReason::from_number(number), usize::try_from(index)) {
+        (Some(reason), Ok(index)) if index < entries.len() => (reason, index),
+        _ => return Error::unexpected("the reason", number),
+    };
+    let path = path(schema as usize, &entries[..=index]);
+    Error::Field(FieldError { path, reason })
 }
 
 /// What leads to the last of these entries, as `headers[2].key`.

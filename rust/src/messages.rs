@@ -21,19 +21,12 @@
 use std::borrow::Cow;
 
 use crate::error::Error;
-use crate::ffi::Table;
-use crate::fields::{Fields, Listed, NoMemory, Writer};
+use crate::ffi::{Table, Writer};
+use crate::fields::{Fields, Listed};
 use crate::message_type::MessageType;
 use crate::schema::Schema;
 
 pub use crate::fields::{MessageRecord, Record};
-
-/// Appends an element. `Error::OutOfMemory`.
-fn push<T>(elements: &mut Vec<T>, element: T) -> Result<(), Error> {
-    elements.try_reserve(1).map_err(|_| Error::OutOfMemory)?;
-    elements.push(element);
-    Ok(())
-}
 
 /// How the parts of a future are combined. Numbers without a name are kept.
 #[derive(Clone, Copy, Debug, Default, PartialEq, Eq, Hash)]
@@ -62,16 +55,13 @@ pub struct Void {}
 impl<'a> Fields<'a> for Void {
     const LISTED: &'static Listed = &LISTED[0];
 
-    fn read(table: &mut Table<'a, '_>, level: u64) -> Result<Self, Error> {
-        match table.next(level) {
-            Some(field) => Err(Self::unknown(field.number())),
-            None => Ok(Self {}),
+    fn read(&mut self, table: &mut Table<'a, '_>, level: u64) {
+        if let Some(field) = table.next(level) {
+            table.fail(Self::unknown(field.number()));
         }
     }
 
-    fn write(&self, _: &mut Writer, _: u64) -> Result<(), NoMemory> {
-        Ok(())
-    }
+    fn write(&self, _: &mut Writer, _: u64) {}
 }
 
 impl<'a> Record<'a> for Void {
@@ -88,22 +78,19 @@ pub struct Value<'a> {
 impl<'a> Fields<'a> for Value<'a> {
     const LISTED: &'static Listed = &LISTED[1];
 
-    fn read(table: &mut Table<'a, '_>, level: u64) -> Result<Self, Error> {
-        let mut found = Self::default();
+    fn read(&mut self, table: &mut Table<'a, '_>, level: u64) {
         while let Some(field) = table.next(level) {
             match field.number() {
-                1 => found.content = field.bytes()?,
-                number => return Err(Self::unknown(number)),
+                1 => self.content = table.bytes(field),
+                number => table.fail(Self::unknown(number)),
             }
         }
-        Ok(found)
     }
 
-    fn write(&self, writer: &mut Writer, level: u64) -> Result<(), NoMemory> {
+    fn write(&self, writer: &mut Writer, level: u64) {
         if !self.content.is_empty() {
-            writer.bytes(level, 1, &self.content)?;
+            writer.bytes(level, 1, &self.content);
         }
-        Ok(())
     }
 }
 
@@ -125,33 +112,31 @@ pub struct Failure<'a> {
 impl<'a> Fields<'a> for Failure<'a> {
     const LISTED: &'static Listed = &LISTED[2];
 
-    fn read(table: &mut Table<'a, '_>, level: u64) -> Result<Self, Error> {
-        let mut found = Self::default();
+    fn read(&mut self, table: &mut Table<'a, '_>, level: u64) {
         while let Some(field) = table.next(level) {
             match field.number() {
-                1 => found.code = field.number32()?,
-                2 => found.message = field.text()?,
+                1 => self.code = table.number32(field),
+                2 => self.message = table.text(field),
                 3 => {
-                    let element = Fields::read(table, level + 1)?;
-                    push(&mut found.metadata, element)?;
+                    if let Some(element) = table.append(&mut self.metadata) {
+                        element.read(table, level + 1);
+                    }
                 }
-                number => return Err(Self::unknown(number)),
+                number => table.fail(Self::unknown(number)),
             }
         }
-        Ok(found)
     }
 
-    fn write(&self, writer: &mut Writer, level: u64) -> Result<(), NoMemory> {
+    fn write(&self, writer: &mut Writer, level: u64) {
         if self.code != 0 {
-            writer.number32(level, 1, self.code)?;
+            writer.number32(level, 1, self.code);
         }
         if !self.message.is_empty() {
-            writer.text(level, 2, &self.message)?;
+            writer.text(level, 2, &self.message);
         }
         for element in &self.metadata {
-            writer.record(level, 3, element)?;
+            writer.record(level, 3, element);
         }
-        Ok(())
     }
 }
 
@@ -171,26 +156,23 @@ pub struct FailureMetadata<'a> {
 impl<'a> Fields<'a> for FailureMetadata<'a> {
     const LISTED: &'static Listed = &LISTED[3];
 
-    fn read(table: &mut Table<'a, '_>, level: u64) -> Result<Self, Error> {
-        let mut found = Self::default();
+    fn read(&mut self, table: &mut Table<'a, '_>, level: u64) {
         while let Some(field) = table.next(level) {
             match field.number() {
-                1 => found.key = field.text()?,
-                2 => found.value = field.text()?,
-                number => return Err(Self::unknown(number)),
+                1 => self.key = table.text(field),
+                2 => self.value = table.text(field),
+                number => table.fail(Self::unknown(number)),
             }
         }
-        Ok(found)
     }
 
-    fn write(&self, writer: &mut Writer, level: u64) -> Result<(), NoMemory> {
+    fn write(&self, writer: &mut Writer, level: u64) {
         if !self.key.is_empty() {
-            writer.text(level, 1, &self.key)?;
+            writer.text(level, 1, &self.key);
         }
         if !self.value.is_empty() {
-            writer.text(level, 2, &self.value)?;
+            writer.text(level, 2, &self.value);
         }
-        Ok(())
     }
 }
 
@@ -210,26 +192,23 @@ pub struct Header<'a> {
 impl<'a> Fields<'a> for Header<'a> {
     const LISTED: &'static Listed = &LISTED[4];
 
-    fn read(table: &mut Table<'a, '_>, level: u64) -> Result<Self, Error> {
-        let mut found = Self::default();
+    fn read(&mut self, table: &mut Table<'a, '_>, level: u64) {
         while let Some(field) = table.next(level) {
             match field.number() {
-                1 => found.key = field.text()?,
-                2 => found.value = field.text()?,
-                number => return Err(Self::unknown(number)),
+                1 => self.key = table.text(field),
+                2 => self.value = table.text(field),
+                number => table.fail(Self::unknown(number)),
             }
         }
-        Ok(found)
     }
 
-    fn write(&self, writer: &mut Writer, level: u64) -> Result<(), NoMemory> {
+    fn write(&self, writer: &mut Writer, level: u64) {
         if !self.key.is_empty() {
-            writer.text(level, 1, &self.key)?;
+            writer.text(level, 1, &self.key);
         }
         if !self.value.is_empty() {
-            writer.text(level, 2, &self.value)?;
+            writer.text(level, 2, &self.value);
         }
-        Ok(())
     }
 }
 
@@ -247,25 +226,23 @@ pub struct StateKeys<'a> {
 impl<'a> Fields<'a> for StateKeys<'a> {
     const LISTED: &'static Listed = &LISTED[5];
 
-    fn read(table: &mut Table<'a, '_>, level: u64) -> Result<Self, Error> {
-        let mut found = Self::default();
+    fn read(&mut self, table: &mut Table<'a, '_>, level: u64) {
         while let Some(field) = table.next(level) {
             match field.number() {
                 1 => {
-                    let element = field.bytes()?;
-                    push(&mut found.keys, element)?;
+                    if let Some(element) = table.append(&mut self.keys) {
+                        *element = table.bytes(field);
+                    }
                 }
-                number => return Err(Self::unknown(number)),
+                number => table.fail(Self::unknown(number)),
             }
         }
-        Ok(found)
     }
 
-    fn write(&self, writer: &mut Writer, level: u64) -> Result<(), NoMemory> {
+    fn write(&self, writer: &mut Writer, level: u64) {
         for element in &self.keys {
-            writer.bytes(level, 1, element)?;
+            writer.bytes(level, 1, element);
         }
-        Ok(())
     }
 }
 
@@ -285,26 +262,23 @@ pub struct StateEntry<'a> {
 impl<'a> Fields<'a> for StateEntry<'a> {
     const LISTED: &'static Listed = &LISTED[6];
 
-    fn read(table: &mut Table<'a, '_>, level: u64) -> Result<Self, Error> {
-        let mut found = Self::default();
+    fn read(&mut self, table: &mut Table<'a, '_>, level: u64) {
         while let Some(field) = table.next(level) {
             match field.number() {
-                1 => found.key = field.bytes()?,
-                2 => found.value = field.bytes()?,
-                number => return Err(Self::unknown(number)),
+                1 => self.key = table.bytes(field),
+                2 => self.value = table.bytes(field),
+                number => table.fail(Self::unknown(number)),
             }
         }
-        Ok(found)
     }
 
-    fn write(&self, writer: &mut Writer, level: u64) -> Result<(), NoMemory> {
+    fn write(&self, writer: &mut Writer, level: u64) {
         if !self.key.is_empty() {
-            writer.bytes(level, 1, &self.key)?;
+            writer.bytes(level, 1, &self.key);
         }
         if !self.value.is_empty() {
-            writer.bytes(level, 2, &self.value)?;
+            writer.bytes(level, 2, &self.value);
         }
-        Ok(())
     }
 }
 
@@ -330,50 +304,51 @@ pub struct Future<'a> {
 impl<'a> Fields<'a> for Future<'a> {
     const LISTED: &'static Listed = &LISTED[7];
 
-    fn read(table: &mut Table<'a, '_>, level: u64) -> Result<Self, Error> {
-        let mut found = Self::default();
+    fn read(&mut self, table: &mut Table<'a, '_>, level: u64) {
         while let Some(field) = table.next(level) {
             match field.number() {
                 1 => {
-                    let element = field.number32()?;
-                    push(&mut found.waiting_completions, element)?;
+                    if let Some(element) = table.append(&mut self.waiting_completions) {
+                        *element = table.number32(field);
+                    }
                 }
                 2 => {
-                    let element = field.number32()?;
-                    push(&mut found.waiting_signals, element)?;
+                    if let Some(element) = table.append(&mut self.waiting_signals) {
+                        *element = table.number32(field);
+                    }
                 }
                 3 => {
-                    let element = field.text()?;
-                    push(&mut found.waiting_named_signals, element)?;
+                    if let Some(element) = table.append(&mut self.waiting_named_signals) {
+                        *element = table.text(field);
+                    }
                 }
                 4 => {
-                    let element = Fields::read(table, level + 1)?;
-                    push(&mut found.nested_futures, element)?;
+                    if let Some(element) = table.append(&mut self.nested_futures) {
+                        element.read(table, level + 1);
+                    }
                 }
-                5 => found.combinator_type = CombinatorType(field.signed()?),
-                number => return Err(Self::unknown(number)),
+                5 => self.combinator_type = CombinatorType(table.signed(field)),
+                number => table.fail(Self::unknown(number)),
             }
         }
-        Ok(found)
     }
 
-    fn write(&self, writer: &mut Writer, level: u64) -> Result<(), NoMemory> {
+    fn write(&self, writer: &mut Writer, level: u64) {
         for element in &self.waiting_completions {
-            writer.number32(level, 1, *element)?;
+            writer.number32(level, 1, *element);
         }
         for element in &self.waiting_signals {
-            writer.number32(level, 2, *element)?;
+            writer.number32(level, 2, *element);
         }
         for element in &self.waiting_named_signals {
-            writer.text(level, 3, element)?;
+            writer.text(level, 3, element);
         }
         for element in &self.nested_futures {
-            writer.record(level, 4, element)?;
+            writer.record(level, 4, element);
         }
         if self.combinator_type.0 != 0 {
-            writer.signed(level, 5, self.combinator_type.0)?;
+            writer.signed(level, 5, self.combinator_type.0);
         }
-        Ok(())
     }
 }
 
@@ -395,30 +370,27 @@ pub struct WorkflowTarget<'a> {
 impl<'a> Fields<'a> for WorkflowTarget<'a> {
     const LISTED: &'static Listed = &LISTED[8];
 
-    fn read(table: &mut Table<'a, '_>, level: u64) -> Result<Self, Error> {
-        let mut found = Self::default();
+    fn read(&mut self, table: &mut Table<'a, '_>, level: u64) {
         while let Some(field) = table.next(level) {
             match field.number() {
-                1 => found.workflow_name = field.text()?,
-                2 => found.workflow_key = field.text()?,
-                3 => found.scope = Some(field.text()?),
-                number => return Err(Self::unknown(number)),
+                1 => self.workflow_name = table.text(field),
+                2 => self.workflow_key = table.text(field),
+                3 => self.scope = Some(table.text(field)),
+                number => table.fail(Self::unknown(number)),
             }
         }
-        Ok(found)
     }
 
-    fn write(&self, writer: &mut Writer, level: u64) -> Result<(), NoMemory> {
+    fn write(&self, writer: &mut Writer, level: u64) {
         if !self.workflow_name.is_empty() {
-            writer.text(level, 1, &self.workflow_name)?;
+            writer.text(level, 1, &self.workflow_name);
         }
         if !self.workflow_key.is_empty() {
-            writer.text(level, 2, &self.workflow_key)?;
+            writer.text(level, 2, &self.workflow_key);
         }
         if let Some(value) = &self.scope {
-            writer.text(level, 3, value)?;
+            writer.text(level, 3, value);
         }
-        Ok(())
     }
 }
 
@@ -444,38 +416,35 @@ pub struct IdempotentRequestTarget<'a> {
 impl<'a> Fields<'a> for IdempotentRequestTarget<'a> {
     const LISTED: &'static Listed = &LISTED[9];
 
-    fn read(table: &mut Table<'a, '_>, level: u64) -> Result<Self, Error> {
-        let mut found = Self::default();
+    fn read(&mut self, table: &mut Table<'a, '_>, level: u64) {
         while let Some(field) = table.next(level) {
             match field.number() {
-                1 => found.service_name = field.text()?,
-                2 => found.service_key = Some(field.text()?),
-                3 => found.handler_name = field.text()?,
-                4 => found.idempotency_key = field.text()?,
-                5 => found.scope = Some(field.text()?),
-                number => return Err(Self::unknown(number)),
+                1 => self.service_name = table.text(field),
+                2 => self.service_key = Some(table.text(field)),
+                3 => self.handler_name = table.text(field),
+                4 => self.idempotency_key = table.text(field),
+                5 => self.scope = Some(table.text(field)),
+                number => table.fail(Self::unknown(number)),
             }
         }
-        Ok(found)
     }
 
-    fn write(&self, writer: &mut Writer, level: u64) -> Result<(), NoMemory> {
+    fn write(&self, writer: &mut Writer, level: u64) {
         if !self.service_name.is_empty() {
-            writer.text(level, 1, &self.service_name)?;
+            writer.text(level, 1, &self.service_name);
         }
         if let Some(value) = &self.service_key {
-            writer.text(level, 2, value)?;
+            writer.text(level, 2, value);
         }
         if !self.handler_name.is_empty() {
-            writer.text(level, 3, &self.handler_name)?;
+            writer.text(level, 3, &self.handler_name);
         }
         if !self.idempotency_key.is_empty() {
-            writer.text(level, 4, &self.idempotency_key)?;
+            writer.text(level, 4, &self.idempotency_key);
         }
         if let Some(value) = &self.scope {
-            writer.text(level, 5, value)?;
+            writer.text(level, 5, value);
         }
-        Ok(())
     }
 }
 
@@ -515,69 +484,67 @@ pub struct StartMessage<'a> {
 impl<'a> Fields<'a> for StartMessage<'a> {
     const LISTED: &'static Listed = &LISTED[10];
 
-    fn read(table: &mut Table<'a, '_>, level: u64) -> Result<Self, Error> {
-        let mut found = Self::default();
+    fn read(&mut self, table: &mut Table<'a, '_>, level: u64) {
         while let Some(field) = table.next(level) {
             match field.number() {
-                1 => found.id = field.bytes()?,
-                2 => found.debug_id = field.text()?,
-                3 => found.known_entries = field.number32()?,
+                1 => self.id = table.bytes(field),
+                2 => self.debug_id = table.text(field),
+                3 => self.known_entries = table.number32(field),
                 4 => {
-                    let element = Fields::read(table, level + 1)?;
-                    push(&mut found.state_map, element)?;
+                    if let Some(element) = table.append(&mut self.state_map) {
+                        element.read(table, level + 1);
+                    }
                 }
-                5 => found.partial_state = field.value() != 0,
-                6 => found.key = field.text()?,
-                7 => found.retry_count_since_last_stored_entry = field.number32()?,
-                8 => found.duration_since_last_stored_entry = field.value(),
-                9 => found.random_seed = field.value(),
-                10 => found.scope = Some(field.text()?),
-                11 => found.limit_key = Some(field.text()?),
-                12 => found.idempotency_key = Some(field.text()?),
-                number => return Err(Self::unknown(number)),
+                5 => self.partial_state = field.value() != 0,
+                6 => self.key = table.text(field),
+                7 => self.retry_count_since_last_stored_entry = table.number32(field),
+                8 => self.duration_since_last_stored_entry = field.value(),
+                9 => self.random_seed = field.value(),
+                10 => self.scope = Some(table.text(field)),
+                11 => self.limit_key = Some(table.text(field)),
+                12 => self.idempotency_key = Some(table.text(field)),
+                number => table.fail(Self::unknown(number)),
             }
         }
-        Ok(found)
     }
 
-    fn write(&self, writer: &mut Writer, level: u64) -> Result<(), NoMemory> {
+    fn write(&self, writer: &mut Writer, level: u64) {
         if !self.id.is_empty() {
-            writer.bytes(level, 1, &self.id)?;
+            writer.bytes(level, 1, &self.id);
         }
         if !self.debug_id.is_empty() {
-            writer.text(level, 2, &self.debug_id)?;
+            writer.text(level, 2, &self.debug_id);
         }
         if self.known_entries != 0 {
-            writer.number32(level, 3, self.known_entries)?;
+            writer.number32(level, 3, self.known_entries);
         }
         for element in &self.state_map {
-            writer.record(level, 4, element)?;
+            writer.record(level, 4, element);
         }
         if self.partial_state {
-            writer.flag(level, 5, self.partial_state)?;
+            writer.flag(level, 5, self.partial_state);
         }
         if !self.key.is_empty() {
-            writer.text(level, 6, &self.key)?;
+            writer.text(level, 6, &self.key);
         }
         if self.retry_count_since_last_stored_entry != 0 {
-            writer.number32(level, 7, self.retry_count_since_last_stored_entry)?;
+            writer.number32(level, 7, self.retry_count_since_last_stored_entry);
         }
         if self.duration_since_last_stored_entry != 0 {
-            writer.number64(level, 8, self.duration_since_last_stored_entry)?;
+            writer.number64(level, 8, self.duration_since_last_stored_entry);
         }
         if self.random_seed != 0 {
-            writer.number64(level, 9, self.random_seed)?;
+            writer.number64(level, 9, self.random_seed);
         }
         if let Some(value) = &self.scope {
-            writer.text(level, 10, value)?;
+            writer.text(level, 10, value);
         }
         if let Some(value) = &self.limit_key {
-            writer.text(level, 11, value)?;
+            writer.text(level, 11, value);
         }
         if let Some(value) = &self.idempotency_key {
-            writer.text(level, 12, value)?;
+            writer.text(level, 12, value);
         }
-        Ok(())
     }
 }
 
@@ -599,22 +566,22 @@ pub struct SuspensionMessage<'a> {
 impl<'a> Fields<'a> for SuspensionMessage<'a> {
     const LISTED: &'static Listed = &LISTED[11];
 
-    fn read(table: &mut Table<'a, '_>, level: u64) -> Result<Self, Error> {
-        let mut found = Self::default();
+    fn read(&mut self, table: &mut Table<'a, '_>, level: u64) {
         while let Some(field) = table.next(level) {
             match field.number() {
-                4 => found.awaiting_on = Some(Fields::read(table, level + 1)?),
-                number => return Err(Self::unknown(number)),
+                4 => {
+                    let value = self.awaiting_on.insert(Default::default());
+                    value.read(table, level + 1);
+                }
+                number => table.fail(Self::unknown(number)),
             }
         }
-        Ok(found)
     }
 
-    fn write(&self, writer: &mut Writer, level: u64) -> Result<(), NoMemory> {
+    fn write(&self, writer: &mut Writer, level: u64) {
         if let Some(value) = &self.awaiting_on {
-            writer.record(level, 4, value)?;
+            writer.record(level, 4, value);
         }
-        Ok(())
     }
 }
 
@@ -640,39 +607,39 @@ pub struct SuspensionMessageV6<'a> {
 impl<'a> Fields<'a> for SuspensionMessageV6<'a> {
     const LISTED: &'static Listed = &LISTED[12];
 
-    fn read(table: &mut Table<'a, '_>, level: u64) -> Result<Self, Error> {
-        let mut found = Self::default();
+    fn read(&mut self, table: &mut Table<'a, '_>, level: u64) {
         while let Some(field) = table.next(level) {
             match field.number() {
                 1 => {
-                    let element = field.number32()?;
-                    push(&mut found.waiting_completions, element)?;
+                    if let Some(element) = table.append(&mut self.waiting_completions) {
+                        *element = table.number32(field);
+                    }
                 }
                 2 => {
-                    let element = field.number32()?;
-                    push(&mut found.waiting_signals, element)?;
+                    if let Some(element) = table.append(&mut self.waiting_signals) {
+                        *element = table.number32(field);
+                    }
                 }
                 3 => {
-                    let element = field.text()?;
-                    push(&mut found.waiting_named_signals, element)?;
+                    if let Some(element) = table.append(&mut self.waiting_named_signals) {
+                        *element = table.text(field);
+                    }
                 }
-                number => return Err(Self::unknown(number)),
+                number => table.fail(Self::unknown(number)),
             }
         }
-        Ok(found)
     }
 
-    fn write(&self, writer: &mut Writer, level: u64) -> Result<(), NoMemory> {
+    fn write(&self, writer: &mut Writer, level: u64) {
         for element in &self.waiting_completions {
-            writer.number32(level, 1, *element)?;
+            writer.number32(level, 1, *element);
         }
         for element in &self.waiting_signals {
-            writer.number32(level, 2, *element)?;
+            writer.number32(level, 2, *element);
         }
         for element in &self.waiting_named_signals {
-            writer.text(level, 3, element)?;
+            writer.text(level, 3, element);
         }
-        Ok(())
     }
 }
 
@@ -709,50 +676,47 @@ pub struct ErrorMessage<'a> {
 impl<'a> Fields<'a> for ErrorMessage<'a> {
     const LISTED: &'static Listed = &LISTED[13];
 
-    fn read(table: &mut Table<'a, '_>, level: u64) -> Result<Self, Error> {
-        let mut found = Self::default();
+    fn read(&mut self, table: &mut Table<'a, '_>, level: u64) {
         while let Some(field) = table.next(level) {
             match field.number() {
-                1 => found.code = field.number32()?,
-                2 => found.message = field.text()?,
-                3 => found.stacktrace = field.text()?,
-                4 => found.related_command_index = Some(field.number32()?),
-                5 => found.related_command_name = Some(field.text()?),
-                6 => found.related_command_type = Some(field.number32()?),
-                8 => found.next_retry_delay = Some(field.value()),
-                9 => found.behavior = ErrorBehavior(field.signed()?),
-                number => return Err(Self::unknown(number)),
+                1 => self.code = table.number32(field),
+                2 => self.message = table.text(field),
+                3 => self.stacktrace = table.text(field),
+                4 => self.related_command_index = Some(table.number32(field)),
+                5 => self.related_command_name = Some(table.text(field)),
+                6 => self.related_command_type = Some(table.number32(field)),
+                8 => self.next_retry_delay = Some(field.value()),
+                9 => self.behavior = ErrorBehavior(table.signed(field)),
+                number => table.fail(Self::unknown(number)),
             }
         }
-        Ok(found)
     }
 
-    fn write(&self, writer: &mut Writer, level: u64) -> Result<(), NoMemory> {
+    fn write(&self, writer: &mut Writer, level: u64) {
         if self.code != 0 {
-            writer.number32(level, 1, self.code)?;
+            writer.number32(level, 1, self.code);
         }
         if !self.message.is_empty() {
-            writer.text(level, 2, &self.message)?;
+            writer.text(level, 2, &self.message);
         }
         if !self.stacktrace.is_empty() {
-            writer.text(level, 3, &self.stacktrace)?;
+            writer.text(level, 3, &self.stacktrace);
         }
         if let Some(value) = &self.related_command_index {
-            writer.number32(level, 4, *value)?;
+            writer.number32(level, 4, *value);
         }
         if let Some(value) = &self.related_command_name {
-            writer.text(level, 5, value)?;
+            writer.text(level, 5, value);
         }
         if let Some(value) = &self.related_command_type {
-            writer.number32(level, 6, *value)?;
+            writer.number32(level, 6, *value);
         }
         if let Some(value) = &self.next_retry_delay {
-            writer.number64(level, 8, *value)?;
+            writer.number64(level, 8, *value);
         }
         if self.behavior.0 != 0 {
-            writer.signed(level, 9, self.behavior.0)?;
+            writer.signed(level, 9, self.behavior.0);
         }
-        Ok(())
     }
 }
 
@@ -771,16 +735,13 @@ pub struct EndMessage {}
 impl<'a> Fields<'a> for EndMessage {
     const LISTED: &'static Listed = &LISTED[14];
 
-    fn read(table: &mut Table<'a, '_>, level: u64) -> Result<Self, Error> {
-        match table.next(level) {
-            Some(field) => Err(Self::unknown(field.number())),
-            None => Ok(Self {}),
+    fn read(&mut self, table: &mut Table<'a, '_>, level: u64) {
+        if let Some(field) = table.next(level) {
+            table.fail(Self::unknown(field.number()));
         }
     }
 
-    fn write(&self, _: &mut Writer, _: u64) -> Result<(), NoMemory> {
-        Ok(())
-    }
+    fn write(&self, _: &mut Writer, _: u64) {}
 }
 
 impl<'a> Record<'a> for EndMessage {
@@ -812,39 +773,37 @@ pub enum ProposeRunCompletionResult<'a> {
 impl<'a> Fields<'a> for ProposeRunCompletionMessage<'a> {
     const LISTED: &'static Listed = &LISTED[15];
 
-    fn read(table: &mut Table<'a, '_>, level: u64) -> Result<Self, Error> {
-        let mut found = Self::default();
+    fn read(&mut self, table: &mut Table<'a, '_>, level: u64) {
         while let Some(field) = table.next(level) {
             match field.number() {
-                1 => found.result_completion_id = field.number32()?,
+                1 => self.result_completion_id = table.number32(field),
                 14 => {
-                    let value = field.bytes()?;
-                    found.result = Some(ProposeRunCompletionResult::Value(value));
+                    let value = table.bytes(field);
+                    self.result = Some(ProposeRunCompletionResult::Value(value));
                 }
                 15 => {
-                    let value = Fields::read(table, level + 1)?;
-                    found.result = Some(ProposeRunCompletionResult::Failure(value));
+                    let mut value = Failure::default();
+                    value.read(table, level + 1);
+                    self.result = Some(ProposeRunCompletionResult::Failure(value));
                 }
-                number => return Err(Self::unknown(number)),
+                number => table.fail(Self::unknown(number)),
             }
         }
-        Ok(found)
     }
 
-    fn write(&self, writer: &mut Writer, level: u64) -> Result<(), NoMemory> {
+    fn write(&self, writer: &mut Writer, level: u64) {
         if self.result_completion_id != 0 {
-            writer.number32(level, 1, self.result_completion_id)?;
+            writer.number32(level, 1, self.result_completion_id);
         }
         match &self.result {
             Some(ProposeRunCompletionResult::Value(value)) => {
-                writer.bytes(level, 14, value)?;
+                writer.bytes(level, 14, value);
             }
             Some(ProposeRunCompletionResult::Failure(value)) => {
-                writer.record(level, 15, value)?;
+                writer.record(level, 15, value);
             }
             None => {}
         }
-        Ok(())
     }
 }
 
@@ -868,26 +827,26 @@ pub struct AwaitingOnMessage<'a> {
 impl<'a> Fields<'a> for AwaitingOnMessage<'a> {
     const LISTED: &'static Listed = &LISTED[16];
 
-    fn read(table: &mut Table<'a, '_>, level: u64) -> Result<Self, Error> {
-        let mut found = Self::default();
+    fn read(&mut self, table: &mut Table<'a, '_>, level: u64) {
         while let Some(field) = table.next(level) {
             match field.number() {
-                1 => found.awaiting_on = Some(Fields::read(table, level + 1)?),
-                2 => found.executing_side_effects = field.value() != 0,
-                number => return Err(Self::unknown(number)),
+                1 => {
+                    let value = self.awaiting_on.insert(Default::default());
+                    value.read(table, level + 1);
+                }
+                2 => self.executing_side_effects = field.value() != 0,
+                number => table.fail(Self::unknown(number)),
             }
         }
-        Ok(found)
     }
 
-    fn write(&self, writer: &mut Writer, level: u64) -> Result<(), NoMemory> {
+    fn write(&self, writer: &mut Writer, level: u64) {
         if let Some(value) = &self.awaiting_on {
-            writer.record(level, 1, value)?;
+            writer.record(level, 1, value);
         }
         if self.executing_side_effects {
-            writer.flag(level, 2, self.executing_side_effects)?;
+            writer.flag(level, 2, self.executing_side_effects);
         }
-        Ok(())
     }
 }
 
@@ -909,22 +868,19 @@ pub struct ProposeRunCompletionAckMessage {
 impl<'a> Fields<'a> for ProposeRunCompletionAckMessage {
     const LISTED: &'static Listed = &LISTED[17];
 
-    fn read(table: &mut Table<'a, '_>, level: u64) -> Result<Self, Error> {
-        let mut found = Self::default();
+    fn read(&mut self, table: &mut Table<'a, '_>, level: u64) {
         while let Some(field) = table.next(level) {
             match field.number() {
-                1 => found.completion_id = field.number32()?,
-                number => return Err(Self::unknown(number)),
+                1 => self.completion_id = table.number32(field),
+                number => table.fail(Self::unknown(number)),
             }
         }
-        Ok(found)
     }
 
-    fn write(&self, writer: &mut Writer, level: u64) -> Result<(), NoMemory> {
+    fn write(&self, writer: &mut Writer, level: u64) {
         if self.completion_id != 0 {
-            writer.number32(level, 1, self.completion_id)?;
+            writer.number32(level, 1, self.completion_id);
         }
-        Ok(())
     }
 }
 
@@ -948,26 +904,23 @@ pub struct GetStateEphemeralCommandMessage<'a> {
 impl<'a> Fields<'a> for GetStateEphemeralCommandMessage<'a> {
     const LISTED: &'static Listed = &LISTED[18];
 
-    fn read(table: &mut Table<'a, '_>, level: u64) -> Result<Self, Error> {
-        let mut found = Self::default();
+    fn read(&mut self, table: &mut Table<'a, '_>, level: u64) {
         while let Some(field) = table.next(level) {
             match field.number() {
-                1 => found.key = field.bytes()?,
-                2 => found.completion_id = field.number32()?,
-                number => return Err(Self::unknown(number)),
+                1 => self.key = table.bytes(field),
+                2 => self.completion_id = table.number32(field),
+                number => table.fail(Self::unknown(number)),
             }
         }
-        Ok(found)
     }
 
-    fn write(&self, writer: &mut Writer, level: u64) -> Result<(), NoMemory> {
+    fn write(&self, writer: &mut Writer, level: u64) {
         if !self.key.is_empty() {
-            writer.bytes(level, 1, &self.key)?;
+            writer.bytes(level, 1, &self.key);
         }
         if self.completion_id != 0 {
-            writer.number32(level, 2, self.completion_id)?;
+            writer.number32(level, 2, self.completion_id);
         }
-        Ok(())
     }
 }
 
@@ -1000,39 +953,38 @@ pub enum GetStateEphemeralNotificationResult<'a> {
 impl<'a> Fields<'a> for GetStateEphemeralNotificationMessage<'a> {
     const LISTED: &'static Listed = &LISTED[19];
 
-    fn read(table: &mut Table<'a, '_>, level: u64) -> Result<Self, Error> {
-        let mut found = Self::default();
+    fn read(&mut self, table: &mut Table<'a, '_>, level: u64) {
         while let Some(field) = table.next(level) {
             match field.number() {
-                1 => found.completion_id = field.number32()?,
+                1 => self.completion_id = table.number32(field),
                 4 => {
-                    let value = Fields::read(table, level + 1)?;
-                    found.result = Some(GetStateEphemeralNotificationResult::Void(value));
+                    let mut value = Void::default();
+                    value.read(table, level + 1);
+                    self.result = Some(GetStateEphemeralNotificationResult::Void(value));
                 }
                 5 => {
-                    let value = Fields::read(table, level + 1)?;
-                    found.result = Some(GetStateEphemeralNotificationResult::Value(value));
+                    let mut value = Value::default();
+                    value.read(table, level + 1);
+                    self.result = Some(GetStateEphemeralNotificationResult::Value(value));
                 }
-                number => return Err(Self::unknown(number)),
+                number => table.fail(Self::unknown(number)),
             }
         }
-        Ok(found)
     }
 
-    fn write(&self, writer: &mut Writer, level: u64) -> Result<(), NoMemory> {
+    fn write(&self, writer: &mut Writer, level: u64) {
         if self.completion_id != 0 {
-            writer.number32(level, 1, self.completion_id)?;
+            writer.number32(level, 1, self.completion_id);
         }
         match &self.result {
             Some(GetStateEphemeralNotificationResult::Void(value)) => {
-                writer.record(level, 4, value)?;
+                writer.record(level, 4, value);
             }
             Some(GetStateEphemeralNotificationResult::Value(value)) => {
-                writer.record(level, 5, value)?;
+                writer.record(level, 5, value);
             }
             None => {}
         }
-        Ok(())
     }
 }
 
@@ -1058,33 +1010,34 @@ pub struct InputCommandMessage<'a> {
 impl<'a> Fields<'a> for InputCommandMessage<'a> {
     const LISTED: &'static Listed = &LISTED[20];
 
-    fn read(table: &mut Table<'a, '_>, level: u64) -> Result<Self, Error> {
-        let mut found = Self::default();
+    fn read(&mut self, table: &mut Table<'a, '_>, level: u64) {
         while let Some(field) = table.next(level) {
             match field.number() {
                 1 => {
-                    let element = Fields::read(table, level + 1)?;
-                    push(&mut found.headers, element)?;
+                    if let Some(element) = table.append(&mut self.headers) {
+                        element.read(table, level + 1);
+                    }
                 }
-                12 => found.name = field.text()?,
-                14 => found.value = Some(Fields::read(table, level + 1)?),
-                number => return Err(Self::unknown(number)),
+                12 => self.name = table.text(field),
+                14 => {
+                    let value = self.value.insert(Default::default());
+                    value.read(table, level + 1);
+                }
+                number => table.fail(Self::unknown(number)),
             }
         }
-        Ok(found)
     }
 
-    fn write(&self, writer: &mut Writer, level: u64) -> Result<(), NoMemory> {
+    fn write(&self, writer: &mut Writer, level: u64) {
         for element in &self.headers {
-            writer.record(level, 1, element)?;
+            writer.record(level, 1, element);
         }
         if !self.name.is_empty() {
-            writer.text(level, 12, &self.name)?;
+            writer.text(level, 12, &self.name);
         }
         if let Some(value) = &self.value {
-            writer.record(level, 14, value)?;
+            writer.record(level, 14, value);
         }
-        Ok(())
     }
 }
 
@@ -1117,39 +1070,38 @@ pub enum OutputCommandResult<'a> {
 impl<'a> Fields<'a> for OutputCommandMessage<'a> {
     const LISTED: &'static Listed = &LISTED[21];
 
-    fn read(table: &mut Table<'a, '_>, level: u64) -> Result<Self, Error> {
-        let mut found = Self::default();
+    fn read(&mut self, table: &mut Table<'a, '_>, level: u64) {
         while let Some(field) = table.next(level) {
             match field.number() {
-                12 => found.name = field.text()?,
+                12 => self.name = table.text(field),
                 14 => {
-                    let value = Fields::read(table, level + 1)?;
-                    found.result = Some(OutputCommandResult::Value(value));
+                    let mut value = Value::default();
+                    value.read(table, level + 1);
+                    self.result = Some(OutputCommandResult::Value(value));
                 }
                 15 => {
-                    let value = Fields::read(table, level + 1)?;
-                    found.result = Some(OutputCommandResult::Failure(value));
+                    let mut value = Failure::default();
+                    value.read(table, level + 1);
+                    self.result = Some(OutputCommandResult::Failure(value));
                 }
-                number => return Err(Self::unknown(number)),
+                number => table.fail(Self::unknown(number)),
             }
         }
-        Ok(found)
     }
 
-    fn write(&self, writer: &mut Writer, level: u64) -> Result<(), NoMemory> {
+    fn write(&self, writer: &mut Writer, level: u64) {
         if !self.name.is_empty() {
-            writer.text(level, 12, &self.name)?;
+            writer.text(level, 12, &self.name);
         }
         match &self.result {
             Some(OutputCommandResult::Value(value)) => {
-                writer.record(level, 14, value)?;
+                writer.record(level, 14, value);
             }
             Some(OutputCommandResult::Failure(value)) => {
-                writer.record(level, 15, value)?;
+                writer.record(level, 15, value);
             }
             None => {}
         }
-        Ok(())
     }
 }
 
@@ -1175,30 +1127,27 @@ pub struct GetLazyStateCommandMessage<'a> {
 impl<'a> Fields<'a> for GetLazyStateCommandMessage<'a> {
     const LISTED: &'static Listed = &LISTED[22];
 
-    fn read(table: &mut Table<'a, '_>, level: u64) -> Result<Self, Error> {
-        let mut found = Self::default();
+    fn read(&mut self, table: &mut Table<'a, '_>, level: u64) {
         while let Some(field) = table.next(level) {
             match field.number() {
-                1 => found.key = field.bytes()?,
-                11 => found.result_completion_id = field.number32()?,
-                12 => found.name = field.text()?,
-                number => return Err(Self::unknown(number)),
+                1 => self.key = table.bytes(field),
+                11 => self.result_completion_id = table.number32(field),
+                12 => self.name = table.text(field),
+                number => table.fail(Self::unknown(number)),
             }
         }
-        Ok(found)
     }
 
-    fn write(&self, writer: &mut Writer, level: u64) -> Result<(), NoMemory> {
+    fn write(&self, writer: &mut Writer, level: u64) {
         if !self.key.is_empty() {
-            writer.bytes(level, 1, &self.key)?;
+            writer.bytes(level, 1, &self.key);
         }
         if self.result_completion_id != 0 {
-            writer.number32(level, 11, self.result_completion_id)?;
+            writer.number32(level, 11, self.result_completion_id);
         }
         if !self.name.is_empty() {
-            writer.text(level, 12, &self.name)?;
+            writer.text(level, 12, &self.name);
         }
-        Ok(())
     }
 }
 
@@ -1224,30 +1173,30 @@ pub struct SetStateCommandMessage<'a> {
 impl<'a> Fields<'a> for SetStateCommandMessage<'a> {
     const LISTED: &'static Listed = &LISTED[23];
 
-    fn read(table: &mut Table<'a, '_>, level: u64) -> Result<Self, Error> {
-        let mut found = Self::default();
+    fn read(&mut self, table: &mut Table<'a, '_>, level: u64) {
         while let Some(field) = table.next(level) {
             match field.number() {
-                1 => found.key = field.bytes()?,
-                3 => found.value = Some(Fields::read(table, level + 1)?),
-                12 => found.name = field.text()?,
-                number => return Err(Self::unknown(number)),
+                1 => self.key = table.bytes(field),
+                3 => {
+                    let value = self.value.insert(Default::default());
+                    value.read(table, level + 1);
+                }
+                12 => self.name = table.text(field),
+                number => table.fail(Self::unknown(number)),
             }
         }
-        Ok(found)
     }
 
-    fn write(&self, writer: &mut Writer, level: u64) -> Result<(), NoMemory> {
+    fn write(&self, writer: &mut Writer, level: u64) {
         if !self.key.is_empty() {
-            writer.bytes(level, 1, &self.key)?;
+            writer.bytes(level, 1, &self.key);
         }
         if let Some(value) = &self.value {
-            writer.record(level, 3, value)?;
+            writer.record(level, 3, value);
         }
         if !self.name.is_empty() {
-            writer.text(level, 12, &self.name)?;
+            writer.text(level, 12, &self.name);
         }
-        Ok(())
     }
 }
 
@@ -1271,26 +1220,23 @@ pub struct ClearStateCommandMessage<'a> {
 impl<'a> Fields<'a> for ClearStateCommandMessage<'a> {
     const LISTED: &'static Listed = &LISTED[24];
 
-    fn read(table: &mut Table<'a, '_>, level: u64) -> Result<Self, Error> {
-        let mut found = Self::default();
+    fn read(&mut self, table: &mut Table<'a, '_>, level: u64) {
         while let Some(field) = table.next(level) {
             match field.number() {
-                1 => found.key = field.bytes()?,
-                12 => found.name = field.text()?,
-                number => return Err(Self::unknown(number)),
+                1 => self.key = table.bytes(field),
+                12 => self.name = table.text(field),
+                number => table.fail(Self::unknown(number)),
             }
         }
-        Ok(found)
     }
 
-    fn write(&self, writer: &mut Writer, level: u64) -> Result<(), NoMemory> {
+    fn write(&self, writer: &mut Writer, level: u64) {
         if !self.key.is_empty() {
-            writer.bytes(level, 1, &self.key)?;
+            writer.bytes(level, 1, &self.key);
         }
         if !self.name.is_empty() {
-            writer.text(level, 12, &self.name)?;
+            writer.text(level, 12, &self.name);
         }
-        Ok(())
     }
 }
 
@@ -1312,22 +1258,19 @@ pub struct ClearAllStateCommandMessage<'a> {
 impl<'a> Fields<'a> for ClearAllStateCommandMessage<'a> {
     const LISTED: &'static Listed = &LISTED[25];
 
-    fn read(table: &mut Table<'a, '_>, level: u64) -> Result<Self, Error> {
-        let mut found = Self::default();
+    fn read(&mut self, table: &mut Table<'a, '_>, level: u64) {
         while let Some(field) = table.next(level) {
             match field.number() {
-                12 => found.name = field.text()?,
-                number => return Err(Self::unknown(number)),
+                12 => self.name = table.text(field),
+                number => table.fail(Self::unknown(number)),
             }
         }
-        Ok(found)
     }
 
-    fn write(&self, writer: &mut Writer, level: u64) -> Result<(), NoMemory> {
+    fn write(&self, writer: &mut Writer, level: u64) {
         if !self.name.is_empty() {
-            writer.text(level, 12, &self.name)?;
+            writer.text(level, 12, &self.name);
         }
-        Ok(())
     }
 }
 
@@ -1351,26 +1294,23 @@ pub struct GetLazyStateKeysCommandMessage<'a> {
 impl<'a> Fields<'a> for GetLazyStateKeysCommandMessage<'a> {
     const LISTED: &'static Listed = &LISTED[26];
 
-    fn read(table: &mut Table<'a, '_>, level: u64) -> Result<Self, Error> {
-        let mut found = Self::default();
+    fn read(&mut self, table: &mut Table<'a, '_>, level: u64) {
         while let Some(field) = table.next(level) {
             match field.number() {
-                11 => found.result_completion_id = field.number32()?,
-                12 => found.name = field.text()?,
-                number => return Err(Self::unknown(number)),
+                11 => self.result_completion_id = table.number32(field),
+                12 => self.name = table.text(field),
+                number => table.fail(Self::unknown(number)),
             }
         }
-        Ok(found)
     }
 
-    fn write(&self, writer: &mut Writer, level: u64) -> Result<(), NoMemory> {
+    fn write(&self, writer: &mut Writer, level: u64) {
         if self.result_completion_id != 0 {
-            writer.number32(level, 11, self.result_completion_id)?;
+            writer.number32(level, 11, self.result_completion_id);
         }
         if !self.name.is_empty() {
-            writer.text(level, 12, &self.name)?;
+            writer.text(level, 12, &self.name);
         }
-        Ok(())
     }
 }
 
@@ -1405,43 +1345,42 @@ pub enum GetEagerStateCommandResult<'a> {
 impl<'a> Fields<'a> for GetEagerStateCommandMessage<'a> {
     const LISTED: &'static Listed = &LISTED[27];
 
-    fn read(table: &mut Table<'a, '_>, level: u64) -> Result<Self, Error> {
-        let mut found = Self::default();
+    fn read(&mut self, table: &mut Table<'a, '_>, level: u64) {
         while let Some(field) = table.next(level) {
             match field.number() {
-                1 => found.key = field.bytes()?,
-                12 => found.name = field.text()?,
+                1 => self.key = table.bytes(field),
+                12 => self.name = table.text(field),
                 13 => {
-                    let value = Fields::read(table, level + 1)?;
-                    found.result = Some(GetEagerStateCommandResult::Void(value));
+                    let mut value = Void::default();
+                    value.read(table, level + 1);
+                    self.result = Some(GetEagerStateCommandResult::Void(value));
                 }
                 14 => {
-                    let value = Fields::read(table, level + 1)?;
-                    found.result = Some(GetEagerStateCommandResult::Value(value));
+                    let mut value = Value::default();
+                    value.read(table, level + 1);
+                    self.result = Some(GetEagerStateCommandResult::Value(value));
                 }
-                number => return Err(Self::unknown(number)),
+                number => table.fail(Self::unknown(number)),
             }
         }
-        Ok(found)
     }
 
-    fn write(&self, writer: &mut Writer, level: u64) -> Result<(), NoMemory> {
+    fn write(&self, writer: &mut Writer, level: u64) {
         if !self.key.is_empty() {
-            writer.bytes(level, 1, &self.key)?;
+            writer.bytes(level, 1, &self.key);
         }
         if !self.name.is_empty() {
-            writer.text(level, 12, &self.name)?;
+            writer.text(level, 12, &self.name);
         }
         match &self.result {
             Some(GetEagerStateCommandResult::Void(value)) => {
-                writer.record(level, 13, value)?;
+                writer.record(level, 13, value);
             }
             Some(GetEagerStateCommandResult::Value(value)) => {
-                writer.record(level, 14, value)?;
+                writer.record(level, 14, value);
             }
             None => {}
         }
-        Ok(())
     }
 }
 
@@ -1465,26 +1404,26 @@ pub struct GetEagerStateKeysCommandMessage<'a> {
 impl<'a> Fields<'a> for GetEagerStateKeysCommandMessage<'a> {
     const LISTED: &'static Listed = &LISTED[28];
 
-    fn read(table: &mut Table<'a, '_>, level: u64) -> Result<Self, Error> {
-        let mut found = Self::default();
+    fn read(&mut self, table: &mut Table<'a, '_>, level: u64) {
         while let Some(field) = table.next(level) {
             match field.number() {
-                12 => found.name = field.text()?,
-                14 => found.value = Some(Fields::read(table, level + 1)?),
-                number => return Err(Self::unknown(number)),
+                12 => self.name = table.text(field),
+                14 => {
+                    let value = self.value.insert(Default::default());
+                    value.read(table, level + 1);
+                }
+                number => table.fail(Self::unknown(number)),
             }
         }
-        Ok(found)
     }
 
-    fn write(&self, writer: &mut Writer, level: u64) -> Result<(), NoMemory> {
+    fn write(&self, writer: &mut Writer, level: u64) {
         if !self.name.is_empty() {
-            writer.text(level, 12, &self.name)?;
+            writer.text(level, 12, &self.name);
         }
         if let Some(value) = &self.value {
-            writer.record(level, 14, value)?;
+            writer.record(level, 14, value);
         }
-        Ok(())
     }
 }
 
@@ -1510,30 +1449,27 @@ pub struct GetPromiseCommandMessage<'a> {
 impl<'a> Fields<'a> for GetPromiseCommandMessage<'a> {
     const LISTED: &'static Listed = &LISTED[29];
 
-    fn read(table: &mut Table<'a, '_>, level: u64) -> Result<Self, Error> {
-        let mut found = Self::default();
+    fn read(&mut self, table: &mut Table<'a, '_>, level: u64) {
         while let Some(field) = table.next(level) {
             match field.number() {
-                1 => found.key = field.text()?,
-                11 => found.result_completion_id = field.number32()?,
-                12 => found.name = field.text()?,
-                number => return Err(Self::unknown(number)),
+                1 => self.key = table.text(field),
+                11 => self.result_completion_id = table.number32(field),
+                12 => self.name = table.text(field),
+                number => table.fail(Self::unknown(number)),
             }
         }
-        Ok(found)
     }
 
-    fn write(&self, writer: &mut Writer, level: u64) -> Result<(), NoMemory> {
+    fn write(&self, writer: &mut Writer, level: u64) {
         if !self.key.is_empty() {
-            writer.text(level, 1, &self.key)?;
+            writer.text(level, 1, &self.key);
         }
         if self.result_completion_id != 0 {
-            writer.number32(level, 11, self.result_completion_id)?;
+            writer.number32(level, 11, self.result_completion_id);
         }
         if !self.name.is_empty() {
-            writer.text(level, 12, &self.name)?;
+            writer.text(level, 12, &self.name);
         }
-        Ok(())
     }
 }
 
@@ -1559,30 +1495,27 @@ pub struct PeekPromiseCommandMessage<'a> {
 impl<'a> Fields<'a> for PeekPromiseCommandMessage<'a> {
     const LISTED: &'static Listed = &LISTED[30];
 
-    fn read(table: &mut Table<'a, '_>, level: u64) -> Result<Self, Error> {
-        let mut found = Self::default();
+    fn read(&mut self, table: &mut Table<'a, '_>, level: u64) {
         while let Some(field) = table.next(level) {
             match field.number() {
-                1 => found.key = field.text()?,
-                11 => found.result_completion_id = field.number32()?,
-                12 => found.name = field.text()?,
-                number => return Err(Self::unknown(number)),
+                1 => self.key = table.text(field),
+                11 => self.result_completion_id = table.number32(field),
+                12 => self.name = table.text(field),
+                number => table.fail(Self::unknown(number)),
             }
         }
-        Ok(found)
     }
 
-    fn write(&self, writer: &mut Writer, level: u64) -> Result<(), NoMemory> {
+    fn write(&self, writer: &mut Writer, level: u64) {
         if !self.key.is_empty() {
-            writer.text(level, 1, &self.key)?;
+            writer.text(level, 1, &self.key);
         }
         if self.result_completion_id != 0 {
-            writer.number32(level, 11, self.result_completion_id)?;
+            writer.number32(level, 11, self.result_completion_id);
         }
         if !self.name.is_empty() {
-            writer.text(level, 12, &self.name)?;
+            writer.text(level, 12, &self.name);
         }
-        Ok(())
     }
 }
 
@@ -1619,47 +1552,46 @@ pub enum CompletePromiseCommandCompletion<'a> {
 impl<'a> Fields<'a> for CompletePromiseCommandMessage<'a> {
     const LISTED: &'static Listed = &LISTED[31];
 
-    fn read(table: &mut Table<'a, '_>, level: u64) -> Result<Self, Error> {
-        let mut found = Self::default();
+    fn read(&mut self, table: &mut Table<'a, '_>, level: u64) {
         while let Some(field) = table.next(level) {
             match field.number() {
-                1 => found.key = field.text()?,
+                1 => self.key = table.text(field),
                 2 => {
-                    let value = Fields::read(table, level + 1)?;
-                    found.completion = Some(CompletePromiseCommandCompletion::CompletionValue(value));
+                    let mut value = Value::default();
+                    value.read(table, level + 1);
+                    self.completion = Some(CompletePromiseCommandCompletion::CompletionValue(value));
                 }
                 3 => {
-                    let value = Fields::read(table, level + 1)?;
-                    found.completion = Some(CompletePromiseCommandCompletion::CompletionFailure(value));
+                    let mut value = Failure::default();
+                    value.read(table, level + 1);
+                    self.completion = Some(CompletePromiseCommandCompletion::CompletionFailure(value));
                 }
-                11 => found.result_completion_id = field.number32()?,
-                12 => found.name = field.text()?,
-                number => return Err(Self::unknown(number)),
+                11 => self.result_completion_id = table.number32(field),
+                12 => self.name = table.text(field),
+                number => table.fail(Self::unknown(number)),
             }
         }
-        Ok(found)
     }
 
-    fn write(&self, writer: &mut Writer, level: u64) -> Result<(), NoMemory> {
+    fn write(&self, writer: &mut Writer, level: u64) {
         if !self.key.is_empty() {
-            writer.text(level, 1, &self.key)?;
+            writer.text(level, 1, &self.key);
         }
         match &self.completion {
             Some(CompletePromiseCommandCompletion::CompletionValue(value)) => {
-                writer.record(level, 2, value)?;
+                writer.record(level, 2, value);
             }
             Some(CompletePromiseCommandCompletion::CompletionFailure(value)) => {
-                writer.record(level, 3, value)?;
+                writer.record(level, 3, value);
             }
             None => {}
         }
         if self.result_completion_id != 0 {
-            writer.number32(level, 11, self.result_completion_id)?;
+            writer.number32(level, 11, self.result_completion_id);
         }
         if !self.name.is_empty() {
-            writer.text(level, 12, &self.name)?;
+            writer.text(level, 12, &self.name);
         }
-        Ok(())
     }
 }
 
@@ -1685,30 +1617,27 @@ pub struct SleepCommandMessage<'a> {
 impl<'a> Fields<'a> for SleepCommandMessage<'a> {
     const LISTED: &'static Listed = &LISTED[32];
 
-    fn read(table: &mut Table<'a, '_>, level: u64) -> Result<Self, Error> {
-        let mut found = Self::default();
+    fn read(&mut self, table: &mut Table<'a, '_>, level: u64) {
         while let Some(field) = table.next(level) {
             match field.number() {
-                1 => found.wake_up_time = field.value(),
-                11 => found.result_completion_id = field.number32()?,
-                12 => found.name = field.text()?,
-                number => return Err(Self::unknown(number)),
+                1 => self.wake_up_time = field.value(),
+                11 => self.result_completion_id = table.number32(field),
+                12 => self.name = table.text(field),
+                number => table.fail(Self::unknown(number)),
             }
         }
-        Ok(found)
     }
 
-    fn write(&self, writer: &mut Writer, level: u64) -> Result<(), NoMemory> {
+    fn write(&self, writer: &mut Writer, level: u64) {
         if self.wake_up_time != 0 {
-            writer.number64(level, 1, self.wake_up_time)?;
+            writer.number64(level, 1, self.wake_up_time);
         }
         if self.result_completion_id != 0 {
-            writer.number32(level, 11, self.result_completion_id)?;
+            writer.number32(level, 11, self.result_completion_id);
         }
         if !self.name.is_empty() {
-            writer.text(level, 12, &self.name)?;
+            writer.text(level, 12, &self.name);
         }
-        Ok(())
     }
 }
 
@@ -1750,65 +1679,63 @@ pub struct CallCommandMessage<'a> {
 impl<'a> Fields<'a> for CallCommandMessage<'a> {
     const LISTED: &'static Listed = &LISTED[33];
 
-    fn read(table: &mut Table<'a, '_>, level: u64) -> Result<Self, Error> {
-        let mut found = Self::default();
+    fn read(&mut self, table: &mut Table<'a, '_>, level: u64) {
         while let Some(field) = table.next(level) {
             match field.number() {
-                1 => found.service_name = field.text()?,
-                2 => found.handler_name = field.text()?,
-                3 => found.parameter = field.bytes()?,
+                1 => self.service_name = table.text(field),
+                2 => self.handler_name = table.text(field),
+                3 => self.parameter = table.bytes(field),
                 4 => {
-                    let element = Fields::read(table, level + 1)?;
-                    push(&mut found.headers, element)?;
+                    if let Some(element) = table.append(&mut self.headers) {
+                        element.read(table, level + 1);
+                    }
                 }
-                5 => found.key = field.text()?,
-                6 => found.idempotency_key = Some(field.text()?),
-                7 => found.scope = Some(field.text()?),
-                8 => found.limit_key = Some(field.text()?),
-                10 => found.invocation_id_notification_idx = field.number32()?,
-                11 => found.result_completion_id = field.number32()?,
-                12 => found.name = field.text()?,
-                number => return Err(Self::unknown(number)),
+                5 => self.key = table.text(field),
+                6 => self.idempotency_key = Some(table.text(field)),
+                7 => self.scope = Some(table.text(field)),
+                8 => self.limit_key = Some(table.text(field)),
+                10 => self.invocation_id_notification_idx = table.number32(field),
+                11 => self.result_completion_id = table.number32(field),
+                12 => self.name = table.text(field),
+                number => table.fail(Self::unknown(number)),
             }
         }
-        Ok(found)
     }
 
-    fn write(&self, writer: &mut Writer, level: u64) -> Result<(), NoMemory> {
+    fn write(&self, writer: &mut Writer, level: u64) {
         if !self.service_name.is_empty() {
-            writer.text(level, 1, &self.service_name)?;
+            writer.text(level, 1, &self.service_name);
         }
         if !self.handler_name.is_empty() {
-            writer.text(level, 2, &self.handler_name)?;
+            writer.text(level, 2, &self.handler_name);
         }
         if !self.parameter.is_empty() {
-            writer.bytes(level, 3, &self.parameter)?;
+            writer.bytes(level, 3, &self.parameter);
         }
         for element in &self.headers {
-            writer.record(level, 4, element)?;
+            writer.record(level, 4, element);
         }
         if !self.key.is_empty() {
-            writer.text(level, 5, &self.key)?;
+            writer.text(level, 5, &self.key);
         }
         if let Some(value) = &self.idempotency_key {
-            writer.text(level, 6, value)?;
+            writer.text(level, 6, value);
         }
         if let Some(value) = &self.scope {
-            writer.text(level, 7, value)?;
+            writer.text(level, 7, value);
         }
         if let Some(value) = &self.limit_key {
-            writer.text(level, 8, value)?;
+            writer.text(level, 8, value);
         }
         if self.invocation_id_notification_idx != 0 {
-            writer.number32(level, 10, self.invocation_id_notification_idx)?;
+            writer.number32(level, 10, self.invocation_id_notification_idx);
         }
         if self.result_completion_id != 0 {
-            writer.number32(level, 11, self.result_completion_id)?;
+            writer.number32(level, 11, self.result_completion_id);
         }
         if !self.name.is_empty() {
-            writer.text(level, 12, &self.name)?;
+            writer.text(level, 12, &self.name);
         }
-        Ok(())
     }
 }
 
@@ -1850,65 +1777,63 @@ pub struct OneWayCallCommandMessage<'a> {
 impl<'a> Fields<'a> for OneWayCallCommandMessage<'a> {
     const LISTED: &'static Listed = &LISTED[34];
 
-    fn read(table: &mut Table<'a, '_>, level: u64) -> Result<Self, Error> {
-        let mut found = Self::default();
+    fn read(&mut self, table: &mut Table<'a, '_>, level: u64) {
         while let Some(field) = table.next(level) {
             match field.number() {
-                1 => found.service_name = field.text()?,
-                2 => found.handler_name = field.text()?,
-                3 => found.parameter = field.bytes()?,
-                4 => found.invoke_time = field.value(),
+                1 => self.service_name = table.text(field),
+                2 => self.handler_name = table.text(field),
+                3 => self.parameter = table.bytes(field),
+                4 => self.invoke_time = field.value(),
                 5 => {
-                    let element = Fields::read(table, level + 1)?;
-                    push(&mut found.headers, element)?;
+                    if let Some(element) = table.append(&mut self.headers) {
+                        element.read(table, level + 1);
+                    }
                 }
-                6 => found.key = field.text()?,
-                7 => found.idempotency_key = Some(field.text()?),
-                8 => found.scope = Some(field.text()?),
-                9 => found.limit_key = Some(field.text()?),
-                10 => found.invocation_id_notification_idx = field.number32()?,
-                12 => found.name = field.text()?,
-                number => return Err(Self::unknown(number)),
+                6 => self.key = table.text(field),
+                7 => self.idempotency_key = Some(table.text(field)),
+                8 => self.scope = Some(table.text(field)),
+                9 => self.limit_key = Some(table.text(field)),
+                10 => self.invocation_id_notification_idx = table.number32(field),
+                12 => self.name = table.text(field),
+                number => table.fail(Self::unknown(number)),
             }
         }
-        Ok(found)
     }
 
-    fn write(&self, writer: &mut Writer, level: u64) -> Result<(), NoMemory> {
+    fn write(&self, writer: &mut Writer, level: u64) {
         if !self.service_name.is_empty() {
-            writer.text(level, 1, &self.service_name)?;
+            writer.text(level, 1, &self.service_name);
         }
         if !self.handler_name.is_empty() {
-            writer.text(level, 2, &self.handler_name)?;
+            writer.text(level, 2, &self.handler_name);
         }
         if !self.parameter.is_empty() {
-            writer.bytes(level, 3, &self.parameter)?;
+            writer.bytes(level, 3, &self.parameter);
         }
         if self.invoke_time != 0 {
-            writer.number64(level, 4, self.invoke_time)?;
+            writer.number64(level, 4, self.invoke_time);
         }
         for element in &self.headers {
-            writer.record(level, 5, element)?;
+            writer.record(level, 5, element);
         }
         if !self.key.is_empty() {
-            writer.text(level, 6, &self.key)?;
+            writer.text(level, 6, &self.key);
         }
         if let Some(value) = &self.idempotency_key {
-            writer.text(level, 7, value)?;
+            writer.text(level, 7, value);
         }
         if let Some(value) = &self.scope {
-            writer.text(level, 8, value)?;
+            writer.text(level, 8, value);
         }
         if let Some(value) = &self.limit_key {
-            writer.text(level, 9, value)?;
+            writer.text(level, 9, value);
         }
         if self.invocation_id_notification_idx != 0 {
-            writer.number32(level, 10, self.invocation_id_notification_idx)?;
+            writer.number32(level, 10, self.invocation_id_notification_idx);
         }
         if !self.name.is_empty() {
-            writer.text(level, 12, &self.name)?;
+            writer.text(level, 12, &self.name);
         }
-        Ok(())
     }
 }
 
@@ -1956,67 +1881,67 @@ pub enum SendSignalCommandResult<'a> {
 impl<'a> Fields<'a> for SendSignalCommandMessage<'a> {
     const LISTED: &'static Listed = &LISTED[35];
 
-    fn read(table: &mut Table<'a, '_>, level: u64) -> Result<Self, Error> {
-        let mut found = Self::default();
+    fn read(&mut self, table: &mut Table<'a, '_>, level: u64) {
         while let Some(field) = table.next(level) {
             match field.number() {
-                1 => found.target_invocation_id = field.text()?,
+                1 => self.target_invocation_id = table.text(field),
                 2 => {
-                    let value = field.number32()?;
-                    found.signal_id = Some(SendSignalCommandSignalId::Idx(value));
+                    let value = table.number32(field);
+                    self.signal_id = Some(SendSignalCommandSignalId::Idx(value));
                 }
                 3 => {
-                    let value = field.text()?;
-                    found.signal_id = Some(SendSignalCommandSignalId::Name(value));
+                    let value = table.text(field);
+                    self.signal_id = Some(SendSignalCommandSignalId::Name(value));
                 }
                 4 => {
-                    let value = Fields::read(table, level + 1)?;
-                    found.result = Some(SendSignalCommandResult::Void(value));
+                    let mut value = Void::default();
+                    value.read(table, level + 1);
+                    self.result = Some(SendSignalCommandResult::Void(value));
                 }
                 5 => {
-                    let value = Fields::read(table, level + 1)?;
-                    found.result = Some(SendSignalCommandResult::Value(value));
+                    let mut value = Value::default();
+                    value.read(table, level + 1);
+                    self.result = Some(SendSignalCommandResult::Value(value));
                 }
                 6 => {
-                    let value = Fields::read(table, level + 1)?;
-                    found.result = Some(SendSignalCommandResult::Failure(value));
+                    let mut value = Failure::default();
+                    value.read(table, level + 1);
+                    self.result = Some(SendSignalCommandResult::Failure(value));
                 }
-                12 => found.entry_name = field.text()?,
-                number => return Err(Self::unknown(number)),
+                12 => self.entry_name = table.text(field),
+                number => table.fail(Self::unknown(number)),
             }
         }
-        Ok(found)
     }
 
-    fn write(&self, writer: &mut Writer, level: u64) -> Result<(), NoMemory> {
+    fn write(&self, writer: &mut Writer, level: u64) {
         if !self.target_invocation_id.is_empty() {
-            writer.text(level, 1, &self.target_invocation_id)?;
+            writer.text(level, 1, &self.target_invocation_id);
         }
         match &self.signal_id {
             Some(SendSignalCommandSignalId::Idx(value)) => {
-                writer.number32(level, 2, *value)?;
+                writer.number32(level, 2, *value);
             }
             Some(SendSignalCommandSignalId::Name(value)) => {
-                writer.text(level, 3, value)?;
+                writer.text(level, 3, value);
             }
             None => {}
         }
         match &self.result {
             Some(SendSignalCommandResult::Void(value)) => {
-                writer.record(level, 4, value)?;
+                writer.record(level, 4, value);
             }
             Some(SendSignalCommandResult::Value(value)) => {
-                writer.record(level, 5, value)?;
+                writer.record(level, 5, value);
             }
             Some(SendSignalCommandResult::Failure(value)) => {
-                writer.record(level, 6, value)?;
+                writer.record(level, 6, value);
             }
             None => {}
         }
         if !self.entry_name.is_empty() {
-            writer.text(level, 12, &self.entry_name)?;
+            writer.text(level, 12, &self.entry_name);
         }
-        Ok(())
     }
 }
 
@@ -2040,26 +1965,23 @@ pub struct RunCommandMessage<'a> {
 impl<'a> Fields<'a> for RunCommandMessage<'a> {
     const LISTED: &'static Listed = &LISTED[36];
 
-    fn read(table: &mut Table<'a, '_>, level: u64) -> Result<Self, Error> {
-        let mut found = Self::default();
+    fn read(&mut self, table: &mut Table<'a, '_>, level: u64) {
         while let Some(field) = table.next(level) {
             match field.number() {
-                11 => found.result_completion_id = field.number32()?,
-                12 => found.name = field.text()?,
-                number => return Err(Self::unknown(number)),
+                11 => self.result_completion_id = table.number32(field),
+                12 => self.name = table.text(field),
+                number => table.fail(Self::unknown(number)),
             }
         }
-        Ok(found)
     }
 
-    fn write(&self, writer: &mut Writer, level: u64) -> Result<(), NoMemory> {
+    fn write(&self, writer: &mut Writer, level: u64) {
         if self.result_completion_id != 0 {
-            writer.number32(level, 11, self.result_completion_id)?;
+            writer.number32(level, 11, self.result_completion_id);
         }
         if !self.name.is_empty() {
-            writer.text(level, 12, &self.name)?;
+            writer.text(level, 12, &self.name);
         }
-        Ok(())
     }
 }
 
@@ -2096,50 +2018,49 @@ pub enum AttachInvocationCommandTarget<'a> {
 impl<'a> Fields<'a> for AttachInvocationCommandMessage<'a> {
     const LISTED: &'static Listed = &LISTED[37];
 
-    fn read(table: &mut Table<'a, '_>, level: u64) -> Result<Self, Error> {
-        let mut found = Self::default();
+    fn read(&mut self, table: &mut Table<'a, '_>, level: u64) {
         while let Some(field) = table.next(level) {
             match field.number() {
                 1 => {
-                    let value = field.text()?;
-                    found.target = Some(AttachInvocationCommandTarget::InvocationId(value));
+                    let value = table.text(field);
+                    self.target = Some(AttachInvocationCommandTarget::InvocationId(value));
                 }
                 3 => {
-                    let value = Fields::read(table, level + 1)?;
-                    found.target = Some(AttachInvocationCommandTarget::IdempotentRequestTarget(value));
+                    let mut value = IdempotentRequestTarget::default();
+                    value.read(table, level + 1);
+                    self.target = Some(AttachInvocationCommandTarget::IdempotentRequestTarget(value));
                 }
                 4 => {
-                    let value = Fields::read(table, level + 1)?;
-                    found.target = Some(AttachInvocationCommandTarget::WorkflowTarget(value));
+                    let mut value = WorkflowTarget::default();
+                    value.read(table, level + 1);
+                    self.target = Some(AttachInvocationCommandTarget::WorkflowTarget(value));
                 }
-                11 => found.result_completion_id = field.number32()?,
-                12 => found.name = field.text()?,
-                number => return Err(Self::unknown(number)),
+                11 => self.result_completion_id = table.number32(field),
+                12 => self.name = table.text(field),
+                number => table.fail(Self::unknown(number)),
             }
         }
-        Ok(found)
     }
 
-    fn write(&self, writer: &mut Writer, level: u64) -> Result<(), NoMemory> {
+    fn write(&self, writer: &mut Writer, level: u64) {
         match &self.target {
             Some(AttachInvocationCommandTarget::InvocationId(value)) => {
-                writer.text(level, 1, value)?;
+                writer.text(level, 1, value);
             }
             Some(AttachInvocationCommandTarget::IdempotentRequestTarget(value)) => {
-                writer.record(level, 3, value)?;
+                writer.record(level, 3, value);
             }
             Some(AttachInvocationCommandTarget::WorkflowTarget(value)) => {
-                writer.record(level, 4, value)?;
+                writer.record(level, 4, value);
             }
             None => {}
         }
         if self.result_completion_id != 0 {
-            writer.number32(level, 11, self.result_completion_id)?;
+            writer.number32(level, 11, self.result_completion_id);
         }
         if !self.name.is_empty() {
-            writer.text(level, 12, &self.name)?;
+            writer.text(level, 12, &self.name);
         }
-        Ok(())
     }
 }
 
@@ -2176,50 +2097,49 @@ pub enum GetInvocationOutputCommandTarget<'a> {
 impl<'a> Fields<'a> for GetInvocationOutputCommandMessage<'a> {
     const LISTED: &'static Listed = &LISTED[38];
 
-    fn read(table: &mut Table<'a, '_>, level: u64) -> Result<Self, Error> {
-        let mut found = Self::default();
+    fn read(&mut self, table: &mut Table<'a, '_>, level: u64) {
         while let Some(field) = table.next(level) {
             match field.number() {
                 1 => {
-                    let value = field.text()?;
-                    found.target = Some(GetInvocationOutputCommandTarget::InvocationId(value));
+                    let value = table.text(field);
+                    self.target = Some(GetInvocationOutputCommandTarget::InvocationId(value));
                 }
                 3 => {
-                    let value = Fields::read(table, level + 1)?;
-                    found.target = Some(GetInvocationOutputCommandTarget::IdempotentRequestTarget(value));
+                    let mut value = IdempotentRequestTarget::default();
+                    value.read(table, level + 1);
+                    self.target = Some(GetInvocationOutputCommandTarget::IdempotentRequestTarget(value));
                 }
                 4 => {
-                    let value = Fields::read(table, level + 1)?;
-                    found.target = Some(GetInvocationOutputCommandTarget::WorkflowTarget(value));
+                    let mut value = WorkflowTarget::default();
+                    value.read(table, level + 1);
+                    self.target = Some(GetInvocationOutputCommandTarget::WorkflowTarget(value));
                 }
-                11 => found.result_completion_id = field.number32()?,
-                12 => found.name = field.text()?,
-                number => return Err(Self::unknown(number)),
+                11 => self.result_completion_id = table.number32(field),
+                12 => self.name = table.text(field),
+                number => table.fail(Self::unknown(number)),
             }
         }
-        Ok(found)
     }
 
-    fn write(&self, writer: &mut Writer, level: u64) -> Result<(), NoMemory> {
+    fn write(&self, writer: &mut Writer, level: u64) {
         match &self.target {
             Some(GetInvocationOutputCommandTarget::InvocationId(value)) => {
-                writer.text(level, 1, value)?;
+                writer.text(level, 1, value);
             }
             Some(GetInvocationOutputCommandTarget::IdempotentRequestTarget(value)) => {
-                writer.record(level, 3, value)?;
+                writer.record(level, 3, value);
             }
             Some(GetInvocationOutputCommandTarget::WorkflowTarget(value)) => {
-                writer.record(level, 4, value)?;
+                writer.record(level, 4, value);
             }
             None => {}
         }
         if self.result_completion_id != 0 {
-            writer.number32(level, 11, self.result_completion_id)?;
+            writer.number32(level, 11, self.result_completion_id);
         }
         if !self.name.is_empty() {
-            writer.text(level, 12, &self.name)?;
+            writer.text(level, 12, &self.name);
         }
-        Ok(())
     }
 }
 
@@ -2254,43 +2174,42 @@ pub enum CompleteAwakeableCommandResult<'a> {
 impl<'a> Fields<'a> for CompleteAwakeableCommandMessage<'a> {
     const LISTED: &'static Listed = &LISTED[39];
 
-    fn read(table: &mut Table<'a, '_>, level: u64) -> Result<Self, Error> {
-        let mut found = Self::default();
+    fn read(&mut self, table: &mut Table<'a, '_>, level: u64) {
         while let Some(field) = table.next(level) {
             match field.number() {
-                1 => found.awakeable_id = field.text()?,
+                1 => self.awakeable_id = table.text(field),
                 2 => {
-                    let value = Fields::read(table, level + 1)?;
-                    found.result = Some(CompleteAwakeableCommandResult::Value(value));
+                    let mut value = Value::default();
+                    value.read(table, level + 1);
+                    self.result = Some(CompleteAwakeableCommandResult::Value(value));
                 }
                 3 => {
-                    let value = Fields::read(table, level + 1)?;
-                    found.result = Some(CompleteAwakeableCommandResult::Failure(value));
+                    let mut value = Failure::default();
+                    value.read(table, level + 1);
+                    self.result = Some(CompleteAwakeableCommandResult::Failure(value));
                 }
-                12 => found.name = field.text()?,
-                number => return Err(Self::unknown(number)),
+                12 => self.name = table.text(field),
+                number => table.fail(Self::unknown(number)),
             }
         }
-        Ok(found)
     }
 
-    fn write(&self, writer: &mut Writer, level: u64) -> Result<(), NoMemory> {
+    fn write(&self, writer: &mut Writer, level: u64) {
         if !self.awakeable_id.is_empty() {
-            writer.text(level, 1, &self.awakeable_id)?;
+            writer.text(level, 1, &self.awakeable_id);
         }
         match &self.result {
             Some(CompleteAwakeableCommandResult::Value(value)) => {
-                writer.record(level, 2, value)?;
+                writer.record(level, 2, value);
             }
             Some(CompleteAwakeableCommandResult::Failure(value)) => {
-                writer.record(level, 3, value)?;
+                writer.record(level, 3, value);
             }
             None => {}
         }
         if !self.name.is_empty() {
-            writer.text(level, 12, &self.name)?;
+            writer.text(level, 12, &self.name);
         }
-        Ok(())
     }
 }
 
@@ -2323,39 +2242,38 @@ pub enum GetLazyStateCompletionNotificationResult<'a> {
 impl<'a> Fields<'a> for GetLazyStateCompletionNotificationMessage<'a> {
     const LISTED: &'static Listed = &LISTED[40];
 
-    fn read(table: &mut Table<'a, '_>, level: u64) -> Result<Self, Error> {
-        let mut found = Self::default();
+    fn read(&mut self, table: &mut Table<'a, '_>, level: u64) {
         while let Some(field) = table.next(level) {
             match field.number() {
-                1 => found.completion_id = field.number32()?,
+                1 => self.completion_id = table.number32(field),
                 4 => {
-                    let value = Fields::read(table, level + 1)?;
-                    found.result = Some(GetLazyStateCompletionNotificationResult::Void(value));
+                    let mut value = Void::default();
+                    value.read(table, level + 1);
+                    self.result = Some(GetLazyStateCompletionNotificationResult::Void(value));
                 }
                 5 => {
-                    let value = Fields::read(table, level + 1)?;
-                    found.result = Some(GetLazyStateCompletionNotificationResult::Value(value));
+                    let mut value = Value::default();
+                    value.read(table, level + 1);
+                    self.result = Some(GetLazyStateCompletionNotificationResult::Value(value));
                 }
-                number => return Err(Self::unknown(number)),
+                number => table.fail(Self::unknown(number)),
             }
         }
-        Ok(found)
     }
 
-    fn write(&self, writer: &mut Writer, level: u64) -> Result<(), NoMemory> {
+    fn write(&self, writer: &mut Writer, level: u64) {
         if self.completion_id != 0 {
-            writer.number32(level, 1, self.completion_id)?;
+            writer.number32(level, 1, self.completion_id);
         }
         match &self.result {
             Some(GetLazyStateCompletionNotificationResult::Void(value)) => {
-                writer.record(level, 4, value)?;
+                writer.record(level, 4, value);
             }
             Some(GetLazyStateCompletionNotificationResult::Value(value)) => {
-                writer.record(level, 5, value)?;
+                writer.record(level, 5, value);
             }
             None => {}
         }
-        Ok(())
     }
 }
 
@@ -2390,46 +2308,46 @@ pub enum GetPromiseCompletionNotificationResult<'a> {
 impl<'a> Fields<'a> for GetPromiseCompletionNotificationMessage<'a> {
     const LISTED: &'static Listed = &LISTED[41];
 
-    fn read(table: &mut Table<'a, '_>, level: u64) -> Result<Self, Error> {
-        let mut found = Self::default();
+    fn read(&mut self, table: &mut Table<'a, '_>, level: u64) {
         while let Some(field) = table.next(level) {
             match field.number() {
-                1 => found.completion_id = field.number32()?,
+                1 => self.completion_id = table.number32(field),
                 4 => {
-                    let value = Fields::read(table, level + 1)?;
-                    found.result = Some(GetPromiseCompletionNotificationResult::Void(value));
+                    let mut value = Void::default();
+                    value.read(table, level + 1);
+                    self.result = Some(GetPromiseCompletionNotificationResult::Void(value));
                 }
                 5 => {
-                    let value = Fields::read(table, level + 1)?;
-                    found.result = Some(GetPromiseCompletionNotificationResult::Value(value));
+                    let mut value = Value::default();
+                    value.read(table, level + 1);
+                    self.result = Some(GetPromiseCompletionNotificationResult::Value(value));
                 }
                 6 => {
-                    let value = Fields::read(table, level + 1)?;
-                    found.result = Some(GetPromiseCompletionNotificationResult::Failure(value));
+                    let mut value = Failure::default();
+                    value.read(table, level + 1);
+                    self.result = Some(GetPromiseCompletionNotificationResult::Failure(value));
                 }
-                number => return Err(Self::unknown(number)),
+                number => table.fail(Self::unknown(number)),
             }
         }
-        Ok(found)
     }
 
-    fn write(&self, writer: &mut Writer, level: u64) -> Result<(), NoMemory> {
+    fn write(&self, writer: &mut Writer, level: u64) {
         if self.completion_id != 0 {
-            writer.number32(level, 1, self.completion_id)?;
+            writer.number32(level, 1, self.completion_id);
         }
         match &self.result {
             Some(GetPromiseCompletionNotificationResult::Void(value)) => {
-                writer.record(level, 4, value)?;
+                writer.record(level, 4, value);
             }
             Some(GetPromiseCompletionNotificationResult::Value(value)) => {
-                writer.record(level, 5, value)?;
+                writer.record(level, 5, value);
             }
             Some(GetPromiseCompletionNotificationResult::Failure(value)) => {
-                writer.record(level, 6, value)?;
+                writer.record(level, 6, value);
             }
             None => {}
         }
-        Ok(())
     }
 }
 
@@ -2464,46 +2382,46 @@ pub enum PeekPromiseCompletionNotificationResult<'a> {
 impl<'a> Fields<'a> for PeekPromiseCompletionNotificationMessage<'a> {
     const LISTED: &'static Listed = &LISTED[42];
 
-    fn read(table: &mut Table<'a, '_>, level: u64) -> Result<Self, Error> {
-        let mut found = Self::default();
+    fn read(&mut self, table: &mut Table<'a, '_>, level: u64) {
         while let Some(field) = table.next(level) {
             match field.number() {
-                1 => found.completion_id = field.number32()?,
+                1 => self.completion_id = table.number32(field),
                 4 => {
-                    let value = Fields::read(table, level + 1)?;
-                    found.result = Some(PeekPromiseCompletionNotificationResult::Void(value));
+                    let mut value = Void::default();
+                    value.read(table, level + 1);
+                    self.result = Some(PeekPromiseCompletionNotificationResult::Void(value));
                 }
                 5 => {
-                    let value = Fields::read(table, level + 1)?;
-                    found.result = Some(PeekPromiseCompletionNotificationResult::Value(value));
+                    let mut value = Value::default();
+                    value.read(table, level + 1);
+                    self.result = Some(PeekPromiseCompletionNotificationResult::Value(value));
                 }
                 6 => {
-                    let value = Fields::read(table, level + 1)?;
-                    found.result = Some(PeekPromiseCompletionNotificationResult::Failure(value));
+                    let mut value = Failure::default();
+                    value.read(table, level + 1);
+                    self.result = Some(PeekPromiseCompletionNotificationResult::Failure(value));
                 }
-                number => return Err(Self::unknown(number)),
+                number => table.fail(Self::unknown(number)),
             }
         }
-        Ok(found)
     }
 
-    fn write(&self, writer: &mut Writer, level: u64) -> Result<(), NoMemory> {
+    fn write(&self, writer: &mut Writer, level: u64) {
         if self.completion_id != 0 {
-            writer.number32(level, 1, self.completion_id)?;
+            writer.number32(level, 1, self.completion_id);
         }
         match &self.result {
             Some(PeekPromiseCompletionNotificationResult::Void(value)) => {
-                writer.record(level, 4, value)?;
+                writer.record(level, 4, value);
             }
             Some(PeekPromiseCompletionNotificationResult::Value(value)) => {
-                writer.record(level, 5, value)?;
+                writer.record(level, 5, value);
             }
             Some(PeekPromiseCompletionNotificationResult::Failure(value)) => {
-                writer.record(level, 6, value)?;
+                writer.record(level, 6, value);
             }
             None => {}
         }
-        Ok(())
     }
 }
 
@@ -2538,46 +2456,46 @@ pub enum GetInvocationOutputCompletionNotificationResult<'a> {
 impl<'a> Fields<'a> for GetInvocationOutputCompletionNotificationMessage<'a> {
     const LISTED: &'static Listed = &LISTED[43];
 
-    fn read(table: &mut Table<'a, '_>, level: u64) -> Result<Self, Error> {
-        let mut found = Self::default();
+    fn read(&mut self, table: &mut Table<'a, '_>, level: u64) {
         while let Some(field) = table.next(level) {
             match field.number() {
-                1 => found.completion_id = field.number32()?,
+                1 => self.completion_id = table.number32(field),
                 4 => {
-                    let value = Fields::read(table, level + 1)?;
-                    found.result = Some(GetInvocationOutputCompletionNotificationResult::Void(value));
+                    let mut value = Void::default();
+                    value.read(table, level + 1);
+                    self.result = Some(GetInvocationOutputCompletionNotificationResult::Void(value));
                 }
                 5 => {
-                    let value = Fields::read(table, level + 1)?;
-                    found.result = Some(GetInvocationOutputCompletionNotificationResult::Value(value));
+                    let mut value = Value::default();
+                    value.read(table, level + 1);
+                    self.result = Some(GetInvocationOutputCompletionNotificationResult::Value(value));
                 }
                 6 => {
-                    let value = Fields::read(table, level + 1)?;
-                    found.result = Some(GetInvocationOutputCompletionNotificationResult::Failure(value));
+                    let mut value = Failure::default();
+                    value.read(table, level + 1);
+                    self.result = Some(GetInvocationOutputCompletionNotificationResult::Failure(value));
                 }
-                number => return Err(Self::unknown(number)),
+                number => table.fail(Self::unknown(number)),
             }
         }
-        Ok(found)
     }
 
-    fn write(&self, writer: &mut Writer, level: u64) -> Result<(), NoMemory> {
+    fn write(&self, writer: &mut Writer, level: u64) {
         if self.completion_id != 0 {
-            writer.number32(level, 1, self.completion_id)?;
+            writer.number32(level, 1, self.completion_id);
         }
         match &self.result {
             Some(GetInvocationOutputCompletionNotificationResult::Void(value)) => {
-                writer.record(level, 4, value)?;
+                writer.record(level, 4, value);
             }
             Some(GetInvocationOutputCompletionNotificationResult::Value(value)) => {
-                writer.record(level, 5, value)?;
+                writer.record(level, 5, value);
             }
             Some(GetInvocationOutputCompletionNotificationResult::Failure(value)) => {
-                writer.record(level, 6, value)?;
+                writer.record(level, 6, value);
             }
             None => {}
         }
-        Ok(())
     }
 }
 
@@ -2610,39 +2528,38 @@ pub enum CompletePromiseCompletionNotificationResult<'a> {
 impl<'a> Fields<'a> for CompletePromiseCompletionNotificationMessage<'a> {
     const LISTED: &'static Listed = &LISTED[44];
 
-    fn read(table: &mut Table<'a, '_>, level: u64) -> Result<Self, Error> {
-        let mut found = Self::default();
+    fn read(&mut self, table: &mut Table<'a, '_>, level: u64) {
         while let Some(field) = table.next(level) {
             match field.number() {
-                1 => found.completion_id = field.number32()?,
+                1 => self.completion_id = table.number32(field),
                 4 => {
-                    let value = Fields::read(table, level + 1)?;
-                    found.result = Some(CompletePromiseCompletionNotificationResult::Void(value));
+                    let mut value = Void::default();
+                    value.read(table, level + 1);
+                    self.result = Some(CompletePromiseCompletionNotificationResult::Void(value));
                 }
                 6 => {
-                    let value = Fields::read(table, level + 1)?;
-                    found.result = Some(CompletePromiseCompletionNotificationResult::Failure(value));
+                    let mut value = Failure::default();
+                    value.read(table, level + 1);
+                    self.result = Some(CompletePromiseCompletionNotificationResult::Failure(value));
                 }
-                number => return Err(Self::unknown(number)),
+                number => table.fail(Self::unknown(number)),
             }
         }
-        Ok(found)
     }
 
-    fn write(&self, writer: &mut Writer, level: u64) -> Result<(), NoMemory> {
+    fn write(&self, writer: &mut Writer, level: u64) {
         if self.completion_id != 0 {
-            writer.number32(level, 1, self.completion_id)?;
+            writer.number32(level, 1, self.completion_id);
         }
         match &self.result {
             Some(CompletePromiseCompletionNotificationResult::Void(value)) => {
-                writer.record(level, 4, value)?;
+                writer.record(level, 4, value);
             }
             Some(CompletePromiseCompletionNotificationResult::Failure(value)) => {
-                writer.record(level, 6, value)?;
+                writer.record(level, 6, value);
             }
             None => {}
         }
-        Ok(())
     }
 }
 
@@ -2675,39 +2592,38 @@ pub enum CallCompletionNotificationResult<'a> {
 impl<'a> Fields<'a> for CallCompletionNotificationMessage<'a> {
     const LISTED: &'static Listed = &LISTED[45];
 
-    fn read(table: &mut Table<'a, '_>, level: u64) -> Result<Self, Error> {
-        let mut found = Self::default();
+    fn read(&mut self, table: &mut Table<'a, '_>, level: u64) {
         while let Some(field) = table.next(level) {
             match field.number() {
-                1 => found.completion_id = field.number32()?,
+                1 => self.completion_id = table.number32(field),
                 5 => {
-                    let value = Fields::read(table, level + 1)?;
-                    found.result = Some(CallCompletionNotificationResult::Value(value));
+                    let mut value = Value::default();
+                    value.read(table, level + 1);
+                    self.result = Some(CallCompletionNotificationResult::Value(value));
                 }
                 6 => {
-                    let value = Fields::read(table, level + 1)?;
-                    found.result = Some(CallCompletionNotificationResult::Failure(value));
+                    let mut value = Failure::default();
+                    value.read(table, level + 1);
+                    self.result = Some(CallCompletionNotificationResult::Failure(value));
                 }
-                number => return Err(Self::unknown(number)),
+                number => table.fail(Self::unknown(number)),
             }
         }
-        Ok(found)
     }
 
-    fn write(&self, writer: &mut Writer, level: u64) -> Result<(), NoMemory> {
+    fn write(&self, writer: &mut Writer, level: u64) {
         if self.completion_id != 0 {
-            writer.number32(level, 1, self.completion_id)?;
+            writer.number32(level, 1, self.completion_id);
         }
         match &self.result {
             Some(CallCompletionNotificationResult::Value(value)) => {
-                writer.record(level, 5, value)?;
+                writer.record(level, 5, value);
             }
             Some(CallCompletionNotificationResult::Failure(value)) => {
-                writer.record(level, 6, value)?;
+                writer.record(level, 6, value);
             }
             None => {}
         }
-        Ok(())
     }
 }
 
@@ -2740,39 +2656,38 @@ pub enum RunCompletionNotificationResult<'a> {
 impl<'a> Fields<'a> for RunCompletionNotificationMessage<'a> {
     const LISTED: &'static Listed = &LISTED[46];
 
-    fn read(table: &mut Table<'a, '_>, level: u64) -> Result<Self, Error> {
-        let mut found = Self::default();
+    fn read(&mut self, table: &mut Table<'a, '_>, level: u64) {
         while let Some(field) = table.next(level) {
             match field.number() {
-                1 => found.completion_id = field.number32()?,
+                1 => self.completion_id = table.number32(field),
                 5 => {
-                    let value = Fields::read(table, level + 1)?;
-                    found.result = Some(RunCompletionNotificationResult::Value(value));
+                    let mut value = Value::default();
+                    value.read(table, level + 1);
+                    self.result = Some(RunCompletionNotificationResult::Value(value));
                 }
                 6 => {
-                    let value = Fields::read(table, level + 1)?;
-                    found.result = Some(RunCompletionNotificationResult::Failure(value));
+                    let mut value = Failure::default();
+                    value.read(table, level + 1);
+                    self.result = Some(RunCompletionNotificationResult::Failure(value));
                 }
-                number => return Err(Self::unknown(number)),
+                number => table.fail(Self::unknown(number)),
             }
         }
-        Ok(found)
     }
 
-    fn write(&self, writer: &mut Writer, level: u64) -> Result<(), NoMemory> {
+    fn write(&self, writer: &mut Writer, level: u64) {
         if self.completion_id != 0 {
-            writer.number32(level, 1, self.completion_id)?;
+            writer.number32(level, 1, self.completion_id);
         }
         match &self.result {
             Some(RunCompletionNotificationResult::Value(value)) => {
-                writer.record(level, 5, value)?;
+                writer.record(level, 5, value);
             }
             Some(RunCompletionNotificationResult::Failure(value)) => {
-                writer.record(level, 6, value)?;
+                writer.record(level, 6, value);
             }
             None => {}
         }
-        Ok(())
     }
 }
 
@@ -2805,39 +2720,38 @@ pub enum AttachInvocationCompletionNotificationResult<'a> {
 impl<'a> Fields<'a> for AttachInvocationCompletionNotificationMessage<'a> {
     const LISTED: &'static Listed = &LISTED[47];
 
-    fn read(table: &mut Table<'a, '_>, level: u64) -> Result<Self, Error> {
-        let mut found = Self::default();
+    fn read(&mut self, table: &mut Table<'a, '_>, level: u64) {
         while let Some(field) = table.next(level) {
             match field.number() {
-                1 => found.completion_id = field.number32()?,
+                1 => self.completion_id = table.number32(field),
                 5 => {
-                    let value = Fields::read(table, level + 1)?;
-                    found.result = Some(AttachInvocationCompletionNotificationResult::Value(value));
+                    let mut value = Value::default();
+                    value.read(table, level + 1);
+                    self.result = Some(AttachInvocationCompletionNotificationResult::Value(value));
                 }
                 6 => {
-                    let value = Fields::read(table, level + 1)?;
-                    found.result = Some(AttachInvocationCompletionNotificationResult::Failure(value));
+                    let mut value = Failure::default();
+                    value.read(table, level + 1);
+                    self.result = Some(AttachInvocationCompletionNotificationResult::Failure(value));
                 }
-                number => return Err(Self::unknown(number)),
+                number => table.fail(Self::unknown(number)),
             }
         }
-        Ok(found)
     }
 
-    fn write(&self, writer: &mut Writer, level: u64) -> Result<(), NoMemory> {
+    fn write(&self, writer: &mut Writer, level: u64) {
         if self.completion_id != 0 {
-            writer.number32(level, 1, self.completion_id)?;
+            writer.number32(level, 1, self.completion_id);
         }
         match &self.result {
             Some(AttachInvocationCompletionNotificationResult::Value(value)) => {
-                writer.record(level, 5, value)?;
+                writer.record(level, 5, value);
             }
             Some(AttachInvocationCompletionNotificationResult::Failure(value)) => {
-                writer.record(level, 6, value)?;
+                writer.record(level, 6, value);
             }
             None => {}
         }
-        Ok(())
     }
 }
 
@@ -2861,26 +2775,26 @@ pub struct SleepCompletionNotificationMessage {
 impl<'a> Fields<'a> for SleepCompletionNotificationMessage {
     const LISTED: &'static Listed = &LISTED[48];
 
-    fn read(table: &mut Table<'a, '_>, level: u64) -> Result<Self, Error> {
-        let mut found = Self::default();
+    fn read(&mut self, table: &mut Table<'a, '_>, level: u64) {
         while let Some(field) = table.next(level) {
             match field.number() {
-                1 => found.completion_id = field.number32()?,
-                4 => found.void = Some(Fields::read(table, level + 1)?),
-                number => return Err(Self::unknown(number)),
+                1 => self.completion_id = table.number32(field),
+                4 => {
+                    let value = self.void.insert(Default::default());
+                    value.read(table, level + 1);
+                }
+                number => table.fail(Self::unknown(number)),
             }
         }
-        Ok(found)
     }
 
-    fn write(&self, writer: &mut Writer, level: u64) -> Result<(), NoMemory> {
+    fn write(&self, writer: &mut Writer, level: u64) {
         if self.completion_id != 0 {
-            writer.number32(level, 1, self.completion_id)?;
+            writer.number32(level, 1, self.completion_id);
         }
         if let Some(value) = &self.void {
-            writer.record(level, 4, value)?;
+            writer.record(level, 4, value);
         }
-        Ok(())
     }
 }
 
@@ -2904,26 +2818,26 @@ pub struct GetLazyStateKeysCompletionNotificationMessage<'a> {
 impl<'a> Fields<'a> for GetLazyStateKeysCompletionNotificationMessage<'a> {
     const LISTED: &'static Listed = &LISTED[49];
 
-    fn read(table: &mut Table<'a, '_>, level: u64) -> Result<Self, Error> {
-        let mut found = Self::default();
+    fn read(&mut self, table: &mut Table<'a, '_>, level: u64) {
         while let Some(field) = table.next(level) {
             match field.number() {
-                1 => found.completion_id = field.number32()?,
-                17 => found.state_keys = Some(Fields::read(table, level + 1)?),
-                number => return Err(Self::unknown(number)),
+                1 => self.completion_id = table.number32(field),
+                17 => {
+                    let value = self.state_keys.insert(Default::default());
+                    value.read(table, level + 1);
+                }
+                number => table.fail(Self::unknown(number)),
             }
         }
-        Ok(found)
     }
 
-    fn write(&self, writer: &mut Writer, level: u64) -> Result<(), NoMemory> {
+    fn write(&self, writer: &mut Writer, level: u64) {
         if self.completion_id != 0 {
-            writer.number32(level, 1, self.completion_id)?;
+            writer.number32(level, 1, self.completion_id);
         }
         if let Some(value) = &self.state_keys {
-            writer.record(level, 17, value)?;
+            writer.record(level, 17, value);
         }
-        Ok(())
     }
 }
 
@@ -2947,26 +2861,23 @@ pub struct CallInvocationIdCompletionNotificationMessage<'a> {
 impl<'a> Fields<'a> for CallInvocationIdCompletionNotificationMessage<'a> {
     const LISTED: &'static Listed = &LISTED[50];
 
-    fn read(table: &mut Table<'a, '_>, level: u64) -> Result<Self, Error> {
-        let mut found = Self::default();
+    fn read(&mut self, table: &mut Table<'a, '_>, level: u64) {
         while let Some(field) = table.next(level) {
             match field.number() {
-                1 => found.completion_id = field.number32()?,
-                16 => found.invocation_id = field.text()?,
-                number => return Err(Self::unknown(number)),
+                1 => self.completion_id = table.number32(field),
+                16 => self.invocation_id = table.text(field),
+                number => table.fail(Self::unknown(number)),
             }
         }
-        Ok(found)
     }
 
-    fn write(&self, writer: &mut Writer, level: u64) -> Result<(), NoMemory> {
+    fn write(&self, writer: &mut Writer, level: u64) {
         if self.completion_id != 0 {
-            writer.number32(level, 1, self.completion_id)?;
+            writer.number32(level, 1, self.completion_id);
         }
         if !self.invocation_id.is_empty() {
-            writer.text(level, 16, &self.invocation_id)?;
+            writer.text(level, 16, &self.invocation_id);
         }
-        Ok(())
     }
 }
 
@@ -3010,59 +2921,59 @@ pub enum SignalNotificationResult<'a> {
 impl<'a> Fields<'a> for SignalNotificationMessage<'a> {
     const LISTED: &'static Listed = &LISTED[51];
 
-    fn read(table: &mut Table<'a, '_>, level: u64) -> Result<Self, Error> {
-        let mut found = Self::default();
+    fn read(&mut self, table: &mut Table<'a, '_>, level: u64) {
         while let Some(field) = table.next(level) {
             match field.number() {
                 2 => {
-                    let value = field.number32()?;
-                    found.signal_id = Some(SignalNotificationSignalId::Idx(value));
+                    let value = table.number32(field);
+                    self.signal_id = Some(SignalNotificationSignalId::Idx(value));
                 }
                 3 => {
-                    let value = field.text()?;
-                    found.signal_id = Some(SignalNotificationSignalId::Name(value));
+                    let value = table.text(field);
+                    self.signal_id = Some(SignalNotificationSignalId::Name(value));
                 }
                 4 => {
-                    let value = Fields::read(table, level + 1)?;
-                    found.result = Some(SignalNotificationResult::Void(value));
+                    let mut value = Void::default();
+                    value.read(table, level + 1);
+                    self.result = Some(SignalNotificationResult::Void(value));
                 }
                 5 => {
-                    let value = Fields::read(table, level + 1)?;
-                    found.result = Some(SignalNotificationResult::Value(value));
+                    let mut value = Value::default();
+                    value.read(table, level + 1);
+                    self.result = Some(SignalNotificationResult::Value(value));
                 }
                 6 => {
-                    let value = Fields::read(table, level + 1)?;
-                    found.result = Some(SignalNotificationResult::Failure(value));
+                    let mut value = Failure::default();
+                    value.read(table, level + 1);
+                    self.result = Some(SignalNotificationResult::Failure(value));
                 }
-                number => return Err(Self::unknown(number)),
+                number => table.fail(Self::unknown(number)),
             }
         }
-        Ok(found)
     }
 
-    fn write(&self, writer: &mut Writer, level: u64) -> Result<(), NoMemory> {
+    fn write(&self, writer: &mut Writer, level: u64) {
         match &self.signal_id {
             Some(SignalNotificationSignalId::Idx(value)) => {
-                writer.number32(level, 2, *value)?;
+                writer.number32(level, 2, *value);
             }
             Some(SignalNotificationSignalId::Name(value)) => {
-                writer.text(level, 3, value)?;
+                writer.text(level, 3, value);
             }
             None => {}
         }
         match &self.result {
             Some(SignalNotificationResult::Void(value)) => {
-                writer.record(level, 4, value)?;
+                writer.record(level, 4, value);
             }
             Some(SignalNotificationResult::Value(value)) => {
-                writer.record(level, 5, value)?;
+                writer.record(level, 5, value);
             }
             Some(SignalNotificationResult::Failure(value)) => {
-                writer.record(level, 6, value)?;
+                writer.record(level, 6, value);
             }
             None => {}
         }
-        Ok(())
     }
 }
 
@@ -3112,80 +3023,81 @@ pub enum NotificationTemplateResult<'a> {
 impl<'a> Fields<'a> for NotificationTemplate<'a> {
     const LISTED: &'static Listed = &LISTED[52];
 
-    fn read(table: &mut Table<'a, '_>, level: u64) -> Result<Self, Error> {
-        let mut found = Self::default();
+    fn read(&mut self, table: &mut Table<'a, '_>, level: u64) {
         while let Some(field) = table.next(level) {
             match field.number() {
                 1 => {
-                    let value = field.number32()?;
-                    found.id = Some(NotificationTemplateId::CompletionId(value));
+                    let value = table.number32(field);
+                    self.id = Some(NotificationTemplateId::CompletionId(value));
                 }
                 2 => {
-                    let value = field.number32()?;
-                    found.id = Some(NotificationTemplateId::SignalId(value));
+                    let value = table.number32(field);
+                    self.id = Some(NotificationTemplateId::SignalId(value));
                 }
                 3 => {
-                    let value = field.text()?;
-                    found.id = Some(NotificationTemplateId::SignalName(value));
+                    let value = table.text(field);
+                    self.id = Some(NotificationTemplateId::SignalName(value));
                 }
                 4 => {
-                    let value = Fields::read(table, level + 1)?;
-                    found.result = Some(NotificationTemplateResult::Void(value));
+                    let mut value = Void::default();
+                    value.read(table, level + 1);
+                    self.result = Some(NotificationTemplateResult::Void(value));
                 }
                 5 => {
-                    let value = Fields::read(table, level + 1)?;
-                    found.result = Some(NotificationTemplateResult::Value(value));
+                    let mut value = Value::default();
+                    value.read(table, level + 1);
+                    self.result = Some(NotificationTemplateResult::Value(value));
                 }
                 6 => {
-                    let value = Fields::read(table, level + 1)?;
-                    found.result = Some(NotificationTemplateResult::Failure(value));
+                    let mut value = Failure::default();
+                    value.read(table, level + 1);
+                    self.result = Some(NotificationTemplateResult::Failure(value));
                 }
                 16 => {
-                    let value = field.text()?;
-                    found.result = Some(NotificationTemplateResult::InvocationId(value));
+                    let value = table.text(field);
+                    self.result = Some(NotificationTemplateResult::InvocationId(value));
                 }
                 17 => {
-                    let value = Fields::read(table, level + 1)?;
-                    found.result = Some(NotificationTemplateResult::StateKeys(value));
+                    let mut value = StateKeys::default();
+                    value.read(table, level + 1);
+                    self.result = Some(NotificationTemplateResult::StateKeys(value));
                 }
-                number => return Err(Self::unknown(number)),
+                number => table.fail(Self::unknown(number)),
             }
         }
-        Ok(found)
     }
 
-    fn write(&self, writer: &mut Writer, level: u64) -> Result<(), NoMemory> {
+    fn write(&self, writer: &mut Writer, level: u64) {
         match &self.id {
             Some(NotificationTemplateId::CompletionId(value)) => {
-                writer.number32(level, 1, *value)?;
+                writer.number32(level, 1, *value);
             }
             Some(NotificationTemplateId::SignalId(value)) => {
-                writer.number32(level, 2, *value)?;
+                writer.number32(level, 2, *value);
             }
             Some(NotificationTemplateId::SignalName(value)) => {
-                writer.text(level, 3, value)?;
+                writer.text(level, 3, value);
             }
             None => {}
         }
         match &self.result {
             Some(NotificationTemplateResult::Void(value)) => {
-                writer.record(level, 4, value)?;
+                writer.record(level, 4, value);
             }
             Some(NotificationTemplateResult::Value(value)) => {
-                writer.record(level, 5, value)?;
+                writer.record(level, 5, value);
             }
             Some(NotificationTemplateResult::Failure(value)) => {
-                writer.record(level, 6, value)?;
+                writer.record(level, 6, value);
             }
             Some(NotificationTemplateResult::InvocationId(value)) => {
-                writer.text(level, 16, value)?;
+                writer.text(level, 16, value);
             }
             Some(NotificationTemplateResult::StateKeys(value)) => {
-                writer.record(level, 17, value)?;
+                writer.record(level, 17, value);
             }
             None => {}
         }
-        Ok(())
     }
 }
 

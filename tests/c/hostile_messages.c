@@ -21,6 +21,8 @@
 #include <stdio.h>
 #include <stdlib.h>
 
+#include "members.h"
+
 #define MOST_PAYLOAD 4096
 #define POOL 40000
 
@@ -83,28 +85,45 @@ static bool is_empty(const union journal_record *record) {
     return true;
 }
 
+/* The size of the value of a member, or of an element of one. */
+static size_t size_of(const struct member *member) {
+    switch (member->kind) {
+    case JOURNAL_FIELD_UINT32:
+    case JOURNAL_FIELD_ENUM:
+        return sizeof(uint32_t);
+    case JOURNAL_FIELD_UINT64:
+        return sizeof(uint64_t);
+    case JOURNAL_FIELD_BOOL:
+        return sizeof(bool);
+    case JOURNAL_FIELD_MESSAGE:
+        return all_records[member->schema].size;
+    default:
+        return sizeof(struct journal_slice);
+    }
+}
+
 /* Whether two records of a schema are the same, member by member. */
 static bool are_same(uint32_t schema, const uint8_t *first, const uint8_t *second) {
-    const struct journal_member_ *member = &journal_members_[journal_records_[schema].first];
+    const struct member *member = &all_members[all_records[schema].first];
 
-    for (size_t left = journal_records_[schema].count; left > 0; left--, member++) {
+    for (size_t left = all_records[schema].count; left > 0; left--, member++) {
         const uint8_t *one = first + member->offset, *other = second + member->offset;
-        size_t count = 1, other_count = 1, size = journal_size_of_(member);
+        size_t count = 1, other_count = 1, size = size_of(member);
         uint32_t number, other_number;
 
-        if (member->shape == JOURNAL_MEMBER_) {
+        if (member->shape == MEMBER) {
             memcpy(&number, first + member->presence, sizeof number);
             memcpy(&other_number, second + member->presence, sizeof other_number);
             if (number != other_number) {
                 return false;
             }
             count = number == member->number;
-        } else if (member->shape == JOURNAL_OPTIONAL_) {
+        } else if (member->shape == OPTIONAL) {
             if (first[member->presence] != second[member->presence]) {
                 return false;
             }
             count = first[member->presence];
-        } else if (member->shape == JOURNAL_REPEATED_) {
+        } else if (member->shape == REPEATED) {
             memcpy(&count, first + member->presence, sizeof count);
             memcpy(&other_count, second + member->presence, sizeof other_count);
             if (count != other_count) {
@@ -334,7 +353,7 @@ static void is_wrong(uint32_t kind, uint32_t schema, uint32_t number) {
 
 static void make_record(uint32_t schema, uint8_t *record, size_t level, size_t chain);
 
-static void make_value(uint32_t schema, const struct journal_member_ *member, uint8_t *place, size_t level,
+static void make_value(uint32_t schema, const struct member *member, uint8_t *place, size_t level,
                        size_t chain) {
     static const char *const texts[] = {
         "", "a", "key", "t\xC3\xA9xt", "\xF0\x9F\x98\x80", "a longer text than the others"};
@@ -384,18 +403,18 @@ static void make_value(uint32_t schema, const struct journal_member_ *member, ui
 
 /* Makes a record of random members; of futures a chain of this many more. */
 static void make_record(uint32_t schema, uint8_t *record, size_t level, size_t chain) {
-    const struct journal_member_ *member = &journal_members_[journal_records_[schema].first];
-    size_t left = journal_records_[schema].count;
+    const struct member *member = &all_members[all_records[schema].first];
+    size_t left = all_records[schema].count;
     uint32_t chosen = 0, case_place = UINT32_MAX;
 
     for (; left > 0; left--, member++) {
         bool is_chain =
-            member->shape == JOURNAL_REPEATED_ && member->kind == JOURNAL_FIELD_MESSAGE && member->schema == schema;
-        size_t count, size = journal_size_of_(member);
+            member->shape == REPEATED && member->kind == JOURNAL_FIELD_MESSAGE && member->schema == schema;
+        size_t count, size = size_of(member);
         uint8_t *elements;
 
         switch (member->shape) {
-        case JOURNAL_REPEATED_:
+        case REPEATED:
             count = is_chain ? chain > 0 : below(4) * below(2);
             elements = count == 0 ? NULL : take(count * size);
             if (count > 0) {
@@ -407,20 +426,20 @@ static void make_record(uint32_t schema, uint8_t *record, size_t level, size_t c
                 make_value(schema, member, elements + i * size, level, is_chain ? chain - 1 : chain);
             }
             break;
-        case JOURNAL_OPTIONAL_:
+        case OPTIONAL:
             *(bool *)(void *)(record + member->presence) =
                 below(2) == 0 || (chain > 0 && member->kind == JOURNAL_FIELD_MESSAGE);
             if (record[member->presence]) {
                 make_value(schema, member, record + member->offset, level, chain);
             }
             break;
-        case JOURNAL_MEMBER_:
+        case MEMBER:
             /* the members of a oneof are beside each other, and one of them or none is chosen at the first */
             if (case_place != member->presence) {
                 size_t members = 0;
 
                 case_place = member->presence;
-                while (members < left && member[members].shape == JOURNAL_MEMBER_ &&
+                while (members < left && member[members].shape == MEMBER &&
                        member[members].presence == case_place) {
                     members++;
                 }

@@ -73,18 +73,18 @@ static void print_bytes(struct journal_slice slice) {
         return journal_write_##name(&record->name, arena, out, room);
 
 static void print_record(uint32_t schema, const union journal_record *record) {
-    switch (schema) { EACH_RECORD(PRINT_RECORD) }
+    switch (schema) { JOURNAL_EACH_RECORD_(PRINT_RECORD) }
 }
 
 static int64_t read_record(uint32_t schema, const uint8_t *payload, size_t length, union journal_record *record,
                            struct journal_arena *arena) {
-    switch (schema) { EACH_RECORD(READ_RECORD) }
+    switch (schema) { JOURNAL_EACH_RECORD_(READ_RECORD) }
     return JOURNAL_UNKNOWN_SCHEMA;
 }
 
 static int64_t write_record(uint32_t schema, const union journal_record *record, struct journal_arena *arena,
                             uint8_t *out, size_t room) {
-    switch (schema) { EACH_RECORD(WRITE_RECORD) }
+    switch (schema) { JOURNAL_EACH_RECORD_(WRITE_RECORD) }
     return JOURNAL_UNKNOWN_SCHEMA;
 }
 

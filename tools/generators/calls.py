@@ -722,7 +722,9 @@ def rust_call(call):
     else:
         body = f"    {safety}    count(unsafe {{ c::{call.symbol()}({', '.join(given)}) }})\n"
         result = "usize"
-    return f"\npub(crate) fn {call.call}({', '.join(parameters)}) -> Result<{result}> {{\n{body}}}\n"
+    # what is appended is the table or the frame of every message
+    inline = "#[inline]\n" if call.call in RUST_APPENDED else ""
+    return f"\n{inline}pub(crate) fn {call.call}({', '.join(parameters)}) -> Result<{result}> {{\n{body}}}\n"
 
 
 # The list of calls for tests/c/hostile_calls.c.

@@ -158,40 +158,164 @@ def enums():
     return text
 
 
-def row_of(record, row, field):
-    """What is known of a field: a macro, and the words that it is given."""
-    kind = KINDS[field.kind].removeprefix("FIELD_")
-    schema = schema_of(field.record) if field.record else 0
+# How a value is read from an entry, and what its entry says.
+READS = {
+    "u32": "(uint32_t)field->value",
+    "u64": "field->value",
+    "bool": "field->value != 0",
+    "enum": "(int32_t)(int64_t)field->value",
+    "text": "journal_slice_of_(reader, field)",
+    "bytes": "journal_slice_of_(reader, field)",
+}
+WRITES = {"u32": "{place}", "u64": "{place}", "bool": "{place}", "enum": "(uint64_t)(int64_t){place}"}
+
+
+def indented(lines, depth):
+    return [f"{' ' * 4 * depth}{line}" if line else line for line in lines]
+
+
+def read_value(field, place):
+    """The statements that read the value of the entry `field` to a place."""
+    if not field.record:
+        return [f"{place} = {READS[field.kind]};"]
+    if has_content(field):
+        return [f"journal_read_{field.record}_(reader, level + 1, &{place});"]
+    return [f"journal_read_{field.record}_(reader, level + 1);"]
+
+
+def read_elements(record, field):
+    """The statements that read the elements of a repeated field, whose first entry is `field`."""
+    kind, name = element(field), member(field.name)
+    is_counted = field.record and is_recursive(by_name()[field.record])
+    count = "(size_t)field->length" if is_counted else "journal_elements_(reader, field)"
+    taken = f"{kind} *elements = ({kind} *)journal_take_(reader, count, sizeof({kind}));"
+    if len(taken) > 108:
+        taken = taken.replace(" = ", " =\n                ")
+    lines = [f"size_t count = {count};", taken]
+    lines += ["", "if (elements == NULL) {", "    break;", "}"]
+    if field.record:
+        lines += ["memset(elements, 0, count * sizeof *elements);"]
+    lines += [f"record->{name} = elements;", f"record->{name}_count = count;"]
+    if field.record:
+        lines += ["reader->next = field;", "for (size_t i = 0; i < count && reader->next != reader->end; i++) {"]
+        lines += ["    reader->next++;", *indented(read_value(field, "elements[i]"), 1), "}"]
+    else:
+        lines += ["for (size_t i = 0; i < count; i++, field++) {", *indented(read_value(field, "elements[i]"), 1), "}"]
+        lines += ["reader->next = field;"]
+    return lines
+
+
+def read_case(record, row, field):
+    """The case of a field's number."""
+    place = f"record->{member(row.name)}"
     if isinstance(row, TypedOneOf):
-        place = [record.name, member(row.name), str(field.number)]
-        if any(has_content(other) for other in row.members):
-            return "JOURNAL_MEMBER_OF_", [*place, kind, str(schema)]
-        return "JOURNAL_CASE_OF_", [*place, str(schema)]
-    place = [record.name, member(field.name), str(field.number)]
-    if field.shape == "plain":
-        return "JOURNAL_PLAIN_OF_", [*place, kind]
-    if field.shape == "optional" and not has_content(field):
-        return "JOURNAL_FLAG_OF_", [*place, str(schema)]
-    return f"JOURNAL_{field.shape.upper()}_OF_", [*place, kind, str(schema)]
+        lines = [f"{place}_case = {case_name(record, row, field.name)};"]
+        lines += read_value(field, f"{place}.{member(field.name)}")
+    elif row.shape == "repeated":
+        inner = "\n".join(indented([*read_elements(record, row), "break;"], 3))
+        return f"        case {field.number}: {{\n{inner}\n        }}\n"
+    else:
+        lines = [f"record->has_{member(row.name)} = true;"] if row.shape == "optional" else []
+        lines += read_value(field, place)
+    inner = "\n".join(indented([*lines, "break;"], 3))
+    return f"        case {field.number}:\n{inner}\n"
 
 
-def rows(record):
-    text = ""
+def read_head(record, end):
+    """How the function begins that reads the fields of a record, which are at a level."""
+    words = ["struct journal_reader_ *reader", "uint64_t level"]
+    words += [f"struct journal_{record.name} *record"] if record.rows else []
+    return declared(f"static inline void journal_read_{record.name}_(", words, end)
+
+
+def reader(record):
+    text = read_head(record, ") {")
+    if not record.rows:
+        text += "    if (journal_next_(reader, level) != NULL) {\n        journal_stop_(reader, JOURNAL_UNKNOWN);\n"
+        return text + "    }\n}\n"
+    text += "    const struct journal_field *field;\n\n    while ((field = journal_next_(reader, level)) != NULL) {\n"
+    text += "        switch (field->number) {\n"
     for row in record.rows:
         for field in row.members if isinstance(row, TypedOneOf) else [row]:
-            macro, words = row_of(record, row, field)
-            text += filled(f"    {macro}(", words, "),")
-    return text
+            text += read_case(record, row, field)
+    return text + "        default:\n            journal_stop_(reader, JOURNAL_UNKNOWN);\n        }\n    }\n}\n"
 
 
-def listed():
-    first, text = 0, ""
+def write_value(record, field, place):
+    """The statements that append the entry of a value that is at a place, and those within it."""
+    number = field.number
+    if field.kind in ("text", "bytes"):
+        return [f"journal_put_slice_(writer, level, {number}, JOURNAL_{KINDS[field.kind]}, {place});"]
+    if not field.record:
+        value = WRITES[field.kind].format(place=place)
+        return [f"journal_put_(writer, level, {number}, JOURNAL_{KINDS[field.kind]}, {value});"]
+    lines = [f"journal_put_(writer, level, {number}, JOURNAL_FIELD_MESSAGE, {schema_of(field.record)});"]
+    if not has_content(field):
+        return lines
+    within = f"journal_put_{field.record}_(writer, level + 1, &{place});"
+    if field.record not in below(field.record):
+        return [*lines, within]
+    # one that is too deep is rejected for that, whatever it holds
+    return [*lines, "if (level < JOURNAL_LEVELS_) {", f"    {within}", "}"]
+
+
+def write_row(record, row):
+    place = f"record->{member(row.name)}"
+    if isinstance(row, TypedOneOf):
+        lines = [f"switch ({place}_case) {{"]
+        for field in row.members:
+            lines += [f"case {case_name(record, row, field.name)}:"]
+            lines += indented(write_value(record, field, f"{place}.{member(field.name)}"), 1) + ["    break;"]
+        return [*lines, f"case {case_name(record, row, 'absent')}:", "    break;", "}"]
+    if row.shape == "repeated":
+        lines = [f"for (size_t i = 0; i < {place}_count; i++) {{"]
+        return [*lines, *indented(write_value(record, row, f"{place}[i]"), 1), "}"]
+    if row.shape == "optional":
+        condition = f"record->has_{member(row.name)}"
+    elif row.kind in ("text", "bytes"):
+        condition = f"{place}.length > 0"
+    else:
+        condition = place if row.kind == "bool" else f"{place} != 0"
+    return [f"if ({condition}) {{", *indented(write_value(record, row, place), 1), "}"]
+
+
+def write_head(record, end):
+    """How the function begins that appends the entries of a record, at a level."""
+    words = ["struct journal_writer_ *writer", "uint64_t level", f"const struct journal_{record.name} *record"]
+    return declared(f"static inline void journal_put_{record.name}_(", words, end)
+
+
+def writer(record):
+    lines = [line for row in record.rows for line in write_row(record, row)]
+    return write_head(record, ") {") + "\n".join(indented(lines, 1)) + "\n}\n"
+
+
+def inner_first():
+    """The records, each after those that it holds, but for one that may hold itself."""
+    found = []
+
+    def put(record, above):
+        if record.name in above or record in found:
+            return
+        for field in record.fields():
+            if field.record:
+                put(by_name()[field.record], {*above, record.name})
+        found.append(record)
+
     for record in records():
-        count = len(record.fields())
-        words = [str(first), str(count), f"sizeof(struct journal_{record.name})", str(is_recursive(record)).lower()]
-        text += f"    {{{', '.join(words)}}},\n"
-        first += count
-    return text
+        put(record, set())
+    return found
+
+
+def readers():
+    parts = [read_head(record, ");") + "\n" for record in inner_first() if record.name in below(record.name)]
+    return "".join(parts) + "\n".join(reader(record) for record in inner_first())
+
+
+def writers():
+    held = [record for record in inner_first() if record.rows]
+    parts = [write_head(record, ");") + "\n" for record in held if record.name in below(record.name)]
+    return "".join(parts) + "\n".join(writer(record) for record in held)
 
 
 def functions():
@@ -200,14 +324,23 @@ def functions():
         arguments = [f"struct journal_{record.name} *record", "struct journal_arena *arena"]
         reading = ["const uint8_t *payload", "size_t payload_length", *arguments]
         writing = [f"const {arguments[0]}", arguments[1], "uint8_t *out", "size_t room"]
+        schema, has_rows = schema_of(record.name), bool(record.rows)
         text += declared(f"static inline int64_t journal_read_{record.name}(", reading, ") {")
-        text += "    memset(record, 0, sizeof *record);\n"
-        words = [schema_of(record.name), "payload", "payload_length", "record", "arena"]
-        text += filled("    return journal_read_record(", words, ");") + "}\n\n"
+        text += "    struct journal_reader_ reader;\n\n    memset(record, 0, sizeof *record);\n"
+        words = ["&reader", schema, str(is_recursive(record)).lower(), "payload", "payload_length", "arena"]
+        text += filled("    if (journal_begin_reading_(", words, ")) {")
+        text += f"        journal_read_{record.name}_(&reader, 0{', record' if has_rows else ''});\n    }}\n"
+        text += "    return journal_end_reading_(&reader, arena, record, sizeof *record);\n}\n\n"
         text += declared(f"static inline int64_t journal_write_{record.name}(", writing, ") {")
-        words = [schema_of(record.name), "record", "arena", "out", "room"]
-        text += filled("    return journal_write_record(", words, ");") + "}\n\n"
+        text += "    struct journal_writer_ writer;\n\n    journal_begin_writing_(&writer, arena);\n"
+        text += f"    journal_put_{record.name}_(&writer, 0, record);\n" if has_rows else "    (void)record;\n"
+        text += filled("    return journal_end_writing_(", ["&writer", schema, "arena", "out", "room"], ");") + "}\n\n"
     return text
+
+
+def each_record():
+    """The words of a macro that has each record, with the name of its schema but for JOURNAL_SCHEMA_."""
+    return " \\\n".join(f"    each({record.name}, {upper(record.name)})" for record in records()) + "\n"
 
 
 def declared(start, words, end):
@@ -234,17 +367,15 @@ def filled(start, words, end):
 def header():
     repeated = {field.record for record in records() for field in record.fields() if field.shape == "repeated"}
     pointed = [record for record in records() if record.name in repeated]
-    oneofs = [(record, row) for record in records() for row in record.rows if isinstance(row, TypedOneOf)]
-    case = f"enum journal_{oneofs[0][0].name}_{oneofs[0][1].name}"
     words = {
         "ENUMS": enums().rstrip("\n") + "\n",
         "FORWARD": "".join(f"struct journal_{record.name};\n" for record in pointed),
         "STRUCTS": "\n".join(struct(record) for record in in_order()),
         "UNION": "".join(f"    struct journal_{record.name} {record.name};\n" for record in records()),
-        "MEMBERS": "".join(map(rows, records())),
-        "RECORDS": listed(),
         "ELEMENTS": "".join(f"    struct journal_{record.name} {record.name};\n" for record in pointed),
-        "CASE": case,
+        "READERS": readers(),
+        "WRITERS": writers(),
+        "EACH_RECORD": each_record(),
         "FUNCTIONS": functions().rstrip("\n") + "\n",
     }
     text = TEMPLATE.read_text()
@@ -301,8 +432,8 @@ def print_function(record, end):
 
 
 def tests():
-    """What the tests have of each record: how it is printed, by the names of its members, and a list of all."""
-    text = "/* Each record, printed as the test vectors have it, and a list of all, for test_messages.c. */\n\n"
+    """What the tests have of each record: how it is printed, by the names of its members."""
+    text = "/* Each record, printed as the test vectors have it, for test_messages.c. */\n\n"
     text += "".join(print_function(record, ");") for record in records())
     for record in records():
         text += "\n" + print_function(record, ") {")
@@ -313,9 +444,111 @@ def tests():
             opened = f"{record.name} {{ " if at == 0 else ", "
             text += f'    print_words("{opened}{row.name}: ");\n' + print_row(record, row)
         text += '    print_words(" }");\n}\n'
-    text += "\n/* Each record, with the name of its schema but for JOURNAL_SCHEMA_. */\n#define EACH_RECORD(each) \\\n"
-    return text + " \\\n".join(f"    each({record.name}, {upper(record.name)})" for record in records()) + "\n"
+    return text
+
+
+# What the tests know of the members of records, to go over those of any.
+MEMBERS = """\
+/* The members of each record, for tests that go over those of any. */
+
+/* How a member is there. */
+#define PLAIN 0
+#define OPTIONAL 1
+#define REPEATED 2
+#define MEMBER 3
+
+/* A member: its field number and kind, how it is there, where it is in the struct, where its has_, _count or _case is,
+   and the schema of the record in it. */
+struct member {
+    uint16_t number;
+    uint8_t kind;
+    uint8_t shape;
+    uint16_t offset;
+    uint16_t presence;
+    uint32_t schema;
+};
+
+/* A record: its members, in the order of the description, and the size of its struct. */
+struct record {
+    uint16_t first;
+    uint16_t count;
+    uint16_t size;
+};
+
+#define AT(record, name) offsetof(struct journal_##record, name)
+#define PLAIN_OF(record, name, number, kind) {number, JOURNAL_FIELD_##kind, PLAIN, AT(record, name), 0, 0}
+#define OPTIONAL_OF(record, name, number, kind, schema) \\
+    {number, JOURNAL_FIELD_##kind, OPTIONAL, AT(record, name), AT(record, has_##name), schema}
+#define FLAG_OF(record, name, number, schema) \\
+    {number, JOURNAL_FIELD_MESSAGE, OPTIONAL, 0, AT(record, has_##name), schema}
+#define REPEATED_OF(record, name, number, kind, schema) \\
+    {number, JOURNAL_FIELD_##kind, REPEATED, AT(record, name), AT(record, name##_count), schema}
+#define CASE_OF(record, name, number, schema) \\
+    {number, JOURNAL_FIELD_MESSAGE, MEMBER, 0, AT(record, name##_case), schema}
+#define MEMBER_OF(record, name, number, kind, schema) \\
+    {number, JOURNAL_FIELD_##kind, MEMBER, AT(record, name), AT(record, name##_case), schema}
+
+/* The _case of a oneof is written as four bytes. */
+typedef char case_has_four_bytes[
+    sizeof(@CASE@) == sizeof(uint32_t) ? 1 : -1];
+
+static const struct member all_members[] = {
+@MEMBERS@};
+
+static const struct record all_records[JOURNAL_SCHEMAS] = {
+@RECORDS@};
+"""
+
+
+def row_of(record, row, field):
+    """What is known of a field: a macro, and the words that it is given."""
+    kind = KINDS[field.kind].removeprefix("FIELD_")
+    schema = schema_of(field.record) if field.record else 0
+    if isinstance(row, TypedOneOf):
+        place = [record.name, member(row.name), str(field.number)]
+        if any(has_content(other) for other in row.members):
+            return "MEMBER_OF", [*place, kind, str(schema)]
+        return "CASE_OF", [*place, str(schema)]
+    place = [record.name, member(field.name), str(field.number)]
+    if field.shape == "plain":
+        return "PLAIN_OF", [*place, kind]
+    if field.shape == "optional" and not has_content(field):
+        return "FLAG_OF", [*place, str(schema)]
+    return f"{field.shape.upper()}_OF", [*place, kind, str(schema)]
+
+
+def rows(record):
+    text = ""
+    for row in record.rows:
+        for field in row.members if isinstance(row, TypedOneOf) else [row]:
+            macro, words = row_of(record, row, field)
+            text += filled(f"    {macro}(", words, "),")
+    return text
+
+
+def listed():
+    first, text = 0, ""
+    for record in records():
+        count = len(record.fields())
+        words = [str(first), str(count), f"sizeof(struct journal_{record.name})"]
+        text += f"    {{{', '.join(words)}}},\n"
+        first += count
+    return text
+
+
+def members():
+    """The members of each record, as the tests know them."""
+    oneofs = [(record, row) for record in records() for row in record.rows if isinstance(row, TypedOneOf)]
+    words = {
+        "CASE": f"enum journal_{oneofs[0][0].name}_{oneofs[0][1].name}",
+        "MEMBERS": "".join(map(rows, records())),
+        "RECORDS": listed(),
+    }
+    text = MEMBERS
+    for word, said in words.items():
+        text = text.replace(f"@{word}@", said)
+    return text
 
 
 def files():
-    return {"include/pendratsoa_messages.h": header(), "tests/c/records.h": tests()}
+    return {"include/pendratsoa_messages.h": header(), "tests/c/records.h": tests(), "tests/c/members.h": members()}

@@ -209,7 +209,8 @@ def methods(record):
         f"\n// Schema returns the number of the schema, Schema{record.name}.\nfunc (r *{name}) Schema() int {{\n"
         f"\treturn Schema{record.name}\n}}\n"
         "\n// MarshalBinary returns the canonical payload. The error is a *FieldError, ErrTooLong or ErrOutOfMemory.\n"
-        f"func (r *{name}) MarshalBinary() ([]byte, error) {{\n\treturn marshal(r)\n}}\n"
+        f"func (r *{name}) MarshalBinary() ([]byte, error) {{\n\twriter := newWriter()\n\tr.write(writer, 0)\n"
+        f"\treturn writer.end(Schema{record.name}, 0)\n}}\n"
         "\n// UnmarshalBinary reads a payload, in any encoding. Bytes in the record are parts of it, without a copy, "
         "or of its\n// canonical encoding. The errors are those of Canonical.\n"
         f"func (r *{name}) UnmarshalBinary(payload []byte) error {{\n\treturn unmarshal(r, payload)\n}}\n"
@@ -222,13 +223,23 @@ def methods(record):
             "and Frame"
             + (f", and\n// ErrUnknown from version {before} on.\n" if before else ".\n")
             + f"func (r *{name}) Frame(version int) ([]byte, error) {{\n"
-            + (
-                f"\treturn earlierFrame(r, version, Code{record.type_name})\n}}\n"
-                if before
-                else f"\treturn frameOf(r, version, Code{record.type_name})\n}}\n"
-            )
+            + framed(record)
+            + "}\n"
         )
     return text
+
+
+def framed(record):
+    """The statements that return the frame of a record."""
+    code = f"Code{record.type_name}"
+    if record.before_version:
+        return f"\treturn earlierFrame(r, version, {code})\n"
+    if any(other.before_version and other.type_name == record.type_name for other in records()):
+        return f"\treturn laterFrame(r, version, {code})\n"
+    return (
+        "\twriter := newWriter()\n\tr.write(writer, 0)\n"
+        f"\treturn writer.frame(Schema{record.name}, version, {code})\n"
+    )
 
 
 def enum(found):

@@ -8,7 +8,7 @@ from typing import List, Optional
 
 from . import Refused
 from .calls_data import constants, kinds
-from .model import OneOf, members_of
+from .model import OneOf, camel, members_of
 from .proto import description, earlier, enums, schemas, typed
 
 # The kinds of fields, as the calls name them.
@@ -70,6 +70,11 @@ class TypedOneOf:
     members: List[TypedField]
     comment: str
 
+    def told_apart(self, classes):
+        """Whether the members have classes of their own, by the classes that a language has for kinds."""
+        found = [field.record or classes[field.kind] for field in self.members]
+        return len(found) == len(set(found))
+
 
 @dataclasses.dataclass
 class Record:
@@ -113,6 +118,11 @@ TAKEN = {
     *("to_h", "to_s"),
     *("self", "super", "crate"),
 }
+
+
+def wrapper(record, field):
+    """The class of a oneof's member that has no class of its own."""
+    return f"{record.name}{camel(field.name)}"
 
 
 def refuse_taken(found):

@@ -1,8 +1,7 @@
 """The records as dataclasses of Python."""
 import textwrap
 
-from .model import camel
-from .typed_model import TypedOneOf, enumerations, kind_numbers, messages, records
+from .typed_model import TypedOneOf, enumerations, kind_numbers, messages, records, wrapper
 
 PATH = "python/pendratsoa/messages.py"
 
@@ -44,19 +43,8 @@ def element(field):
     return field.record or field.enum or TYPES[field.kind]
 
 
-def told_apart(oneof):
-    """Whether the members of a oneof have classes of their own."""
-    classes = [field.record or CLASSES[field.kind] for field in oneof.members]
-    return len(classes) == len(set(classes))
-
-
-def wrapper(record, field):
-    """The class of a oneof's member that has no class of its own."""
-    return f"{record.name}{camel(field.name)}"
-
-
 def member(record, oneof, field):
-    return element(field) if told_apart(oneof) else wrapper(record, field)
+    return element(field) if oneof.told_apart(CLASSES) else wrapper(record, field)
 
 
 def type_of(record, row):
@@ -83,7 +71,7 @@ def enum(found):
 def wrappers(record):
     text = ""
     for row in record.rows:
-        if isinstance(row, TypedOneOf) and not told_apart(row):
+        if isinstance(row, TypedOneOf) and not row.told_apart(CLASSES):
             for field in row.members:
                 text += (
                     f"\n\n@dataclass(frozen=True)\nclass {wrapper(record, field)}:\n{doc(field.comment, '    ')}\n"
@@ -124,7 +112,7 @@ def row_words(record, row, oneof=None):
         if not holds:
             words.append("None")
         words.append(f'"{row.name}"')
-        if not told_apart(oneof):
+        if not oneof.told_apart(CLASSES):
             words.append(wrapper(record, row))
     return f"Row({', '.join(words)})"
 
@@ -191,7 +179,7 @@ def reader(record):
         for field in row.members if isinstance(row, TypedOneOf) else [row]:
             lines, found = read_value(field)
             if isinstance(row, TypedOneOf):
-                wrapped = found if told_apart(row) else f"messages.{wrapper(record, field)}({found})"
+                wrapped = found if row.told_apart(CLASSES) else f"messages.{wrapper(record, field)}({found})"
                 lines.append(f"{row.name}_ = {wrapped}")
             elif row.shape == "repeated":
                 lines.append(f"{row.name}_.append({found})")
@@ -268,7 +256,7 @@ def write_member(record, row):
             class_name = f"messages.{class_name}"
         known.append(class_name)
         text += f"    elif isinstance(value, {class_name}):\n"
-        text += "" if told_apart(row) else "        value = value.value\n"
+        text += "" if row.told_apart(CLASSES) else "        value = value.value\n"
         text += write_value(field, "        ")
     listed = f"({', '.join(known)})"
     first = row.members[0]
@@ -325,7 +313,7 @@ def module():
         wrapper(record, field)
         for record in records()
         for row in record.rows
-        if isinstance(row, TypedOneOf) and not told_apart(row)
+        if isinstance(row, TypedOneOf) and not row.told_apart(CLASSES)
         for field in row.members
     ]
     public = sorted(["AnyMessage", "RECORDS", "TypeName", *names, *wrapped, *(found.name for found in enumerations())])

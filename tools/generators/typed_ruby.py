@@ -2,8 +2,7 @@
 import re
 import textwrap
 
-from .model import camel
-from .typed_model import TypedOneOf, enumerations, kind_numbers, messages, records
+from .typed_model import TypedOneOf, enumerations, kind_numbers, messages, records, wrapper
 
 # What Ruby tells apart: numbers are Integers, and both texts and bytes are Strings.
 CLASSES = {"u32": "Integer", "u64": "Integer", "enum": "Integer", "bool": "bool", "text": "String", "bytes": "String"}
@@ -14,18 +13,9 @@ def doc(comment, indent):
     return "".join(f"{indent}# {line}\n" for line in textwrap.wrap(comment, 118 - len(indent)))
 
 
-def told_apart(oneof):
-    classes = [field.record or CLASSES[field.kind] for field in oneof.members]
-    return len(classes) == len(set(classes))
-
-
-def wrapper(record, field):
-    return f"{record.name}{camel(field.name)}"
-
-
 def member(record, oneof, field):
     """The class of a oneof's member."""
-    return field.record or CLASSES[field.kind] if told_apart(oneof) else wrapper(record, field)
+    return field.record or CLASSES[field.kind] if oneof.told_apart(CLASSES) else wrapper(record, field)
 
 
 def default(row):
@@ -59,7 +49,7 @@ def row_words(record, row, oneof=None):
     words = [f":{oneof.name if oneof else row.name}", str(row.number), str(kind_numbers()[row.kind]), f":{row.shape}"]
     words.append(f":{row.record or row.enum}" if row.record or row.enum else "nil")
     if oneof:
-        words += [f":{row.name}", f":{member(record, oneof, row)}", str(not told_apart(oneof)).lower()]
+        words += [f":{row.name}", f":{member(record, oneof, row)}", str(not oneof.told_apart(CLASSES)).lower()]
     return f"[{', '.join(words)}]"
 
 
@@ -95,7 +85,7 @@ def filled(defaults):
 def wrappers(record):
     text = ""
     for row in record.rows:
-        if isinstance(row, TypedOneOf) and not told_apart(row):
+        if isinstance(row, TypedOneOf) and not row.told_apart(CLASSES):
             for field in row.members:
                 text += "\n" + doc(field.comment, "  ") + f"  {wrapper(record, field)} = Member.of\n"
     return text
@@ -127,7 +117,7 @@ RBS = {"u32": "Integer", "u64": "Integer", "bool": "bool", "text": "String", "by
 def rbs_type(record, row):
     if isinstance(row, TypedOneOf):
         found = [
-            field.record or RBS.get(field.kind, "Integer") if told_apart(row) else wrapper(record, field)
+            field.record or RBS.get(field.kind, "Integer") if row.told_apart(CLASSES) else wrapper(record, field)
             for field in row.members
         ]
         return f"({' | '.join(found)})?"
@@ -148,7 +138,7 @@ def signatures():
         )
     for record in records():
         for row in record.rows:
-            if isinstance(row, TypedOneOf) and not told_apart(row):
+            if isinstance(row, TypedOneOf) and not row.told_apart(CLASSES):
                 for field in row.members:
                     text += (
                         doc(field.comment, "  ")

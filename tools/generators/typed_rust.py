@@ -29,8 +29,8 @@ HEAD = """\
 use std::borrow::Cow;
 
 use crate::error::Error;
-use crate::ffi::Table;
-use crate::fields::{Fields, Listed, NoMemory, Writer};
+use crate::ffi::{Table, Writer};
+use crate::fields::{Fields, Listed};
 use crate::message_type::MessageType;
 use crate::schema::Schema;
 
@@ -116,33 +116,40 @@ def oneof(record, row):
 
 
 READS = {
-    "u32": "field.number32()?",
+    "u32": "table.number32(field)",
     "u64": "field.value()",
     "bool": "field.value() != 0",
-    "text": "field.text()?",
-    "bytes": "field.bytes()?",
-    "message": "Fields::read(table, level + 1)?",
+    "text": "table.text(field)",
+    "bytes": "table.bytes(field)",
 }
 
 
 def reading(field):
-    return f"{field.enum}(field.signed()?)" if field.enum else READS[field.kind]
+    return f"{field.enum}(table.signed(field))" if field.enum else READS[field.kind]
 
 
 def read_arm(record, row, field):
-    target = f"found.{raw(row.name)}"
+    target = f"self.{raw(row.name)}"
+    block = []
     if isinstance(row, TypedOneOf):
-        return (
-            f"{field.number} => {{\n                    let value = {reading(field)};\n"
-            f"                    {target} = Some({oneof_name(record, row)}::{camel(field.name)}(value));\n"
-            "                }"
-        )
-    if field.shape == "repeated":
-        return (
-            f"{field.number} => {{\n                    let element = {reading(field)};\n"
-            f"                    push(&mut {target}, element)?;\n                }}"
-        )
-    return f"{field.number} => {target} = {f'Some({reading(field)})' if field.shape == 'optional' else reading(field)},"
+        name = f"{oneof_name(record, row)}::{camel(field.name)}"
+        if field.record:
+            block = [f"let mut value = {field.record}::default();", "value.read(table, level + 1);"]
+            block += [f"{target} = Some({name}(value));"]
+        else:
+            block = [f"let value = {reading(field)};", f"{target} = Some({name}(value));"]
+    elif field.shape == "repeated":
+        work = "element.read(table, level + 1)" if field.record else f"*element = {reading(field)}"
+        block = [f"if let Some(element) = table.append(&mut {target}) {{", f"    {work};", "}"]
+    elif field.record and field.shape == "optional":
+        block = [f"let value = {target}.insert(Default::default());", "value.read(table, level + 1);"]
+    elif field.record:
+        return f"{field.number} => {target}.read(table, level + 1),"
+    if block:
+        inner = "".join(f"                    {line}\n" for line in block)
+        return f"{field.number} => {{\n{inner}                }}"
+    value = f"Some({reading(field)})" if field.shape == "optional" else reading(field)
+    return f"{field.number} => {target} = {value},"
 
 
 def writing(field, value, is_reference):
@@ -151,16 +158,16 @@ def writing(field, value, is_reference):
     held = value if is_reference else f"&{value}"
     plain = f"*{value}" if is_reference else value
     if field.record:
-        return f"writer.record(level, {number}, {held})?;"
+        return f"writer.record(level, {number}, {held});"
     if field.kind in ("text", "bytes"):
-        return f"writer.{field.kind}(level, {number}, {held})?;"
+        return f"writer.{field.kind}(level, {number}, {held});"
     if field.enum:
-        return f"writer.signed(level, {number}, {value}.0)?;"
+        return f"writer.signed(level, {number}, {value}.0);"
     if field.kind == "bool":
-        return f"writer.flag(level, {number}, {plain})?;"
+        return f"writer.flag(level, {number}, {plain});"
     if field.kind == "u64":
-        return f"writer.number64(level, {number}, {plain})?;"
-    return f"writer.number32(level, {number}, {plain})?;"
+        return f"writer.number64(level, {number}, {plain});"
+    return f"writer.number32(level, {number}, {plain});"
 
 
 def write_part(record, row):
@@ -194,23 +201,19 @@ def implementation(record):
     name = record.name
     generic = f"impl<'a> Fields<'a> for {name}{life(name)}"
     text = f"\n{generic} {{\n    const LISTED: &'static Listed = &LISTED[{record.schema}];\n\n"
-    text += "    fn read(table: &mut Table<'a, '_>, level: u64) -> Result<Self, Error> {\n"
+    text += "    fn read(&mut self, table: &mut Table<'a, '_>, level: u64) {\n"
     if record.rows:
-        text += "        let mut found = Self::default();\n        while let Some(field) = table.next(level) {\n"
-        text += "            match field.number() {\n"
+        text += "        while let Some(field) = table.next(level) {\n            match field.number() {\n"
         for row in record.rows:
             for field in row.members if isinstance(row, TypedOneOf) else [row]:
                 text += "                " + read_arm(record, row, field) + "\n"
-        text += (
-            "                number => return Err(Self::unknown(number)),\n            }\n        }\n"
-            "        Ok(found)\n    }\n"
-        )
-        text += "\n    fn write(&self, writer: &mut Writer, level: u64) -> Result<(), NoMemory> {\n"
-        text += "".join(write_part(record, row) for row in record.rows) + "        Ok(())\n    }\n}\n"
+        text += "                number => table.fail(Self::unknown(number)),\n            }\n        }\n    }\n"
+        text += "\n    fn write(&self, writer: &mut Writer, level: u64) {\n"
+        text += "".join(write_part(record, row) for row in record.rows) + "    }\n}\n"
     else:
-        text += "        match table.next(level) {\n            Some(field) => Err(Self::unknown(field.number())),\n"
-        text += "            None => Ok(Self {}),\n        }\n    }\n"
-        text += "\n    fn write(&self, _: &mut Writer, _: u64) -> Result<(), NoMemory> {\n        Ok(())\n    }\n}\n"
+        text += "        if let Some(field) = table.next(level) {\n"
+        text += "            table.fail(Self::unknown(field.number()));\n        }\n    }\n"
+        text += "\n    fn write(&self, _: &mut Writer, _: u64) {}\n}\n"
     text += f"\nimpl<'a> Record<'a> for {name}{life(name)} {{\n    const SCHEMA: Schema = Schema::{name};\n}}\n"
     if record.code is not None:
         before = (
@@ -316,14 +319,7 @@ def kinds():
 
 
 def module():
-    text = (
-        HEAD
-        + "\n/// Appends an element. `Error::OutOfMemory`.\n"
-        "fn push<T>(elements: &mut Vec<T>, element: T) -> Result<(), Error> {\n"
-    )
-    text += (
-        "    elements.try_reserve(1).map_err(|_| Error::OutOfMemory)?;\n    elements.push(element);\n    Ok(())\n}\n"
-    )
+    text = HEAD
     text += "".join(enum(found) for found in enumerations())
     for record in records():
         text += struct(record) + "".join(oneof(record, row) for row in record.rows if isinstance(row, TypedOneOf))

@@ -111,6 +111,7 @@ pub(crate) fn header(version: u32, code: u16, payload_length: u32, out: &mut [u8
     count(unsafe { c::journal_header(version, code, payload_length, out.as_mut_ptr(), out.len()) })
 }
 
+#[inline]
 pub(crate) fn frame(version: u32, code: u16, payload: &[u8], out: &mut Vec<u8>) -> Result<usize> {
     // SAFETY: each pointer comes with the length of its slice, and the call writes at most `room` bytes and
     // returns how many they are
@@ -151,6 +152,7 @@ pub(crate) fn fields(schema: u32, payload: &[u8], fields: &mut [MaybeUninit<[u64
     count(unsafe { c::journal_fields(schema, payload.as_ptr(), payload.len(), fields.as_mut_ptr().cast(), fields.len()) })
 }
 
+#[inline]
 pub(crate) fn payload_of_fields(schema: u32, fields: &[[u64; 6]], bytes: &[u8], writing: &mut [u64; 2], out: &mut Vec<u8>) -> Result<usize> {
     // SAFETY: each pointer comes with the length of its slice, and the call writes at most `room` bytes and
     // returns how many they are

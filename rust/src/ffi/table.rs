@@ -5,7 +5,7 @@ use std::mem::MaybeUninit;
 use std::{slice, str};
 
 use super::{Refusal, Result, FIELD_STRING};
-use crate::error::{narrowed, Error};
+use crate::error::Error;
 use crate::ffi;
 
 /// An entry of the table of fields: its level, number, kind and value, and the offset and the length of its bytes.
@@ -31,10 +31,16 @@ impl Room {
 
     /// The table of a payload for a schema. What is read from it is borrowed from the payload.
     #[inline]
-    pub(crate) fn table<'a>(&mut self, schema: u32, payload: &'a [u8]) -> Result<Table<'a, '_>> {
+    pub(crate) fn table<'a: 't, 't>(
+        &'t mut self,
+        schema: u32,
+        payload: &'a [u8],
+    ) -> Result<Table<'a, 't>> {
         Ok(Table {
-            entries: self.entries(schema, payload)?,
-            source: Source::Borrowed(payload),
+            entries: self.entries(schema, payload)?.iter(),
+            borrowed: payload,
+            payload,
+            error: None,
         })
     }
 
@@ -45,8 +51,10 @@ impl Room {
         payload: &'t [u8],
     ) -> Result<Table<'a, 't>> {
         Ok(Table {
-            entries: self.entries(schema, payload)?,
-            source: Source::Copied(payload),
+            entries: self.entries(schema, payload)?.iter(),
+            borrowed: &[],
+            payload,
+            error: None,
         })
     }
 
@@ -78,112 +86,131 @@ impl Room {
     }
 }
 
-/// The payload that a table is of.
-#[derive(Clone, Copy)]
-enum Source<'a, 't> {
-    /// What is read may borrow from it.
-    Borrowed(&'a [u8]),
-    /// What is read is copied out of it.
-    Copied(&'t [u8]),
-}
-
-/// The entries of a payload that are not read yet.
+/// The entries of a payload that are not read yet: after an error none.
 pub struct Table<'a, 't> {
-    entries: &'t [Entry],
-    source: Source<'a, 't>,
+    entries: slice::Iter<'t, Entry>,
+    /// The payload, if what is read may borrow from it.
+    borrowed: &'a [u8],
+    payload: &'t [u8],
+    error: Option<Error>,
 }
 
 impl<'a, 't> Table<'a, 't> {
     /// Takes the next entry, if it is of a level.
     #[inline]
-    pub(crate) fn next(&mut self, level: u64) -> Option<Field<'a, 't>> {
-        let (entry, rest) = self.entries.split_first()?;
-        if entry[0] != level {
+    pub(crate) fn next(&mut self, level: u64) -> Option<Field<'t>> {
+        let mut rest = self.entries.clone();
+        let entry = rest.next().filter(|entry| entry[0] == level)?;
+        self.entries = rest;
+        Some(Field { entry })
+    }
+
+    /// Leaves all entries behind, for an error.
+    #[cold]
+    pub(crate) fn fail(&mut self, error: Error) {
+        self.entries = [].iter();
+        self.error.get_or_insert(error);
+    }
+
+    /// The first error.
+    #[inline]
+    pub(crate) fn into_error(self) -> Option<Error> {
+        self.error
+    }
+
+    #[inline]
+    pub(crate) fn number32(&mut self, field: Field<'t>) -> u32 {
+        u32::try_from(field.value()).unwrap_or_else(|_| {
+            self.fail(Error::unexpected("a number", field.value()));
+            0
+        })
+    }
+
+    /// The number of an enum.
+    #[inline]
+    pub(crate) fn signed(&mut self, field: Field<'t>) -> i32 {
+        i32::try_from(field.value() as i64).unwrap_or_else(|_| {
+            self.fail(Error::unexpected("a number of an enum", field.value()));
+            0
+        })
+    }
+
+    #[inline]
+    pub(crate) fn bytes(&mut self, field: Field<'t>) -> Cow<'a, [u8]> {
+        match field.part(self.borrowed) {
+            Some(part) => Cow::Borrowed(part),
+            None => Cow::Owned(self.copy(field)),
+        }
+    }
+
+    #[inline]
+    pub(crate) fn text(&mut self, field: Field<'t>) -> Cow<'a, str> {
+        match (field.part(self.borrowed), field.entry[2]) {
+            (Some(part), FIELD_STRING) => {
+                // SAFETY: the library has checked that the bytes of an entry of this kind are UTF-8
+                Cow::Borrowed(unsafe { str::from_utf8_unchecked(part) })
+            }
+            _ => Cow::Owned(self.copied_text(field)),
+        }
+    }
+
+    /// Appends an element that is empty. There is none if an allocation failed.
+    #[inline]
+    pub(crate) fn append<'e, T: Default>(&mut self, elements: &'e mut Vec<T>) -> Option<&'e mut T> {
+        if elements.try_reserve(1).is_err() {
+            self.fail(Error::OutOfMemory);
             return None;
         }
-        self.entries = rest;
-        Some(Field {
-            entry,
-            source: self.source,
+        elements.push(T::default());
+        elements.last_mut()
+    }
+
+    /// A copy of the bytes of an entry.
+    #[cold]
+    fn copy(&mut self, field: Field<'t>) -> Vec<u8> {
+        let mut copy = Vec::new();
+        match field.part(self.payload) {
+            None => self.fail(Error::unexpected("an offset", field.entry[4])),
+            Some(part) if copy.try_reserve_exact(part.len()).is_err() => {
+                self.fail(Error::OutOfMemory);
+            }
+            Some(part) => copy.extend_from_slice(part),
+        }
+        copy
+    }
+
+    #[cold]
+    fn copied_text(&mut self, field: Field<'t>) -> String {
+        let what = "a text that is not UTF-8, of field";
+        String::from_utf8(self.copy(field)).unwrap_or_else(|_| {
+            self.fail(Error::unexpected(what, field.number()));
+            String::new()
         })
     }
 }
 
-/// An entry that the library has written, and the payload that it is of.
-pub struct Field<'a, 't> {
+/// An entry that the library has written.
+#[derive(Clone, Copy)]
+pub struct Field<'t> {
     entry: &'t Entry,
-    source: Source<'a, 't>,
 }
 
-impl<'a> Field<'a, '_> {
+impl Field<'_> {
     #[inline]
-    pub(crate) fn number(&self) -> u64 {
+    pub(crate) fn number(self) -> u64 {
         self.entry[1]
     }
 
     #[inline]
-    pub(crate) fn value(&self) -> u64 {
+    pub(crate) fn value(self) -> u64 {
         self.entry[3]
-    }
-
-    #[inline]
-    pub(crate) fn number32(&self) -> std::result::Result<u32, Error> {
-        narrowed("a number", self.value())
-    }
-
-    #[inline]
-    pub(crate) fn signed(&self) -> std::result::Result<i32, Error> {
-        i32::try_from(self.value() as i64)
-            .map_err(|_| Error::unexpected("a number of an enum", self.value()))
-    }
-
-    /// Its bytes.
-    #[inline]
-    pub(crate) fn bytes(&self) -> std::result::Result<Cow<'a, [u8]>, Error> {
-        if let Source::Borrowed(payload) = self.source {
-            if let Some(part) = self.part(payload) {
-                return Ok(Cow::Borrowed(part));
-            }
-        }
-        self.copy().map(Cow::Owned)
-    }
-
-    /// Its text.
-    #[inline]
-    pub(crate) fn text(&self) -> std::result::Result<Cow<'a, str>, Error> {
-        if let Source::Borrowed(payload) = self.source {
-            if let (Some(part), FIELD_STRING) = (self.part(payload), self.entry[2]) {
-                // SAFETY: the library has checked that the bytes of an entry of this kind are UTF-8
-                return Ok(Cow::Borrowed(unsafe { str::from_utf8_unchecked(part) }));
-            }
-        }
-        self.copied_text().map(Cow::Owned)
     }
 
     /// The part of a payload that it says.
     #[inline]
-    fn part<'b>(&self, payload: &'b [u8]) -> Option<&'b [u8]> {
+    fn part(self, payload: &[u8]) -> Option<&[u8]> {
         let begin = usize::try_from(self.entry[4]).ok()?;
         let length = usize::try_from(self.entry[5]).ok()?;
         payload.get(begin..)?.get(..length)
-    }
-
-    /// A copy of its bytes.
-    #[cold]
-    fn copy(&self) -> std::result::Result<Vec<u8>, Error> {
-        let (Source::Borrowed(payload) | Source::Copied(payload)) = self.source;
-        let part = self.part(payload);
-        let part = part.ok_or_else(|| Error::unexpected("an offset", self.entry[4]))?;
-        let mut copy = Vec::new();
-        copy.try_reserve_exact(part.len())
-            .map_err(|_| Error::OutOfMemory)?;
-        copy.extend_from_slice(part);
-        Ok(copy)
-    }
-
-    #[cold]
-    fn copied_text(&self) -> std::result::Result<String, Error> {
-        let what = "a text that is not UTF-8, of field";
-        String::from_utf8(self.copy()?).map_err(|_| Error::unexpected(what, self.number()))
     }
 }
