@@ -12,6 +12,7 @@ import pathlib
 import re
 
 import checks
+import crates
 from generators import calls_data
 
 
@@ -137,9 +138,12 @@ def crates_and_tests(check: checks.Check) -> None:
     )
     rows = [line.split("|")[1] for line in read("docs/ARCHITECTURE.md").splitlines() if re.match(r"\| `[a-z_]*`", line)]
     named = {name for row in rows for name in re.findall(r"`([a-z_]+)`", row)}
-    lacking(check, "the crates that docs/ARCHITECTURE.md lacks", listed, named)
     others = sorted(name for name in named - set(listed) if not pathlib.Path(name).is_dir())
     check.case("the rows of docs/ARCHITECTURE.md", not others, " ".join(others))
+    # a repository of one's own has the crates that this pattern of the page on the library takes
+    pattern = re.search(r"grep -E '(.*)' PENDRATSOA/crates.txt", read("crates/shared_core/README.md"))
+    copied = [crate for crate in listed if pattern and re.match(pattern[1], crate)]
+    check.same("the crates that crates/shared_core/README.md copies", copied, crates.with_below(copied))
     folders = sorted(folder.name for folder in pathlib.Path("tests").iterdir() if folder.is_dir())
     rows = [line.split("|")[1] for line in read("tests/README.md").splitlines() if line.startswith("| `")]
     check.same(
