@@ -3,6 +3,7 @@ use Rattle.std.proofs.Common.{◌≡◌, ◌∙◌, ℕ, ◌+◌, ◌-◌, ◌<�
 use Rattle.std.proofs.Common.{Option, Some, None, Result, Ok, Err}
 use Rattle.std.proofs.Common.{append_assoc, append-nil, length-append, arith, subst}
 use Rattle.std.proofs.lemmas.Bool.{le-ltb}
+use Rattle.std.proofs.lemmas.Option.{none-some}
 use Rattle.std.specs.Io.KnownBytes.{IsAtEnd}
 use Rattle.shared_core_base.specs.declared.version.Version.{Version}
 use Rattle.bytes.specs.Filled.{Filled}
@@ -17,7 +18,7 @@ use Rattle.shared_core_stream.proofs.Limits.{accepted, front_more}
 use Rattle.shared_core_io.specs.declared.error.ReadError.{ReadError}
 use Rattle.shared_core_io.specs.declared.error.ReadError.TheVariants.{Failed, TooLong, Truncated, OutOfMemory}
 use Rattle.shared_core_io.specs.Reading.{held, most_held, result_at_end, with_more, IsDrained, IsRead}
-use Rattle.shared_core_io.specs.Reading.{IsTaken, IsTakenOf, TakesNothing}
+use Rattle.shared_core_io.specs.Reading.{IsTaken, IsTakenOf, LosesNothing}
 
 -- bytes that were read before, and then more
 pub joined : (first loop next new : Limited) (read more : List ℕ) → loop ≡ with_more first read → next ≡ loop → new ≡
@@ -28,13 +29,13 @@ joined first loop next new read more before same after =
     ∙ ap (λ (all : List ℕ). record first { unread = record first.unread { bytes = all } })
     (append_assoc bytes read more)
 
--- an error that takes nothing
-pub failed : (old new : Limited) (left : Option (List ℕ)) (error : ReadError) → TakesNothing error → new ≡ old → IsRead
-    old left (Err error) new
-failed old new left (Failed reason) nothing same = (same, nothing)
-failed old new left (TooLong message) nothing same = absurd nothing
-failed old new left (Truncated count) nothing same = absurd nothing
-failed old new left OutOfMemory nothing same = same
+-- an error of a read, where no message was rejected before
+pub failed : (old new was is : Limited) (left : Option (List ℕ)) (error : ReadError) → LosesNothing None was is error →
+    new ≡ old → IsRead old left (Err error) new
+failed old new was is left (Failed reason) nothing same = (same, nothing.1)
+failed old new was is left (TooLong message) (some, kept) same = absurd (none-some message some)
+failed old new was is left (Truncated count) nothing same = absurd nothing
+failed old new was is left OutOfMemory nothing same = same
 
 -- at the end, what is left is nothing or a part of an item
 pub ended : (old new : Limited) (left : Option (List ℕ)) (pending : List ℕ) → IsAtEnd left → rejection old ≡ None →
@@ -142,11 +143,12 @@ drained_end (Err (TooLong message)) outside gone = tt
 drained_end (Err (Truncated count)) outside gone = gone
 drained_end (Err OutOfMemory) outside gone = tt
 
-pub drained_fill : (error : ReadError) (outside : List ℕ) → TakesNothing error → IsDrained (Err error) outside
-drained_fill (Failed reason) outside nothing = tt
-drained_fill (TooLong message) outside nothing = tt
-drained_fill (Truncated count) outside nothing = absurd nothing
-drained_fill OutOfMemory outside nothing = tt
+pub drained_fill : (rejected : Option MessageTooLong) (old new : Limited) (error : ReadError) (outside : List ℕ) →
+    LosesNothing rejected old new error → IsDrained (Err error) outside
+drained_fill rejected old new (Failed reason) outside nothing = tt
+drained_fill rejected old new (TooLong message) outside nothing = tt
+drained_fill rejected old new (Truncated count) outside nothing = absurd nothing
+drained_fill rejected old new OutOfMemory outside nothing = tt
 
 pub drained_error : (old new : Limited) (outside kept : List ℕ) (error : ReadError) → IsTaken old outside (Err error)
     new kept → IsDrained (Err error) kept
@@ -190,9 +192,14 @@ module _ (first : Limited) (read more : List ℕ) (old next new : Limited) (outs
       joined first (with_more old outside) (with_more next kept) new read more before
       (rw (same, kept_same) refl) after
 
-  pub not_filled : (left : Option (List ℕ)) (error : ReadError) → TakesNothing error → IsRead
-      (with_more first (read ++ more)) left (Err error) new
-  not_filled left error nothing = failed (with_more first (read ++ more)) new left error nothing read_more
+  pub not_filled : (left : Option (List ℕ)) (was is : Limited) (error : ReadError) → LosesNothing next.rejected was is
+      error → IsRead (with_more first (read ++ more)) left (Err error) new
+  not_filled left was is error nothing =
+      let (accepts, none, short, same, kept_same) = taken in
+      let unrejected : next.rejected ≡ None =
+      ap (λ (state : Limited). state.rejected) same ∙ (accepted old accepts).0 in
+      failed (with_more first (read ++ more)) new was is left error
+      (subst (λ (rejected : Option MessageTooLong). LosesNothing rejected was is error) unrejected nothing) read_more
 
   pub stream_ended : (last : Limited) (others : List ℕ) (left : Option (List ℕ)) → new ≡ with_more last others →
       others ≡ [] → last ≡ next → IsAtEnd left → IsRead (with_more first (read ++ more)) left

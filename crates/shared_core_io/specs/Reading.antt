@@ -8,6 +8,7 @@ use Rattle.bytes.specs.Filled.{Filled}
 use Rattle.shared_core_stream.specs.Items.{front_word, NoItemBegins}
 use Rattle.shared_core_stream.specs.Limits.{Limited, TakesWithin, rejection, after_item, after_rejection}
 use Rattle.shared_core_stream.specs.declared.encoding.item.Item.{Item}
+use Rattle.shared_core_stream.specs.declared.encoding.limit_error.MessageTooLong.{MessageTooLong}
 use Rattle.shared_core_io.specs.declared.chunk.ChunkError.{ChunkError}
 use Rattle.shared_core_io.specs.declared.chunk.ChunkError.TheVariants as chunk
 use Rattle.shared_core_io.specs.declared.error.ReadError.{ReadError}
@@ -93,9 +94,15 @@ IsDrained (Ok (Some next)) outside = Unit {0}
 IsDrained (Err (Truncated count)) outside = outside ≡ []
 IsDrained (Err error) outside = Unit {0}
 
--- The error takes nothing, whatever there is, and is no interrupted read.
-abbrev pub TakesNothing : ReadError → Type 0
-TakesNothing (Failed reason) = error_kind reason ≢ Interrupted
-TakesNothing (TooLong message) = ⊥
-TakesNothing (Truncated count) = ⊥
-TakesNothing OutOfMemory = Unit {0}
+-- The most bytes that hold no whole item: a header, and all but one byte of the longest payload.
+abbrev pub most_of_a_part : ℕ
+most_of_a_part = 4294967302
+
+-- The error of a read, by the message that was rejected before, if any, and by what was held and is held: a failed
+-- read, which is no interrupted one, and an error for that message change nothing; after a failed allocation what was
+-- read is held.
+abbrev pub LosesNothing : {T : Type 0} → Option MessageTooLong → T → T → ReadError → Type 0
+LosesNothing rejected old new (Failed reason) = (new ≡ old) × (error_kind reason ≢ Interrupted)
+LosesNothing rejected old new (TooLong message) = (rejected ≡ Some message) × (new ≡ old)
+LosesNothing rejected old new (Truncated count) = ⊥
+LosesNothing rejected old new OutOfMemory = Unit {0}

@@ -3,16 +3,16 @@
 //! What was read and not used is held for the next call, so no error loses a byte. A payload that lies in what one read
 //! gave shares the memory that it was read into.
 
-ghost use Rattle.std.specs.Prelude.{◌≡◌, ◌+◌, ◌<◌, ◌≤◌, ◌++◌, ℕ, List, [], length, IfOk, IfErr, IfSome, OnOk, OnErr};
-ghost use Rattle.std.specs.Prelude.{false, None};
+ghost use Rattle.std.specs.Prelude.{◌≡◌, ◌⊎◌, ◌+◌, ◌<◌, ◌≤◌, ◌++◌, ℕ, List, [], length, IfOk, IfErr, IfSome, OnOk};
+ghost use Rattle.std.specs.Prelude.{OnErr, true, false, None, Err};
 ghost use Rattle.std.specs.Io.KnownBytes.{Consumes, IsAtEnd};
 ghost use Rattle.shared_core_base.specs.Version.{version_number};
 ghost use Rattle.shared_core_stream.specs.Items.{front_word, TakesItem};
 ghost use Rattle.shared_core_stream.specs.Limits.{without_word};
 ghost use Rattle.shared_core_stream.specs.declared.encoding.item.Item.{Item as AnyItem};
-ghost use Rattle.shared_core_io.specs.Reading.{most_held, result_at_end, with_more, HasWord, IsDrained, IsRead};
-ghost use Rattle.shared_core_io.specs.Reading.{IsTaken, IsTakenOf, TakesNothing};
-ghost use Rattle.shared_core_io.specs.declared.error.ReadError.TheVariants.{OutOfMemory};
+ghost use Rattle.shared_core_io.specs.Reading.{most_held, most_of_a_part, result_at_end, with_more, HasWord};
+ghost use Rattle.shared_core_io.specs.Reading.{IsDrained, IsRead, IsTaken, IsTakenOf, LosesNothing};
+ghost use Rattle.shared_core_io.specs.declared.error.ReadError.TheVariants.{OutOfMemory, TooLong};
 
 use crate::chunk::read_some;
 use crate::error::ReadError;
@@ -31,6 +31,9 @@ pub const CHUNK: usize = 65536;
 /// The least room that a read is given. A block is read into until there is less, so that a stream that comes a few
 /// bytes at a time does not take a block for each read.
 const LEAST_ROOM: usize = 4096;
+
+/// The most bytes that hold no whole item: a header, and all but one byte of the longest payload.
+const MOST_OF_A_PART: u64 = 4_294_967_302;
 
 /// What was read of a stream and is in no item that was returned.
 ///
@@ -116,14 +119,53 @@ impl ItemBuffer {
             (held self.new.decoder self.new.chunk self.new.buffer) }
         ensures word { HasWord result (held self.old.decoder self.old.chunk self.old.buffer).unread.bytes }
     {
-        // bytes are outside the decoder only after it could not take them
-        while !self.chunk.is_empty() || !self.buffer.is_empty() {
+        loop {
             if let Some(next) = self.take()? {
                 return Ok(Some(next));
             }
+            // bytes are outside the decoder only after it could not take them
+            if self.chunk.is_empty() && self.buffer.is_empty() {
+                return Ok(None);
+            }
             self.push_held()?;
         }
-        self.take()
+    }
+
+    /// Gives the decoder the next of the bytes that were read and that it does not hold, or else those that one read
+    /// gives. Returns whether the stream goes on: if it does not, all that is held is in the decoder.
+    ///
+    /// So a loop that takes what was read by `take_with_word` reads on by this where that returns `None`. It reads
+    /// nothing while the decoder holds more than 4,294,967,302 bytes, since a whole item is among them. `TooLong` after
+    /// a message was rejected, and then nothing is read; `Failed` and `OutOfMemory` are as of `next_with_word`.
+    pub fn fill<R: Read>(&mut self, reader: &mut R) -> Result<bool, ReadError>
+        ensures filled { (read : List ℕ) × Consumes (R.remaining reader.old) (R.remaining reader.new) read
+            × (held self.new.decoder self.new.chunk self.new.buffer
+            ≡ with_more (held self.old.decoder self.old.chunk self.old.buffer) read) }
+        ensures more { IfOk result (λ more. more ≡ true
+            → (length self.old.decoder.unread.bytes < length self.new.decoder.unread.bytes)
+            ⊎ (most_of_a_part < length self.old.decoder.unread.bytes)) }
+        ensures end { IfOk result (λ more. more ≡ false → IsAtEnd (R.remaining reader.new)
+            × (self.new.decoder ≡ self.old.decoder) × (self.new.chunk ++ self.new.buffer.items ≡ [])) }
+        ensures idle { 0 < length self.old.chunk + length self.old.buffer.items → reader.new ≡ reader.old }
+        ensures full { most_of_a_part < length self.old.decoder.unread.bytes → reader.new ≡ reader.old }
+        ensures error { IfErr result (LosesNothing self.old.decoder.rejected
+            (held self.old.decoder self.old.chunk self.old.buffer)
+            (held self.new.decoder self.new.chunk self.new.buffer)) }
+        ensures rejected { IfSome self.old.decoder.rejected
+            (λ message. (result ≡ Err (TooLong message)) × (reader.new ≡ reader.old)) }
+        ensures bound { length (held self.new.decoder self.new.chunk self.new.buffer).unread.bytes ≤ most_held }
+    {
+        if let Some(message) = self.decoder.rejected() {
+            return Err(ReadError::TooLong(message));
+        }
+        if self.decoder.decoder().pending() > MOST_OF_A_PART {
+            return Ok(true);
+        }
+        if !self.next_chunk(reader)? {
+            return Ok(false);
+        }
+        self.push()?;
+        Ok(true)
     }
 
     /// Returns a copy of the bytes that were read and are in no item that was returned: after `Truncated` those of the
@@ -165,30 +207,10 @@ impl ItemBuffer {
         }
     }
 
-    /// Gives the decoder the next of the bytes that are held, or else of those that one read gives. Returns whether the
-    /// stream goes on: if it does not, nothing is held but by the decoder.
-    fn fill<R: Read>(&mut self, reader: &mut R) -> Result<bool, ReadError>
-        requires accepted { self.old.decoder.rejected ≡ None }
-        requires short { length self.old.decoder.unread.bytes ≤ self.old.decoder.limit + 7 }
-        ensures filled { (read : List ℕ) × Consumes (R.remaining reader.old) (R.remaining reader.new) read
-            × (held self.new.decoder self.new.chunk self.new.buffer
-            ≡ with_more (held self.old.decoder self.old.chunk self.old.buffer) read) }
-        ensures end { IfOk result (λ more. more ≡ false → IsAtEnd (R.remaining reader.new)
-            × (self.new.decoder ≡ self.old.decoder) × (self.new.chunk ++ self.new.buffer.items ≡ [])) }
-        ensures idle { 0 < length self.old.chunk + length self.old.buffer.items → reader.new ≡ reader.old }
-        ensures error { IfErr result TakesNothing }
-    {
-        if !self.next_chunk(reader)? {
-            return Ok(false);
-        }
-        self.push()?;
-        Ok(true)
-    }
-
     /// Gives the decoder the next of the bytes that are held outside it, of which there are some.
     fn push_held(&mut self) -> Result<(), ReadError>
         requires accepted { self.old.decoder.rejected ≡ None }
-        requires short { length self.old.decoder.unread.bytes ≤ self.old.decoder.limit + 7 }
+        requires short { length self.old.decoder.unread.bytes ≤ most_of_a_part }
         requires some { 0 < length self.old.chunk + length self.old.buffer.items }
         ensures same { held self.new.decoder self.new.chunk self.new.buffer
             ≡ held self.old.decoder self.old.chunk self.old.buffer }
@@ -205,7 +227,7 @@ impl ItemBuffer {
     /// Gives the decoder the chunk that is held, which has room for it.
     fn push(&mut self) -> Result<(), ReadError>
         requires accepted { self.old.decoder.rejected ≡ None }
-        requires short { length self.old.decoder.unread.bytes ≤ self.old.decoder.limit + 7 }
+        requires short { length self.old.decoder.unread.bytes ≤ most_of_a_part }
         ensures ok { OnOk result ((self.new.decoder ≡ with_more self.old.decoder self.old.chunk)
             × (self.new.chunk ≡ [])) }
         ensures kept { OnErr result ((self.new.decoder ≡ self.old.decoder) × (self.new.chunk ≡ self.old.chunk)) }
@@ -229,8 +251,10 @@ impl ItemBuffer {
             × (self.new.chunk ++ self.new.buffer.items ≡ (self.old.chunk ++ self.old.buffer.items) ++ read) }
         ensures end { IfOk result (λ more. more ≡ false → IsAtEnd (R.remaining reader.new)
             × (self.new.chunk ++ self.new.buffer.items ≡ [])) }
+        ensures some { IfOk result (λ more. more ≡ true → 0 < length self.new.chunk) }
         ensures idle { 0 < length self.old.chunk + length self.old.buffer.items → reader.new ≡ reader.old }
-        ensures error { IfErr result TakesNothing }
+        ensures error { IfErr result (LosesNothing None (self.old.chunk ++ self.old.buffer.items)
+            (self.new.chunk ++ self.new.buffer.items)) }
         ensures decoder { self.new.decoder ≡ self.old.decoder }
     {
         if !self.chunk.is_empty() {
@@ -249,8 +273,9 @@ impl ItemBuffer {
             × (self.new.buffer.items ≡ self.old.buffer.items ++ read) }
         ensures end { IfOk result (λ more. more ≡ false → IsAtEnd (R.remaining reader.new)
             × (self.new.buffer.items ≡ [])) }
+        ensures some { IfOk result (λ more. more ≡ true → 0 < length self.new.buffer.items) }
         ensures idle { 0 < length self.old.buffer.items → reader.new ≡ reader.old }
-        ensures error { IfErr result TakesNothing }
+        ensures error { IfErr result (LosesNothing None self.old.buffer.items self.new.buffer.items) }
         ensures decoder { self.new.decoder ≡ self.old.decoder }
         ensures chunk { self.new.chunk ≡ self.old.chunk }
     {

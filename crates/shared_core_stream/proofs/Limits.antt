@@ -15,7 +15,7 @@ use Rattle.shared_core_stream.specs.Items.{PayloadIsNext, IsItem, TakesItem, NoI
 use Rattle.shared_core_stream.specs.Items.{front_word, item_of, skips_unknown_messages}
 use Rattle.shared_core_stream.specs.Limits.{Limited, ReturnsWithin, offset_after, rejection}
 use Rattle.shared_core_stream.specs.Limits.{TakesWithin, payload_length, too_long_at, too_long_by}
-use Rattle.shared_core_stream.proofs.Items.{front_item_of, front_word_more, item_is_long, none_short}
+use Rattle.shared_core_stream.proofs.Items.{front_item_of, front_word_more, item_is_long}
 
 -- a word that announces no longer payload, and one that does
 pub within_limit : (version : Version) (limit offset word : ℕ) → body_length version word ≤ limit → too_long_by version
@@ -76,6 +76,12 @@ taken_length version old new item (first, is, splits) =
     item_length version first item is ∙ ap (body_length version)
     (sym (ap front_word splits ∙ front_word_more first new (omega (arith, is.whole))))
 
+-- an item takes as many bytes as it has
+pub taken_size : (version : Version) (old new : List ℕ) (item : Item) → TakesItem version old item new → length old ≡
+    (8 + payload_length item) + length new
+taken_size version old new item (first, is, splits) =
+    omega (arith, is.whole, ap length splits, length-append first new, item_length version first item is)
+
 -- an item that is taken from bytes that are not rejected is within the limit
 pub taken_within : (version : Version) (limit offset : ℕ) (old new : List ℕ) (item : Item) → too_long_at version limit
     offset old ≡ None → TakesItem version old item new → TakesWithin version limit old item new
@@ -101,6 +107,15 @@ none_within version limit offset bytes whole accepted none =
       | false ↦ λ is. omega (arith, leb-false _ _ is, front_within version limit offset bytes whole accepted)
     ]) refl
 
+-- the same, whether a header is there or not
+pub left_within : (version : Version) (limit offset : ℕ) (bytes : List ℕ) → too_long_at version limit offset bytes ≡
+    None → NoItemBegins version bytes → length bytes ≤ limit + 7
+left_within version limit offset bytes accepts none = by_length (leb 8 (length bytes)) refl
+  where
+    by_length : (whole : Bool) → leb 8 (length bytes) ≡ whole → length bytes ≤ limit + 7
+    by_length true is = none_within version limit offset bytes (leb-true _ _ is) accepts none
+    by_length false is = omega (arith, leb-false _ _ is)
+
 -- ---- a decoder with a limit
 
 -- nothing was rejected, and nothing at the front is
@@ -112,6 +127,12 @@ accepted state none = by_rejected state.rejected refl
         (too_long_at state.unread.version state.limit state.offset state.unread.bytes ≡ None)
     by_rejected (Some error) is = let some = rw is at none in cc
     by_rejected None is = (is, rw is at none)
+
+-- nothing is rejected where nothing was and nothing at the front is
+pub unharmed : (unread : Unread) (limit offset : ℕ) (rejected : Option MessageTooLong) (state : Limited) → record
+    { unread = unread; limit = limit; offset = offset; rejected = rejected } ≡ state → rejected ≡ None → too_long_at
+    unread.version limit offset unread.bytes ≡ None → rejection state ≡ None
+unharmed unread limit offset rejected state is gone none = sym (ap rejection is) ∙ rw gone none
 
 module _ (unread new : Unread) (limit offset : ℕ) (rejected : Option MessageTooLong) (state : Limited)
     (is : record { unread = unread; limit = limit; offset = offset; rejected = rejected } ≡ state)
@@ -160,17 +181,17 @@ module _ (unread new : Unread) (limit offset : ℕ) (rejected : Option MessageTo
         }) bytes_same
 
     -- no whole item is left
-    pub none_returned : 8 ≤ length unread.bytes → NoItemBegins unread.version unread.bytes → ReturnsWithin state
-        (Ok None) (record { unread = new; limit = limit; offset = offset; rejected = rejected })
+    pub none_returned : NoItemBegins unread.version unread.bytes → ReturnsWithin state (Ok None)
+        (record { unread = new; limit = limit; offset = offset; rejected = rejected })
     unfolding old
-    none_returned whole no_more =
+    none_returned no_more =
         subst
         (λ s. ReturnsWithin s (Ok None) (record
         { unread = new; limit = limit; offset = offset; rejected = rejected })) is (
           none_old,
           no_more,
           same,
-          none_within unread.version limit offset unread.bytes whole (accepted old none_old).1 no_more,
+          left_within unread.version limit offset unread.bytes (accepted old none_old).1 no_more,
         )
 
     -- the allocation of a payload failed
@@ -181,16 +202,6 @@ module _ (unread new : Unread) (limit offset : ℕ) (rejected : Option MessageTo
         subst
         (λ s. ReturnsWithin s (Err limited.OutOfMemory) (record
         { unread = new; limit = limit; offset = offset; rejected = rejected })) is (none_old, next, same)
-
--- a header is not whole
-pub short_returned : (state new : Limited) → rejection state ≡ None → length state.unread.bytes < 8 → new ≡ state →
-    ReturnsWithin state (Ok None) new
-short_returned state new none short same = (
-  none,
-  none_short state.unread.version state.unread.bytes (omega (arith, short)),
-  same,
-  omega (arith, short),
-)
 
 -- the message that is rejected is at the front, if none was before
 pub rejected_front : (state : Limited) (error : MessageTooLong) → state.rejected ≡ None → rejection state ≡ Some error →

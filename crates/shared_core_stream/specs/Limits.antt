@@ -85,6 +85,22 @@ ReturnsWord old (Ok None) new = (rejection old ≡ None) × (length old.unread.b
 ReturnsWord old (Ok (Some word)) new =
     (rejection old ≡ None) × (8 ≤ length old.unread.bytes) × (word ≡ front_word old.unread.bytes) × (new ≡ old)
 
+-- The next item was asked for, within a limit, of bytes at an offset. A message at the front that is too long is the
+-- error, and nothing is taken. Otherwise: `None` if and only if no whole item is at the front; the item at the front
+-- with the word of its header; or an allocation failed for an item with a payload, and nothing is taken.
+abbrev pub ReturnsNext : ℕ → ℕ → Unread → Result (Option (ℕ × Item)) LimitedError → Unread → Type 0
+ReturnsNext limit offset old (Err (limited.MessageTooLong error)) new =
+    (too_long_at old.version limit offset old.bytes ≡ Some error) × (new.bytes ≡ old.bytes)
+ReturnsNext limit offset old (Err limited.OutOfMemory) new =
+    (too_long_at old.version limit offset old.bytes ≡ None) × PayloadIsNext old.version old.bytes
+    × (new.bytes ≡ old.bytes)
+ReturnsNext limit offset old (Ok None) new =
+    (too_long_at old.version limit offset old.bytes ≡ None) × NoItemBegins old.version old.bytes
+    × (new.bytes ≡ old.bytes)
+ReturnsNext limit offset old (Ok (Some next)) new =
+    (too_long_at old.version limit offset old.bytes ≡ None) × TakesItem old.version old.bytes next.1 new.bytes
+    × (next.0 ≡ front_word old.bytes)
+
 -- The next item was asked for. A rejected message is the error. Otherwise all is as without a limit: `None` if and only
 -- if no whole item is at the front, and nothing changes; the item at the front, which is taken; or an allocation failed
 -- for an item with a payload, and nothing changes.

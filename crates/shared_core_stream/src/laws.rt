@@ -2,7 +2,7 @@
 //! or that only compares its arguments.
 
 ghost use Rattle.std.specs.Prelude.{◌≡◌, ◌↔◌, ℕ, []};
-ghost use Rattle.std.specs.Prelude.{◌∷◌, ◌++◌, IsTrue, List, None, Some, false, true};
+ghost use Rattle.std.specs.Prelude.{◌∷◌, ◌++◌, IsTrue, List, None, false, true};
 ghost use Rattle.shared_core_base.specs.declared.version.Version.{Version};
 ghost use Rattle.shared_core_stream.specs.Items.{IsItem, TakesItem};
 ghost use Rattle.shared_core_stream.specs.Items.{NoItemBegins, SplitsInto, skips_unknown_messages};

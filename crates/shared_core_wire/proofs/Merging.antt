@@ -335,14 +335,3 @@ module _ (table : ℕ → List Row) where
       accepts_payload table left s b ≡ true → overlay table left s v (or_empty (record_list left (a ++ b))) ≡ overlay
       table left s (overlay table left s v (or_empty (record_list left a))) (or_empty (record_list left b))
   overlay_bytes-append left = bytes_step left (overlay-append left)
-
-  -- one record more, in the code's order
-  pub overlay_step : (left s : ℕ) (v w x : Parts) (rs : List FieldRecord) (r : FieldRecord) → accepts_records table left
-      s rs ≡ true → w ≡ overlay table left s v rs
-      → accepts_records table left s (r ∷ []) ≡ true → x ≡ overlay table left s w (r ∷ []) →
-      (accepts_records table left s (rs ++ r ∷ []) ≡ true) × (x ≡ overlay table left s v (rs ++ r ∷ []))
-  overlay_step left s v w x rs r g e h f = (
-    accepts_records-append left s rs (r ∷ []) g h,
-    f ∙ ap
-        (λ u. overlay table left s u (r ∷ [])) e ∙ sym (overlay-append left s v rs (r ∷ []) g h),
-  )

@@ -1,7 +1,7 @@
 //! Hand-checked payloads, which test the definitions of acceptance, meaning and canonical encoding. Each example is the
 //! contract of a function that does nothing, and is proved by evaluating the definitions.
 
-ghost use Rattle.std.specs.Prelude.{◌≡◌, ℕ, List, [], ◌∷◌, ◌++◌, true, false, codes};
+ghost use Rattle.std.specs.Prelude.{◌≡◌, [], ◌∷◌, ◌++◌, true, false, codes};
 ghost use Rattle.std.specs.List.{list_all};
 ghost use Rattle.shared_core_wire.specs.Schema.{is_schema};
 ghost use Rattle.shared_core_wire.specs.Value.{Absent, Number, Bytes, Nested, Elements, Member, nil, cons, one_part};

@@ -1,6 +1,6 @@
 //! Varints (proto3): a number of 64 bits in one to ten bytes of seven bits each, the least significant first.
 
-ghost use Rattle.std.specs.Prelude.{◌≡◌, ◌≤◌, ◌<◌, ◌+◌, ◌*◌, ◌%◌, ◌^◌, length};
+ghost use Rattle.std.specs.Prelude.{◌≡◌, ◌≤◌, ◌<◌, ◌+◌, ◌*◌, ◌%◌, length};
 ghost use Rattle.shared_core_wire.specs.Reader.{Gives, varint_at};
 ghost use Rattle.shared_core_wire.specs.Encoding.{shortest_varint};
 

@@ -1,7 +1,7 @@
 -- How the printing of a stream continues, and what is written when it ends.
-use Rattle.std.proofs.Common.{ℕ, ◌+◌, ◌-◌, ◌<◌, ◌≤◌, drop, Some, None, Bool, true, false, cond, length-append}
+use Rattle.std.proofs.Common.{ℕ, ◌+◌, ◌≤◌, drop, Some, None, Bool, true, false, cond, length-append}
 use Rattle.std.proofs.Common.{length-drop, ◌≡◌, List, [], ◌∷◌, ◌++◌, length, ap, sym, subst, ◌∙◌, append_assoc}
-use Rattle.std.proofs.Common.{append-nil, arith, Result, Ok, Err, IfOk, IfErr, Option, inl, inr, refl, All}
+use Rattle.std.proofs.Common.{append-nil, arith, Result, Ok, Err, Option, inl, inr, refl, All}
 use Rattle.std.proofs.lemmas.List.Elements.{All-append, All-push}
 use Rattle.std.specs.Io.KnownBytes.{Appends, Consumes, IsAtEnd}
 use Rattle.std.proofs.KnownBytes.{Appends-nil, Appends-trans, Consumes-nil, Consumes-trans}
@@ -14,7 +14,7 @@ use Rattle.shared_core_stream.specs.declared.encoding.item.Item.TheVariants.{Mes
 use Rattle.shared_core_stream.specs.Items.{AreItems, NoItemBegins, IsItem, IsItemsThen, SplitsInto, front_word}
 use Rattle.shared_core_stream.specs.Items.{body_length, item_of, skips_unknown_messages}
 use Rattle.std.proofs.lemmas.List.{drop-drop}
-use Rattle.shared_core_stream.proofs.Items.{drop_exact, front_word_more, item_is_long, nothing_begins_with_none}
+use Rattle.shared_core_stream.proofs.Items.{drop_exact, front_word_more, nothing_begins_with_none}
 use Rattle.shared_core_stream.proofs.Items.{then_start, then_join, then_more, then_one, split_of, split_begins}
 use Rattle.std.specs.Option.{option_or}
 use Rattle.stream_lines.specs.declared.report.Report.{Report}
@@ -23,15 +23,12 @@ use Rattle.stream_lines.specs.declared.error.PrintError.{PrintError}
 use Rattle.stream_lines.specs.declared.error.PrintError.TheVariants.{Input, Output, OutOfMemory, TooLong}
 use Rattle.stream_lines.specs.declared.error.PrintError.TheVariants.{MessageTooLong}
 use Rattle.shared_core_stream.specs.declared.encoding.limit_error.MessageTooLong.{MessageTooLong as Longer}
-use Rattle.shared_core_stream.specs.Limits.{without_word, Limited}
+use Rattle.shared_core_stream.specs.Limits.{Limited}
 use Rattle.shared_core_stream.specs.Limits.{after_item, offset_after, payload_length, too_long_at, TakesWithin}
-use Rattle.stream_lines.specs.Printing.{item_size, items_size, lines, trouble_at, first_trouble, ArePrinted, IsReport}
+use Rattle.shared_core_io.specs.Reading.{with_more}
+use Rattle.stream_lines.specs.Printing.{item_size, items_size, lines, trouble_at, first_trouble, ArePrinted}
 use Rattle.stream_lines.specs.Printing.{too_long_after, AreWithin, Begins, IsLack, IsLongIn, IsWrittenFor}
-use Rattle.stream_lines.specs.Steps.{holding, Added, IsAfter, IsAfterHeld}
-use Rattle.stream_lines.specs.declared.print.Stop.{Stop}
-use Rattle.stream_lines.specs.declared.print.Stop.TheVariants.{End, Failed, TooLong as TooLonger}
-use Rattle.shared_core_io.specs.Reading.{with_more, HasWord, IsRead}
-use Rattle.shared_core_io.specs.declared.error.ReadError.{ReadError}
+use Rattle.stream_lines.specs.Steps.{holding, Added, IsAfter}
 
 lines_join : (line : ℕ → ℕ → Item → List ℕ) (at : ℕ) (bytes : List ℕ) (items others : List Item)
     → lines line at bytes items ++ lines line (at + items_size items) (drop (items_size items) bytes) others ≡ lines
@@ -157,22 +154,6 @@ lack_in is_long version bytes rest front item OutOfMemory is lack = tt
 lack_in is_long version bytes rest front item TooLong is lack = (front, item, rest, is, lack)
 lack_in is_long version bytes rest front item (MessageTooLong longer) is lack = absurd lack
 
--- it is so too if items are before it
-pub lack_after : (is_long : Item → Type 0) (version : Version) (bytes rest : List ℕ) (items : List Item)
-    (error : PrintError) → IsItemsThen version bytes items rest → IsLack (IsLongIn is_long version rest) error → IsLack
-    (IsLongIn is_long version bytes) error
-lack_after is_long version bytes rest items Input is lack = absurd lack
-lack_after is_long version bytes rest items Output is lack = absurd lack
-lack_after is_long version bytes rest items OutOfMemory is lack = tt
-lack_after is_long version bytes rest items TooLong is (more, item, others, then_item, long) =
-    (items ++ more, item, others, longer, long)
-  where
-    longer : IsItemsThen version bytes ((items ++ more) ++ item ∷ []) others
-    longer = subst (λ (all : List Item). IsItemsThen version bytes all others)
-        (sym (append_assoc items more (item ∷ [])))
-        (then_join version bytes rest others items (more ++ item ∷ []) is then_item)
-lack_after is_long version bytes rest items (MessageTooLong longer) is lack = absurd lack
-
 -- ---- steps
 
 items_size_join : (items others : List Item) → items_size (items ++ others) ≡ items_size items + items_size others
@@ -201,42 +182,34 @@ pub held_is : (state : Limited) (offset : ℕ) → state.rejected ≡ None → s
     holding state.unread.version state.limit offset state.unread.bytes
 held_is state offset none place = state_of state (offset_after 0 offset) None place none
 
--- what the call that reads says
-abbrev pub HasRead : Option (List ℕ) → Option (List ℕ) → Limited → Result (Option (ℕ × Item)) ReadError → Limited →
-    Type 0
-HasRead before left old result new = (read : List ℕ) × Consumes before left read
-    × IsRead (with_more old read) left (without_word result) new
-    × HasWord result (with_more old read).unread.bytes
+-- what is held after more was read
+pub filled : (version : Version) (limit offset : ℕ) (old new : Limited) (read : List ℕ) → old ≡ holding version limit
+    offset old.unread.bytes → new ≡ with_more old read → new ≡ holding version limit offset (old.unread.bytes ++ read)
+filled version limit offset old new read state after = after ∙ ap (λ (held : Limited). with_more held read) state
 
--- what a step says, of a state of which these bytes are held
-abbrev pub HasAdded : (ℕ → ℕ → Item → List ℕ) → (Item → Option Trouble) → (Item → Type 0) → Version → ℕ →
-    Option (List ℕ) → Option (List ℕ) → ℕ → Option (ℕ × Trouble) → List ℕ → Result (Option Stop) PrintError → ℕ →
-    Option (ℕ × Trouble) → List ℕ → List ℕ → Limited → Type 0
-HasAdded line trouble is_long version limit before left at found bytes result offset noted text decoded state =
-    (read : List ℕ) × Consumes before left read
-    × IfOk result (λ stop. (rest : List ℕ) × Added line trouble version limit at found [] (bytes ++ read) offset noted
-    text rest × IsAfter version limit stop offset rest left decoded state)
-    × IfErr result (IsLack (IsLongIn is_long version (bytes ++ read)))
+-- at the end nothing was read, and all that was held is in the decoder
+pub all_decoded : (decoded outside before beside read : List ℕ) → decoded ++ outside ≡ (before ++ beside) ++ read →
+    decoded ≡ before → outside ≡ [] → ((before ++ beside) ++ read ≡ before ++ beside) × (decoded ≡ before ++ beside)
+all_decoded decoded outside before beside [] all same gone = (
+  append-nil (before ++ beside),
+  sym (append-nil decoded) ∙ ap (λ (l : List ℕ). decoded ++ l) (sym gone) ∙ all ∙ append-nil (before ++ beside),
+)
+all_decoded decoded outside before beside (byte ∷ read) all same gone = absurd (omega (
+  arith,
+  ap (λ (l : List ℕ). length l) all,
+  ap (λ (l : List ℕ). length l) same,
+  ap (λ (l : List ℕ). length l) gone,
+  length-append decoded outside,
+  length-append (before ++ beside) (byte ∷ read),
+  length-append before beside,
+))
 
--- what holds of a result holds of it more weakly
-pub if_ok : {A E : Type 0} {P Q : A → Type 0} → ((value : A) → P value → Q value) → (result : Result A E) → IfOk result
-    P → IfOk result Q
-if_ok weaker (Ok value) holds = weaker value holds
-if_ok weaker (Err error) holds = tt
-
-pub if_err : {A E : Type 0} {P Q : E → Type 0} → ((error : E) → P error → Q error) → (result : Result A E) → IfErr
-    result P → IfErr result Q
-if_err weaker (Ok value) holds = tt
-if_err weaker (Err error) holds = weaker error holds
-
--- what is after the items that were held is after those that were read
-pub after_held : (version : Version) (limit : ℕ) (stop : Option Stop) (offset : ℕ) (rest : List ℕ)
-    (left : Option (List ℕ)) (decoded : List ℕ) (state : Limited) → IsAfterHeld version limit stop offset rest state →
-    IsAfter version limit stop offset rest left decoded state
-after_held version limit None offset rest left decoded state after = after
-after_held version limit (Some (TooLonger message)) offset rest left decoded state after = after
-after_held version limit (Some Failed) offset rest left decoded state after = absurd after
-after_held version limit (Some End) offset rest left decoded state after = absurd after
+-- what a step says of the items that it added, of these bytes, and of what is after them
+abbrev pub HasAdded : (ℕ → ℕ → Item → List ℕ) → (Item → Option Trouble) → Version → ℕ → ℕ → Option (ℕ × Trouble) →
+    List ℕ → List ℕ → Option Longer → ℕ → Option (ℕ × Trouble) → List ℕ → Limited → Type 0
+HasAdded line trouble version limit at found text bytes longer offset noted longest state = (rest : List ℕ)
+    × Added line trouble version limit at found text bytes offset noted longest rest
+    × IsAfter version limit longer offset rest state
 
 -- an item is taken of what is held
 pub takes : (version : Version) (limit offset : ℕ) (old new : Limited) (item : Item) → old ≡ holding version limit
@@ -418,6 +391,23 @@ module _ (line : ℕ → ℕ → Item → List ℕ) (last : ℕ → List ℕ →
     -- the lines that are written, and what was read before
     abbrev written_so_far : List ℕ
     written_so_far = lines line 0 so_far.read so_far.items
+
+    -- nothing more was read
+    pub stays : (now : Option (List ℕ)) (more : List ℕ) → Consumes left now more → pending ++ more ≡ pending → GoesOn
+        line trouble version limit first start now out offset pending found
+    stays now [] came same = record {
+      read = so_far.read;
+      items = so_far.items;
+      split = so_far.split;
+      place = so_far.place;
+      came = subst (Consumes first now) (append-nil so_far.read)
+          (Consumes-trans first left now so_far.read [] so_far.came came);
+      wrote = so_far.wrote;
+      noted = so_far.noted;
+      within = so_far.within;
+    }
+    stays now (byte ∷ more) came same =
+        absurd (omega (arith, ap (λ (l : List ℕ). length l) same, length-append pending (byte ∷ more)))
 
     pub ended_input : HasEnded line last is_long trouble version limit first start left out (Err Input)
     ended_input = (

@@ -1,19 +1,13 @@
 -- What each step of the loop that prints adds.
 use Rattle.std.specs.Prelude.{◌≡◌, ℕ, ◌+◌, ◌≤◌, All, List, ◌++◌, Option, Some, None}
-use Rattle.std.specs.Io.KnownBytes.{IsAtEnd}
 use Rattle.std.specs.Option.{option_or}
 use Rattle.shared_core_base.specs.declared.version.Version.{Version}
 use Rattle.shared_core_stream.specs.declared.encoding.item.Item.{Item}
+use Rattle.shared_core_stream.specs.declared.encoding.limit_error.MessageTooLong.{MessageTooLong as Longer}
 use Rattle.shared_core_stream.specs.Items.{IsItemsThen, NoItemBegins}
 use Rattle.shared_core_stream.specs.Limits.{offset_after, payload_length, too_long_at, Limited}
 use Rattle.stream_lines.specs.Printing.{first_trouble, items_size, lines}
-use Rattle.stream_lines.specs.declared.print.Stop.{Stop}
-use Rattle.stream_lines.specs.declared.print.Stop.TheVariants.{End, Failed, TooLong}
 use Rattle.stream_lines.specs.declared.report.Trouble.{Trouble}
-
--- No step adds items of more bytes: those of one item, and of what is held at the most.
-abbrev pub most_added : ℕ
-most_added = 17179869184
 
 -- Items at the front of the bytes, the first of which begins at an offset, each within the limit, were added to the
 -- text, to the offset and to the first trouble; these bytes are left.
@@ -42,20 +36,9 @@ AreLeft version limit offset rest state =
     NoItemBegins version rest × (too_long_at version limit (offset_after 0 offset) rest ≡ None)
     × (state ≡ holding version limit offset rest)
 
--- What is after the items that were held, by what was returned: a message that is longer than the limit, or bytes that
--- are left.
-abbrev pub IsAfterHeld : Version → ℕ → Option Stop → ℕ → List ℕ → Limited → Type 0
-IsAfterHeld version limit None offset rest state = AreLeft version limit offset rest state
-IsAfterHeld version limit (Some (TooLong message)) offset rest state =
+-- What is after the items that were held, by what was returned: bytes that are left, or a message that is longer than
+-- the limit.
+abbrev pub IsAfter : Version → ℕ → Option Longer → ℕ → List ℕ → Limited → Type 0
+IsAfter version limit None offset rest state = AreLeft version limit offset rest state
+IsAfter version limit (Some message) offset rest state =
     too_long_at version limit (offset_after 0 offset) rest ≡ Some message
-IsAfterHeld version limit (Some stop) offset rest state = ⊥
-
--- What is after the items that were read, by what was returned; and at the end of the stream the decoder holds all
--- that is left.
-abbrev pub IsAfter : Version → ℕ → Option Stop → ℕ → List ℕ → Option (List ℕ) → List ℕ → Limited → Type 0
-IsAfter version limit None offset rest left decoded state = AreLeft version limit offset rest state
-IsAfter version limit (Some (TooLong message)) offset rest left decoded state =
-    too_long_at version limit (offset_after 0 offset) rest ≡ Some message
-IsAfter version limit (Some Failed) offset rest left decoded state = AreLeft version limit offset rest state
-IsAfter version limit (Some End) offset rest left decoded state =
-    AreLeft version limit offset rest state × IsAtEnd left × (decoded ≡ rest)

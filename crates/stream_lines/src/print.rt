@@ -1,9 +1,9 @@
 //! The loop that reads a stream and writes its lines.
 //!
-//! It stands on the library's loop that reads items. The lines of an item, and of those that were read with it, are
-//! made in one text, which is reused, and are written before anything more is read. If an allocation fails among them,
-//! none of them is written, so that what is written is whole lines; the last line too is whole before any of it is
-//! written.
+//! It stands on what the library holds of a stream. The lines of the items that a read completes are made in one text,
+//! which is reused, and are written before anything more is read. If an allocation fails among them, none of them is
+//! written, so that what is written is whole lines; the last line too is whole before any of it is written. An item is
+//! taken in one place, so that all of that is compiled into the loop.
 //!
 //! What calls `print_lines` has its own lines of contract on what is read and written, each of its own reader and
 //! writer. `ArePrinted` takes the four definitions of a printer one by one, since those below it take one or two.
@@ -15,7 +15,7 @@ ghost use Rattle.shared_core_base.specs.Version.{version_number};
 ghost use Rattle.shared_core_stream.specs.Limits.{offset_after};
 ghost use Rattle.shared_core_io.specs.Buffered.{held_in};
 ghost use Rattle.stream_lines.specs.Printing.{item_size, trouble_at, ArePrinted, IsLack, IsLongIn};
-ghost use Rattle.stream_lines.specs.Steps.{most_added, Added, IsAfter, IsAfterHeld};
+ghost use Rattle.stream_lines.specs.Steps.{Added, IsAfter};
 
 use crate::error::PrintError;
 use crate::line_printer::LinePrinter;
@@ -63,13 +63,9 @@ pub fn print_lines<P: LinePrinter, R: Read, W: Write>(
         trouble: None,
     };
     for _ in 0..u64::MAX {
-        let stop = lines.add_next(alloc, printer, &mut items, &mut scratch, input)?;
-        write_whole(output, lines.text.as_slice())?;
-        match stop {
-            None => {}
-            Some(Stop::TooLong(message)) => return Err(PrintError::MessageTooLong(message)),
-            Some(Stop::Failed) => return Err(PrintError::Input),
-            Some(Stop::End) => {
+        match items.fill(input) {
+            Ok(true) => {}
+            Ok(false) => {
                 lines.text.clear();
                 let rest = items.decoder();
                 printer.print_rest(alloc, lines.offset, rest, &mut lines.text)?;
@@ -80,20 +76,17 @@ pub fn print_lines<P: LinePrinter, R: Read, W: Write>(
                     rest: rest.pending(),
                 });
             }
+            Err(ReadError::Failed(_)) => return Err(PrintError::Input),
+            Err(_) => return Err(PrintError::OutOfMemory),
+        }
+        lines.text.clear();
+        let longer = lines.add_held(alloc, printer, &mut items, &mut scratch)?;
+        write_whole(output, lines.text.as_slice())?;
+        if let Some(message) = longer {
+            return Err(PrintError::MessageTooLong(message));
         }
     }
     Err(PrintError::Input)
-}
-
-/// Why nothing more is read of a stream.
-#[derive(Clone, Copy, Drop)]
-enum Stop {
-    /// It has ended.
-    End,
-    /// A read failed.
-    Failed,
-    /// The next message is longer than the limit.
-    TooLong(MessageTooLong),
 }
 
 /// The lines of items, and what all items so far have given.
@@ -107,65 +100,22 @@ struct Lines {
 }
 
 impl Lines {
-    /// Overwrites the text with the lines of the next item and of those that were read with it. It reads while no whole
-    /// item is held. Returns why nothing more is to be read, if that is so.
-    fn add_next<P: LinePrinter, R: Read>(
-        &mut self,
-        alloc: Global,
-        printer: &P,
-        items: &mut ItemBuffer,
-        scratch: &mut P::Scratch,
-        input: &mut R,
-    ) -> Result<Option<Stop>, PrintError>
-        requires accepted { items.old.decoder.rejected ≡ None }
-        requires placed { items.old.decoder.offset ≡ offset_after 0 self.old.offset }
-        requires room { self.old.offset + most_added < 2 ^ 128 }
-        ensures added { (read : List ℕ) × Consumes (R.remaining input.old) (R.remaining input.new) read
-            × IfOk result (λ stop. (rest : List ℕ) × Added (P.item_line printer.now) (P.item_trouble printer.now)
-            items.old.decoder.unread.version items.old.decoder.limit self.old.offset self.old.trouble []
-            ((held_in items.old).unread.bytes ++ read) self.new.offset self.new.trouble self.new.text.items rest
-            × IsAfter items.old.decoder.unread.version items.old.decoder.limit stop self.new.offset rest
-            (R.remaining input.new) items.new.decoder.unread.bytes (held_in items.new))
-            × IfErr result (IsLack (IsLongIn (P.is_long printer.now) items.old.decoder.unread.version
-            ((held_in items.old).unread.bytes ++ read))) }
-        ensures little { IfOk result (λ stop. self.new.offset ≤ self.old.offset + most_added) }
-    {
-        self.text.clear();
-        match items.next_with_word(input) {
-            Ok(Some((word, item))) => {
-                self.add(alloc, printer, word, item, scratch)?;
-                self.add_held(alloc, printer, items, scratch)
-            }
-            Ok(None) => Ok(Some(Stop::End)),
-            Err(ReadError::Truncated(_)) => Ok(Some(Stop::End)),
-            Err(ReadError::TooLong(message)) => Ok(Some(Stop::TooLong(message))),
-            Err(ReadError::OutOfMemory) => Err(PrintError::OutOfMemory),
-            Err(ReadError::Failed(_)) => {
-                // what was read before is printed
-                if let Some(stop) = self.add_held(alloc, printer, items, scratch)? {
-                    return Ok(Some(stop));
-                }
-                Ok(Some(Stop::Failed))
-            }
-        }
-    }
-
-    /// Adds the lines of the items that were read. Returns whether a message after them is longer than the limit.
+    /// Adds the lines of the items that were read. Returns the message after them, if it is longer than the limit.
     fn add_held<P: LinePrinter>(
         &mut self,
         alloc: Global,
         printer: &P,
         items: &mut ItemBuffer,
         scratch: &mut P::Scratch,
-    ) -> Result<Option<Stop>, PrintError>
+    ) -> Result<Option<MessageTooLong>, PrintError>
         requires accepted { items.old.decoder.rejected ≡ None }
         requires placed { items.old.decoder.offset ≡ offset_after 0 self.old.offset }
         requires room { self.old.offset + length (held_in items.old).unread.bytes < 2 ^ 128 }
-        ensures added { IfOk result (λ stop. (rest : List ℕ) × Added (P.item_line printer.now)
+        ensures added { IfOk result (λ longer. (rest : List ℕ) × Added (P.item_line printer.now)
             (P.item_trouble printer.now) items.old.decoder.unread.version items.old.decoder.limit self.old.offset
             self.old.trouble self.old.text.items (held_in items.old).unread.bytes self.new.offset self.new.trouble
             self.new.text.items rest
-            × IsAfterHeld items.old.decoder.unread.version items.old.decoder.limit stop self.new.offset rest
+            × IsAfter items.old.decoder.unread.version items.old.decoder.limit longer self.new.offset rest
             (held_in items.new)) }
         ensures lack { IfErr result (IsLack (IsLongIn (P.is_long printer.now) items.old.decoder.unread.version
             (held_in items.old).unread.bytes)) }
@@ -174,7 +124,7 @@ impl Lines {
             match items.take_with_word() {
                 Ok(Some((word, item))) => self.add(alloc, printer, word, item, scratch)?,
                 Ok(None) => return Ok(None),
-                Err(ReadError::TooLong(message)) => return Ok(Some(Stop::TooLong(message))),
+                Err(ReadError::TooLong(message)) => return Ok(Some(message)),
                 Err(_) => return Err(PrintError::OutOfMemory),
             }
         }

@@ -2,10 +2,12 @@
 
 ghost use Rattle.std.specs.Prelude.{◌≡◌, ◌+◌, ◌<◌, ◌≤◌, ◌++◌, length, drop, take, IfOk, IfSome, IfNone, OnErr};
 ghost use Rattle.std.specs.Prelude.{MatchOption, Some, None};
+ghost use Rattle.shared_core_stream.specs.Borrowed.{announced_length, item_with, kind_announced};
+ghost use Rattle.shared_core_stream.specs.Items.{HasPayload};
 ghost use Rattle.shared_core_stream.specs.Unread.{held_bytes, held_length};
 
 use crate::encoding::announced::Announced;
-use crate::encoding::{Item, Items, PushError, RawMessage};
+use crate::encoding::{Item, Items, LimitedError, MessageTooLong, PushError, RawMessage};
 use crate::pending_bytes::PendingBytes;
 use bytes::Bytes;
 use shared_core_base::header::MessageHeader;
@@ -78,11 +80,49 @@ fn take_payload(
     Ok(Some(payload))
 }
 
+/// Takes the held header and the item that it announces, if its payload has come. An `Err` takes nothing.
+#[inline(always)]
+fn take_item(
+    head: &mut Option<[u8; 8]>,
+    pending: &mut PendingBytes,
+    announced: Announced,
+) -> Result<Option<Item>, AllocError>
+    ensures taken { IfOk result (λ found. MatchOption found
+        ((length pending.old < announced_length announced) × (head.new ≡ head.old) × (pending.new ≡ pending.old))
+        (λ item. (announced_length announced ≤ length pending.old)
+        × (item ≡ item_with (kind_announced announced) (take (announced_length announced) pending.old))
+        × (head.new ≡ None) × (pending.new ≡ drop (announced_length announced) pending.old))) }
+    ensures rejected { OnErr result ((announced_length announced ≤ length pending.old)
+        × HasPayload (item_with (kind_announced announced) (take (announced_length announced) pending.old))
+        × (head.new ≡ head.old) × (pending.new ≡ pending.old)) }
+{
+    match announced {
+        Announced::Message(header) => {
+            let length = header.message_length() as usize;
+            let Some(payload) = take_payload(head, pending, length)? else {
+                return Ok(None);
+            };
+            Ok(Some(Item::Message(RawMessage::new(header, payload))))
+        }
+        Announced::Skipped(unknown, length) => {
+            let Some(payload) = take_payload(head, pending, length as usize)? else {
+                return Ok(None);
+            };
+            Ok(Some(Item::Skipped(unknown.code(), payload)))
+        }
+        Announced::Unknown(unknown) => {
+            *head = None;
+            Ok(Some(Item::Unknown(unknown.code())))
+        }
+    }
+}
+
 impl Decoder {
     ghost use Rattle.std.specs.Prelude.{◌≡◌, ◌+◌, ◌≤◌, ◌++◌, [], length, OnOk, OnErr, IfOk, IfErr, IsOk, MatchOption};
-    ghost use Rattle.std.specs.Prelude.{None, Ok, false};
+    ghost use Rattle.std.specs.Prelude.{None, Ok, false, IsErr, ◌^◌};
     ghost use Rattle.shared_core_base.specs.Version.{version_number};
     ghost use Rattle.shared_core_stream.specs.Items.{NoItemBegins, PayloadIsNext, PushFails};
+    ghost use Rattle.shared_core_stream.specs.Limits.{ReturnsNext};
     ghost use Rattle.std.specs.Prelude.{◌<◌};
     ghost use Rattle.shared_core_stream.specs.Items.{TakesItem, front_word};
 
@@ -155,10 +195,11 @@ impl Decoder {
     /// pending bytes take at most twice their number and 64 KiB, besides what is used of the chunk that they begin in.
     ///
     /// An empty chunk is not kept and never rejected. A rejected chunk is returned in the error, and nothing has
-    /// changed: `TooLong` only if the pending bytes would be more than 2^64 - 1, otherwise `OutOfMemory`.
+    /// changed: `TooLong` if and only if the pending bytes would be more than 2^64 - 1, otherwise `OutOfMemory`.
     pub fn push(&mut self, chunk: Bytes) -> Result<(), PushError>
         ensures ok { OnOk result (self.new ≡ record self.old { bytes = self.old.bytes ++ chunk }) }
         ensures err { IfErr result (PushFails self.old.bytes chunk) }
+        ensures too_long { 0 < length chunk → 2 ^ 64 ≤ length self.old.bytes + length chunk → IsErr result }
         ensures kept { OnErr result (self.new ≡ self.old) }
         ensures empty { length chunk ≡ 0 → IsOk result }
     {
@@ -192,30 +233,37 @@ impl Decoder {
             IfSome found (λ item. length self.new.bytes + 8 ≤ length self.old.bytes)) }
         ensures version { self.new.version ≡ self.old.version }
     {
+        match self.next_within(u32::MAX, 0) {
+            Ok(Some((_, item))) => Ok(Some(item)),
+            Ok(None) => Ok(None),
+            Err(LimitedError::OutOfMemory) => Err(AllocError),
+            Err(LimitedError::MessageTooLong(_)) => unreachable!(),
+        }
+    }
+
+    /// The next item as of `next_item`, with the word of its header. If the message that comes next, at this offset of
+    /// the stream, is longer than the limit, it is the error. An `Err` takes nothing.
+    #[inline(always)]
+    pub(crate) fn next_within(
+        &mut self,
+        limit: u32,
+        offset: u64,
+    ) -> Result<Option<(u64, Item)>, LimitedError>
+        ensures next { ReturnsNext limit offset self.old result self.new }
+        ensures version { self.new.version ≡ self.old.version }
+    {
         let Some(head) = hold_head(&mut self.head, &mut self.pending) else {
             return Ok(None);
         };
-        match Announced::by(self.version, u64::from_be_bytes(head)) {
-            Announced::Message(header) => {
-                let length = header.message_length() as usize;
-                let taken = take_payload(&mut self.head, &mut self.pending, length)?;
-                let Some(payload) = taken else {
-                    return Ok(None);
-                };
-                Ok(Some(Item::Message(RawMessage::new(header, payload))))
-            }
-            Announced::Skipped(unknown, length) => {
-                let skipped = take_payload(&mut self.head, &mut self.pending, length as usize)?;
-                let Some(payload) = skipped else {
-                    return Ok(None);
-                };
-                Ok(Some(Item::Skipped(unknown.code(), payload)))
-            }
-            Announced::Unknown(unknown) => {
-                self.head = None;
-                Ok(Some(Item::Unknown(unknown.code())))
-            }
+        let word = u64::from_be_bytes(head);
+        let announced = Announced::by(self.version, word);
+        if let Some(message) = MessageTooLong::announced(&announced, limit, offset, word) {
+            return Err(LimitedError::MessageTooLong(message));
         }
+        let Some(item) = take_item(&mut self.head, &mut self.pending, announced)? else {
+            return Ok(None);
+        };
+        Ok(Some((word, item)))
     }
 
     /// The items that the decoder holds, in order, for a loop: each is taken as it is returned, as by `next_item`.

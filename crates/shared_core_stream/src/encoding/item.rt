@@ -13,3 +13,20 @@ pub enum Item {
     /// The code of a header that is no type's, from V9 on, and the payload after it.
     Skipped(u16, Bytes),
 }
+
+impl Item {
+    ghost use Rattle.std.specs.Prelude.{◌≡◌, ◌+◌};
+    ghost use Rattle.shared_core_stream.specs.Limits.{payload_length};
+
+    /// The number of bytes that it takes in the stream: those of its header and of its payload.
+    #[inline(always)]
+    pub fn size(&self) -> u64
+        ensures { result ≡ 8 + payload_length self.now }
+    {
+        match self {
+            Item::Message(message) => 8 + message.payload().len() as u64,
+            Item::Unknown(_) => 8,
+            Item::Skipped(_, payload) => 8 + payload.len() as u64,
+        }
+    }
+}

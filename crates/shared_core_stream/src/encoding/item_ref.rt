@@ -1,6 +1,6 @@
 //! An item that is borrowed from the bytes of a stream.
 
-ghost use Rattle.std.specs.Prelude.{◌≡◌, ◌+◌, ◌∷◌, length, IfOk, IfErr, None};
+ghost use Rattle.std.specs.Prelude.{◌≡◌, ◌+◌, length, IfOk, IfErr, None};
 ghost use Rattle.std.specs.Int.{w64, to_be_bytes};
 ghost use Rattle.shared_core_stream.specs.Borrowed.{IsAtFront, IsMissing};
 ghost use Rattle.shared_core_stream.specs.Limits.{FirstFails, too_long_at};

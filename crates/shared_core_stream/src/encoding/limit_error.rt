@@ -1,6 +1,8 @@
 //! The errors of streams with a limit on the length of a payload.
 
 ghost use Rattle.std.specs.Prelude.{◌≡◌};
+ghost use Rattle.shared_core_base.specs.declared.version.Version.{Version as AnyVersion};
+ghost use Rattle.shared_core_stream.specs.Borrowed.{Announces};
 ghost use Rattle.shared_core_stream.specs.Limits.{too_long_by};
 
 use crate::encoding::announced::Announced;
@@ -31,7 +33,21 @@ impl MessageTooLong {
     pub fn by(version: Version, limit: u32, offset: u64, word: u64) -> Option<MessageTooLong>
         ensures { result ≡ too_long_by version limit offset word }
     {
-        let length = Announced::by(version, word).payload_len();
+        MessageTooLong::announced(&Announced::by(version, word), limit, offset, word)
+    }
+
+    /// The same for what the word announces.
+    #[inline(always)]
+    pub(crate) fn announced(
+        announced: &Announced,
+        limit: u32,
+        offset: u64,
+        word: u64,
+    ) -> Option<MessageTooLong>
+        ensures { (version : AnyVersion) → Announces version word announced.now
+            → result ≡ too_long_by version limit offset word }
+    {
+        let length = announced.payload_len();
         if length <= limit {
             return None;
         }

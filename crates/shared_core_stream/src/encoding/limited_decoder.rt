@@ -41,6 +41,7 @@ impl LimitedDecoder {
     ghost use Rattle.shared_core_base.specs.Version.{version_number};
     ghost use Rattle.shared_core_stream.specs.Items.{front_word};
     ghost use Rattle.shared_core_stream.specs.Limits.{without_word, LimitedPushFails, ReturnsWithin, ReturnsWord};
+    ghost use Rattle.shared_core_stream.specs.Limits.{after_rejection};
 
     /// Returns a decoder of this version, which is at least V5, and this limit, before any byte has come. Does not
     /// allocate.
@@ -102,8 +103,7 @@ impl LimitedDecoder {
         let Some(rejected) = MessageTooLong::by(version, self.limit, self.offset, word) else {
             return Ok(Some(word));
         };
-        self.decoder.discard();
-        self.rejected = Some(rejected);
+        self.reject(rejected);
         Err(rejected)
     }
 
@@ -149,16 +149,29 @@ impl LimitedDecoder {
         ensures shorter { IfOk result (λ found. IfSome found
             (λ next. length self.new.unread.bytes + 8 ≤ length self.old.unread.bytes)) }
     {
-        let Some(word) = self.next_word()? else {
-            return Ok(None);
-        };
-        let before = self.decoder.pending();
-        let Some(item) = self.decoder.next_item()? else {
-            return Ok(None);
-        };
-        let taken = before - self.decoder.pending();
-        self.offset = self.offset.saturating_add(taken);
-        Ok(Some((word, item)))
+        if let Some(rejected) = self.rejected {
+            return Err(LimitedError::MessageTooLong(rejected));
+        }
+        match self.decoder.next_within(self.limit, self.offset) {
+            Ok(Some((word, item))) => {
+                self.offset = self.offset.saturating_add(item.size());
+                Ok(Some((word, item)))
+            }
+            Ok(None) => Ok(None),
+            Err(LimitedError::OutOfMemory) => Err(LimitedError::OutOfMemory),
+            Err(LimitedError::MessageTooLong(rejected)) => {
+                self.reject(rejected);
+                Err(LimitedError::MessageTooLong(rejected))
+            }
+        }
+    }
+
+    /// Drops what is held, since this message is rejected.
+    fn reject(&mut self, rejected: MessageTooLong)
+        ensures { self.new ≡ after_rejection self.old rejected }
+    {
+        self.decoder.discard();
+        self.rejected = Some(rejected);
     }
 
     /// The items that the decoder holds, in order, for a loop: each is taken as it is returned, as by `next_item`.

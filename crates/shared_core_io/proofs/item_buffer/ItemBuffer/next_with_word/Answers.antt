@@ -1,4 +1,4 @@
-use Rattle.std.proofs.Common.{◌++◌, refl, ◌∙◌, arith, length-append}
+use Rattle.std.proofs.Common.{◌++◌, refl, arith, length-append}
 use Rattle.std.proofs.KnownBytes.{Consumes-trans}
 use Rattle.std.proofs.lemmas.Result.{err_from_is_err_and}
 use Rattle.shared_core_io.specs.Reading.{held, with_more}
@@ -61,8 +61,8 @@ returns-in_err-fill-clause-read g c =
       read ++ more,
       Consumes-trans (g.R.Read.remaining c.args.reader.now) (g.R.Read.remaining c.loop.reader)
           (g.R.Read.remaining c.fill.new.reader) read more came now,
-      rw (from.1, from.2) (not_filled first read more old next new outside kept before none after _ _
-          c.in_err-fill.ensures.error),
+      rw (from.1, from.2) (not_filled first read more old next new outside kept before none after _ _ _
+          _ c.in_err-fill.ensures.error),
       rw from.1 tt,
     )
 
@@ -157,7 +157,7 @@ returns-in_err-next-clause-drained g c =
 pub returns-in_err-fill-clause-drained : goal.returns-in_err-fill-clause-drained
 returns-in_err-fill-clause-drained g c =
     let from = err_from_is_err_and c.from_residual-in_err-fill.result c.from_residual-in_err-fill.ensures.1 in
-    rw (from.1, from.2) (drained_fill _ _ c.in_err-fill.ensures.error)
+    rw (from.1, from.2) (drained_fill _ _ _ _ _ c.in_err-fill.ensures.error)
 
 pub returns-then-not-branch-clause-drained : goal.returns-then-not-branch-clause-drained
 returns-then-not-branch-clause-drained g c =
