@@ -6,7 +6,7 @@ use Rattle.replay_bench.specs.declared.verdicts.BenchError.TheVariants.{OutOfMem
 use Rattle.replay_bench.specs.declared.verdicts.ReaderError.TheVariants.{Bench}
 use Rattle.replay_bench.specs.declared.aligned.AlignedComparison.{AlignedComparison}
 use Rattle.replay_bench.specs.Holding.{IsAligned}
-use Rattle.replay_bench.specs.Verdicts.{ComparesKnown, IsComparison}
+use Rattle.replay_bench.specs.Verdicts.{ComparesKnown, FailsOn, IsComparison}
 use Rattle.diff_lines.specs.declared.journals.DiffError.{DiffError}
 use Rattle.diff_lines.specs.declared.journals.DiffError.TheVariants.{NoVerdict, Faulty, Output}
 use Rattle.diff_lines.specs.declared.journals.Findings.{Findings}
@@ -14,7 +14,7 @@ use Rattle.diff_lines.specs.declared.journals.Form.{Form}
 use Rattle.diff_lines.specs.declared.passed_over.Trouble.{Trouble}
 use Rattle.diff_lines.specs.Moved.{ReportsAligned, ReportsMoved, alignment_limit}
 use Rattle.diff_lines.specs.PassedOver.{strict_trouble}
-use Rattle.diff_lines.specs.Verdicts.{IsFaulty, Reports, ReportsFound, ReportsWithColors, WritesWithColors}
+use Rattle.diff_lines.specs.Verdicts.{IsFaulty, MayFailFor, Reports, ReportsFound, ReportsWithColors, WritesWithColors}
 
 -- an allocation may always fail
 pub out_of_memory : (version : Version) (ignore : Bool) (a b : Option (List ℕ)) → ComparesKnown version ignore a b
@@ -111,3 +111,37 @@ pub faulty_moved : (version : Version) (ignore is_strict : Bool) (form : Form) (
 faulty_moved version ignore is_strict form is_colored a b found error aligned (trouble, is, has) =
     subst (λ e. ReportsMoved version ignore is_strict form is_colored a b (Err e) []) (sym is)
     (found, record { aligned = aligned; trouble_is = has }, refl)
+
+-- ---- on which side it may fail
+
+module _ (recorded replayed : Bool) (limit other_limit : ℕ) where
+  pub report_fails : (form : Form) (found : Comparison) (result : Result Findings DiffError) (written : List ℕ)
+      → ReportsFound form found result written → MayFailFor recorded limit replayed other_limit result
+  report_fails form found (Ok findings) written reports = tt
+  report_fails form found (Err Output) written reports = tt
+  report_fails form found (Err (Faulty trouble)) written reports = absurd reports
+  report_fails form found (Err (NoVerdict why)) written reports =
+      subst (λ w. FailsOn recorded limit replayed other_limit w) (sym reports.0) tt
+
+  pub moved_fails : (ignore : Bool) (form : Form) (is_colored : Bool) (found : AlignedComparison)
+      (result : Result Findings DiffError) (written : List ℕ)
+      → ReportsAligned ignore form is_colored found result written
+      → MayFailFor recorded limit replayed other_limit result
+  moved_fails ignore form is_colored found (Ok findings) written reports = tt
+  moved_fails ignore form is_colored found (Err Output) written reports = tt
+  moved_fails ignore form is_colored found (Err (Faulty trouble)) written reports = absurd reports
+  moved_fails ignore form is_colored found (Err (NoVerdict why)) written reports =
+      subst (λ w. FailsOn recorded limit replayed other_limit w) (sym reports.0) tt
+
+  pub colored_fails : (findings : Findings) (text : List ℕ) (result : Result Findings DiffError) (written : List ℕ)
+      → WritesWithColors findings text result written → MayFailFor recorded limit replayed other_limit result
+  colored_fails findings text (Ok found) written writes = tt
+  colored_fails findings text (Err Output) written writes = tt
+  colored_fails findings text (Err (Faulty trouble)) written writes = absurd writes
+  colored_fails findings text (Err (NoVerdict why)) written writes =
+      subst (λ w. FailsOn recorded limit replayed other_limit w) (sym writes.0) tt
+
+  pub faulty_fails : (is_strict : Bool) (found : Comparison) (error : DiffError) → IsFaulty is_strict found error
+      → MayFailFor recorded limit replayed other_limit (Err error)
+  faulty_fails is_strict found error (trouble, is, has) =
+      subst (λ e. MayFailFor recorded limit replayed other_limit (Err e)) (sym is) tt

@@ -10,7 +10,7 @@ use Rattle.replay_bench.specs.declared.verdicts.BenchError.TheVariants.{OutOfMem
 use Rattle.replay_bench.specs.declared.verdicts.ReaderError.TheVariants.{Bench}
 use Rattle.replay_bench.specs.Texts.{reader_error_text}
 use Rattle.replay_bench.specs.declared.verdicts.Comparison.{Comparison}
-use Rattle.replay_bench.specs.Verdicts.{ComparesKnown, IsComparison}
+use Rattle.replay_bench.specs.Verdicts.{ComparesKnown, FailsOn, IsComparison}
 use Rattle.diff_lines.specs.declared.journals.DiffError.{DiffError}
 use Rattle.diff_lines.specs.declared.journals.DiffError.TheVariants.{NoVerdict, Faulty, Output}
 use Rattle.diff_lines.specs.declared.journals.Findings.{Findings}
@@ -89,7 +89,13 @@ pub record HasFound (version : Version) (ignore is_strict : Bool) (recorded repl
   pub compared : IsComparison version ignore is_strict recorded replayed found
   pub trouble_is : strict_trouble is_strict found.recorded found.replayed ≡ trouble
 
--- What a comparison of two readers' journals writes and returns: their verdict is reported, if nothing is wrong that is
+-- A read is said to have failed, or a message to be too long, only on a side where it may.
+abbrev pub MayFailFor : Bool → ℕ → Bool → ℕ → Result Findings DiffError → Type 0
+MayFailFor recorded limit replayed other_limit (Err (NoVerdict why)) =
+    FailsOn recorded limit replayed other_limit why
+MayFailFor recorded limit replayed other_limit result = Unit {0}
+
+-- What a comparison of two sources' journals writes and returns: their verdict is reported, if nothing is wrong that is
 -- an error; or else nothing is written, and the error is what is wrong, or why there is no verdict.
 abbrev pub Reports : Version → Bool → Bool → Form → Option (List ℕ) → Option (List ℕ) → Result Findings DiffError → List
     ℕ → Type 0

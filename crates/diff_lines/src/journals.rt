@@ -1,12 +1,11 @@
-//! The calls that compare two journals from any readers, and write the verdict to any writer.
+//! The calls that compare two journals from any sources, and write the verdict to any writer.
 
-ghost use Rattle.std.specs.Prelude.{◌≡◌, ◌≤◌, ◌++◌, ℕ, List, IfErr, IfOk, None, OnOk};
+ghost use Rattle.std.specs.Prelude.{◌≡◌, ◌++◌, ℕ, List, IfErr, IfOk, None, OnOk};
 ghost use Rattle.std.specs.Io.KnownBytes.{Appends};
 ghost use Rattle.std.specs.String.{string_bytes};
-ghost use Rattle.shared_core_base.specs.Version.{version_number};
 ghost use Rattle.diff_lines.specs.Moved.{IsFormText, IsShownForm, ReportsAligned, ReportsMoved};
 ghost use Rattle.diff_lines.specs.PassedOver.{strict_trouble};
-ghost use Rattle.diff_lines.specs.Verdicts.{IsFaulty, IsWritten, Reports, ReportsFound, ReportsWithColors};
+ghost use Rattle.diff_lines.specs.Verdicts.{IsFaulty, IsWritten, MayFailFor, Reports, ReportsFound, ReportsWithColors};
 ghost use Rattle.diff_lines.specs.Verdicts.{WritesWithColors};
 ghost use Rattle.diff_lines.specs.Verdicts.{commands_word, findings_of, found_line, is_same, terminal_line};
 ghost use Rattle.diff_lines.specs.Verdicts.{verdict_line};
@@ -18,18 +17,15 @@ use crate::json_line::json_line;
 use crate::passed_over::{Trouble, strict_trouble};
 use crate::shown::shown_text;
 use replay_bench::{
-    AlignedComparison, BenchError, Comparison, FieldDifference, ReaderError, Survey, Verdict,
-    align_readers, survey_readers,
+    AlignedComparison, BenchError, Comparison, FieldDifference, ReaderError, Source, Survey,
+    Verdict, align_sources, survey_sources,
 };
 use shared_core_base::version::Version;
 use std::alloc::{AllocError, Global};
 use std::error::Error;
 use std::fmt;
-use std::io::{Read, Write};
+use std::io::Write;
 use stream_lines::output::{OutputFailed, write_whole};
-
-/// The number of bytes that are read at a time.
-const CHUNK_SIZE: usize = 65536;
 
 /// How many commands may have moved between two journals where the fewest of them are found. The search holds a cell
 /// of 40 bytes for each pair of them.
@@ -110,14 +106,14 @@ pub struct Findings {
     pub replayed: Survey,
 }
 
-/// Compares two journals of a version, at least V5, from two readers, writes the verdict in this form, a text in one
-/// line or in several, and returns what the journals have and whether they are the same.
+/// Compares two journals of this version from two sources, writes the verdict in this form, a text in one line or in
+/// several, and returns what the journals have and whether they are the same.
 ///
 /// Both are read to their ends. The line is written only once all of that is known and its whole text is made. If
 /// `is_strict`, an unknown header, a payload that is not well-formed, or bytes after the last whole item are an error:
 /// the first of them in the recorded journal, or else in the replayed one.
-#[tactic(auto, using(crate::proofs::Reporting::reported))]
-pub fn diff<A: Read + Drop, B: Read + Drop, W: Write>(
+#[tactic(auto, using(crate::proofs::Reporting::reported, crate::proofs::Reporting::report_fails))]
+pub fn diff<A: Source, B: Source, W: Write>(
     alloc: Global,
     version: Version,
     recorded: A,
@@ -127,18 +123,19 @@ pub fn diff<A: Read + Drop, B: Read + Drop, W: Write>(
     form: Form,
     output: &mut W,
 ) -> Result<Findings, DiffError>
-    requires { 5 ≤ version_number version }
-    ensures { (written : List ℕ)
+    requires recorded { A.version recorded ≡ version }
+    requires replayed { B.version replayed ≡ version }
+    ensures reported { (written : List ℕ)
         × Appends (W.contents output.old) (W.contents output.new) written
         × Reports version ignore_payloads is_strict form
-        (A.remaining recorded) (B.remaining replayed) result written }
+        (A.coming recorded) (B.coming replayed) result written }
+    ensures failed { MayFailFor A.may_fail (A.limit recorded) B.may_fail (B.limit replayed) result }
 {
-    let found = survey_readers(
+    let found = survey_sources(
         alloc,
         version,
         recorded,
         replayed,
-        CHUNK_SIZE,
         ignore_payloads,
         is_strict,
     )?;
@@ -151,8 +148,8 @@ pub fn diff<A: Read + Drop, B: Read + Drop, W: Write>(
 /// is that of the whole alignment, and the sentence a member of it.
 ///
 /// Where more than `ALIGNMENT_LIMIT` commands moved the journals are compared index by index, and the sentence says so.
-#[tactic(auto, using(crate::proofs::Reporting::reported_moved))]
-pub fn diff_all<A: Read + Drop, B: Read + Drop, W: Write>(
+#[tactic(auto, using(crate::proofs::Reporting::reported_moved, crate::proofs::Reporting::moved_fails))]
+pub fn diff_all<A: Source, B: Source, W: Write>(
     alloc: Global,
     version: Version,
     recorded: A,
@@ -163,18 +160,19 @@ pub fn diff_all<A: Read + Drop, B: Read + Drop, W: Write>(
     is_colored: bool,
     output: &mut W,
 ) -> Result<Findings, DiffError>
-    requires { 5 ≤ version_number version }
-    ensures { (written : List ℕ)
+    requires recorded { A.version recorded ≡ version }
+    requires replayed { B.version replayed ≡ version }
+    ensures reported { (written : List ℕ)
         × Appends (W.contents output.old) (W.contents output.new) written
         × ReportsMoved version ignore_payloads is_strict form is_colored
-        (A.remaining recorded) (B.remaining replayed) result written }
+        (A.coming recorded) (B.coming replayed) result written }
+    ensures failed { MayFailFor A.may_fail (A.limit recorded) B.may_fail (B.limit replayed) result }
 {
-    let found = align_readers(
+    let found = align_sources(
         alloc,
         version,
         recorded,
         replayed,
-        CHUNK_SIZE,
         ignore_payloads,
         is_strict,
         ALIGNMENT_LIMIT,
@@ -246,8 +244,8 @@ fn form_text(
 }
 
 /// The same with the verdict in colors: its text is made whole, then painted, and then written.
-#[tactic(auto, using(crate::proofs::Reporting::reported_text, crate::proofs::Reporting::out_of_memory))]
-pub fn diff_with_colors<A: Read + Drop, B: Read + Drop, W: Write>(
+#[tactic(auto, using(crate::proofs::Reporting::reported_text, crate::proofs::Reporting::out_of_memory, crate::proofs::Reporting::colored_fails))]
+pub fn diff_with_colors<A: Source, B: Source, W: Write>(
     alloc: Global,
     version: Version,
     recorded: A,
@@ -257,11 +255,13 @@ pub fn diff_with_colors<A: Read + Drop, B: Read + Drop, W: Write>(
     form: Form,
     output: &mut W,
 ) -> Result<Findings, DiffError>
-    requires { 5 ≤ version_number version }
-    ensures { (written : List ℕ)
+    requires recorded { A.version recorded ≡ version }
+    requires replayed { B.version replayed ≡ version }
+    ensures reported { (written : List ℕ)
         × Appends (W.contents output.old) (W.contents output.new) written
         × ReportsWithColors version ignore_payloads is_strict form
-        (A.remaining recorded) (B.remaining replayed) result written }
+        (A.coming recorded) (B.coming replayed) result written }
+    ensures failed { MayFailFor A.may_fail (A.limit recorded) B.may_fail (B.limit replayed) result }
 {
     let mut text = Vec::new(alloc);
     let compared = diff(

@@ -5,19 +5,17 @@ ghost use Rattle.shared_core_base.specs.Version.{version_number};
 
 mod arguments;
 mod inputs;
-mod limited;
 
 use crate::call::Call;
 use crate::diff::arguments::{Arguments, parse_arguments};
 use crate::diff::inputs::{Inputs, closed_side, open_both};
-use crate::diff::limited::Limited;
-use command_line::{Escapes, Escaping, Pipe, Progress, Watched, fail, has_color};
+use command_line::{Escapes, Escaping, Pipe, Progress, Watched, has_color};
 use diff_lines::{
     DiffError, Findings, Form, diff, diff_all, diff_with_colors, no_item_note, rest_note,
     unknown_note,
 };
 use replay_bench::{ReaderError, Side};
-use shared_core::encoding::LimitedError;
+use shared_core::encoding::ItemReader;
 use shared_core_base::version::Version;
 use std::io::{IsTerminal, Stdout};
 use std::process::ExitCode;
@@ -57,19 +55,6 @@ fn end(
     }
 }
 
-/// Reports why the journal of a side was not read to its end, and returns the status.
-fn fail_within(call: &Call<'_>, side: Side, failure: LimitedError) -> ExitCode {
-    match failure {
-        LimitedError::OutOfMemory => call.fail(failure, call.failure),
-        LimitedError::MessageTooLong(message) => fail(
-            call.rt,
-            call.name,
-            format_args!("the {side} journal, {message}"),
-            call.failure,
-        ),
-    }
-}
-
 /// The form in which a verdict is written, to a terminal or not.
 fn form_of(is_json: bool, is_terminal: bool) -> Form {
     if is_json {
@@ -86,13 +71,13 @@ fn run_parsed(call: &Call<'_>, parsed: &Arguments<'_>, inputs: Inputs) -> ExitCo
     requires { 5 ≤ version_number parsed.now.version }
 {
     let progress = Progress::new(call.rt, call.name, inputs.size());
-    let mut recorded = Limited::new(
+    let recorded = ItemReader::with_limit(
         call.rt.alloc(),
         parsed.version,
         parsed.limit,
         Watched::new(inputs.recorded, &progress),
     );
-    let mut replayed = Limited::new(
+    let replayed = ItemReader::with_limit(
         call.rt.alloc(),
         parsed.version,
         parsed.limit,
@@ -111,8 +96,8 @@ fn run_parsed(call: &Call<'_>, parsed: &Arguments<'_>, inputs: Inputs) -> ExitCo
         diff_all(
             call.rt.alloc(),
             parsed.version,
-            &mut recorded,
-            &mut replayed,
+            recorded,
+            replayed,
             parsed.ignore_payloads,
             parsed.is_strict,
             form,
@@ -123,8 +108,8 @@ fn run_parsed(call: &Call<'_>, parsed: &Arguments<'_>, inputs: Inputs) -> ExitCo
         diff_with_colors(
             call.rt.alloc(),
             parsed.version,
-            &mut recorded,
-            &mut replayed,
+            recorded,
+            replayed,
             parsed.ignore_payloads,
             parsed.is_strict,
             form,
@@ -134,8 +119,8 @@ fn run_parsed(call: &Call<'_>, parsed: &Arguments<'_>, inputs: Inputs) -> ExitCo
         diff(
             call.rt.alloc(),
             parsed.version,
-            &mut recorded,
-            &mut replayed,
+            recorded,
+            replayed,
             parsed.ignore_payloads,
             parsed.is_strict,
             form,
@@ -143,12 +128,6 @@ fn run_parsed(call: &Call<'_>, parsed: &Arguments<'_>, inputs: Inputs) -> ExitCo
         )
     };
     progress.clear();
-    if let Some(failure) = recorded.failure() {
-        return fail_within(call, Side::Recorded, failure);
-    }
-    if let Some(failure) = replayed.failure() {
-        return fail_within(call, Side::Replayed, failure);
-    }
     end(call, parsed.version, found, &output)
 }
 

@@ -1,7 +1,7 @@
 -- How a comparison goes on, and how it ends.
-use Rattle.std.proofs.Common.{◌≡◌, ℕ, ◌+◌, Bool, true, false, List, [], ◌∷◌, Option, Some, None, Ok, Err, refl, inl}
-use Rattle.std.proofs.Common.{inr}
-use Rattle.std.specs.Prelude.{MatchOption, is_some}
+use Rattle.std.proofs.Common.{◌≡◌, ℕ, ◌+◌, Bool, List, [], ◌∷◌, Option, Some, None, Ok, Err, refl, inl}
+use Rattle.std.proofs.Common.{inr, subst, sym}
+use Rattle.std.specs.Prelude.{MatchOption}
 use Rattle.shared_core_base.specs.declared.version.Version.{Version}
 use Rattle.shared_core_stream.specs.declared.encoding.raw_message.RawMessage.{RawMessage}
 use Rattle.replay_bench.specs.declared.mismatches.Found.{Found}
@@ -13,6 +13,7 @@ use Rattle.replay_bench.specs.Journals.{IsJournal}
 use Rattle.replay_bench.specs.Taking.{HasNoCommand, TakesFirst}
 use Rattle.replay_bench.specs.Outcomes.{Outcome, SameCommands, RecordedEnds, ReplayedEnds, NotWellFormed, outcome_of}
 use Rattle.replay_bench.specs.Verdicts.{ReturnsPair, AreAlike, ComparesKnown, HasFields, HasOutcome, IsOutcome, IsFound}
+use Rattle.replay_bench.specs.Verdicts.{ReturnsNext}
 use Rattle.replay_bench.proofs.Fronts.{journal_of}
 
 module _ (version : Version) (ignore : Bool) where
@@ -152,29 +153,37 @@ module _ (version : Version) (ignore : Bool) where
   abbrev pub IsNext : Version → Option (List ℕ) → Option RawMessage → Option (List ℕ) → Type 0
   IsNext v known found new = MatchOption found (HasNoCommand v known) (λ command. TakesFirst v known (Some command) new)
 
-  -- the recorded journal has ended, and the replayed one has not, or has
-  pub ends_first : (index : ℕ) (found : Option RawMessage) (recorded replayed left others then : Option (List ℕ)) →
-      GoesOn recorded replayed index left others
-      → HasNoCommand version left → is_some found ≡ true → IsNext version others found then → IsKnownOutcome recorded
-      replayed (RecordedEnds index)
-  ends_first index None recorded replayed left others then goes none some next = absurd (not_some some)
-    where
-      not_some : is_some {T = RawMessage} None ≡ true → ⊥
-      not_some is = cc
-  ends_first index (Some replayed_command) recorded replayed left others then goes none some next = ends_recorded index
-      replayed_command recorded replayed left others then goes none next
+  -- both go on, and the next commands are alike
+  pub both_go_on : (is_listed : Bool) (index : ℕ) (found other : Option RawMessage)
+      → ReturnsNext ignore is_listed index found other (Ok None)
+      → (recorded_command replayed_command : RawMessage) × (found ≡ Some recorded_command)
+      × (other ≡ Some replayed_command) × AreAlike ignore recorded_command replayed_command
+  unfolding ReturnsPair
+  both_go_on is_listed index None None is = absurd is
+  both_go_on is_listed index None (Some replayed_command) is = absurd is
+  both_go_on is_listed index (Some recorded_command) None is = absurd is
+  both_go_on is_listed index (Some recorded_command) (Some replayed_command) is =
+      (recorded_command, replayed_command, refl, refl, is)
 
-  pub ends_together : (index : ℕ) (found : Option RawMessage) (recorded replayed left others then : Option (List ℕ)) →
-      GoesOn recorded replayed index left others
-      → HasNoCommand version left → is_some found ≡ false → IsNext version others found then → IsKnownOutcome recorded
-      replayed (SameCommands index)
-  ends_together index None recorded replayed left others then goes none ended next = ends_both index recorded replayed
-      left others goes none next
-  ends_together index (Some replayed_command) recorded replayed left others then goes none ended next = absurd
-      (some ended)
-    where
-      some : is_some (Some replayed_command) ≡ false → ⊥
-      some is = cc
+  -- the comparison ends
+  pub ends_next : (is_listed : Bool) (index : ℕ) (next other : Option RawMessage) (found : Found)
+      (recorded replayed left others now then : Option (List ℕ))
+      → GoesOn recorded replayed index left others
+      → IsNext version left next now → IsNext version others other then
+      → ReturnsNext ignore is_listed index next other (Ok (Some found))
+      → IsKnownOutcome recorded replayed (outcome_of found.verdict)
+  ends_next is_listed index None None found recorded replayed left others now then goes one more is =
+      subst (λ (v : Verdict). IsKnownOutcome recorded replayed (outcome_of v)) (sym is.0)
+      (ends_both index recorded replayed left others goes one more)
+  ends_next is_listed index None (Some command) found recorded replayed left others now then goes one more is =
+      subst (λ (v : Verdict). IsKnownOutcome recorded replayed (outcome_of v)) (sym is.0)
+      (ends_recorded index command recorded replayed left others then goes one more)
+  ends_next is_listed index (Some command) None found recorded replayed left others now then goes one more is =
+      subst (λ (v : Verdict). IsKnownOutcome recorded replayed (outcome_of v)) (sym is.0)
+      (ends_replayed index command recorded replayed left others now goes one more)
+  ends_next is_listed index (Some command) (Some other) found recorded replayed left others now then goes one more is =
+      ends_found index command other recorded replayed left others now then (outcome_of found.verdict) goes one more
+      (is_found is_listed index command other found is).0
 
   -- ---- what is returned then
 
@@ -212,3 +221,18 @@ module _ (version : Version) (ignore : Bool) where
       returns_malformed None replayed has = tt
       returns_malformed (Some recorded) None has = tt
       returns_malformed (Some recorded) (Some replayed) has = has
+
+  pub returns_next_error : (is_listed : Bool) (index : ℕ) (next other : Option RawMessage)
+      (recorded replayed left others now then : Option (List ℕ)) (error : BenchError)
+      → GoesOn recorded replayed index left others
+      → IsNext version left next now → IsNext version others other then
+      → ReturnsNext ignore is_listed index next other (Err error)
+      → ComparesKnown version ignore recorded replayed (Err (Bench error))
+  returns_next_error is_listed index None None recorded replayed left others now then error goes one more is = absurd is
+  returns_next_error is_listed index None (Some other) recorded replayed left others now then error goes one more is =
+      absurd is
+  returns_next_error is_listed index (Some command) None recorded replayed left others now then error goes one more is =
+      absurd is
+  returns_next_error is_listed index (Some command) (Some other) recorded replayed left others now then error goes one
+      more is =
+      returns_error is_listed index command other recorded replayed left others now then error goes one more is

@@ -3,12 +3,14 @@ pub mod Alignments
 pub mod Surveys
 pub mod EqualForms
 pub mod Fronts
-pub mod Lengths
+pub mod Giving
 pub mod Listing
 pub mod Pairs
 pub mod Places
 pub mod Readings
+pub mod Rejections
 pub mod Seen
 pub mod Stops
+pub mod LongMessages
 pub mod Endings
 pub mod OneOutcome

@@ -1,5 +1,5 @@
 -- The place of a command in its journal.
-use Rattle.std.proofs.Common.{◌≡◌, ℕ, ◌+◌, Bool, List, [], ◌∷◌, ◌++◌, Option, Some, None, length, sym, ap, ◌∙◌}
+use Rattle.std.proofs.Common.{◌≡◌, ℕ, ◌+◌, Bool, List, [], ◌∷◌, ◌++◌, Option, Some, None, Ok, length, sym, ap, ◌∙◌}
 use Rattle.std.proofs.Common.{subst, append_assoc, length-append}
 use Rattle.std.specs.Prelude.{IsTrue}
 use Rattle.shared_core_base.specs.declared.version.Version.{Version}
@@ -12,7 +12,9 @@ use Rattle.replay_bench.specs.Fields.{IsKnownCommandAt}
 use Rattle.replay_bench.specs.Journals.{IsJournal}
 use Rattle.replay_bench.specs.Outcomes.{outcome_of}
 use Rattle.replay_bench.specs.Taking.{TakesFirst}
-use Rattle.replay_bench.specs.Verdicts.{HasFields, HasFieldsOn, IsFound}
+use Rattle.replay_bench.specs.declared.mismatches.Found.{Found}
+use Rattle.replay_bench.specs.Verdicts.{HasFields, HasFieldsOn, IsFound, ReturnsNext}
+use Rattle.replay_bench.proofs.Endings.{IsNext, is_found}
 use Rattle.replay_bench.proofs.Fronts.{journal_of}
 
 module _ (version : Version) where
@@ -79,3 +81,26 @@ module _ (version : Version) where
         subst (λ (n : ℕ). IsKnownCommandAt version replayed n other) (sym found.1) at_other,
         has listed,
       )
+
+  -- fields that come with the result for the next commands
+  pub fields_next : (ignore is_listed : Bool) (index : ℕ) (next other : Option RawMessage) (found : Found)
+      (recorded replayed left others now then : Option (List ℕ))
+      → IsKnownAfter recorded index left → IsKnownAfter replayed index others
+      → IsNext version ignore version left next now → IsNext version ignore version others other then
+      → ReturnsNext ignore is_listed index next other (Ok (Some found)) → IsTrue is_listed
+      → HasFieldsOn version recorded replayed found.verdict found.fields.items
+  fields_next ignore is_listed index None None found recorded replayed left others now then after more one last is
+      listed =
+      subst (λ (v : Verdict). HasFieldsOn version recorded replayed v found.fields.items) (sym is.0) is.1
+  fields_next ignore is_listed index None (Some other) found recorded replayed left others now then after more one last
+      is listed =
+      subst (λ (v : Verdict). HasFieldsOn version recorded replayed v found.fields.items) (sym is.0) is.1
+  fields_next ignore is_listed index (Some command) None found recorded replayed left others now then after more one
+      last is listed =
+      subst (λ (v : Verdict). HasFieldsOn version recorded replayed v found.fields.items) (sym is.0) is.1
+  fields_next ignore is_listed index (Some command) (Some other) found recorded replayed left others now then after more
+      one last is listed =
+      let (outcome, fields) = is_found version ignore is_listed index command other found is in
+      fields_found ignore is_listed index command other recorded replayed found.verdict found.fields.items
+      (command_is_at index command recorded left now after one) (command_is_at index other replayed others then more
+      last) outcome fields listed

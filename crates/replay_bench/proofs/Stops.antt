@@ -4,10 +4,8 @@ use Rattle.std.proofs.Common.{cond, sym, subst, append_assoc, arith, below_more,
 use Rattle.std.proofs.lemmas.List.{get_or_append_left}
 use Rattle.std.proofs.Math.Seq.{get_or-append_seam}
 use Rattle.std.specs.Prelude.{IfSome, MatchOption, is_none, is_some}
-use Rattle.std.proofs.lemmas.Bool.{both_ways}
 use Rattle.shared_core_base.specs.declared.version.Version.{Version}
 use Rattle.shared_core_stream.specs.declared.encoding.raw_message.RawMessage.{RawMessage}
-use Rattle.std.specs.Io.KnownBytes.{prepend_known}
 use Rattle.replay_bench.specs.declared.commands.HeldCommands.{HeldCommands}
 use Rattle.replay_bench.specs.declared.survey.Survey.{Survey}
 use Rattle.replay_bench.specs.Held.{HasAfter, HasOffsets, IsHeld, IsStopped}
@@ -54,13 +52,6 @@ module _ (version : Version) (index : ℕ) where
       subst (λ ended. IsStopped version first index ended (Some found) now) is
       (stops_at found first left now after takes command)
 
-  pub stops_where_none : (found : Option RawMessage) (first left now : Option (List ℕ)) → is_none found ≡ true
-      → IsKnownAfter version first index left
-      → MatchOption found (HasNoCommand version left) (λ command. TakesFirst version left (Some command) now)
-      → IsStopped version first index true None now
-  stops_where_none None first left now is after none = stops_at_end first left now after none
-  stops_where_none (Some command) first left now is after takes = absurd (both_ways false refl is)
-
   -- one more is held, and the next one is taken
   pub holds_more : (held : List RawMessage) (command : RawMessage) (next : Option RawMessage)
       (first left now : Option (List ℕ))
@@ -90,19 +81,19 @@ offsets_more version first number offsets at has last = λ i within.
     i (omega (arith, within, length-append offsets (at ∷ [])))
 
 -- what is held of a journal, as it is of the version and the source that were given
-pub held_of : (version own : Version) (is_strict : Bool) (first coming : Option (List ℕ)) (index seen : ℕ)
-    (has_ended : Bool) (next : Option RawMessage) (bytes : List ℕ) (taken : ℕ) (survey : Survey) (held : HeldCommands)
+pub held_of : (version own : Version) (is_strict : Bool) (first left : Option (List ℕ)) (index seen : ℕ)
+    (has_ended : Bool) (next : Option RawMessage) (survey : Survey) (held : HeldCommands)
     → own ≡ version
-    → IsStopped version first index has_ended next (prepend_known bytes coming)
-    → HasReadOn version is_strict first has_ended coming bytes taken survey → survey.commands ≡ seen
-    → ((from : Option (List ℕ)) (at : ℕ) → IsHeld own from at [] next (prepend_known bytes coming)
+    → IsStopped version first index has_ended next left
+    → HasReadOn version is_strict first has_ended left survey → survey.commands ≡ seen
+    → ((from : Option (List ℕ)) (at : ℕ) → IsHeld own from at [] next left
     → IfSome from (λ journal. HasAfter own journal at held.commands.items))
     → length held.offsets.items ≡ length held.commands.items
-    → ((is_strict : Bool) (from : Option (List ℕ)) → HasReadOn own is_strict from (is_none next) coming bytes taken
-    survey → HasOffsets own from survey.commands held.offsets.items)
+    → ((is_strict : Bool) (from : Option (List ℕ)) → HasReadOn own is_strict from (is_none next) left survey
+    → HasOffsets own from survey.commands held.offsets.items)
     → IsHeldOf version first index seen held
-held_of version own is_strict first coming index seen has_ended next bytes taken survey held owns stopped on counted
-    commands long offsets =
+held_of version own is_strict first left index seen has_ended next survey held owns stopped on counted commands long
+    offsets =
     let known : IfSome first (λ journal. HasAfter own journal index held.commands.items) =
     commands first index (rw owns stopped.held) in
     let placed : HasOffsets own first survey.commands held.offsets.items =

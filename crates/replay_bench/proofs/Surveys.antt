@@ -13,7 +13,7 @@ use Rattle.replay_bench.specs.Survey.{fault_of, fault_with, first_fault, first_o
 use Rattle.replay_bench.specs.Survey.{is_skipped, is_unknown, last_command, survey_of}
 
 -- an item has eight bytes at least
-eight : (item : Item) → 8 ≤ item_size item
+pub eight : (item : Item) → 8 ≤ item_size item
 eight (Message message) = omega arith
 eight (Unknown code) = omega arith
 eight (Skipped code payload) = omega arith

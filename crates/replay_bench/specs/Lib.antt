@@ -3,6 +3,7 @@ pub mod FaultTexts
 pub mod Outcomes
 pub mod Journals
 pub mod Reading
+pub mod Sources
 pub mod Taking
 pub mod Fields
 pub mod Verdicts

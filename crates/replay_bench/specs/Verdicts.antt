@@ -1,6 +1,6 @@
 -- The verdict on the commands of two journals, and their comparison.
 use Rattle.std.specs.Prelude.{IsTrue, ◌≡◌, ◌≢◌, ◌⊎◌, ℕ, ◌+◌, ◌^◌, ◌<◌, ◌≤◌, pos, Bool, true, false, List, [], ◌∷◌}
-use Rattle.std.specs.Prelude.{length, codes, Option, Some, None, Result, Ok, Err}
+use Rattle.std.specs.Prelude.{length, codes, Option, Some, None, Result, Ok, Err, IfErr}
 use Rattle.std.specs.Option.{IsSomeAnd}
 use Rattle.shared_core_base.specs.declared.header.MessageType.{MessageType}
 use Rattle.shared_core_base.specs.declared.version.Version.{Version}
@@ -25,12 +25,13 @@ use Rattle.replay_bench.specs.declared.verdicts.Verdict.TheVariants.{HeaderMisma
 use Rattle.replay_bench.specs.declared.verdicts.BenchError.{BenchError}
 use Rattle.replay_bench.specs.declared.verdicts.BenchError.TheVariants.{Malformed, TooLong, OutOfMemory}
 use Rattle.replay_bench.specs.declared.verdicts.ReaderError.{ReaderError}
-use Rattle.replay_bench.specs.declared.verdicts.ReaderError.TheVariants.{Read, Bench}
+use Rattle.replay_bench.specs.declared.verdicts.ReaderError.TheVariants.{Read, Bench, MessageTooLong}
 use Rattle.replay_bench.specs.Outcomes.{Outcome, SameCommands, RecordedEnds, ReplayedEnds, OtherType, OtherCommand}
 use Rattle.replay_bench.specs.Outcomes.{NotWellFormed, outcome_of}
 use Rattle.replay_bench.specs.Fields.{AreFieldsAt, AreFieldsOf}
 use Rattle.replay_bench.specs.Journals.{IsCommand, IsJournal}
 use Rattle.replay_bench.specs.Reading.{IsKnownLast, IsKnownSurvey}
+use Rattle.replay_bench.specs.Sources.{HasLonger}
 
 -- ---- the result for two commands at an index
 
@@ -95,6 +96,20 @@ ReturnsPair ignore is_listed index recorded replayed (Err (Malformed side found)
 ReturnsPair ignore is_listed index recorded replayed (Err OutOfMemory) = Unit {0}
 ReturnsPair ignore is_listed index recorded replayed (Err TooLong) = ⊥
 
+-- A verdict that a journal has ended is the result, and no field comes with it.
+abbrev pub IsEnding : Verdict → Result (Option Found) BenchError → Type 0
+IsEnding verdict (Ok (Some found)) = (found.verdict ≡ verdict) × (found.fields.items ≡ [])
+IsEnding verdict result = ⊥
+
+-- The result for the next commands of two journals: who has ended, or that of both commands.
+abbrev pub ReturnsNext : Bool → Bool → ℕ → Option RawMessage → Option RawMessage → Result (Option Found) BenchError
+    → Type 0
+ReturnsNext ignore is_listed index None None result = IsEnding (Same index) result
+ReturnsNext ignore is_listed index None (Some replayed) result = IsEnding (RecordedEnded index) result
+ReturnsNext ignore is_listed index (Some recorded) None result = IsEnding (ReplayedEnded index) result
+ReturnsNext ignore is_listed index (Some recorded) (Some replayed) result = ReturnsPair ignore is_listed index recorded
+    replayed result
+
 -- Two commands of this type are at an index.
 pub record IsPair (index : ℕ) (recorded replayed : RawMessage) (ty : MessageType) : Type 0 where
   pub below : index < 2 ^ 63
@@ -140,12 +155,20 @@ Compares version ignore recorded replayed (Err OutOfMemory) = Unit {0}
 
 -- ---- the verdict on two sources
 
--- What a comparison of the journals of two sources returns: the same, or that one of them could not be read.
+-- The journal of this side.
+abbrev pub journal_on : Side → List ℕ → List ℕ → List ℕ
+journal_on Recorded recorded replayed = recorded
+journal_on Replayed recorded replayed = replayed
+
+-- What a comparison of the journals of two sources returns: the same; that one of them could not be read; or the
+-- message of one of them that is longer than its limit.
 abbrev pub ComparesRead : Version → Bool → List ℕ → List ℕ → Result Verdict ReaderError → Type 0
 ComparesRead version ignore recorded replayed (Ok verdict) = Compares version ignore recorded replayed (Ok verdict)
 ComparesRead version ignore recorded replayed (Err (Bench failure)) = Compares version ignore recorded replayed
     (Err failure)
 ComparesRead version ignore recorded replayed (Err (Read side)) = Unit {0}
+ComparesRead version ignore recorded replayed (Err (MessageTooLong side message)) = HasLonger version message
+    (journal_on side recorded replayed)
 
 -- The same of the bytes that two sources will give, where both are known.
 abbrev pub ComparesKnown : Version → Bool → Option (List ℕ) → Option (List ℕ) → Result Verdict ReaderError → Type 0
@@ -164,11 +187,18 @@ HasFieldsOn version recorded replayed (HeaderMismatch index text) fields = AreFi
     fields
 HasFieldsOn version recorded replayed verdict fields = fields ≡ []
 
--- A read is said to have failed only on a side where it may.
-abbrev pub MayFailOn : {T : Type 0} → Bool → Bool → Result T ReaderError → Type 0
-MayFailOn recorded replayed (Err (Read Recorded)) = recorded ≡ true
-MayFailOn recorded replayed (Err (Read Replayed)) = replayed ≡ true
-MayFailOn recorded replayed result = Unit {0}
+-- An error says that a read has failed only on a side where it may, and that a message is too long only on one whose
+-- limit is below the greatest length of a message.
+abbrev pub FailsOn : Bool → ℕ → Bool → ℕ → ReaderError → Type 0
+FailsOn recorded limit replayed other_limit (Read Recorded) = recorded ≡ true
+FailsOn recorded limit replayed other_limit (Read Replayed) = replayed ≡ true
+FailsOn recorded limit replayed other_limit (MessageTooLong Recorded message) = limit < 4294967295
+FailsOn recorded limit replayed other_limit (MessageTooLong Replayed message) = other_limit < 4294967295
+FailsOn recorded limit replayed other_limit (Bench error) = Unit {0}
+
+-- The same of a result.
+abbrev pub MayFailOn : {T : Type 0} → Bool → ℕ → Bool → ℕ → Result T ReaderError → Type 0
+MayFailOn recorded limit replayed other_limit result = IfErr result (FailsOn recorded limit replayed other_limit)
 
 -- ---- both journals surveyed
 

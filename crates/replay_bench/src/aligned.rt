@@ -1,6 +1,6 @@
 //! Two journals compared, and aligned from the first difference on.
 
-ghost use Rattle.std.specs.Prelude.{◌≤◌};
+ghost use Rattle.std.specs.Prelude.{◌≡◌, ◌≤◌, true};
 ghost use Rattle.shared_core_base.specs.Version.{version_number};
 ghost use Rattle.replay_bench.specs.Holding.{AlignsKnown};
 ghost use Rattle.replay_bench.specs.Verdicts.{MayFailOn};
@@ -8,11 +8,11 @@ ghost use Rattle.replay_bench.specs.Verdicts.{MayFailOn};
 use crate::alignment::align_commands;
 use crate::commands::HeldCommands;
 use crate::comparison::find_verdict;
-use crate::reader_chunks::ReaderChunks;
 use crate::sources::Source;
 use crate::verdicts::{Comparison, ReaderError};
 use edit_script::Alignment;
 use shared_core::version::Version;
+use shared_core_io::ItemReader;
 use std::alloc::Global;
 use std::io::Read;
 
@@ -39,18 +39,17 @@ pub fn align_readers<A: Read + Drop, B: Read + Drop>(
     version: Version,
     recorded: A,
     replayed: B,
-    chunk_size: usize,
     ignore_payload_equality: bool,
     is_strict: bool,
     limit: u32,
 ) -> Result<AlignedComparison, ReaderError>
-    requires version { 5 ≤ version_number version }
-    requires chunk_size { 1 ≤ chunk_size }
-    ensures { AlignsKnown version ignore_payload_equality is_strict limit
+    requires { 5 ≤ version_number version }
+    ensures aligned { AlignsKnown version ignore_payload_equality is_strict limit
         (A.remaining recorded) (B.remaining replayed) result }
+    ensures unlimited { MayFailOn true 4294967295 true 4294967295 result }
 {
-    let recorded = ReaderChunks::new(alloc, recorded, chunk_size)?;
-    let replayed = ReaderChunks::new(alloc, replayed, chunk_size)?;
+    let recorded = ItemReader::new(alloc, version, recorded);
+    let replayed = ItemReader::new(alloc, version, replayed);
     align_sources(
         alloc,
         version,
@@ -62,7 +61,7 @@ pub fn align_readers<A: Read + Drop, B: Read + Drop>(
     )
 }
 
-/// Compares, surveys and aligns two journals of any sources, as `align_readers` does.
+/// Compares, surveys and aligns two journals of any sources of this version, as `align_readers` does.
 pub fn align_sources<A: Source, B: Source>(
     alloc: Global,
     version: Version,
@@ -72,10 +71,11 @@ pub fn align_sources<A: Source, B: Source>(
     is_strict: bool,
     limit: u32,
 ) -> Result<AlignedComparison, ReaderError>
-    requires { 5 ≤ version_number version }
+    requires recorded { A.version recorded ≡ version }
+    requires replayed { B.version replayed ≡ version }
     ensures aligned { AlignsKnown version ignore_payload_equality is_strict limit
         (A.coming recorded) (B.coming replayed) result }
-    ensures failed { MayFailOn A.may_fail B.may_fail result }
+    ensures failed { MayFailOn A.may_fail (A.limit recorded) B.may_fail (B.limit replayed) result }
 {
     let stopped = find_verdict(
         alloc,

@@ -1,28 +1,25 @@
 //! The commands of one journal.
 //!
-//! What the first command means is said whatever follows it (`LeadsTo`): chunks that come later change nothing, and an
-//! early verdict holds for all that was not read. Counting the bytes decides `TooLong`, and keeps an index small enough
-//! for the texts, since a command takes eight bytes at least.
+//! The survey counts the bytes of the items. Their number decides `TooLong`, ends the loops, and keeps an index small
+//! enough for the texts, since a command takes eight bytes at least.
 
 ghost use Rattle.std.specs.Prelude.{◌≡◌, ◌+◌, ◌≤◌, ◌<◌, ◌^◌, ◌++◌, ◌∷◌, ℕ, Bool, List, Option, []};
 ghost use Rattle.std.specs.Prelude.{is_none, is_some, if◌then◌else◌};
-ghost use Rattle.std.specs.Prelude.{length, IfErr, IfOk, IfSome, MatchOption, OnOk, IsErrOf, None};
-ghost use Rattle.std.specs.Io.KnownBytes.{prepend_known};
+ghost use Rattle.std.specs.Prelude.{false, length, IfErr, IfOk, IfSome, MatchOption, OnOk};
 ghost use Rattle.std.specs.List.{All};
-ghost use Rattle.shared_core_base.specs.Version.{version_number};
-ghost use Rattle.shared_core_stream.specs.Items.{NoItemBegins};
+ghost use Rattle.std.specs.Option.{option_map_or};
 ghost use Rattle.replay_bench.specs.Held.{HasAfter, HasOffsets, IsHeld};
 ghost use Rattle.replay_bench.specs.Journals.{command_of, IsCommand};
-ghost use Rattle.replay_bench.specs.Reading.{HasItems, HasRead, HasReadOn, HasReadSome, IsKnownSurvey, IsNew};
-ghost use Rattle.replay_bench.specs.Taking.{known_length, HasNoCommand, LeadsTo};
-ghost use Rattle.replay_bench.specs.Taking.{KeepsLength, MayReject, RejectsLength, TakesFirst};
+ghost use Rattle.replay_bench.specs.Reading.{HasRead, HasReadOn, HasReadSome, IsKnownSurvey, IsReading};
+ghost use Rattle.replay_bench.specs.Sources.{reader_error, EndsKnown, MayReject, TakesKnown};
+ghost use Rattle.replay_bench.specs.Survey.{is_command};
+ghost use Rattle.replay_bench.specs.Taking.{HasNoCommand, TakesFirst};
 
-use crate::sources::{Source, SourceError};
+use crate::sources::{Next, Source, SourceError};
 use crate::survey::Survey;
 use crate::verdicts::{BenchError, ReaderError, Side};
-use bytes::Bytes;
 use shared_core::CommandType;
-use shared_core::encoding::{Decoder, Item, PushError, RawMessage};
+use shared_core::encoding::{Item, RawMessage};
 use shared_core::version::Version;
 use std::alloc::{AllocError, Global};
 
@@ -47,100 +44,108 @@ impl HeldCommands {
     }
 }
 
-/// The commands of a journal that comes in chunks, one after the other. Of the journal it holds the chunks that no item
-/// has used up.
+/// The commands of a journal, one after the other.
 #[derive(Drop)]
 pub(crate) struct Commands<S> {
     side: Side,
     version: Version,
-    decoder: Decoder,
     source: S,
-    /// How many bytes have come in all.
-    taken: u64,
-    /// The survey of the items that were taken.
+    /// The survey of the items that were taken, and at the end of the journal of the bytes after them.
     survey: Survey,
 }
 
 impl<S: Source> Commands<S> {
-    /// The commands of the journal on this side, whose version is at least V5. The survey finds faults if it is
-    /// strict.
-    pub(crate) fn new(
-        alloc: Global,
-        version: Version,
-        side: Side,
-        source: S,
-        is_strict: bool,
-    ) -> Commands<S>
-        requires { 5 ≤ version_number version }
-        ensures new { IsNew version side result.side result.version
-            result.decoder.version result.decoder.bytes result.taken result.survey }
-        ensures strict { result.survey.is_strict ≡ is_strict }
+    /// The commands of the journal on this side, of this version. The survey finds faults if it is strict.
+    pub(crate) fn new(version: Version, side: Side, source: S, is_strict: bool) -> Commands<S>
+        requires { S.version source ≡ version }
+        ensures new { IsReading version side is_strict (S.coming source) false 0
+            result.side result.version (S.version result.source) (S.coming result.source) result.survey }
         ensures source { result.source ≡ source }
     {
-        let decoder = Decoder::new(alloc, version);
-        let survey = Survey::new(is_strict);
         Commands {
             side,
             version,
-            decoder,
             source,
-            taken: 0,
-            survey,
+            survey: Survey::new(is_strict),
         }
     }
 
-    /// The next command, or `None` where the journal has no further one. A chunk is read only if no whole item
-    /// is at hand.
+    /// The next command, or `None` where the journal has no further one. Other items are passed over.
     pub(crate) fn next_command(&mut self) -> Result<Option<RawMessage>, ReaderError>
-        requires held { length self.old.decoder.bytes ≤ self.old.taken }
-        requires fits { self.old.taken < 2 ^ 64 }
-        requires same { self.old.decoder.version ≡ self.old.version }
-        requires read { HasReadSome self.old.version
-            (S.coming self.old.source) self.old.decoder.bytes self.old.taken self.old.survey }
+        requires fits { self.old.survey.size < 2 ^ 64 }
+        requires same { S.version self.old.source ≡ self.old.version }
+        requires read { HasReadSome self.old.version (S.coming self.old.source) self.old.survey }
         ensures taken { IfOk result (λ found. MatchOption found
-            (HasNoCommand self.old.decoder.version (prepend_known self.old.decoder.bytes (S.coming self.old.source)))
-            (λ command. TakesFirst self.old.decoder.version
-            (prepend_known self.old.decoder.bytes (S.coming self.old.source)) (Some command)
-            (prepend_known self.new.decoder.bytes (S.coming self.new.source)))) }
+            (HasNoCommand self.old.version (S.coming self.old.source))
+            (λ command. TakesFirst self.old.version
+            (S.coming self.old.source) (Some command) (S.coming self.new.source))) }
         ensures command { IfOk result (λ found. IfSome found IsCommand) }
         // what is taken is eight bytes at least
-        ensures shorter { IfOk result (λ found. IfSome found (λ command.
-            8 + length self.new.decoder.bytes + self.old.taken ≤ length self.old.decoder.bytes + self.new.taken)) }
-        ensures counted { IfOk result (λ found. IfSome found (λ command. KeepsLength
-            (known_length self.old.taken (S.coming self.old.source))
-            (known_length self.new.taken (S.coming self.new.source)))) }
-        ensures rejected { IfErr result (MayReject self.old.side S.may_fail
-            (known_length self.old.taken (S.coming self.old.source))) }
-        ensures fits { OnOk result (self.new.taken < 2 ^ 64) }
-        ensures version { OnOk result (self.new.decoder.version ≡ self.old.decoder.version) }
+        ensures longer { IfOk result (λ found. IfSome found (λ command.
+            8 + self.old.survey.size ≤ self.new.survey.size)) }
+        ensures rejected { IfErr result (λ error. (is_strict : Bool) (first : Option (List ℕ))
+            → HasRead self.old.version is_strict first (S.coming self.old.source) 0 self.old.survey
+            → MayReject self.old.side S.may_fail self.old.version (S.limit self.old.source) first error) }
+        ensures fits { OnOk result (self.new.survey.size < 2 ^ 64) }
+        ensures version { OnOk result (S.version self.new.source ≡ S.version self.old.source) }
+        ensures limit { OnOk result (S.limit self.new.source ≡ S.limit self.old.source) }
         ensures side { OnOk result (self.new.side ≡ self.old.side) }
         ensures same { OnOk result (self.new.version ≡ self.old.version) }
         ensures commands { IfOk result (λ found.
             self.new.survey.commands ≡ self.old.survey.commands + (if is_some found then 1 else 0)) }
         // the items so far are surveyed, whatever was to come at first
         ensures read { IfOk result (λ found. (is_strict : Bool) (first : Option (List ℕ))
-            → HasRead self.old.version is_strict first
-            (S.coming self.old.source) self.old.decoder.bytes self.old.taken self.old.survey
+            → HasRead self.old.version is_strict first (S.coming self.old.source) 0 self.old.survey
             → HasReadOn self.old.version is_strict first (is_none found)
-            (S.coming self.new.source) self.new.decoder.bytes self.new.taken self.new.survey) }
+            (S.coming self.new.source) self.new.survey) }
     {
-        loop {
-            if let Some(command) = buffered_command(
-                self.version,
-                &mut self.decoder,
-                &mut self.survey,
-            )? {
+        while let Some(item) = self.next_item()? {
+            if let Some(command) = as_command(item) {
                 return Ok(Some(command));
             }
-            let chunk = match self.source.next_chunk() {
-                Ok(Some(chunk)) => chunk,
-                Ok(None) => return Ok(None),
-                Err(SourceError::Failed) => return Err(ReaderError::Read(self.side)),
-                Err(SourceError::OutOfMemory) => {
-                    return Err(ReaderError::Bench(BenchError::OutOfMemory));
+        }
+        Ok(None)
+    }
+
+    /// The next item, or `None` where the journal has no further one. It is surveyed, and at the end the bytes are that
+    /// are in none.
+    fn next_item(&mut self) -> Result<Option<Item>, ReaderError>
+        requires fits { self.old.survey.size < 2 ^ 64 }
+        requires same { S.version self.old.source ≡ self.old.version }
+        requires read { HasReadSome self.old.version (S.coming self.old.source) self.old.survey }
+        ensures taken { IfOk result (λ found. MatchOption found
+            (EndsKnown self.old.version (S.coming self.old.source) self.new.survey.rest)
+            (λ item. TakesKnown self.old.version (S.coming self.old.source) item (S.coming self.new.source))) }
+        ensures longer { IfOk result (λ found. IfSome found (λ item.
+            8 + self.old.survey.size ≤ self.new.survey.size)) }
+        ensures rejected { IfErr result (λ error. (is_strict : Bool) (first : Option (List ℕ))
+            → HasRead self.old.version is_strict first (S.coming self.old.source) 0 self.old.survey
+            → MayReject self.old.side S.may_fail self.old.version (S.limit self.old.source) first error) }
+        ensures fits { OnOk result (self.new.survey.size < 2 ^ 64) }
+        ensures version { OnOk result (S.version self.new.source ≡ S.version self.old.source) }
+        ensures limit { OnOk result (S.limit self.new.source ≡ S.limit self.old.source) }
+        ensures side { OnOk result (self.new.side ≡ self.old.side) }
+        ensures same { OnOk result (self.new.version ≡ self.old.version) }
+        ensures commands { IfOk result (λ found. self.new.survey.commands
+            ≡ self.old.survey.commands + option_map_or (λ item. if is_command item then 1 else 0) found 0) }
+        ensures read { IfOk result (λ found. (is_strict : Bool) (first : Option (List ℕ))
+            → HasRead self.old.version is_strict first (S.coming self.old.source) 0 self.old.survey
+            → HasReadOn self.old.version is_strict first (is_none found)
+            (S.coming self.new.source) self.new.survey) }
+    {
+        match self.source.next() {
+            Ok(Next::Item(item)) => {
+                self.survey.note(self.version, &item);
+                if self.survey.size > u64::MAX as u128 {
+                    return Err(ReaderError::Bench(BenchError::TooLong));
                 }
-            };
-            self.taken = push(&mut self.decoder, self.taken, chunk)?;
+                Ok(Some(item))
+            }
+            Ok(Next::End(rest)) => {
+                self.survey = self.survey.with_rest(rest);
+                Ok(None)
+            }
+            Err(error) => Err(reader_error(self.side, error)),
         }
     }
 
@@ -158,30 +163,26 @@ impl<S: Source> Commands<S> {
         alloc: Global,
         next: Option<RawMessage>,
     ) -> Result<(HeldCommands, Survey), ReaderError>
-        requires fits { self.taken < 2 ^ 64 }
-        requires same { self.decoder.version ≡ self.version }
+        requires fits { self.survey.size < 2 ^ 64 }
+        requires same { S.version self.source ≡ self.version }
         requires command { IfSome next IsCommand }
         requires read { (is_strict : Bool) × (first : Option (List ℕ))
-            × HasReadOn self.version is_strict first (is_none next)
-            (S.coming self.source) self.decoder.bytes self.taken self.survey }
+            × HasReadOn self.version is_strict first (is_none next) (S.coming self.source) self.survey }
         ensures survey { IfOk result (λ held. (is_strict : Bool) (first : Option (List ℕ))
-            → HasReadOn self.version is_strict first (is_none next)
-            (S.coming self.source) self.decoder.bytes self.taken self.survey
+            → HasReadOn self.version is_strict first (is_none next) (S.coming self.source) self.survey
             → IsKnownSurvey self.version is_strict first held.1) }
         ensures held { IfOk result (λ held. (first : Option (List ℕ)) (index : ℕ)
-            → IsHeld self.version first index [] next (prepend_known self.decoder.bytes (S.coming self.source))
+            → IsHeld self.version first index [] next (S.coming self.source)
             → IfSome first (λ journal. HasAfter self.version journal index held.0.commands.items)) }
         ensures commands { IfOk result (λ held. All IsCommand held.0.commands.items) }
         ensures offsets { IfOk result (λ held. (is_strict : Bool) (first : Option (List ℕ))
-            → HasReadOn self.version is_strict first (is_none next)
-            (S.coming self.source) self.decoder.bytes self.taken self.survey
+            → HasReadOn self.version is_strict first (is_none next) (S.coming self.source) self.survey
             → HasOffsets self.version first self.survey.commands held.0.offsets.items) }
         ensures long { IfOk result (λ held.
             length held.0.offsets.items ≡ length held.0.commands.items) }
         ensures rejected { IfErr result (λ error. (is_strict : Bool) (first : Option (List ℕ))
-            → HasReadOn self.version is_strict first (is_none next)
-            (S.coming self.source) self.decoder.bytes self.taken self.survey
-            → MayReject self.side S.may_fail (known_length 0 first) error) }
+            → HasReadOn self.version is_strict first (is_none next) (S.coming self.source) self.survey
+            → MayReject self.side S.may_fail self.version (S.limit self.source) first error) }
     {
         let mut held = HeldCommands {
             commands: Vec::new(alloc),
@@ -192,82 +193,43 @@ impl<S: Source> Commands<S> {
             held.push(command, self.last_command())?;
             next = self.next_command()?;
         }
-        let survey = self.survey.with_rest(self.decoder.pending());
-        Ok((held, survey))
+        Ok((held, self.survey))
     }
 
-    /// Reads a journal that has not ended to its end, and returns the survey of all of it.
+    /// Reads a journal to its end, unless it has ended, and returns the survey of all of it.
     pub(crate) fn finish(mut self, has_ended: bool) -> Result<Survey, ReaderError>
-        requires fits { self.taken < 2 ^ 64 }
-        requires same { self.decoder.version ≡ self.version }
+        requires fits { self.survey.size < 2 ^ 64 }
+        requires same { S.version self.source ≡ self.version }
         requires read { (is_strict : Bool) × (first : Option (List ℕ))
-            × HasReadOn self.version is_strict first has_ended
-            (S.coming self.source) self.decoder.bytes self.taken self.survey }
+            × HasReadOn self.version is_strict first has_ended (S.coming self.source) self.survey }
         ensures survey { IfOk result (λ survey. (is_strict : Bool) (first : Option (List ℕ))
-            → HasReadOn self.version is_strict first has_ended
-            (S.coming self.source) self.decoder.bytes self.taken self.survey
+            → HasReadOn self.version is_strict first has_ended (S.coming self.source) self.survey
             → IsKnownSurvey self.version is_strict first survey) }
         ensures rejected { IfErr result (λ error. (is_strict : Bool) (first : Option (List ℕ))
-            → HasReadOn self.version is_strict first has_ended
-            (S.coming self.source) self.decoder.bytes self.taken self.survey
-            → MayReject self.side S.may_fail (known_length 0 first) error) }
+            → HasReadOn self.version is_strict first has_ended (S.coming self.source) self.survey
+            → MayReject self.side S.may_fail self.version (S.limit self.source) first error) }
     {
         let mut has_ended = has_ended;
         while !has_ended {
-            has_ended = self.next_command()?.is_none();
+            let next = self.next_item()?;
+            has_ended = next.is_none();
+            // the item goes before the next one is read
+            drop(next);
         }
-        Ok(self.survey.with_rest(self.decoder.pending()))
+        Ok(self.survey)
     }
 }
 
-/// Pushes a chunk where this many bytes have come before, and returns how many have come with it.
-fn push(decoder: &mut Decoder, taken: u64, chunk: Bytes) -> Result<u64, BenchError>
-    requires { length decoder.old.bytes ≤ taken }
-    ensures pushed { OnOk result (decoder.new ≡ record decoder.old { bytes = decoder.old.bytes ++ chunk }) }
-    ensures counted { IfOk result (λ sum. sum ≡ taken + length chunk) }
-    ensures fits { IfOk result (λ sum. sum < 2 ^ 64) }
-    ensures rejected { IfErr result (λ failure. RejectsLength (taken + length chunk) failure) }
+/// Why the journal on a side was not read, as its source says.
+fn reader_error(side: Side, error: SourceError) -> ReaderError
+    ensures { result ≡ reader_error side error }
 {
-    let Some(sum) = taken.checked_add(chunk.len() as u64) else {
-        return Err(BenchError::TooLong);
-    };
-    match decoder.push(chunk) {
-        Ok(()) => Ok(sum),
-        Err(PushError::OutOfMemory(_)) => Err(BenchError::OutOfMemory),
-        Err(PushError::TooLong(_)) => Err(BenchError::TooLong),
+    match error {
+        SourceError::Failed => ReaderError::Read(side),
+        SourceError::MessageTooLong(message) => ReaderError::MessageTooLong(side, message),
+        SourceError::TooLong => ReaderError::Bench(BenchError::TooLong),
+        SourceError::OutOfMemory => ReaderError::Bench(BenchError::OutOfMemory),
     }
-}
-
-/// The next command among the whole items that a decoder holds, or `None` where no whole item is left. Other items are
-/// passed over. All of them are surveyed.
-fn buffered_command(
-    version: Version,
-    decoder: &mut Decoder,
-    survey: &mut Survey,
-) -> Result<Option<RawMessage>, AllocError>
-    requires same { decoder.old.version ≡ version }
-    requires read { (came : List ℕ) × (is_strict : Bool)
-        × HasItems version is_strict came decoder.old.bytes survey.old × (length came < 2 ^ 64) }
-    ensures read { OnOk result ((came : List ℕ) (is_strict : Bool)
-        → HasItems version is_strict came decoder.old.bytes survey.old
-        → HasItems version is_strict came decoder.new.bytes survey.new) }
-    ensures leads { IfOk result (λ found. LeadsTo decoder.old.version decoder.old.bytes found decoder.new.bytes) }
-    ensures command { IfOk result (λ found. IfSome found IsCommand) }
-    ensures none { IfOk result (λ found. found ≡ None → NoItemBegins decoder.old.version decoder.new.bytes) }
-    ensures shorter { IfOk result (λ found. MatchOption found
-        (length decoder.new.bytes ≤ length decoder.old.bytes)
-        (λ command. length decoder.new.bytes + 8 ≤ length decoder.old.bytes)) }
-    ensures version { decoder.new.version ≡ decoder.old.version }
-    ensures commands { IfOk result (λ found.
-        survey.new.commands ≡ survey.old.commands + (if is_some found then 1 else 0)) }
-{
-    while let Some(item) = decoder.next_item()? {
-        survey.note(version, &item);
-        if let Some(command) = as_command(item) {
-            return Ok(Some(command));
-        }
-    }
-    Ok(None)
 }
 
 /// An item that is a command.

@@ -1,24 +1,25 @@
 //! Two journals compared, command by command.
 
-ghost use Rattle.std.specs.Prelude.{◌≡◌, ◌≤◌, ℕ, List, Some, IfOk, IsTrue};
-ghost use Rattle.std.specs.Io.KnownBytes.{prepend_known};
+ghost use Rattle.std.specs.Prelude.{◌≡◌, ◌≤◌, ◌<◌, ◌^◌, true, IfOk, IfSome, IsTrue};
 ghost use Rattle.std.specs.List.{concat};
 ghost use Rattle.shared_core_base.specs.Version.{version_number};
 ghost use Rattle.replay_bench.specs.declared.verdicts.Side.TheVariants.{Recorded, Replayed};
 ghost use Rattle.replay_bench.specs.Reading.{IsReading};
 ghost use Rattle.replay_bench.specs.Held.{IsStopped};
+ghost use Rattle.replay_bench.specs.Journals.{IsCommand};
 ghost use Rattle.replay_bench.specs.Verdicts.{Compares, ComparesKnown, HasFieldsOn, MayFailOn, Surveys, verdict_alone};
 ghost use Rattle.replay_bench.specs.Verdicts.{recorded_ended, recorded_seen, replayed_ended, replayed_seen};
-ghost use Rattle.replay_bench.specs.Verdicts.{stopped_index};
+ghost use Rattle.replay_bench.specs.Verdicts.{stopped_index, ReturnsNext};
 
 use crate::commands::Commands;
 use crate::mismatches::{Found, Pair, compare_commands};
-use crate::reader_chunks::ReaderChunks;
-use crate::sources::{SliceChunks, Source};
+use crate::slice_items::SliceItems;
+use crate::sources::Source;
 use crate::verdicts::{BenchError, Comparison, ReaderError, Side, Verdict};
 use bytes::Bytes;
 use shared_core::encoding::RawMessage;
 use shared_core::version::Version;
+use shared_core_io::ItemReader;
 use std::alloc::Global;
 use std::io::Read;
 
@@ -41,18 +42,18 @@ pub fn compare_journals(
     requires { 5 ≤ version_number version }
     ensures { Compares version ignore_payload_equality (concat recorded.now) (concat replayed.now) result }
 {
-    let recorded = SliceChunks::new(recorded);
-    let replayed = SliceChunks::new(replayed);
+    let recorded = SliceItems::new(alloc, version, recorded);
+    let replayed = SliceItems::new(alloc, version, replayed);
     match compare_sources(alloc, version, recorded, replayed, ignore_payload_equality) {
         Ok(verdict) => Ok(verdict),
         Err(ReaderError::Bench(error)) => Err(error),
-        // a slice does not fail
+        // a slice does not fail, and has no limit
         Err(ReaderError::Read(_)) => unreachable!(),
+        Err(ReaderError::MessageTooLong(_, _)) => unreachable!(),
     }
 }
 
-/// Compares two journals that readers give, as `compare_journals` does, with at most `chunk_size` bytes a read, which
-/// is 1 at least, and at most 65,536.
+/// Compares two journals that readers give, as `compare_journals` does.
 ///
 /// A journal is read only as far as the result needs. `Read` says whose read failed; what was returned before is not
 /// lost by it, since the first result ends the comparison.
@@ -61,24 +62,24 @@ pub fn compare_readers<A: Read + Drop, B: Read + Drop>(
     version: Version,
     recorded: A,
     replayed: B,
-    chunk_size: usize,
     ignore_payload_equality: bool,
 ) -> Result<Verdict, ReaderError>
-    requires version { 5 ≤ version_number version }
-    requires chunk_size { 1 ≤ chunk_size }
+    requires { 5 ≤ version_number version }
     // the verdict of all that the readers would give, read or not, where they tell it
-    ensures { ComparesKnown version ignore_payload_equality (A.remaining recorded) (B.remaining replayed) result }
+    ensures compared { ComparesKnown version ignore_payload_equality
+        (A.remaining recorded) (B.remaining replayed) result }
+    ensures unlimited { MayFailOn true 4294967295 true 4294967295 result }
 {
-    let recorded = ReaderChunks::new(alloc, recorded, chunk_size)?;
-    let replayed = ReaderChunks::new(alloc, replayed, chunk_size)?;
+    let recorded = ItemReader::new(alloc, version, recorded);
+    let replayed = ItemReader::new(alloc, version, replayed);
     compare_sources(alloc, version, recorded, replayed, ignore_payload_equality)
 }
 
-/// Compares two journals of any sources, as `compare_journals` does: one may be given in chunks and the other by a
-/// reader.
+/// Compares two journals of any sources of this version, as `compare_journals` does: one may be given in chunks
+/// (`SliceItems`) and the other by a reader (`ItemReader`), which may have a limit.
 ///
-/// Chunks are taken from a source only as far as the result needs them. `Read` names a side only where its source may
-/// fail, which a slice does not.
+/// Items are taken from a source only as far as the result needs them. `Read` names a side only where its source may
+/// fail, which a slice does not, and `MessageTooLong` only where it has a limit.
 pub fn compare_sources<A: Source, B: Source>(
     alloc: Global,
     version: Version,
@@ -86,9 +87,10 @@ pub fn compare_sources<A: Source, B: Source>(
     replayed: B,
     ignore_payload_equality: bool,
 ) -> Result<Verdict, ReaderError>
-    requires { 5 ≤ version_number version }
+    requires recorded { A.version recorded ≡ version }
+    requires replayed { B.version replayed ≡ version }
     ensures compared { ComparesKnown version ignore_payload_equality (A.coming recorded) (B.coming replayed) result }
-    ensures failed { MayFailOn A.may_fail B.may_fail result }
+    ensures failed { MayFailOn A.may_fail (A.limit recorded) B.may_fail (B.limit replayed) result }
 {
     let stopped = find_verdict(
         alloc,
@@ -114,6 +116,48 @@ pub(crate) struct Stopped<A, B> {
     pub replayed_next: Option<RawMessage>,
 }
 
+/// The commands of two journals at the same index, each unless its journal has ended.
+#[derive(Drop)]
+pub(crate) struct NextCommands {
+    pub recorded: Option<RawMessage>,
+    pub replayed: Option<RawMessage>,
+}
+
+impl NextCommands {
+    /// Which of the journals has ended, or the result for both commands, or `None` if they are the same.
+    fn compare(
+        &self,
+        alloc: Global,
+        index: u64,
+        ignore: bool,
+        is_listed: bool,
+    ) -> Result<Option<Found>, BenchError>
+        requires index { index < 2 ^ 63 }
+        requires command { IfSome self.now.recorded IsCommand }
+        ensures { ReturnsNext ignore is_listed index self.now.recorded self.now.replayed result }
+    {
+        let verdict = match (&self.recorded, &self.replayed) {
+            (Some(recorded), Some(replayed)) => {
+                return compare_commands(Pair {
+                    alloc,
+                    index,
+                    recorded,
+                    replayed,
+                    ignore,
+                    is_listed,
+                });
+            }
+            (Some(_), None) => Verdict::ReplayedEnded(index),
+            (None, Some(_)) => Verdict::RecordedEnded(index),
+            (None, None) => Verdict::Same(index),
+        };
+        Ok(Some(Found {
+            verdict,
+            fields: Vec::new(alloc),
+        }))
+    }
+}
+
 /// Compares the commands of two journals. Their surveys find faults if they are strict. If `is_listed`, the fields in
 /// which two commands differ come with the verdict.
 pub(crate) fn find_verdict<A: Source, B: Source>(
@@ -125,89 +169,52 @@ pub(crate) fn find_verdict<A: Source, B: Source>(
     is_strict: bool,
     is_listed: bool,
 ) -> Result<Stopped<A, B>, ReaderError>
-    requires { 5 ≤ version_number version }
+    requires recorded { A.version recorded ≡ version }
+    requires replayed { B.version replayed ≡ version }
     ensures compared { ComparesKnown version ignore_payload_equality
         (A.coming recorded) (B.coming replayed) (verdict_alone result) }
-    ensures failed { MayFailOn A.may_fail B.may_fail result }
+    ensures failed { MayFailOn A.may_fail (A.limit recorded) B.may_fail (B.limit replayed) result }
+    ensures limit { IfOk result (λ stopped. A.limit stopped.recorded.source ≡ A.limit recorded) }
+    ensures other_limit { IfOk result (λ stopped. B.limit stopped.replayed.source ≡ B.limit replayed) }
     ensures fields { IfOk result (λ stopped. IsTrue is_listed → HasFieldsOn version
         (A.coming recorded) (B.coming replayed) stopped.found.verdict stopped.found.fields.items) }
     ensures recorded { IfOk result (λ stopped. IsReading version Recorded is_strict
         (A.coming recorded) (recorded_ended stopped.found.verdict) (recorded_seen stopped.found.verdict)
-        stopped.recorded.side stopped.recorded.version stopped.recorded.decoder.version
-        (A.coming stopped.recorded.source) stopped.recorded.decoder.bytes stopped.recorded.taken
-        stopped.recorded.survey) }
+        stopped.recorded.side stopped.recorded.version (A.version stopped.recorded.source)
+        (A.coming stopped.recorded.source) stopped.recorded.survey) }
     ensures replayed { IfOk result (λ stopped. IsReading version Replayed is_strict
         (B.coming replayed) (replayed_ended stopped.found.verdict) (replayed_seen stopped.found.verdict)
-        stopped.replayed.side stopped.replayed.version stopped.replayed.decoder.version
-        (B.coming stopped.replayed.source) stopped.replayed.decoder.bytes stopped.replayed.taken
-        stopped.replayed.survey) }
+        stopped.replayed.side stopped.replayed.version (B.version stopped.replayed.source)
+        (B.coming stopped.replayed.source) stopped.replayed.survey) }
     ensures stopped { IfOk result (λ stopped. IsStopped version (A.coming recorded)
         (stopped_index stopped.found.verdict) (recorded_ended stopped.found.verdict) stopped.recorded_next
-        (prepend_known stopped.recorded.decoder.bytes (A.coming stopped.recorded.source))) }
+        (A.coming stopped.recorded.source)) }
     ensures other_stopped { IfOk result (λ stopped. IsStopped version (B.coming replayed)
         (stopped_index stopped.found.verdict) (replayed_ended stopped.found.verdict) stopped.replayed_next
-        (prepend_known stopped.replayed.decoder.bytes (B.coming stopped.replayed.source))) }
+        (B.coming stopped.replayed.source)) }
 {
-    let mut recorded = Commands::new(alloc, version, Side::Recorded, recorded, is_strict);
-    let mut replayed = Commands::new(alloc, version, Side::Replayed, replayed, is_strict);
+    let mut recorded = Commands::new(version, Side::Recorded, recorded, is_strict);
+    let mut replayed = Commands::new(version, Side::Replayed, replayed, is_strict);
     let mut index: u64 = 0;
     loop {
-        let recorded_command = recorded.next_command()?;
-        let replayed_command = replayed.next_command()?;
-        let Some(recorded_command) = recorded_command else {
-            if replayed_command.is_some() {
-                return Ok(Stopped {
-                    found: Found {
-                        verdict: Verdict::RecordedEnded(index),
-                        fields: Vec::new(alloc),
-                    },
-                    recorded,
-                    replayed,
-                    recorded_next: None,
-                    replayed_next: replayed_command,
-                });
-            }
-            return Ok(Stopped {
-                found: Found {
-                    verdict: Verdict::Same(index),
-                    fields: Vec::new(alloc),
-                },
-                recorded,
-                replayed,
-                recorded_next: None,
-                replayed_next: None,
-            });
+        let recorded_next = recorded.next_command()?;
+        let replayed_next = replayed.next_command()?;
+        let next = NextCommands {
+            recorded: recorded_next,
+            replayed: replayed_next,
         };
-        let Some(replayed_command) = replayed_command else {
-            return Ok(Stopped {
-                found: Found {
-                    verdict: Verdict::ReplayedEnded(index),
-                    fields: Vec::new(alloc),
-                },
-                recorded,
-                replayed,
-                recorded_next: Some(recorded_command),
-                replayed_next: None,
-            });
-        };
-        let pair = Pair {
-            alloc,
-            index,
-            recorded: &recorded_command,
-            replayed: &replayed_command,
-            ignore: ignore_payload_equality,
-            is_listed,
-        };
-        let found = compare_commands(pair)?;
+        let found = next.compare(alloc, index, ignore_payload_equality, is_listed)?;
         if let Some(found) = found {
             return Ok(Stopped {
                 found,
                 recorded,
                 replayed,
-                recorded_next: Some(recorded_command),
-                replayed_next: Some(replayed_command),
+                recorded_next: next.recorded,
+                replayed_next: next.replayed,
             });
         }
+        // both commands go before the next ones are read
+        drop(next);
         index += 1;
     }
 }
@@ -223,17 +230,16 @@ pub fn survey_readers<A: Read + Drop, B: Read + Drop>(
     version: Version,
     recorded: A,
     replayed: B,
-    chunk_size: usize,
     ignore_payload_equality: bool,
     is_strict: bool,
 ) -> Result<Comparison, ReaderError>
-    requires version { 5 ≤ version_number version }
-    requires chunk_size { 1 ≤ chunk_size }
-    ensures { Surveys version ignore_payload_equality is_strict
+    requires { 5 ≤ version_number version }
+    ensures surveyed { Surveys version ignore_payload_equality is_strict
         (A.remaining recorded) (B.remaining replayed) result }
+    ensures unlimited { MayFailOn true 4294967295 true 4294967295 result }
 {
-    let recorded = ReaderChunks::new(alloc, recorded, chunk_size)?;
-    let replayed = ReaderChunks::new(alloc, replayed, chunk_size)?;
+    let recorded = ItemReader::new(alloc, version, recorded);
+    let replayed = ItemReader::new(alloc, version, replayed);
     survey_sources(
         alloc,
         version,
@@ -244,7 +250,8 @@ pub fn survey_readers<A: Read + Drop, B: Read + Drop>(
     )
 }
 
-/// Compares two journals of any sources, as `compare_sources` does, and surveys both, as `survey_readers` does.
+/// Compares two journals of any sources of this version, as `compare_sources` does, and surveys both, as
+/// `survey_readers` does.
 pub fn survey_sources<A: Source, B: Source>(
     alloc: Global,
     version: Version,
@@ -253,10 +260,11 @@ pub fn survey_sources<A: Source, B: Source>(
     ignore_payload_equality: bool,
     is_strict: bool,
 ) -> Result<Comparison, ReaderError>
-    requires { 5 ≤ version_number version }
+    requires recorded { A.version recorded ≡ version }
+    requires replayed { B.version replayed ≡ version }
     ensures compared { Surveys version ignore_payload_equality is_strict
         (A.coming recorded) (B.coming replayed) result }
-    ensures failed { MayFailOn A.may_fail B.may_fail result }
+    ensures failed { MayFailOn A.may_fail (A.limit recorded) B.may_fail (B.limit replayed) result }
 {
     let stopped = find_verdict(
         alloc,

@@ -5,6 +5,7 @@ ghost use Rattle.replay_bench.specs.Verdicts.{recorded_ended, replayed_ended};
 
 use crate::fields::FieldDifference;
 use crate::survey::Survey;
+use shared_core::encoding::MessageTooLong;
 use std::alloc::AllocError;
 use std::error::Error;
 use std::fmt;
@@ -109,10 +110,12 @@ pub enum BenchError {
 }
 
 /// Why two journals that come from readers have no verdict.
-#[derive(Clone, Copy, Debug, PartialEq, Eq)]
+#[derive(Clone, Copy, Debug, PartialEq, Eq, Drop)]
 pub enum ReaderError {
     /// A read of this journal failed, or 2^64 - 1 reads met no end.
     Read(Side),
+    /// This message of this journal is longer than the limit.
+    MessageTooLong(Side, MessageTooLong),
     /// The errors that any journals may have.
     Bench(BenchError),
 }
@@ -145,6 +148,9 @@ impl fmt::Display for ReaderError {
     fn fmt<W: fmt::Write>(&self, f: &mut fmt::Formatter<W>) -> fmt::Result {
         match self {
             ReaderError::Read(side) => write!(f, "reading the {side} journal failed"),
+            ReaderError::MessageTooLong(side, message) => {
+                write!(f, "the {side} journal, {message}")
+            }
             ReaderError::Bench(error) => write!(f, "{error}"),
         }
     }

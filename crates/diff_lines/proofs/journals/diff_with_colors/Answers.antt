@@ -2,9 +2,9 @@ use Rattle.std.proofs.Common.{[], rules}
 use Rattle.diff_lines.proofs.Reporting.{reported_faulty, reported_text}
 use Rattle.diff_lines.proofs.journals.diff_with_colors.Goals as goal
 
-pub returns-in-Ok : goal.returns-in-Ok
-returns-in-Ok g c =
-    let (text, items_is, reports) = c.in-Ok.ensures in
+pub returns-in-Ok-clause-reported : goal.returns-in-Ok-clause-reported
+returns-in-Ok-clause-reported g c =
+    let (text, items_is, reports) = c.in-Ok.ensures.reported in
     let (written, wrote, painted) = c.write_with_colors.ensures in (
       written,
       wrote,
@@ -13,9 +13,9 @@ returns-in-Ok g c =
           c.new-text.ensures.items items_is c.as_slice.ensures.value reports painted,
     )
 
-pub returns : goal.returns
-returns g c =
-    let (written, wrote, reports) = c.diff-compared.ensures in (
+pub returns-clause-reported : goal.returns-clause-reported
+returns-clause-reported g c =
+    let (written, wrote, reports) = c.diff-compared.ensures.reported in (
       [],
       search rules,
       reported_faulty _ _ _ _ _ _ c.in-Err-Faulty.trouble c.diff-compared.result written (search rules)

@@ -1,327 +1,153 @@
 use Rattle.std.proofs.Common.{◌∙◌, arith, sym}
 use Rattle.std.proofs.lemmas.Result.{err_from_is_err_and}
-use Rattle.replay_bench.specs.declared.verdicts.Verdict.TheVariants.{Same, RecordedEnded, ReplayedEnded}
-use Rattle.replay_bench.proofs.Endings.{returns_error, returns_verdict, are_alike, ends_first, ends_found}
-use Rattle.replay_bench.proofs.Endings.{ends_replayed, ends_together, goes_after, is_found}
-use Rattle.replay_bench.proofs.Lengths.{keeps_on}
-use Rattle.replay_bench.proofs.Places.{after_more, command_is_at, fields_found}
+use Rattle.replay_bench.proofs.Endings.{both_go_on, ends_next, goes_after, returns_next_error, returns_verdict}
+use Rattle.replay_bench.proofs.Places.{after_more, fields_next}
 use Rattle.replay_bench.proofs.Readings.{on_more}
-use Rattle.replay_bench.proofs.Seen.{found_seen, none_where_not_some, some_where_not_none}
-use Rattle.replay_bench.proofs.Stops.{stops, stops_at, stops_at_end, stops_where_none}
+use Rattle.replay_bench.proofs.Rejections.{fails_recorded, fails_replayed, rejects_recorded, rejects_replayed}
+use Rattle.replay_bench.proofs.Seen.{seen_next}
+use Rattle.replay_bench.proofs.Stops.{stops}
 use Rattle.replay_bench.proofs.comparison.find_verdict.Goals as goal
 
-pub returns-then-is_some-clause-compared : goal.returns-then-is_some-clause-compared
-returns-then-is_some-clause-compared g c =
-    let inv = c.loop-replayed.invariant in
-    let none = rw (c.in_default.is, inv.version) at c.in_ok-recorded_command.ensures.taken in
-    let next = rw inv.other_version at c.in_ok-replayed_command.ensures.taken in
-    returns_verdict _ _ _ _ (RecordedEnded _) (ends_first _ _ _ _ _ _ _ _ _ inv.goes_on none
-    (sym c.is_some.ensures ∙ c.if-is_some.true) next)
+pub next_command-requires-clause-same : goal.next_command-requires-clause-same
+next_command-requires-clause-same g c = c.loop-replayed.invariant.version ∙ sym c.loop-replayed.invariant.same
 
-pub returns-in_default-clause-compared : goal.returns-in_default-clause-compared
-returns-in_default-clause-compared g c =
+pub next_command-requires-clause-read : goal.next_command-requires-clause-read
+next_command-requires-clause-read g c =
     let inv = c.loop-replayed.invariant in
-    let none = rw (c.in_default.is, inv.version) at c.in_ok-recorded_command.ensures.taken in
-    let next = rw inv.other_version at c.in_ok-replayed_command.ensures.taken in
-    returns_verdict _ _ _ _ (Same _) (ends_together _ _ _ _ _ _ _ _ _ inv.goes_on none
-    (sym c.is_some.ensures ∙ c.if-is_some.false) next)
+    (c.args.is_strict, g.A.Source.coming c.args.recorded, rw inv.same inv.read)
 
-pub returns-in_default-replayed_command-clause-compared : goal.returns-in_default-replayed_command-clause-compared
-returns-in_default-replayed_command-clause-compared g c =
+pub compare-requires-clause-index : goal.compare-requires-clause-index
+compare-requires-clause-index g c =
+    omega (arith, c.loop-replayed.invariant.longer, c.loop-replayed.invariant.fits)
+
+pub returns-in_err-recorded_next-clause-compared : goal.returns-in_err-recorded_next-clause-compared
+returns-in_err-recorded_next-clause-compared g c =
     let inv = c.loop-replayed.invariant in
-    let one = rw (c.in-Some.is, inv.version) at c.in_ok-recorded_command.ensures.taken in
-    let none = rw (c.in_default-replayed_command.is, inv.other_version) at c.in_ok-replayed_command.ensures.taken in
-    returns_verdict _ _ _ _ (ReplayedEnded _) (ends_replayed _ _ _ _ _ _ _ _ _ inv.goes_on one none)
+    let from = err_from_is_err_and c.from_residual.result c.from_residual.ensures.1 in
+    let rejected = rw inv.same at c.in_err-recorded_next.ensures.rejected in
+    rw (from.1, from.2) (rejects_recorded _ _ _ _ _ _ _ _ inv.side (rejected _ _ inv.read))
 
-pub compare_commands-requires-clause-index : goal.compare_commands-requires-clause-index
-compare_commands-requires-clause-index g c =
-    let shorter = rw c.in-Some.is at c.in_ok-recorded_command.ensures.shorter in
-    omega (arith, c.loop-replayed.invariant.held, shorter, c.in_ok-recorded_command.ensures.fits)
+pub returns-in_err-recorded_next-clause-failed : goal.returns-in_err-recorded_next-clause-failed
+returns-in_err-recorded_next-clause-failed g c =
+    let inv = c.loop-replayed.invariant in
+    let from = err_from_is_err_and c.from_residual.result c.from_residual.ensures.1 in
+    let rejected = rw (inv.same, inv.limit) at c.in_err-recorded_next.ensures.rejected in
+    rw (from.1, from.2) (fails_recorded _ _ _ _ _ _ _ _ inv.side (rejected _ _ inv.read))
+
+pub returns-in_err-replayed_next-clause-compared : goal.returns-in_err-replayed_next-clause-compared
+returns-in_err-replayed_next-clause-compared g c =
+    let inv = c.loop-replayed.invariant in
+    let from = err_from_is_err_and c.from_residual-in_err-replayed_next.result
+    c.from_residual-in_err-replayed_next.ensures.1 in
+    let rejected = rw inv.other_same at c.in_err-replayed_next.ensures.rejected in
+    rw (from.1, from.2) (rejects_replayed _ _ _ _ _ _ _ _ inv.other_side (rejected _ _ inv.other_read))
+
+pub returns-in_err-replayed_next-clause-failed : goal.returns-in_err-replayed_next-clause-failed
+returns-in_err-replayed_next-clause-failed g c =
+    let inv = c.loop-replayed.invariant in
+    let from = err_from_is_err_and c.from_residual-in_err-replayed_next.result
+    c.from_residual-in_err-replayed_next.ensures.1 in
+    let rejected = rw (inv.other_same, inv.other_limit) at c.in_err-replayed_next.ensures.rejected in
+    rw (from.1, from.2) (fails_replayed _ _ _ _ _ _ _ _ inv.other_side (rejected _ _ inv.other_read))
 
 pub returns-in_err-found-clause-compared : goal.returns-in_err-found-clause-compared
 returns-in_err-found-clause-compared g c =
     let inv = c.loop-replayed.invariant in
-    let one = rw (c.in-Some.is, inv.version) at c.in_ok-recorded_command.ensures.taken in
-    let other = rw (c.in-Some-replayed_command.is, inv.other_version) at c.in_ok-replayed_command.ensures.taken in
+    let one = rw inv.same at c.in_ok-recorded_next.ensures.taken in
+    let other = rw inv.other_same at c.in_ok-replayed_next.ensures.taken in
     let from = err_from_is_err_and c.from_residual-in_err-found.result c.from_residual-in_err-found.ensures.1 in
-    rw (from.1, from.2) (returns_error _ _ _ _ _ _ _ _ _ _ _ _ _ inv.goes_on one other c.in_err-found.ensures)
+    rw (from.1, from.2) (returns_next_error _ _ _ _ _ _ _ _ _ _ _ _ _ inv.goes_on one other c.in_err-found.ensures)
 
-pub returns-in-Some-found-clause-compared : goal.returns-in-Some-found-clause-compared
-returns-in-Some-found-clause-compared g c =
+pub returns-in-Some-clause-compared : goal.returns-in-Some-clause-compared
+returns-in-Some-clause-compared g c =
     let inv = c.loop-replayed.invariant in
-    let one = rw (c.in-Some.is, inv.version) at c.in_ok-recorded_command.ensures.taken in
-    let other = rw (c.in-Some-replayed_command.is, inv.other_version) at c.in_ok-replayed_command.ensures.taken in
-    let found = is_found c.args.version _ _ _ _ _ _ (rw c.in-Some-found.is at c.in_ok-found.ensures) in
-    returns_verdict _ _ _ _ c.in-Some-found.found.verdict
-    (ends_found _ _ _ _ _ _ _ _ _ _ _ _ inv.goes_on one other found.0)
+    let one = rw inv.same at c.in_ok-recorded_next.ensures.taken in
+    let other = rw inv.other_same at c.in_ok-replayed_next.ensures.taken in
+    let found = rw c.in-Some.is at c.in_ok-found.ensures in
+    returns_verdict _ _ _ _ _ (ends_next _ _ _ _ _ _ _ _ _ _ _ _ _ inv.goes_on one other found)
 
-pub returns-in-Some-found-clause-fields : goal.returns-in-Some-found-clause-fields
-returns-in-Some-found-clause-fields g c is_listed =
+pub returns-in-Some-clause-fields : goal.returns-in-Some-clause-fields
+returns-in-Some-clause-fields g c is_listed =
     let inv = c.loop-replayed.invariant in
-    let one = rw (c.in-Some.is, inv.version) at c.in_ok-recorded_command.ensures.taken in
-    let other = rw (c.in-Some-replayed_command.is, inv.other_version) at c.in_ok-replayed_command.ensures.taken in
-    let found = is_found c.args.version _ _ _ _ _ _ (rw c.in-Some-found.is at c.in_ok-found.ensures) in
-    fields_found _ _ _ _ _ _ _ _ c.in-Some-found.found.verdict _
-    (command_is_at _ _ _ _ _ _ inv.after one) (command_is_at _ _ _ _ _ _ inv.other_after other)
-    found.0 found.1 is_listed
+    let one = rw inv.same at c.in_ok-recorded_next.ensures.taken in
+    let other = rw inv.other_same at c.in_ok-replayed_next.ensures.taken in
+    let found = rw c.in-Some.is at c.in_ok-found.ensures in
+    fields_next c.args.version _ _ _ _ _ _ _ _ _ _ _ _ inv.after inv.other_after one other found is_listed
 
-pub overflow_add-index : goal.overflow_add-index
-overflow_add-index g c =
-    let shorter = rw c.in-Some.is at c.in_ok-recorded_command.ensures.shorter in
-    omega (arith, c.loop-replayed.invariant.held, shorter, c.in_ok-recorded_command.ensures.fits)
-
-pub loop-replayed-preserved-in_default-found : goal.loop-replayed-preserved-in_default-found
-loop-replayed-preserved-in_default-found g c =
+pub returns-in-Some-clause-recorded : goal.returns-in-Some-clause-recorded
+returns-in-Some-clause-recorded g c =
     let inv = c.loop-replayed.invariant in
-    let one = rw (c.in-Some.is, inv.version) at c.in_ok-recorded_command.ensures.taken in
-    let other = rw (c.in-Some-replayed_command.is, inv.other_version) at c.in_ok-replayed_command.ensures.taken in
-    let shorter = rw c.in-Some.is at c.in_ok-recorded_command.ensures.shorter in
-    let other_shorter = rw c.in-Some-replayed_command.is at c.in_ok-replayed_command.ensures.shorter in
-    let counted = rw c.in-Some.is at c.in_ok-recorded_command.ensures.counted in
-    let other_counted = rw c.in-Some-replayed_command.is at c.in_ok-replayed_command.ensures.counted in
-    let alike = are_alike c.args.version _ _ _ _ _ (rw c.in_default-found.is at c.in_ok-found.ensures) in
-    let reads = rw (inv.same, c.in-Some.is) at c.in_ok-recorded_command.ensures.read in
-    let other_reads = rw (inv.other_same, c.in-Some-replayed_command.is) at c.in_ok-replayed_command.ensures.read in
-    let commands = rw c.in-Some.is at c.in_ok-recorded_command.ensures.commands in
-    let other_commands = rw c.in-Some-replayed_command.is at c.in_ok-replayed_command.ensures.commands in
-    record {
-      same = c.in_ok-recorded_command.ensures.same ∙ inv.same;
-      other_same = c.in_ok-replayed_command.ensures.same ∙ inv.other_same;
-      read = on_more _ _ _ _ _ _ _ (reads _ _ inv.read);
-      other_read = on_more _ _ _ _ _ _ _ (other_reads _ _ inv.other_read);
-      commands = omega (arith, commands, inv.commands);
-      other_commands = omega (arith, other_commands, inv.other_commands);
-      version = c.in_ok-recorded_command.ensures.version ∙ inv.version;
-      other_version = c.in_ok-replayed_command.ensures.version ∙ inv.other_version;
-      side = c.in_ok-recorded_command.ensures.side ∙ inv.side;
-      other_side = c.in_ok-replayed_command.ensures.side ∙ inv.other_side;
-      held = omega (arith, inv.held, shorter);
-      other_held = omega (arith, inv.other_held, other_shorter);
-      fits = c.in_ok-recorded_command.ensures.fits;
-      other_fits = c.in_ok-replayed_command.ensures.fits;
-      counted = keeps_on _ _ _ inv.counted counted;
-      other_counted = keeps_on _ _ _ inv.other_counted other_counted;
-      after = after_more _ _ _ _ _ _ inv.after one;
-      other_after = after_more _ _ _ _ _ _ inv.other_after other;
-      goes_on = goes_after _ _ _ _ _ _ _ _ _ _ _ inv.goes_on one other alike;
-    }
+    let reads = rw inv.same at c.in_ok-recorded_next.ensures.read in
+    let seen = seen_next c.args.version _ _ _ _ _ _ (rw c.in-Some.is at c.in_ok-found.ensures) in
+    rw (seen.recorded_goes, seen.recorded) (record {
+      side_is = c.in_ok-recorded_next.ensures.side ∙ inv.side;
+      noted_is = c.in_ok-recorded_next.ensures.same ∙ inv.same;
+      version_is = c.in_ok-recorded_next.ensures.version ∙ inv.version;
+      fits = c.in_ok-recorded_next.ensures.fits;
+      read_on = reads _ _ inv.read;
+      counted = omega (arith, c.in_ok-recorded_next.ensures.commands, inv.commands);
+    })
+
+pub returns-in-Some-clause-replayed : goal.returns-in-Some-clause-replayed
+returns-in-Some-clause-replayed g c =
+    let inv = c.loop-replayed.invariant in
+    let reads = rw inv.other_same at c.in_ok-replayed_next.ensures.read in
+    let seen = seen_next c.args.version _ _ _ _ _ _ (rw c.in-Some.is at c.in_ok-found.ensures) in
+    rw (seen.replayed_goes, seen.replayed) (record {
+      side_is = c.in_ok-replayed_next.ensures.side ∙ inv.other_side;
+      noted_is = c.in_ok-replayed_next.ensures.same ∙ inv.other_same;
+      version_is = c.in_ok-replayed_next.ensures.version ∙ inv.other_version;
+      fits = c.in_ok-replayed_next.ensures.fits;
+      read_on = reads _ _ inv.other_read;
+      counted = omega (arith, c.in_ok-replayed_next.ensures.commands, inv.other_commands);
+    })
+
+pub returns-in-Some-clause-stopped : goal.returns-in-Some-clause-stopped
+returns-in-Some-clause-stopped g c =
+    let inv = c.loop-replayed.invariant in
+    let next = rw inv.same at c.in_ok-recorded_next.ensures.taken in
+    let seen = seen_next c.args.version _ _ _ _ _ _ (rw c.in-Some.is at c.in_ok-found.ensures) in
+    rw seen.stopped
+    (stops c.args.version _ _ _ _ _ _ inv.after next c.in_ok-recorded_next.ensures.command (sym seen.recorded_goes))
+
+pub returns-in-Some-clause-other_stopped : goal.returns-in-Some-clause-other_stopped
+returns-in-Some-clause-other_stopped g c =
+    let inv = c.loop-replayed.invariant in
+    let next = rw inv.other_same at c.in_ok-replayed_next.ensures.taken in
+    let seen = seen_next c.args.version _ _ _ _ _ _ (rw c.in-Some.is at c.in_ok-found.ensures) in
+    rw seen.stopped
+    (stops c.args.version _ _ _ _ _ _ inv.other_after next c.in_ok-replayed_next.ensures.command
+    (sym seen.replayed_goes))
 
 pub loop-replayed-preserved : goal.loop-replayed-preserved
 loop-replayed-preserved g c =
     let inv = c.loop-replayed.invariant in
-    let one = rw (c.in-Some.is, inv.version) at c.in_ok-recorded_command.ensures.taken in
-    let other = rw (c.in-Some-replayed_command.is, inv.other_version) at c.in_ok-replayed_command.ensures.taken in
-    let shorter = rw c.in-Some.is at c.in_ok-recorded_command.ensures.shorter in
-    let other_shorter = rw c.in-Some-replayed_command.is at c.in_ok-replayed_command.ensures.shorter in
-    let counted = rw c.in-Some.is at c.in_ok-recorded_command.ensures.counted in
-    let other_counted = rw c.in-Some-replayed_command.is at c.in_ok-replayed_command.ensures.counted in
-    let alike = are_alike c.args.version _ _ _ _ _ (rw c.in_default-found.is at c.in_ok-found.ensures) in
-    let reads = rw (inv.same, c.in-Some.is) at c.in_ok-recorded_command.ensures.read in
-    let other_reads = rw (inv.other_same, c.in-Some-replayed_command.is) at c.in_ok-replayed_command.ensures.read in
-    let commands = rw c.in-Some.is at c.in_ok-recorded_command.ensures.commands in
-    let other_commands = rw c.in-Some-replayed_command.is at c.in_ok-replayed_command.ensures.commands in
+    let (one, other, is, is_other, alike) = both_go_on c.args.version _ _ _ _ _
+    (rw c.in_default.is at c.in_ok-found.ensures) in
+    let taken = rw (inv.same, is) at c.in_ok-recorded_next.ensures.taken in
+    let other_taken = rw (inv.other_same, is_other) at c.in_ok-replayed_next.ensures.taken in
+    let longer = rw is at c.in_ok-recorded_next.ensures.longer in
+    let reads = rw (inv.same, is) at c.in_ok-recorded_next.ensures.read in
+    let other_reads = rw (inv.other_same, is_other) at c.in_ok-replayed_next.ensures.read in
+    let commands = rw is at c.in_ok-recorded_next.ensures.commands in
+    let other_commands = rw is_other at c.in_ok-replayed_next.ensures.commands in
     record {
-      same = c.in_ok-recorded_command.ensures.same ∙ inv.same;
-      other_same = c.in_ok-replayed_command.ensures.same ∙ inv.other_same;
-      read = on_more _ _ _ _ _ _ _ (reads _ _ inv.read);
-      other_read = on_more _ _ _ _ _ _ _ (other_reads _ _ inv.other_read);
+      version = c.in_ok-recorded_next.ensures.version ∙ inv.version;
+      other_version = c.in_ok-replayed_next.ensures.version ∙ inv.other_version;
+      limit = c.in_ok-recorded_next.ensures.limit ∙ inv.limit;
+      other_limit = c.in_ok-replayed_next.ensures.limit ∙ inv.other_limit;
+      same = c.in_ok-recorded_next.ensures.same ∙ inv.same;
+      other_same = c.in_ok-replayed_next.ensures.same ∙ inv.other_same;
+      side = c.in_ok-recorded_next.ensures.side ∙ inv.side;
+      other_side = c.in_ok-replayed_next.ensures.side ∙ inv.other_side;
+      fits = c.in_ok-recorded_next.ensures.fits;
+      other_fits = c.in_ok-replayed_next.ensures.fits;
+      longer = omega (arith, inv.longer, longer);
       commands = omega (arith, commands, inv.commands);
       other_commands = omega (arith, other_commands, inv.other_commands);
-      version = c.in_ok-recorded_command.ensures.version ∙ inv.version;
-      other_version = c.in_ok-replayed_command.ensures.version ∙ inv.other_version;
-      side = c.in_ok-recorded_command.ensures.side ∙ inv.side;
-      other_side = c.in_ok-replayed_command.ensures.side ∙ inv.other_side;
-      held = omega (arith, inv.held, shorter);
-      other_held = omega (arith, inv.other_held, other_shorter);
-      fits = c.in_ok-recorded_command.ensures.fits;
-      other_fits = c.in_ok-replayed_command.ensures.fits;
-      counted = keeps_on _ _ _ inv.counted counted;
-      other_counted = keeps_on _ _ _ inv.other_counted other_counted;
-      after = after_more _ _ _ _ _ _ inv.after one;
-      other_after = after_more _ _ _ _ _ _ inv.other_after other;
-      goes_on = goes_after _ _ _ _ _ _ _ _ _ _ _ inv.goes_on one other alike;
+      read = on_more _ _ _ _ _ (reads _ _ inv.read);
+      other_read = on_more _ _ _ _ _ (other_reads _ _ inv.other_read);
+      after = after_more _ _ _ _ _ _ inv.after taken;
+      other_after = after_more _ _ _ _ _ _ inv.other_after other_taken;
+      goes_on = goes_after _ _ _ _ _ _ _ _ _ _ _ inv.goes_on taken other_taken alike;
     }
-
-pub returns-in_default-clause-recorded : goal.returns-in_default-clause-recorded
-returns-in_default-clause-recorded g c =
-    let inv = c.loop-replayed.invariant in
-    let reads = rw (inv.same, c.in_default.is) at c.in_ok-recorded_command.ensures.read in
-    let commands = rw c.in_default.is at c.in_ok-recorded_command.ensures.commands in
-    record {
-      side_is = c.in_ok-recorded_command.ensures.side ∙ inv.side;
-      version_is = c.in_ok-recorded_command.ensures.version ∙ inv.version;
-      noted_is = c.in_ok-recorded_command.ensures.same ∙ inv.same;
-      fits = c.in_ok-recorded_command.ensures.fits;
-      read_on = reads _ _ inv.read;
-      counted = omega (arith, commands, inv.commands);
-    }
-
-pub returns-then-is_some-clause-recorded : goal.returns-then-is_some-clause-recorded
-returns-then-is_some-clause-recorded g c =
-    let inv = c.loop-replayed.invariant in
-    let reads = rw (inv.same, c.in_default.is) at c.in_ok-recorded_command.ensures.read in
-    let commands = rw c.in_default.is at c.in_ok-recorded_command.ensures.commands in
-    record {
-      side_is = c.in_ok-recorded_command.ensures.side ∙ inv.side;
-      version_is = c.in_ok-recorded_command.ensures.version ∙ inv.version;
-      noted_is = c.in_ok-recorded_command.ensures.same ∙ inv.same;
-      fits = c.in_ok-recorded_command.ensures.fits;
-      read_on = reads _ _ inv.read;
-      counted = omega (arith, commands, inv.commands);
-    }
-
-pub returns-in_default-replayed_command-clause-recorded : goal.returns-in_default-replayed_command-clause-recorded
-returns-in_default-replayed_command-clause-recorded g c =
-    let inv = c.loop-replayed.invariant in
-    let reads = rw (inv.same, c.in-Some.is) at c.in_ok-recorded_command.ensures.read in
-    let commands = rw c.in-Some.is at c.in_ok-recorded_command.ensures.commands in
-    record {
-      side_is = c.in_ok-recorded_command.ensures.side ∙ inv.side;
-      version_is = c.in_ok-recorded_command.ensures.version ∙ inv.version;
-      noted_is = c.in_ok-recorded_command.ensures.same ∙ inv.same;
-      fits = c.in_ok-recorded_command.ensures.fits;
-      read_on = reads _ _ inv.read;
-      counted = omega (arith, commands, inv.commands);
-    }
-
-pub returns-in_default-replayed_command-clause-replayed : goal.returns-in_default-replayed_command-clause-replayed
-returns-in_default-replayed_command-clause-replayed g c =
-    let inv = c.loop-replayed.invariant in
-    let reads = rw (inv.other_same, c.in_default-replayed_command.is) at c.in_ok-replayed_command.ensures.read in
-    let commands = rw c.in_default-replayed_command.is at c.in_ok-replayed_command.ensures.commands in
-    record {
-      side_is = c.in_ok-replayed_command.ensures.side ∙ inv.other_side;
-      version_is = c.in_ok-replayed_command.ensures.version ∙ inv.other_version;
-      noted_is = c.in_ok-replayed_command.ensures.same ∙ inv.other_same;
-      fits = c.in_ok-replayed_command.ensures.fits;
-      read_on = reads _ _ inv.other_read;
-      counted = omega (arith, commands, inv.other_commands);
-    }
-
-pub returns-in-Some-found-clause-recorded : goal.returns-in-Some-found-clause-recorded
-returns-in-Some-found-clause-recorded g c =
-    let inv = c.loop-replayed.invariant in
-    let reads = rw (inv.same, c.in-Some.is) at c.in_ok-recorded_command.ensures.read in
-    let commands = rw c.in-Some.is at c.in_ok-recorded_command.ensures.commands in
-    let found = is_found c.args.version _ _ _ _ _ _ (rw c.in-Some-found.is at c.in_ok-found.ensures) in
-    let seen = found_seen _ _ c.in-Some.recorded_command c.in-Some-replayed_command.replayed_command
-    c.in-Some-found.found.verdict found.0 in
-    rw (seen.recorded_goes, seen.recorded) (record {
-      side_is = c.in_ok-recorded_command.ensures.side ∙ inv.side;
-      version_is = c.in_ok-recorded_command.ensures.version ∙ inv.version;
-      noted_is = c.in_ok-recorded_command.ensures.same ∙ inv.same;
-      fits = c.in_ok-recorded_command.ensures.fits;
-      read_on = reads _ _ inv.read;
-      counted = omega (arith, commands, inv.commands);
-    })
-
-pub returns-in-Some-found-clause-replayed : goal.returns-in-Some-found-clause-replayed
-returns-in-Some-found-clause-replayed g c =
-    let inv = c.loop-replayed.invariant in
-    let reads = rw (inv.other_same, c.in-Some-replayed_command.is) at c.in_ok-replayed_command.ensures.read in
-    let commands = rw c.in-Some-replayed_command.is at c.in_ok-replayed_command.ensures.commands in
-    let found = is_found c.args.version _ _ _ _ _ _ (rw c.in-Some-found.is at c.in_ok-found.ensures) in
-    let seen = found_seen _ _ c.in-Some.recorded_command c.in-Some-replayed_command.replayed_command
-    c.in-Some-found.found.verdict found.0 in
-    rw (seen.replayed_goes, seen.replayed) (record {
-      side_is = c.in_ok-replayed_command.ensures.side ∙ inv.other_side;
-      version_is = c.in_ok-replayed_command.ensures.version ∙ inv.other_version;
-      noted_is = c.in_ok-replayed_command.ensures.same ∙ inv.other_same;
-      fits = c.in_ok-replayed_command.ensures.fits;
-      read_on = reads _ _ inv.other_read;
-      counted = omega (arith, commands, inv.other_commands);
-    })
-
-pub returns-then-is_some-clause-replayed : goal.returns-then-is_some-clause-replayed
-returns-then-is_some-clause-replayed g c =
-    let inv = c.loop-replayed.invariant in
-    let some = sym c.is_some.ensures ∙ c.if-is_some.true in
-    let reads = rw (inv.other_same, some_where_not_none c.in_ok-replayed_command.replayed_command some)
-    at c.in_ok-replayed_command.ensures.read in
-    let commands = rw some at c.in_ok-replayed_command.ensures.commands in
-    record {
-      side_is = c.in_ok-replayed_command.ensures.side ∙ inv.other_side;
-      version_is = c.in_ok-replayed_command.ensures.version ∙ inv.other_version;
-      noted_is = c.in_ok-replayed_command.ensures.same ∙ inv.other_same;
-      fits = c.in_ok-replayed_command.ensures.fits;
-      read_on = reads _ _ inv.other_read;
-      counted = omega (arith, commands, inv.other_commands);
-    }
-
-pub returns-in_default-clause-replayed : goal.returns-in_default-clause-replayed
-returns-in_default-clause-replayed g c =
-    let inv = c.loop-replayed.invariant in
-    let some = sym c.is_some.ensures ∙ c.if-is_some.false in
-    let reads = rw (inv.other_same, none_where_not_some c.in_ok-replayed_command.replayed_command some)
-    at c.in_ok-replayed_command.ensures.read in
-    let commands = rw some at c.in_ok-replayed_command.ensures.commands in
-    record {
-      side_is = c.in_ok-replayed_command.ensures.side ∙ inv.other_side;
-      version_is = c.in_ok-replayed_command.ensures.version ∙ inv.other_version;
-      noted_is = c.in_ok-replayed_command.ensures.same ∙ inv.other_same;
-      fits = c.in_ok-replayed_command.ensures.fits;
-      read_on = reads _ _ inv.other_read;
-      counted = omega (arith, commands, inv.other_commands);
-    }
-
-pub returns-in_default-clause-stopped : goal.returns-in_default-clause-stopped
-returns-in_default-clause-stopped g c =
-    let inv = c.loop-replayed.invariant in
-    let none = rw (c.in_default.is, inv.version) at c.in_ok-recorded_command.ensures.taken in
-    stops_at_end c.args.version _ _ _ _ inv.after none
-
-pub returns-then-is_some-clause-stopped : goal.returns-then-is_some-clause-stopped
-returns-then-is_some-clause-stopped g c =
-    let inv = c.loop-replayed.invariant in
-    let none = rw (c.in_default.is, inv.version) at c.in_ok-recorded_command.ensures.taken in
-    stops_at_end c.args.version _ _ _ _ inv.after none
-
-pub returns-in_default-replayed_command-clause-stopped : goal.returns-in_default-replayed_command-clause-stopped
-returns-in_default-replayed_command-clause-stopped g c =
-    let inv = c.loop-replayed.invariant in
-    let one = rw (c.in-Some.is, inv.version) at c.in_ok-recorded_command.ensures.taken in
-    let command = rw c.in-Some.is at c.in_ok-recorded_command.ensures.command in
-    stops_at c.args.version _ _ _ _ _ inv.after one command
-
-pub returns-in-Some-found-clause-stopped : goal.returns-in-Some-found-clause-stopped
-returns-in-Some-found-clause-stopped g c =
-    let inv = c.loop-replayed.invariant in
-    let one = rw (c.in-Some.is, inv.version) at c.in_ok-recorded_command.ensures.taken in
-    let command = rw c.in-Some.is at c.in_ok-recorded_command.ensures.command in
-    let found = is_found c.args.version _ _ _ _ _ _ (rw c.in-Some-found.is at c.in_ok-found.ensures) in
-    let seen = found_seen _ _ c.in-Some.recorded_command c.in-Some-replayed_command.replayed_command
-    c.in-Some-found.found.verdict found.0 in
-    rw (seen.recorded_goes, seen.stopped) (stops_at c.args.version _ _ _ _ _ inv.after one command)
-
-pub returns-in_default-clause-other_stopped : goal.returns-in_default-clause-other_stopped
-returns-in_default-clause-other_stopped g c =
-    let inv = c.loop-replayed.invariant in
-    let some = none_where_not_some c.in_ok-replayed_command.replayed_command
-    (sym c.is_some.ensures ∙ c.if-is_some.false) in
-    let next = rw (inv.other_version) at c.in_ok-replayed_command.ensures.taken in
-    stops_where_none c.args.version _ _ _ _ _ some inv.other_after next
-
-pub returns-then-is_some-clause-other_stopped : goal.returns-then-is_some-clause-other_stopped
-returns-then-is_some-clause-other_stopped g c =
-    let inv = c.loop-replayed.invariant in
-    let some = some_where_not_none c.in_ok-replayed_command.replayed_command
-    (sym c.is_some.ensures ∙ c.if-is_some.true) in
-    let next = rw (inv.other_version) at c.in_ok-replayed_command.ensures.taken in
-    stops c.args.version _ _ _ _ _ _ inv.other_after next c.in_ok-replayed_command.ensures.command some
-
-pub returns-in_default-replayed_command-clause-other_stopped :
-    goal.returns-in_default-replayed_command-clause-other_stopped
-returns-in_default-replayed_command-clause-other_stopped g c =
-    let inv = c.loop-replayed.invariant in
-    let none = rw (c.in_default-replayed_command.is, inv.other_version) at c.in_ok-replayed_command.ensures.taken in
-    stops_at_end c.args.version _ _ _ _ inv.other_after none
-
-pub returns-in-Some-found-clause-other_stopped : goal.returns-in-Some-found-clause-other_stopped
-returns-in-Some-found-clause-other_stopped g c =
-    let inv = c.loop-replayed.invariant in
-    let other = rw (c.in-Some-replayed_command.is, inv.other_version) at c.in_ok-replayed_command.ensures.taken in
-    let command = rw c.in-Some-replayed_command.is at c.in_ok-replayed_command.ensures.command in
-    let found = is_found c.args.version _ _ _ _ _ _ (rw c.in-Some-found.is at c.in_ok-found.ensures) in
-    let seen = found_seen _ _ c.in-Some.recorded_command c.in-Some-replayed_command.replayed_command
-    c.in-Some-found.found.verdict found.0 in
-    rw (seen.replayed_goes, seen.stopped) (stops_at c.args.version _ _ _ _ _ inv.other_after other command)

@@ -1,42 +1,35 @@
-use Rattle.std.proofs.Common.{◌≡◌, ◌+◌, ◌*◌, ◌-◌, ◌^◌, ◌<◌, ◌≤◌, length}
-use Rattle.std.specs.Io.KnownBytes.{prepend_known}
+use Rattle.std.proofs.Common.{◌≡◌, ◌*◌, ◌-◌, ◌^◌, ◌<◌, ◌≤◌}
 use Rattle.replay_bench.specs.declared.verdicts.Side.TheVariants.{Recorded, Replayed}
 use Rattle.replay_bench.specs.Reading.{HasRead}
-use Rattle.replay_bench.specs.Taking.{KeepsLength, known_length}
 use Rattle.replay_bench.proofs.Endings.{GoesOn}
 use Rattle.replay_bench.proofs.Places.{IsKnownAfter}
 use Rattle.replay_bench.proofs.comparison.find_verdict.Given as goal
 
 abbrev pub invariant-loop-replayed : goal.invariant-loop-replayed
 invariant-loop-replayed g l = record {
-  version : l.recorded.decoder.version ≡ l.fn.version;
-  other_version : l.replayed.decoder.version ≡ l.fn.version;
+  version : g.A.Source.version l.recorded.source ≡ l.fn.version;
+  other_version : g.B.Source.version l.replayed.source ≡ l.fn.version;
+  limit : g.A.Source.limit l.recorded.source ≡ g.A.Source.limit l.fn.recorded;
+  other_limit : g.B.Source.limit l.replayed.source ≡ g.B.Source.limit l.fn.replayed;
   same : l.recorded.version ≡ l.fn.version;
   other_same : l.replayed.version ≡ l.fn.version;
-  read : HasRead l.fn.version l.fn.is_strict (g.A.Source.coming l.fn.recorded)
-      (g.A.Source.coming l.recorded.source) l.recorded.decoder.bytes l.recorded.taken l.recorded.survey;
-  other_read : HasRead l.fn.version l.fn.is_strict (g.B.Source.coming l.fn.replayed)
-      (g.B.Source.coming l.replayed.source) l.replayed.decoder.bytes l.replayed.taken l.replayed.survey;
-  commands : l.recorded.survey.commands ≡ l.index;
-  other_commands : l.replayed.survey.commands ≡ l.index;
   side : l.recorded.side ≡ Recorded;
   other_side : l.replayed.side ≡ Replayed;
-  held : 8 * l.index + length l.recorded.decoder.bytes ≤ l.recorded.taken;
-  other_held : length l.replayed.decoder.bytes ≤ l.replayed.taken;
-  fits : l.recorded.taken < 2 ^ 64;
-  other_fits : l.replayed.taken < 2 ^ 64;
-  counted : KeepsLength (known_length 0 (g.A.Source.coming l.fn.recorded))
-      (known_length l.recorded.taken (g.A.Source.coming l.recorded.source));
-  other_counted : KeepsLength (known_length 0 (g.B.Source.coming l.fn.replayed))
-      (known_length l.replayed.taken (g.B.Source.coming l.replayed.source));
-  after : IsKnownAfter l.fn.version (g.A.Source.coming l.fn.recorded) l.index
-      (prepend_known l.recorded.decoder.bytes (g.A.Source.coming l.recorded.source));
+  fits : l.recorded.survey.size < 2 ^ 64;
+  other_fits : l.replayed.survey.size < 2 ^ 64;
+  longer : 8 * l.index ≤ l.recorded.survey.size;
+  commands : l.recorded.survey.commands ≡ l.index;
+  other_commands : l.replayed.survey.commands ≡ l.index;
+  read : HasRead l.fn.version l.fn.is_strict (g.A.Source.coming l.fn.recorded) (g.A.Source.coming l.recorded.source) 0
+      l.recorded.survey;
+  other_read : HasRead l.fn.version l.fn.is_strict (g.B.Source.coming l.fn.replayed)
+      (g.B.Source.coming l.replayed.source) 0 l.replayed.survey;
+  after : IsKnownAfter l.fn.version (g.A.Source.coming l.fn.recorded) l.index (g.A.Source.coming l.recorded.source);
   other_after : IsKnownAfter l.fn.version (g.B.Source.coming l.fn.replayed) l.index
-      (prepend_known l.replayed.decoder.bytes (g.B.Source.coming l.replayed.source));
+      (g.B.Source.coming l.replayed.source);
   goes_on : GoesOn l.fn.version l.ignore_payload_equality (g.A.Source.coming l.fn.recorded)
-      (g.B.Source.coming l.fn.replayed) l.index
-      (prepend_known l.recorded.decoder.bytes (g.A.Source.coming l.recorded.source))
-      (prepend_known l.replayed.decoder.bytes (g.B.Source.coming l.replayed.source));
+      (g.B.Source.coming l.fn.replayed) l.index (g.A.Source.coming l.recorded.source)
+      (g.B.Source.coming l.replayed.source);
 }
 
 abbrev pub decreases-loop-replayed : goal.decreases-loop-replayed

@@ -1,18 +1,16 @@
-use Rattle.std.proofs.Common.{refl, ap}
+use Rattle.std.proofs.Common.{refl, ap, arith}
 use Rattle.replay_bench.specs.declared.survey.Survey.{Survey}
-use Rattle.replay_bench.proofs.Readings.{nothing_noted}
+use Rattle.replay_bench.proofs.Readings.{nothing_read, read_on}
 use Rattle.replay_bench.proofs.commands.Commands.new.Goals as goal
 
 pub returns-clause-new : goal.returns-clause-new
-returns-clause-new g c = record {
-  side_is = refl;
-  version_is = ap (λ d. d.version) c.new-decoder.ensures;
-  noted_is = refl;
-  nothing_held = ap (λ d. d.bytes) c.new-decoder.ensures;
-  nothing_taken = refl;
-  nothing_noted = nothing_noted c.args.version c.args.is_strict c.new-survey.result
-      (c.new-survey.ensures c.args.version);
-}
-
-pub returns-clause-strict : goal.returns-clause-strict
-returns-clause-strict g c = ap (λ (s : Survey). s.is_strict) (c.new-survey.ensures c.args.version)
+returns-clause-new g c =
+    let is = c.new.ensures c.args.version in
+    record {
+      side_is = refl;
+      noted_is = refl;
+      version_is = c.requires;
+      fits = omega (arith, ap (λ (s : Survey). s.size) is);
+      read_on = read_on _ _ _ _ _ (nothing_read _ _ _ _ is);
+      counted = ap (λ (s : Survey). s.commands) is;
+    }

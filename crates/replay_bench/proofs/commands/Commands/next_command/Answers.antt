@@ -1,118 +1,93 @@
-use Rattle.std.proofs.Common.{◌≡◌, ◌+◌, List, ℕ, ◌++◌, ◌∙◌, None, length, length-append, refl, ap, arith, subst, sym}
-use Rattle.std.specs.Io.KnownBytes.{prepend_known}
+use Rattle.std.proofs.Common.{◌∙◌, ◌+◌, ap, arith, cond, sym}
 use Rattle.std.proofs.lemmas.Result.{err_from_is_err_and}
-use Rattle.replay_bench.specs.Taking.{TakesFirst}
-use Rattle.replay_bench.proofs.Fronts.{nothing_after, nothing_left, takes_after, takes_held, takes_chunk}
-use Rattle.replay_bench.proofs.Lengths.{keeps_on, chunk_counts}
-use Rattle.replay_bench.proofs.Readings.{read_held, read_chunk, rejects_chunk}
+use Rattle.std.specs.Prelude.{is_some}
+use Rattle.replay_bench.proofs.Fronts.{nothing_after, nothing_left, takes_after, takes_item}
+use Rattle.replay_bench.proofs.Readings.{counts_found, on_more}
 use Rattle.replay_bench.proofs.commands.Commands.next_command.Goals as goal
 
-pub returns-in-Some-clause-taken : goal.returns-in-Some-clause-taken
-returns-in-Some-clause-taken g c =
-    let inv = c.loop-command.invariant in
-    let version = c.args.self.now.decoder.version in
-    let leads = rw (c.in-Some.is, inv.version) at c.in_ok-command.ensures.leads in
-    takes_after version _ _ _ _ inv.passed (takes_held version _ _ (g.S.Source.coming c.loop-command.self.source) _
-    leads)
+pub next_item-requires-clause-same : goal.next_item-requires-clause-same
+next_item-requires-clause-same g c =
+    c.loop-item.invariant.version ∙ c.requires.same ∙ sym c.loop-item.invariant.same
 
-pub returns-in-Ok-None-clause-taken : goal.returns-in-Ok-None-clause-taken
-returns-in-Ok-None-clause-taken g c =
-    let inv = c.loop-command.invariant in
-    let version = c.args.self.now.decoder.version in
-    let coming = g.S.Source.coming c.loop-command.self.source in
-    let leads = rw (c.in_default.is, inv.version) at c.in_ok-command.ensures.leads in
-    let none = rw inv.version at (c.in_ok-command.ensures.none c.in_default.is) in
-    let end = rw c.in-Ok-None.field-0-is at c.in-Ok-None.ensures.chunk in
-    nothing_after version _ _ (takes_after version _ _ _ _ inv.passed (takes_held version _ _ coming _ leads))
-    (nothing_left version _ coming end none)
+pub next_item-requires-clause-read : goal.next_item-requires-clause-read
+next_item-requires-clause-read g c =
+    let inv = c.loop-item.invariant in
+    let (is_strict, first, read) = c.requires.read in
+    (is_strict, first, rw inv.same (inv.read is_strict first read))
 
-pub loop-command-preserved : goal.loop-command-preserved
-loop-command-preserved g c =
-    let inv = c.loop-command.invariant in
-    let version = c.args.self.now.decoder.version in
-    let before = c.buffered_command.new.decoder.bytes in
-    let chunk = c.in-Ok-Some.chunk in
-    let old = g.S.Source.coming c.loop-command.self.source in
-    let new = g.S.Source.coming c.next_chunk.new.self in
-    let leads = rw (c.in_default.is, inv.version) at c.in_ok-command.ensures.leads in
-    let gives = rw c.in-Ok-Some.field-0-is at c.in-Ok-Some.ensures.chunk in
-    let bytes : c.push.new.decoder.bytes ≡ before ++ chunk = ap (λ d. d.bytes) c.in_ok-self.ensures.pushed in
-    let long : length c.push.new.decoder.bytes ≡ length before + length chunk = ap length bytes ∙ length-append before
-    chunk in
-    let short = rw c.in_default.is at c.in_ok-command.ensures.shorter in
-    let own = c.args.self.now.version in
-    let items = rw inv.same at c.in_ok-command.ensures.read in
-    let commands = rw c.in_default.is at c.in_ok-command.ensures.commands in
+pub returns-in-Some-as_command-clause-taken : goal.returns-in-Some-as_command-clause-taken
+returns-in-Some-as_command-clause-taken g c =
+    let inv = c.loop-item.invariant in
+    let v = c.args.self.now.version in
+    let taken = rw (c.in-Some.is, inv.same) at c.in_ok-item.ensures.taken in
+    takes_after v _ _ _ _ inv.passed
+    (takes_item v _ _ c.in-Some.item _ taken (sym c.in-Some-as_command.is ∙ c.as_command.ensures.is))
+
+pub returns-in-Some-as_command-clause-longer : goal.returns-in-Some-as_command-clause-longer
+returns-in-Some-as_command-clause-longer g c =
+    let longer = rw c.in-Some.is at c.in_ok-item.ensures.longer in
+    omega (arith, longer, c.loop-item.invariant.longer)
+
+pub returns-in-Some-as_command-clause-commands : goal.returns-in-Some-as_command-clause-commands
+returns-in-Some-as_command-clause-commands g c =
+    let commands = rw c.in-Some.is at c.in_ok-item.ensures.commands in
+    let counted = counts_found c.in-Some.item
+    ∙ ap is_some (sym c.as_command.ensures.is ∙ c.in-Some-as_command.is) in
+    commands ∙ ap (λ b. c.loop-item.self.survey.commands + cond b 1 0) counted
+    ∙ ap (λ n. n + 1) c.loop-item.invariant.commands
+
+pub returns-in-Some-as_command-clause-read : goal.returns-in-Some-as_command-clause-read
+returns-in-Some-as_command-clause-read g c =
+    let inv = c.loop-item.invariant in
+    let reads = rw (c.in-Some.is, inv.same) at c.in_ok-item.ensures.read in
+    λ is_strict first read. reads is_strict first (inv.read is_strict first read)
+
+pub loop-item-preserved : goal.loop-item-preserved
+loop-item-preserved g c =
+    let inv = c.loop-item.invariant in
+    let v = c.args.self.now.version in
+    let taken = rw (c.in-Some.is, inv.same) at c.in_ok-item.ensures.taken in
+    let longer = rw c.in-Some.is at c.in_ok-item.ensures.longer in
+    let commands = rw c.in-Some.is at c.in_ok-item.ensures.commands in
+    let reads = rw (c.in-Some.is, inv.same) at c.in_ok-item.ensures.read in
+    let none = sym c.in_default-as_command.is ∙ c.as_command.ensures.is in
+    let counted = commands
+    ∙ ap (λ b. c.loop-item.self.survey.commands + cond b 1 0)
+    (counts_found c.in-Some.item ∙ ap is_some (sym none)) in
     record {
-      same = inv.same;
-      read = λ is_strict first has.
-          let held = read_held own is_strict first old _ _ _ _ _ items (inv.read is_strict first has) in
-          read_chunk own is_strict first old new before chunk _ _ _ _ gives c.in_ok-self.ensures.counted bytes held;
-      commands = omega (arith, commands, inv.commands);
-      version = ap (λ d. d.version) c.in_ok-self.ensures.pushed ∙ c.in_ok-command.ensures.version ∙ inv.version;
-      side = inv.side;
-      held = omega (arith, inv.held, short, c.in_ok-self.ensures.counted, long);
-      fits = c.in_ok-self.ensures.fits;
-      shorter = omega (arith, inv.shorter, short, c.in_ok-self.ensures.counted, long);
-      passed = takes_after version _ _ _ _ (takes_after version _ _ _ _ inv.passed (takes_held version _ _ old _ leads))
-          (subst (λ (held : List ℕ). TakesFirst version (prepend_known before old) None (prepend_known held new))
-          (sym bytes) (takes_chunk version before chunk old new gives));
-      counted = keeps_on _ _ _ inv.counted (chunk_counts _ _ chunk old new gives c.in_ok-self.ensures.counted);
+      fits = c.in_ok-item.ensures.fits;
+      longer = omega (arith, longer, inv.longer);
+      version = c.in_ok-item.ensures.version ∙ inv.version;
+      limit = c.in_ok-item.ensures.limit ∙ inv.limit;
+      side = c.in_ok-item.ensures.side ∙ inv.side;
+      same = c.in_ok-item.ensures.same ∙ inv.same;
+      commands = omega (arith, counted, inv.commands);
+      passed = takes_after v _ _ _ _ inv.passed (takes_item v _ _ c.in-Some.item _ taken none);
+      read = λ is_strict first read.
+          on_more v is_strict first _ _ (reads is_strict first (inv.read is_strict first read));
     }
 
-pub buffered_command-requires-clause-read : goal.buffered_command-requires-clause-read
-buffered_command-requires-clause-read g c =
-    let inv = c.loop-command.invariant in
-    let (is_strict, first, has) = c.requires.read in
-    let now = inv.read is_strict first has in
-    (now.came, is_strict, rw (← inv.same) at now.has, omega (arith, now.long, inv.fits))
+pub returns-clause-taken : goal.returns-clause-taken
+returns-clause-taken g c =
+    let inv = c.loop-item.invariant in
+    let v = c.args.self.now.version in
+    let end = rw (c.in_default.is, inv.same) at c.in_ok-item.ensures.taken in
+    nothing_after v _ _ inv.passed (nothing_left v _ _ end)
 
-pub returns-in-Some-clause-read : goal.returns-in-Some-clause-read
-returns-in-Some-clause-read g c =
-    let inv = c.loop-command.invariant in
-    let own = c.args.self.now.version in
-    let items = rw inv.same at c.in_ok-command.ensures.read in
-    λ is_strict first has. record {
-      left = _;
-      has_read = read_held own is_strict first _ _ _ _ _ _ items (inv.read is_strict first has);
-      is_left = refl;
-    }
+pub returns-clause-commands : goal.returns-clause-commands
+returns-clause-commands g c =
+    let commands = rw c.in_default.is at c.in_ok-item.ensures.commands in
+    omega (arith, commands, c.loop-item.invariant.commands)
 
-pub returns-in-Some-clause-commands : goal.returns-in-Some-clause-commands
-returns-in-Some-clause-commands g c =
-    let commands = rw c.in-Some.is at c.in_ok-command.ensures.commands in
-    omega (arith, commands, c.loop-command.invariant.commands)
+pub returns-clause-read : goal.returns-clause-read
+returns-clause-read g c =
+    let inv = c.loop-item.invariant in
+    let reads = rw (c.in_default.is, inv.same) at c.in_ok-item.ensures.read in
+    λ is_strict first read. reads is_strict first (inv.read is_strict first read)
 
-pub returns-in-Ok-None-clause-read : goal.returns-in-Ok-None-clause-read
-returns-in-Ok-None-clause-read g c =
-    let inv = c.loop-command.invariant in
-    let own = c.args.self.now.version in
-    let items = rw inv.same at c.in_ok-command.ensures.read in
-    let none = rw (inv.version, c.requires.same) at (c.in_ok-command.ensures.none c.in_default.is) in
-    let end = rw c.in-Ok-None.field-0-is at c.in-Ok-None.ensures.chunk in
-    λ is_strict first has. record {
-      left = _;
-      has_read = read_held own is_strict first _ _ _ _ _ _ items (inv.read is_strict first has);
-      is_left = (end, none);
-    }
-
-pub returns-in-Ok-None-clause-commands : goal.returns-in-Ok-None-clause-commands
-returns-in-Ok-None-clause-commands g c =
-    let commands = rw c.in_default.is at c.in_ok-command.ensures.commands in
-    omega (arith, commands, c.loop-command.invariant.commands)
-
-pub returns-in_err-command-clause-rejected : goal.returns-in_err-command-clause-rejected
-returns-in_err-command-clause-rejected g c =
+pub returns-in_err-item-clause-rejected : goal.returns-in_err-item-clause-rejected
+returns-in_err-item-clause-rejected g c =
+    let inv = c.loop-item.invariant in
     let from = err_from_is_err_and c.from_residual.result c.from_residual.ensures.1 in
-    rw (from.1, from.2) tt
-
-pub returns-in_err-self-clause-rejected : goal.returns-in_err-self-clause-rejected
-returns-in_err-self-clause-rejected g c =
-    let inv = c.loop-command.invariant in
-    let old = g.S.Source.coming c.loop-command.self.source in
-    let new = g.S.Source.coming c.next_chunk.new.self in
-    let gives = rw c.in-Ok-Some.field-0-is at c.in-Ok-Some.ensures.chunk in
-    let from = err_from_is_err_and c.from_residual-in_err-self.result c.from_residual-in_err-self.ensures.1 in
-    rw (from.1, from.2)
-    (rejects_chunk c.args.self.now.side g.S.Source.may_fail c.in_err-self.field-0.0 _ _ c.in-Ok-Some.chunk old new
-    inv.counted gives c.in_err-self.ensures.rejected)
+    let rejected = rw (inv.side, inv.same, inv.limit) at c.in_err-item.ensures.rejected in
+    rw (from.1, from.2) (λ is_strict first read. rejected is_strict first (inv.read is_strict first read))
