@@ -9,3 +9,5 @@ pub mod FewRows
 pub mod Checked
 pub mod Ascii
 pub mod SingleBytes
+pub mod Fronts
+pub mod WrittenRecords

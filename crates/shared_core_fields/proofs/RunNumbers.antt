@@ -5,9 +5,8 @@ use Rattle.std.specs.Prelude.{is_some}
 use Rattle.shared_core_wire.specs.Grammar.{IsVarint, IsSequence}
 use Rattle.shared_core_wire.specs.Reader.{◌>>=◌, varint_at, sequence_past, packed_numbers}
 use Rattle.shared_core_wire.proofs.Readers.{some_is, none_some, varint_pos}
-use Rattle.shared_core_wire.proofs.Runs.{and_split}
 use Rattle.shared_core_wire.proofs.Sequences.{reader_varint, all_more, all_reads, packed_again}
-use Rattle.shared_core_codec.specs.Canonicity.{low_varint_at, is_written_run}
+use Rattle.shared_core_codec.specs.Canonicity.{low_varint_at}
 use Rattle.shared_core_codec.proofs.Canonicity.{IsLow, reader_low, low_turn, low_stop}
 use Rattle.shared_core_fields.specs.Runs.{numbers_or_none, run_numbers}
 

@@ -33,10 +33,10 @@ numbered n w = record { number = n; value = w }
 
 -- ---- a record
 
-byte_varint : (b : ℕ) → b < 128 → IsVarint (b ∷ []) b
+pub byte_varint : (b : ℕ) → b < 128 → IsVarint (b ∷ []) b
 byte_varint b h = record { encoding = (h, refl); short = omega arith; fits = omega (arith, h) }
 
-byte_key : (b wire : ℕ) → 8 ≤ b → b < 128 → b % 8 ≡ wire → IsKey (b ∷ []) (b / 8) wire
+pub byte_key : (b wire : ℕ) → 8 ≤ b → b < 128 → b % 8 ≡ wire → IsKey (b ∷ []) (b / 8) wire
 byte_key b wire low high w =
     let whole : b ≡ 8 * (b / 8) + wire = omega (arith, w) in
     record {
@@ -46,7 +46,7 @@ byte_key b wire low high w =
       fits = omega (arith, whole, high);
     }
 
-byte_key_size : (b wire : ℕ) → b < 128 → b % 8 ≡ wire → length (key_bytes (b / 8) wire) ≡ 1
+pub byte_key_size : (b wire : ℕ) → b < 128 → b % 8 ≡ wire → length (key_bytes (b / 8) wire) ≡ 1
 byte_key_size b wire high w =
     let whole : 8 * (b / 8) + wire ≡ b = omega (arith, w) in
     ap (λ (n : ℕ). length (shortest_varint n)) whole ∙ ap length (shortest_small b high)

@@ -1,8 +1,8 @@
 -- Which records an iterator over fields may have left: those that may come next in a canonical payload.
-use Rattle.std.specs.Prelude.{Bool, true, false, ◌&&◌, List, [], ◌∷◌, length, nat_lt, Some, None, Result, Ok, Err}
+use Rattle.std.specs.Prelude.{ℕ, Bool, true, false, ◌&&◌, List, [], ◌∷◌, length, nat_lt, Some, None, Result, Ok, Err}
 use Rattle.shared_core_wire.specs.Grammar.{RecordValue, content}
 use Rattle.shared_core_wire.specs.ReadRecords.{PlacedRecord}
-use Rattle.shared_core_wire.specs.Schema.{Kind, Row}
+use Rattle.shared_core_wire.specs.Schema.{Kind, Row, Plain, Optional}
 use Rattle.shared_core_wire.specs.Acceptance.{NestedAcceptance}
 use Rattle.shared_core_wire.specs.declared.error.WireError.{WireError}
 use Rattle.shared_core_codec.specs.Canonicity.{is_canonical_payload, is_written_value, is_written_element, next_field}
@@ -29,3 +29,8 @@ are_coming rows (Ok r ∷ items) = elim (next_field rows r.field_record.number) 
       (is_short r.field_record.value && is_typed next.field r.field_record.value) && are_coming next.rows items
 ]
 are_coming rows (Err e ∷ items) = false
+
+-- The row of a field that is not repeated, which is plain or optional.
+abbrev pub single_row : Bool → ℕ × Kind → Row
+single_row true f = Plain f.0 f.1
+single_row false f = Optional f.0 f.1

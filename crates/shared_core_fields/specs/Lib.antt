@@ -1,5 +1,7 @@
 pub mod Runs
 pub mod Fields
+pub mod KnownValues
+pub mod WrittenRecords
 pub mod Coming
 pub mod Views
 pub mod Entries

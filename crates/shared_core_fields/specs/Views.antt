@@ -2,8 +2,8 @@
 use Rattle.std.specs.Prelude.{◌≡◌, ℕ, ◌+◌, ◌-◌, ◌≤◌, List, [], ◌∷◌, map, take, drop, length, Some, None, Result, Ok}
 use Rattle.std.specs.Prelude.{Err}
 use Rattle.shared_core_wire.specs.Grammar.{RecordValue, Length, content}
-use Rattle.shared_core_wire.specs.ReadRecords.{PlacedRecord}
-use Rattle.shared_core_wire.specs.RecordsLeft.{records_left}
+use Rattle.shared_core_wire.specs.Reader.{record_at}
+use Rattle.shared_core_wire.specs.ReadRecords.{PlacedRecord, records_past}
 use Rattle.shared_core_wire.specs.Schema.{Kind, Row, U32, U64, Boolean, Enumeration, Text, ByteString, Message}
 use Rattle.shared_core_wire.specs.Value.{Part, Number, Bytes, Nested, Elements}
 use Rattle.shared_core_wire.specs.Overlay.{low_numbers}
@@ -108,7 +108,7 @@ item_fields rows (Err e ∷ items) = []
 
 -- What an iterator over fields has still to return, with where the bytes are.
 unfoldable pub places_left : Fields → List PlacedField
-places_left f = item_fields (rows_view f.rows) (records_left f.records)
+places_left f = item_fields (rows_view f.rows) (records_past (record_at 0) f.end 0 f.rest.now)
 
 -- The same without where they are.
 abbrev pub fields_left : Fields → List FieldPart

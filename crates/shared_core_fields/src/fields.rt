@@ -1,17 +1,18 @@
 //! A canonical payload, and its fields one by one.
 
-ghost use Rattle.std.specs.Prelude.{◌≡◌, ◌↔◌, ◌<◌, length, true, IfSome};
+ghost use Rattle.std.specs.Prelude.{◌≡◌, ◌↔◌, ◌<◌, ◌≤◌, length, true, IfSome};
 ghost use Rattle.shared_core_codec.specs.Canonicity.{is_canonical_payload};
 ghost use Rattle.shared_core_codec.specs.ProgramRows.{rows_view};
-ghost use Rattle.shared_core_wire.specs.RecordsLeft.{records_left};
+ghost use Rattle.shared_core_wire.specs.Reader.{record_at};
+ghost use Rattle.shared_core_wire.specs.ReadRecords.{records_past};
 ghost use Rattle.shared_core_fields.specs.Coming.{are_coming};
 
-use crate::next::find_next;
+use crate::known::{known_key, known_value};
+use crate::next::known_next;
 use crate::runs::Run;
 use crate::table::check::check_payload;
 use crate::typed::{content_offset, typed_value};
 use shared_core_codec::rows::{Row, rows_of};
-use shared_core_wire::records::Records;
 
 /// A payload that is canonical for a schema: `check` makes one, and so does reading a message field, without a second
 /// check.
@@ -56,10 +57,13 @@ pub struct Field<'a> {
 /// those of nested messages are passed over.
 #[derive(Drop)]
 pub struct Fields<'a> {
-    records: Records<'a>,
+    rest: &'a [u8],
+    /// The length of the payload, in bytes.
+    end: usize,
     /// The rows of which records may come next.
     rows: &'static [Row],
-    ghost coming: { are_coming (rows_view rows) (records_left records) ≡ true },
+    ghost inside: { length rest.now ≤ end },
+    ghost coming: { are_coming (rows_view rows) (records_past (record_at 0) end 0 rest.now) ≡ true },
 }
 
 impl<'a> CanonicalPayload<'a> {
@@ -110,7 +114,8 @@ impl<'a> Fields<'a> {
         ensures places { EachIsAt bytes.now (places_left result) }
     {
         Fields {
-            records: Records::within(bytes, 0),
+            rest: bytes,
+            end: bytes.len(),
             rows: rows_of(schema),
         }
     }
@@ -129,21 +134,20 @@ impl<'a> Iterator for Fields<'a> {
     // so that a field need not be put together in memory
     #[inline(always)]
     fn next(&mut self) -> Option<Field<'a>> {
-        let Some(item) = self.records.next() else {
+        if self.rest.is_empty() {
             return None;
-        };
-        let Ok(record) = item else {
-            unreachable!();
-        };
-        let Some(next) = find_next(self.rows, record.number) else {
-            unreachable!();
-        };
+        }
+        let (number, wire, bytes) = known_key(self.rest);
+        let next = known_next(self.rows, number);
+        let (value, rest) = known_value(wire, bytes);
+        let to = self.end - rest.len();
+        self.rest = rest;
         self.rows = next.rows;
         Some(Field {
-            number: record.number,
+            number,
             is_repeated: next.field.is_repeated,
-            value: typed_value(next.field, record.value),
-            offset: content_offset(record.value, record.span.1),
+            value: typed_value(next.field, value),
+            offset: content_offset(value, to),
         })
     }
 }

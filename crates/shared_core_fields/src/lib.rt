@@ -3,9 +3,11 @@
 #![tactic(auto)]
 
 pub mod fields;
+mod known;
 pub mod laws;
 mod next;
 pub mod runs;
+mod shortest;
 pub mod table;
 pub mod text;
 mod typed;

@@ -32,7 +32,7 @@ fn is_short_ascii(bytes: &[u8]) -> bool
 
 /// Whether fewer than eight bytes are ASCII.
 #[inline(always)]
-fn is_shortest_ascii(bytes: &[u8]) -> bool
+pub fn is_shortest_ascii(bytes: &[u8]) -> bool
     requires { length bytes.now < 8 }
     ensures { IsTrue result → is_utf8 bytes.now ≡ true }
 {
@@ -45,7 +45,7 @@ fn is_shortest_ascii(bytes: &[u8]) -> bool
 
 /// Whether bytes are ASCII, by their first N and their last N, which overlap.
 #[inline(always)]
-fn is_ascii_twice<const N: usize>(bytes: &[u8]) -> bool
+pub fn is_ascii_twice<const N: usize>(bytes: &[u8]) -> bool
     requires lanes { N ≤ 64 }
     requires long { N ≤ length bytes.now }
     requires short { length bytes.now ≤ N + N }

@@ -5,7 +5,7 @@ ghost use Rattle.std.specs.Prelude.{IfSome, IfNone};
 ghost use Rattle.shared_core_wire.specs.Grammar.{Varint, Length, content};
 ghost use Rattle.shared_core_wire.specs.View.{value_of};
 ghost use Rattle.shared_core_codec.specs.Canonicity.{IsCanonical, is_canonical_payload, is_canonical_message};
-ghost use Rattle.shared_core_codec.specs.Canonicity.{coming_after, is_written_field};
+ghost use Rattle.shared_core_codec.specs.Canonicity.{rows_after, is_written_field};
 ghost use Rattle.shared_core_codec.specs.Checking.{field_record_of};
 ghost use Rattle.shared_core_codec.specs.Payloads.{payload_meaning};
 ghost use Rattle.shared_core_codec.specs.ProgramRows.{found_view, kind_view, row_view, rows_view};
@@ -19,12 +19,13 @@ use super::write::{bytes_entry, number_entry, put, write_payload, write_run};
 use super::{FieldEntry, kind_number};
 use crate::next::find_next;
 use crate::runs::Run;
+use crate::shortest::read_written;
 use crate::text::is_text;
-use shared_core_codec::canonical::{NextField, is_written_number, is_written_run, written_size};
+use shared_core_codec::canonical::{NextField, is_written_number, is_written_run};
 use shared_core_codec::rows::{Kind, Row, rows_of};
 use shared_core_codec::size::Size;
 use shared_core_wire::record::WireValue;
-use shared_core_wire::records::{LEVELS, Record, Records};
+use shared_core_wire::records::{LEVELS, Record};
 
 /// How many entries are kept until a payload is known to be canonical, of one of fewer than 32 bytes, of one of fewer
 /// than 64, and of another one. The room for them is set first, at each call.
@@ -98,99 +99,99 @@ pub(crate) fn check_payload(out: &mut [FieldEntry], schema: u32, payload: &[u8])
     if payload.len() as u64 >= Size::LIMIT {
         return None;
     }
-    check_message(out, 0, schema, payload, payload, 0, LEVELS)
+    let place = Inside {
+        whole: payload,
+        offset: 0,
+        left: LEVELS,
+    };
+    check_message(out, 0, schema, payload, place)
 }
 
-/// Checks the bytes of a message for its schema, which are at an offset in the whole payload, and writes its entries,
-/// from an index on; messages may be nested `left` deep in it. Returns the index after the last one, or `None` if the
-/// bytes are not canonical.
+/// Where the message is whose records are checked: the payload that it is in, the offset of its bytes there, and how
+/// deep messages may be nested in it.
+#[derive(Clone, Copy)]
+struct Inside<'a> {
+    whole: &'a [u8],
+    offset: usize,
+    left: u32,
+}
+
+/// Checks the bytes of a message for its schema, which are at a place, and writes its entries, from an index on.
+/// Returns the index after the last one, or `None` if the bytes are not canonical.
 #[cycle(check)]
-fn check_message(
+fn check_message<'a>(
     out: &mut [FieldEntry],
     at: usize,
     schema: u32,
     bytes: &[u8],
-    whole: &[u8],
-    offset: usize,
-    left: u32,
+    place: Inside<'a>,
 ) -> Option<usize>
     requires short { length bytes.now < 4294967296 }
-    requires place { IsAt whole.now offset bytes.now }
-    requires levels { left ≤ 100 }
+    requires place { IsAt place.whole.now place.offset bytes.now }
+    requires levels { place.left ≤ 100 }
     requires few { at + length bytes.now < 2 ^ 63 }
-    ensures canonical { is_some result ≡ is_canonical_payload left schema bytes.now }
-    ensures rows { IfSome result (λ n. WritesTo whole.now (fields_rows left (100 - left)
-        (message_fields (table schema) (payload_meaning schema bytes.now))) at out.old out.new n) }
+    ensures canonical { is_some result ≡ is_canonical_payload place.entry.left schema bytes.now }
+    ensures rows { IfSome result (λ n. WritesTo place.entry.whole.now (fields_rows place.entry.left
+        (100 - place.entry.left) (message_fields (table schema) (payload_meaning schema bytes.now))) at
+        out.old out.new n) }
     ensures few { IfSome result (λ n. n ≤ at + length bytes.now) }
 {
     let mut rows = rows_of(schema);
-    let mut room = bytes.len() as u64;
     let mut count = at;
-    // a group is never canonical
-    for item in Records::within(bytes, 0) {
-        let Ok(found) = item else {
-            return None;
+    let mut left = bytes;
+    while !left.is_empty() {
+        let (number, value, after) = read_written(left)?;
+        let found = Record {
+            number,
+            value,
+            span: (bytes.len() - left.len(), bytes.len() - after.len()),
         };
-        let Some((after, rest, still)) = check_record(
-            out, count, &found, rows, room, whole, offset, left,
-        ) else {
-            return None;
-        };
-        count = after;
+        let (next, rest) = check_record(out, count, &found, rows, place)?;
+        count = next;
         rows = rest;
-        room = still;
+        left = after;
     }
-    // more bytes than the records take when they are written
-    if room == 0 { Some(count) } else { None }
+    Some(count)
 }
 
 /// The same of a record of a message, of which one of these rows may come next. Returns also the rows that may come
-/// after it, and how many bytes the records after it have to have, of `room` bytes with it. The offset is that of the
-/// message.
+/// after it.
 #[cycle(check)]
 #[inline(always)]
-fn check_record<'a>(
+fn check_record<'a, 'b>(
     out: &mut [FieldEntry],
     at: usize,
     found: &Record<'_>,
     rows: &'a [Row],
-    room: u64,
-    whole: &[u8],
-    offset: usize,
-    left: u32,
-) -> Option<(usize, &'a [Row], u64)>
+    place: Inside<'b>,
+) -> Option<(usize, &'a [Row])>
     requires short { length (content (value_of found.now.value)) < 4294967296 }
     requires within { length (content (value_of found.now.value)) ≤ found.now.span.1 }
-    requires place { IsAt whole.now (offset + content_offset (value_of found.now.value) found.now.span.1)
+    requires place { IsAt place.whole.now (place.offset + content_offset (value_of found.now.value) found.now.span.1)
         (content (value_of found.now.value)) }
-    requires levels { left ≤ 100 }
-    requires few { at + room < 2 ^ 63 }
-    ensures canonical { option_map (λ x. (rows_view x.1, x.2)) result
-        ≡ coming_after (is_canonical_message left) (map row_view rows.now, room) (field_record_of found.now) }
-    ensures rows { IfSome result (λ x. WritesNext whole.now left (map row_view rows.now) (field_record_of found.now)
-        at out.old out.new x.0 (rows_view x.1)) }
-    ensures few { IfSome result (λ x. x.0 + x.2 ≤ at + room) }
+    requires levels { place.left ≤ 100 }
+    requires few { at + 1 + length (content (value_of found.now.value)) < 2 ^ 63 }
+    ensures canonical { option_map (λ x. rows_view x.1) result
+        ≡ rows_after (is_canonical_message place.entry.left) (map row_view rows.now) (field_record_of found.now) }
+    ensures rows { IfSome result (λ x. WritesNext place.entry.whole.now place.entry.left (map row_view rows.now)
+        (field_record_of found.now) at out.old out.new x.0 (rows_view x.1)) }
+    ensures few { IfSome result (λ x. x.0 ≤ at + 1 + length (content (value_of found.now.value))) }
 {
     // the wire type first, so that each is compiled on its own
     match found.value {
         WireValue::Varint(number) => {
             let next = find_next(rows, found.number)?;
-            let size = written_size(found);
-            if room < size {
-                return None;
-            }
-            let count = check_number(out, at, found.number, next, number, left)?;
-            Some((count, next.rows, room - size))
+            let count = check_number(out, at, found.number, next, number, place.left)?;
+            Some((count, next.rows))
         }
         WireValue::Length(content) => {
             let next = find_next(rows, found.number)?;
-            let size = written_size(found);
-            if room < size {
-                return None;
-            }
-            let start = offset + (found.span.1 - content.len());
-            let count = check_content(out, at, found.number, next, content, whole, start, left)?;
-            Some((count, next.rows, room - size))
+            let inner = Inside {
+                offset: place.offset + (found.span.1 - content.len()),
+                ..place
+            };
+            let count = check_content(out, at, found.number, next, content, inner)?;
+            Some((count, next.rows))
         }
         _ => None,
     }
@@ -237,30 +238,29 @@ fn check_number(
 /// those within it, or one for each number of a packed run.
 #[cycle(check)]
 #[inline(always)]
-fn check_content(
+fn check_content<'a>(
     out: &mut [FieldEntry],
     at: usize,
     number: u32,
     next: NextField<'_>,
     content: &[u8],
-    whole: &[u8],
-    offset: usize,
-    left: u32,
+    place: Inside<'a>,
 ) -> Option<usize>
     requires short { length content.now < 4294967296 }
-    requires place { IsAt whole.now offset content.now }
-    requires levels { left ≤ 100 }
+    requires place { IsAt place.whole.now place.offset content.now }
+    requires levels { place.left ≤ 100 }
     requires few { at + 1 + length content.now < 2 ^ 63 }
-    ensures canonical { is_some result ≡ is_written_field (is_canonical_message left) next.entry.is_plain
+    ensures canonical { is_some result ≡ is_written_field (is_canonical_message place.entry.left) next.entry.is_plain
         (found_view next.entry.field) (Length content.now) }
-    ensures rows { IfSome result (λ n. WritesTo whole.now (record_rows left number (found_view next.entry.field)
-        (Length content.now)) at out.old out.new n) }
+    ensures rows { IfSome result (λ n. WritesTo place.entry.whole.now (record_rows place.entry.left number
+        (found_view next.entry.field) (Length content.now)) at out.old out.new n) }
     ensures few { IfSome result (λ n. n ≤ at + 1 + length content.now) }
 {
     if next.is_plain && !next.field.is_repeated && content.is_empty() {
         return None;
     }
-    let level = LEVELS - left;
+    let offset = place.offset;
+    let level = LEVELS - place.left;
     match next.field.kind {
         Kind::Text => {
             if !is_text(content) {
@@ -289,7 +289,7 @@ fn check_content(
             Some(at + 1)
         }
         Kind::Message(schema) => {
-            if left == 0 {
+            if place.left == 0 {
                 return None;
             }
             put(
@@ -319,7 +319,11 @@ fn check_content(
                 );
                 return Some(at + 2);
             }
-            check_message(out, at + 1, schema, content, whole, offset, left - 1)
+            let inner = Inside {
+                left: place.left - 1,
+                ..place
+            };
+            check_message(out, at + 1, schema, content, inner)
         }
         Kind::U32 => {
             if !next.field.is_repeated || !is_written_run(content) {

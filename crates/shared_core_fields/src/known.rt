@@ -1,0 +1,52 @@
+//! Reading the records of a payload that is known to be canonical: no step can fail, and none is checked again.
+
+ghost use Rattle.std.specs.Prelude.{◌≡◌, true, is_some, Some};
+ghost use Rattle.shared_core_wire.specs.Reader.{varint_at, key_at};
+ghost use Rattle.shared_core_wire.specs.View.{value_of};
+ghost use Rattle.shared_core_fields.specs.KnownValues.{known_value_at};
+
+use shared_core_wire::record::WireValue;
+use shared_core_wire::varint::{low_32, read_varint};
+
+/// Reads the varint that the bytes begin with. Returns its number and the bytes after it.
+#[inline(always)]
+#[tactic(auto, using(crate::proofs::Fronts::varint_there, crate::proofs::Fronts::varint_byte))]
+pub(crate) fn known_varint(bytes: &[u8]) -> (u64, &[u8])
+    requires { is_some (varint_at bytes.now) ≡ true }
+    ensures { varint_at bytes.now ≡ Some (result.0, result.1.now) }
+{
+    // most are keys, lengths and small numbers of one byte
+    if bytes[0] < 128 {
+        return (u64::from(bytes[0]), &bytes[1..]);
+    }
+    let Some(found) = read_varint(bytes) else {
+        unreachable!();
+    };
+    found
+}
+
+/// Reads the key of the record that the bytes begin with. Returns its field number, its wire type and the bytes after
+/// it.
+#[inline(always)]
+pub(crate) fn known_key(bytes: &[u8]) -> (u32, u8, &[u8])
+    requires { is_some (key_at bytes.now) ≡ true }
+    ensures { key_at bytes.now ≡ Some (result.0, result.1, result.2.now) }
+{
+    let (key, rest) = known_varint(bytes);
+    (low_32(key / 8), (key % 8) as u8, rest)
+}
+
+/// Reads the value after a key of a wire type. Returns it and the bytes after it.
+#[inline(always)]
+pub(crate) fn known_value(wire: u8, bytes: &[u8]) -> (WireValue<'_>, &[u8])
+    requires { is_some (known_value_at wire bytes.now) ≡ true }
+    ensures { known_value_at wire bytes.now ≡ Some (value_of result.0, result.1.now) }
+{
+    let (number, rest) = known_varint(bytes);
+    if wire == 2 {
+        let (content, rest) = rest.split_at(number as usize);
+        (WireValue::Length(content), rest)
+    } else {
+        (WireValue::Varint(number), rest)
+    }
+}
