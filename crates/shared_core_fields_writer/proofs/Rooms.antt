@@ -12,8 +12,8 @@ use Rattle.std.proofs.Math.Seq.{take-add, take-set-lt, paste}
 use Rattle.shared_core_wire.specs.Encoding.{shortest_varint, key_bytes}
 use Rattle.shared_core_wire.proofs.Shortest.{shortest_small, shortest_large}
 use Rattle.shared_core_record_writer.specs.Records.{number_record, content_record, at_most_64_bits}
-use Rattle.shared_core_fields_writer.specs.Room.{Wrote, WroteLength}
-use Rattle.shared_core_fields_writer.proofs.ShortRecords.{short_key, short_put}
+use Rattle.shared_core_fields_writer.specs.Room.{Wrote, WroteLength, WroteShortHead}
+use Rattle.shared_core_fields_writer.proofs.ShortRecords.{by_some, short_key, short_put}
 
 pub wrote_byte : (old : List ℕ) (at to byte : ℕ) → length old < 18446744073709551616 → to ≡ at_most_64_bits (at + 1)
     → at
@@ -57,6 +57,17 @@ wrote_both a b c i j k xs ys v w =
 
 pub wrote_as : (a b : List ℕ) (i j : ℕ) (xs ys : List ℕ) → Wrote a i b j xs → xs ≡ ys → Wrote a i b j ys
 wrote_as a b i j xs ys w e = subst (λ (zs : List ℕ). Wrote a i b j zs) e w
+
+-- bytes that are written over those after an index
+pub wrote_over : (a b c : List ℕ) (i k : ℕ) (xs : List ℕ) → length b ≡ length a → take i b ≡ take i a → Wrote b i c k xs
+    → Wrote a i c k xs
+wrote_over a b c i k xs s t w = record {
+  same_length = w.same_length ∙ s;
+  before = w.before ∙ t;
+  up = w.up;
+  count = w.count;
+  written = λ h. w.written (omega (arith, h, s)) ∙ ap (λ (ys : List ℕ). ys ++ xs) t;
+}
 
 -- ---- varints
 
@@ -139,6 +150,17 @@ wrote_short_content plain n content new old at to h l k big r third =
     (sym (ap (λ (b : Bool). cond b [] (key_bytes n 2 ++ (shortest_varint m ++ content))) k
     ∙ ap (λ (xs : List ℕ). xs ++ (shortest_varint m ++ content)) (short_key n 2 h (omega arith))
     ∙ ap (λ (xs : List ℕ). x ∷ (xs ++ content)) (shortest_small m l)))
+
+-- the same after its key and its length, which are there
+module _ (old head new content : List ℕ) (at n end after : ℕ) (big : length old < 18446744073709551616)
+    (h : WroteShortHead old at n (length content) head end) (w : Wrote head (at + 2) new after content) where
+  pub wrote_after_head : (plain : Bool) → Wrote old at new end (content_record plain n content)
+  wrote_after_head plain =
+      let last : after ≡ end = omega (arith, w.count, h.end, h.room, big) in
+      subst (λ (j : ℕ). Wrote old at new j (content_record plain n content)) last
+      (wrote_short_content plain n content new old at after h.key (omega (arith, h.few))
+      (by_some plain (length content) (omega (arith, h.some))) big (omega (arith, h.end, h.room))
+      (subst (λ (xs : List ℕ). Wrote xs (at + 2) new after content) h.written w))
 
 -- ---- the length of bytes, put before them
 

@@ -20,7 +20,7 @@ use Rattle.shared_core_fields_writer.specs.Given.{Given, Number, Content, Opens,
 use Rattle.shared_core_record_writer.specs.Records.{number_record, content_record}
 use Rattle.shared_core_record_writer.specs.Records.{at_most_64_bits}
 use Rattle.shared_core_fields_writer.specs.Room.{Wrote, WroteLength}
-use Rattle.shared_core_fields_writer.proofs.Rooms.{less_stays, wrote_both}
+use Rattle.shared_core_fields_writer.proofs.Rooms.{less_stays, wrote_both, wrote_over}
 use Rattle.shared_core_fields_writer.specs.Walk.{Walked, onto, nested_onto, is_packed}
 use Rattle.shared_core_fields_writer.specs.Walk.{Nothing, Within, Numbers, run_numbers, varints, rest_of, walk, Goes}
 use Rattle.shared_core_fields_writer.specs.Walk.{Continues, Writes, Nests}
@@ -62,18 +62,14 @@ pub nests_over : {T : Type 0} (r : Result T Reason) (w : Walked) (a b c : List �
 nests_over (Ok y) w a b c i k left s t n = (
   n.0,
   n.1,
-  record {
-    same_length = n.2.same_length ∙ s;
-    before = n.2.before ∙ t;
-    up = n.2.up;
-    count = n.2.count;
-    written =
-        λ h.
-        n.2.written (omega (arith, h, s))
-        ∙ ap (λ (xs : List ℕ). xs ++ (shortest_varint (length n.0) ++ n.0)) t;
-  },
+  wrote_over a b c i k (shortest_varint (length n.0) ++ n.0) s t n.2,
 )
 nests_over (Err y) w a b c i k left s t n = n
+
+pub writes_over : {T : Type 0} (r : Result T Reason) (w : Walked) (a b c : List ℕ) (i k : ℕ) (left : List FieldEntry) →
+    length b ≡ length a → take i b ≡ take i a → Writes r w b i c k left → Writes r w a i c k left
+writes_over (Ok y) w a b c i k left s t n = (n.0, n.1, wrote_over a b c i k n.0 s t n.2)
+writes_over (Err y) w a b c i k left s t n = n
 
 -- the room is that of a short length, or was compared with the length
 pub few_bytes : (place start end likely : ℕ) → place ≤ start → start ≡ at_most_64_bits (place + length (shortest_varint
@@ -252,30 +248,30 @@ module _ (bytes : List ℕ) (s : ℕ) (left : List Row) (last : Option ℕ) (n l
 
 pub field_message : (bytes : List ℕ) (s : ℕ) (left : List Row) (last : Option ℕ) (n level depth : ℕ)
     (now es rest : List FieldEntry) (e : FieldEntry) (next : Next) → now ≡ e ∷ es → e.level ≡ level → e.number ≡ n →
-    field_next (table s) left last n ≡ Ok next → (t : ℕ) → 0 < depth → Ok (Opens t) ≡ given bytes next.field.0 e → rest
-    ≡
-    rest_of (level + 1) es → walk bytes s left last Nothing level depth now ≡ nested_onto n (walk bytes t (table t) None
-    Nothing (level + 1) (depth - 1) es) (walk bytes s next.rows (Some n) Nothing level depth rest)
-field_message bytes s left last n level zero now es rest e next i h k f t d v r = absurd (omega (arith, d))
-field_message bytes s left last n level (suc below) now es rest e next i h k f t d v r =
+    field_next (table s) left last n ≡ Ok next → (t : ℕ) → 0 < depth → (d : ℕ) → d ≡ depth - 1 → Ok (Opens t) ≡ given
+    bytes next.field.0 e → rest ≡ rest_of (level + 1) es → walk bytes s left last Nothing level depth now ≡
+    nested_onto n (walk bytes t (table t) None Nothing (level + 1) d es) (walk bytes s next.rows (Some n) Nothing level
+    depth rest)
+field_message bytes s left last n level zero now es rest e next i h k f t some d same v r = absurd (omega (arith, some))
+field_message bytes s left last n level (suc below) now es rest e next i h k f t some d same v r =
     let own : field_next (table s) left last e.number ≡ Ok next = ap (field_next (table s) left last) k ∙ f in
     let one : suc level ≡ level + 1 = omega arith in
-    let less : below ≡ suc below - 1 = omega arith in
+    let less : below ≡ d = omega (arith, same) in
     ap (walk bytes s left last Nothing level (suc below)) i
     ∙ of_message bytes s left last level below e es h next t own (sym v)
     ∙ ap (λ (m : ℕ). nested_onto m (walk bytes t (table t) None Nothing (suc level) below es) (walk bytes s next.rows
     (Some m)
     Within level (suc below) es)) k
-    ∙ ap (λ (d : ℕ). nested_onto n (walk bytes t (table t) None Nothing (suc level) d es) (walk bytes s next.rows (Some
+    ∙ ap (λ (m : ℕ). nested_onto n (walk bytes t (table t) None Nothing (suc level) m es) (walk bytes s next.rows (Some
     n)
     Within level (suc below) es)) less
-    ∙ ap (nested_onto n (walk bytes t (table t) None Nothing (suc level) (suc below - 1) es)) (past_within bytes s
+    ∙ ap (nested_onto n (walk bytes t (table t) None Nothing (suc level) d es)) (past_within bytes s
     next.rows
     (Some n) level (suc below) es)
-    ∙ ap (λ (m : ℕ). nested_onto n (walk bytes t (table t) None Nothing m (suc below - 1) es) (walk bytes s next.rows
+    ∙ ap (λ (m : ℕ). nested_onto n (walk bytes t (table t) None Nothing m d es) (walk bytes s next.rows
     (Some n)
     Nothing level (suc below) (rest_of m es))) one
-    ∙ ap (λ (ys : List FieldEntry). nested_onto n (walk bytes t (table t) None Nothing (level + 1) (suc below - 1) es)
+    ∙ ap (λ (ys : List FieldEntry). nested_onto n (walk bytes t (table t) None Nothing (level + 1) d es)
     (walk
     bytes s next.rows (Some n) Nothing level (suc below) ys)) (sym r)
 
@@ -314,16 +310,17 @@ unfolding walk
 walk_none bytes s left last level depth = refl
 
 -- one entry more, at the level of the message
-pub message_step : (bytes : List ℕ) (s : ℕ) (left rows : List Row) (last : Option ℕ) (n level at depth : ℕ) (now rest :
-    List FieldEntry) (start : Walked) (a b c : List ℕ) (i j k : ℕ) → at ≡ level → ((x : List ℕ) × (start ≡
-    onto x (walk bytes s left last Nothing level depth now)) × Wrote a i b j x) → ((y : List ℕ) × (walk bytes s left
-    last Nothing at depth now ≡ onto y (walk bytes s rows (Some n) Nothing at depth rest)) × Wrote b j c k y) →
-    (z : List ℕ) × (start ≡ onto z (walk bytes s rows (Some n) Nothing level depth rest)) × Wrote a i c k z
+pub message_step : (bytes : List ℕ) (s : ℕ) (left rows : List Row) (last : Option ℕ) (n level at : ℕ) (depth : ℕ → ℕ)
+    (now rest : List FieldEntry) (start : Walked) (a b c : List ℕ) (i j k : ℕ) → at ≡ level → ((x : List ℕ) × (start ≡
+    onto x (walk bytes s left last Nothing level (depth level) now)) × Wrote a i b j x) → ((y : List ℕ) × (walk bytes s
+    left last Nothing at (depth at) now ≡ onto y (walk bytes s rows (Some n) Nothing at (depth at) rest)) × Wrote b j c
+    k y) → (z : List ℕ) × (start ≡ onto z (walk bytes s rows (Some n) Nothing level (depth level) rest)) × Wrote a i c k
+    z
 message_step bytes s left rows last n level at depth now rest start a b c i j k same v w = (
   v.0 ++ w.0,
-  message_more v.0 w.0 start (walk bytes s left last Nothing level depth now) (walk bytes s rows (Some n) Nothing level
-      depth rest) v.1 (subst (λ (l : ℕ). walk bytes s left last Nothing l depth now ≡ onto w.0 (walk bytes s rows
-      (Some n) Nothing l depth rest)) same w.1),
+  message_more v.0 w.0 start (walk bytes s left last Nothing level (depth level) now) (walk bytes s rows (Some n)
+      Nothing level (depth level) rest) v.1 (subst (λ (l : ℕ). walk bytes s left last Nothing l (depth l) now ≡ onto w.0
+      (walk bytes s rows (Some n) Nothing l (depth l) rest)) same w.1),
   wrote_both a b c i j k v.0 w.0 v.2 w.2,
 )
 

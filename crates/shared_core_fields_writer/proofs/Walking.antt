@@ -3,15 +3,16 @@ use Rattle.std.proofs.Common.{◌≡◌, ◌≢◌, length, ℕ, zero, suc, ◌<
 use Rattle.std.proofs.Common.{◌&&◌, Option, Some, None, Ok, Err, refl, sym, ap, append_assoc, eqb}
 use Rattle.std.proofs.Common.{arith, inl, inr}
 use Rattle.std.proofs.lemmas.Bool.{lt-ltb, le-ltb, eqb-true, eqb-false, cases_lt}
+use Rattle.std.specs.Str.{is_utf8}
 use Rattle.shared_core_wire.proofs.Runs.{and_split}
-use Rattle.shared_core_wire.specs.Schema.{Row, U32}
+use Rattle.shared_core_wire.specs.Schema.{Row, U32, Text, ByteString}
 use Rattle.shared_core_codec.specs.Table.{table}
 use Rattle.shared_core_codec.specs.RowEncoding.{length_record}
 use Rattle.shared_core_codec.specs.Canonicity.{Next}
 use Rattle.shared_core_fields.specs.declared.table.FieldEntry.{FieldEntry}
 use Rattle.shared_core_fields_writer.specs.declared.error.Reason.{Reason}
 use Rattle.shared_core_fields_writer.specs.declared.error.Reason.TheVariants.{WrongLevel, TooDeep}
-use Rattle.shared_core_fields_writer.specs.Given.{Given, Number, Content, Opens, given, field_next}
+use Rattle.shared_core_fields_writer.specs.Given.{Given, Number, Content, Opens, content, given, field_next}
 use Rattle.shared_core_record_writer.specs.Records.{number_record, content_record}
 use Rattle.shared_core_fields_writer.specs.Walk.{Walked, onto, nested_onto, is_packed}
 use Rattle.shared_core_fields_writer.specs.Walk.{More}
@@ -99,6 +100,16 @@ pub of_message : (bytes : List ℕ) (s : ℕ) (left : List Row) (last : Option �
 unfolding walk
 of_message bytes s left last level depth e es h next t f g =
     rw (le-ltb e.level level (omega (arith, h)), le-ltb level e.level (omega (arith, h)), f, g) refl
+
+-- ---- a text and bytes
+
+pub given_text : (bytes b : List ℕ) (e : FieldEntry) → e.kind ≡ 5 → content bytes e ≡ Ok b → is_utf8 b ≡ true → given
+    bytes Text e ≡ Ok (Content b)
+given_text bytes b e k h t = rw (k, h, t) refl
+
+pub given_bytes : (bytes b : List ℕ) (e : FieldEntry) → e.kind ≡ 6 → content bytes e ≡ Ok b → given bytes ByteString e ≡
+    Ok (Content b)
+given_bytes bytes b e k h = rw (k, h) refl
 
 -- ---- the entries after the first one
 

@@ -1,6 +1,7 @@
 //! What an entry gives to a field.
 
-ghost use Rattle.std.specs.Prelude.{◌≡◌, map, IfOk};
+ghost use Rattle.std.specs.Prelude.{◌≡◌, ℕ, true, List, map, Option, Ok, IfOk, IfSome};
+ghost use Rattle.shared_core_wire.specs.Schema as schema;
 ghost use Rattle.shared_core_codec.specs.Table.{table};
 ghost use Rattle.shared_core_codec.specs.ProgramRows.{kind_view, row_view, rows_view};
 ghost use Rattle.shared_core_codec.specs.Canonicity.{next_view};
@@ -36,6 +37,25 @@ fn content_of<'a>(entry: &FieldEntry, bytes: &'a [u8]) -> Result<&'a [u8], Reaso
     }
     let start = entry.offset as usize;
     Ok(&bytes[start..start + entry.length as usize])
+}
+
+/// The same, if the entry is of a kind and all of them are there.
+#[inline(always)]
+pub(crate) fn content_of_kind<'a>(
+    entry: &FieldEntry,
+    kind: u64,
+    bytes: &'a [u8],
+) -> Option<&'a [u8]>
+    ensures kind { IfSome result (λ b. entry.now.kind ≡ kind) }
+    ensures content { IfSome result (λ b. content bytes.now entry.now ≡ Ok b.now) }
+{
+    if entry.kind != kind {
+        return None;
+    }
+    match content_of(entry, bytes) {
+        Ok(content) => Some(content),
+        Err(_) => None,
+    }
 }
 
 /// The text of an entry.
@@ -105,20 +125,35 @@ pub(crate) fn next_of(
     ensures next { ok_view (λ x. next_view x.1) result ≡ field_next (table schema) (rows_view rows.entry) last number }
     ensures same { IfOk result (λ x. x.0 ≡ number) }
 {
-    if let Some((Row::Plain(field), after)) = rows.split_first() {
-        if u64::from(field.0) == number {
-            let next = NextField {
-                field: Found {
-                    kind: field.1,
-                    is_repeated: false,
-                },
-                is_plain: true,
-                rows: after,
-            };
-            return Ok((field.0, next));
-        }
+    if let Some(found) = first_plain(rows, number) {
+        return Ok(found);
     }
     next_among(schema, rows, last, number)
+}
+
+/// The same of the first row, if that is plain.
+#[inline(always)]
+pub(crate) fn first_plain(rows: &'static [Row], number: u64) -> Option<(u32, NextField<'static>)>
+    ensures next { IfSome result (λ x. (all : List schema.Row) (last : Option ℕ)
+        → field_next all (rows_view rows.entry) last number ≡ Ok (next_view x.1)) }
+    ensures same { IfSome result (λ x. x.0 ≡ number) }
+    ensures plain { IfSome result (λ x. x.1.is_plain ≡ true) }
+{
+    let Some((Row::Plain(field), after)) = rows.split_first() else {
+        return None;
+    };
+    if u64::from(field.0) != number {
+        return None;
+    }
+    let next = NextField {
+        field: Found {
+            kind: field.1,
+            is_repeated: false,
+        },
+        is_plain: true,
+        rows: after,
+    };
+    Some((field.0, next))
 }
 
 /// The same of any row.

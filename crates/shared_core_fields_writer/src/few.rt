@@ -1,8 +1,11 @@
-//! A few bytes written into a slice: two copies of a fixed length that overlap take less time than a call.
+//! A few bytes written into a slice: two copies of a fixed length that overlap take less time than a call. Whether they
+//! are ASCII is tested beside it, by the same chunks.
 
-ghost use Rattle.std.specs.Prelude.{◌≡◌, ◌+◌, ◌<◌, ◌≤◌, length, take};
+ghost use Rattle.std.specs.Prelude.{◌≡◌, ◌+◌, ◌<◌, ◌≤◌, IsTrue, true, length, take};
+ghost use Rattle.std.specs.Str.{is_utf8};
 ghost use Rattle.shared_core_fields_writer.specs.Room.{Wrote};
 
+use shared_core_fields::text::{is_ascii_twice, is_shortest_ascii};
 use std::simd::Simd;
 
 /// How many bytes are few.
@@ -43,6 +46,33 @@ fn write_fewest(out: &mut [u8], at: usize, bytes: &[u8]) -> usize
         write_ends::<2>(out, at, bytes)
     } else {
         write_front::<1>(out, at, bytes)
+    }
+}
+
+/// Writes a few bytes at an index. Returns the index after them, and whether they are ASCII.
+#[inline(always)]
+pub(crate) fn write_few_ascii(out: &mut [u8], at: usize, bytes: &[u8]) -> (usize, bool)
+    requires some { 0 < length bytes.now }
+    requires few { length bytes.now ≤ 64 }
+    requires room { at + length bytes.now ≤ length out.old }
+    ensures written { Wrote out.old at out.new result.0 bytes.now }
+    ensures text { IsTrue result.1 → is_utf8 bytes.now ≡ true }
+{
+    let len = bytes.len();
+    if len < 8 {
+        (write_fewest(out, at, bytes), is_shortest_ascii(bytes))
+    } else if len < 16 {
+        (write_ends::<8>(out, at, bytes), is_ascii_twice::<8>(bytes))
+    } else if len < 32 {
+        (
+            write_ends::<16>(out, at, bytes),
+            is_ascii_twice::<16>(bytes),
+        )
+    } else {
+        (
+            write_ends::<32>(out, at, bytes),
+            is_ascii_twice::<32>(bytes),
+        )
     }
 }
 

@@ -3,13 +3,15 @@
 //! Each function returns the index after what it writes, or would write, at most the greatest number of 64 bits. So one
 //! pass over the parts of a payload says how long it is, and has written it if there is room for all of it.
 
-ghost use Rattle.std.specs.Prelude.{◌≡◌, ◌+◌, ◌-◌, ◌<◌, ◌≤◌, ◌∷◌, [], length, drop};
+ghost use Rattle.std.specs.Prelude.{◌≡◌, ◌+◌, ◌-◌, ◌<◌, ◌≤◌, ◌∷◌, [], Bool, true, length, take, drop, IfSome};
+ghost use Rattle.std.specs.Prelude.{IfNone};
+ghost use Rattle.std.specs.Str.{is_utf8};
 ghost use Rattle.std.specs.List.{copy_within};
 ghost use Rattle.shared_core_wire.specs.Encoding.{shortest_varint, key_bytes};
 ghost use Rattle.shared_core_record_writer.specs.Records.{number_record, content_record};
-ghost use Rattle.shared_core_fields_writer.specs.Room.{Wrote, WroteLength};
+ghost use Rattle.shared_core_fields_writer.specs.Room.{Wrote, WroteLength, WroteShortHead};
 
-use crate::few::{FEW, write_few};
+use crate::few::{FEW, write_few, write_few_ascii};
 use shared_core_record_writer::LENGTH;
 use shared_core_wire::varint::varint_len;
 
@@ -110,13 +112,65 @@ pub(crate) fn write_content(
 ) -> usize
     ensures { Wrote out.old at out.new result (content_record plain number content.now) }
 {
-    let len = content.len();
-    if number >= SHORT_KEYS || len == 0 || len > FEW || room(out, at) < len + 2 {
-        return write_long_content(out, at, plain, number, content);
+    match write_short_content(out, at, number, content) {
+        Some(end) => end,
+        None => write_long_content(out, at, plain, number, content),
+    }
+}
+
+/// Writes the record of a few bytes whose key is a byte, if there is room for it, otherwise nothing.
+#[inline(always)]
+pub(crate) fn write_short_content(
+    out: &mut [u8],
+    at: usize,
+    number: u32,
+    content: &[u8],
+) -> Option<usize>
+    ensures written { IfSome result (λ end. (plain : Bool)
+        → Wrote out.old at out.new end (content_record plain number content.now)) }
+    ensures unchanged { IfNone result (out.new ≡ out.old) }
+    ensures before { take at out.new ≡ take at out.old }
+{
+    let end = write_short_head(out, at, number, content.len())?;
+    write_few(out, at + 2, content);
+    Some(end)
+}
+
+/// Writes the same record of a text, if that is ASCII; otherwise the bytes from the index on may be any.
+#[inline(always)]
+pub(crate) fn write_short_text(
+    out: &mut [u8],
+    at: usize,
+    number: u32,
+    content: &[u8],
+) -> Option<usize>
+    ensures written { IfSome result (λ end. ((plain : Bool)
+        → Wrote out.old at out.new end (content_record plain number content.now)) × (is_utf8 content.now ≡ true)) }
+    ensures length { length out.new ≡ length out.old }
+    ensures before { take at out.new ≡ take at out.old }
+{
+    let end = write_short_head(out, at, number, content.len())?;
+    let (_after, is_ascii) = write_few_ascii(out, at + 2, content);
+    if is_ascii { Some(end) } else { None }
+}
+
+/// Writes the key and the length of a few bytes, if that is a byte each and there is room for all. Returns the index
+/// after the bytes.
+#[inline(always)]
+fn write_short_head(out: &mut [u8], at: usize, number: u32, len: usize) -> Option<usize>
+    ensures written { IfSome result (WroteShortHead out.old at number len out.new) }
+    ensures unchanged { IfNone result (out.new ≡ out.old) }
+{
+    if number >= SHORT_KEYS || len == 0 || len > FEW {
+        return None;
+    }
+    let end = at.saturating_add(len + 2);
+    if end > out.len() {
+        return None;
     }
     out[at] = 8 * number as u8 + 2;
     out[at + 1] = len as u8;
-    write_few(out, at + 2, content)
+    Some(end)
 }
 
 /// Writes the record of some bytes whose key is long, or which are not a few.

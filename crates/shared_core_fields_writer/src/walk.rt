@@ -18,11 +18,13 @@ ghost use Rattle.shared_core_fields_writer.specs.Walk.{Continues};
 
 use crate::entry::{Given, given_value, next_of};
 use crate::error::Reason;
+use crate::flat::write_flat;
 use crate::room::{write_content, write_key, write_length, write_number, write_varint};
 use shared_core_codec::canonical::NextField;
 use shared_core_codec::rows::{Found, Kind, rows_of};
 use shared_core_fields::table::FieldEntry;
 use shared_core_record_writer::LENGTH;
+use shared_core_wire::records::LEVELS;
 use shared_core_wire::varint::varint_len;
 
 /// The entries of a table, the bytes that they point to, and how long the content of their messages was measured to be,
@@ -43,6 +45,9 @@ pub(crate) struct Place {
     pub byte: usize,
 }
 
+/// The level of the deepest entries that may come.
+const MOST_LEVELS: u64 = LEVELS as u64;
+
 /// The length that the content of the entry at an index was measured to have, or 0.
 fn measured(source: &Source<'_>, index: usize) -> u64 {
     if index < source.lengths.len() {
@@ -52,7 +57,7 @@ fn measured(source: &Source<'_>, index: usize) -> u64 {
     }
 }
 
-/// Writes the records of the entries of a message, which are at a level; messages may be nested `depth` deep in it.
+/// Writes the records of the entries of a message, which are at a level.
 #[cycle(message)]
 pub(crate) fn write_message(
     out: &mut [u8],
@@ -60,11 +65,10 @@ pub(crate) fn write_message(
     source: &Source<'_>,
     schema: u32,
     level: u64,
-    depth: u32,
 ) -> Result<(), Reason>
     requires start { at.old.entry ≤ length source.now.entries.now }
-    requires levels { level + depth ≤ 100 }
-    ensures written { Writes result (walk source.now.bytes.now schema (table schema) None Nothing level depth
+    requires levels { level ≤ 100 }
+    ensures written { Writes result (walk source.now.bytes.now schema (table schema) None Nothing level (100 - level)
         (entries_from source.now at.old.entry)) out.old at.old.byte out.new at.new.byte
         (entries_from source.now at.new.entry) }
     ensures rest { OnOk result (entries_from source.now at.new.entry
@@ -83,7 +87,7 @@ pub(crate) fn write_message(
             return Err(Reason::WrongLevel);
         }
         let (number, next) = next_of(schema, rows, last, entry.number)?;
-        write_field(out, at, source, entry, number, next, depth)?;
+        write_field(out, at, source, entry, number, next)?;
         rows = next.rows;
         last = Some(number);
     }
@@ -100,14 +104,13 @@ fn write_field(
     entry: &FieldEntry,
     number: u32,
     next: NextField<'_>,
-    depth: u32,
 ) -> Result<(), Reason>
     requires start { at.old.entry < length source.now.entries.now }
     requires entry { entries_from source.now at.old.entry ≡ entry.now ∷ entries_from source.now (at.old.entry + 1) }
     requires number { entry.now.number ≡ number }
-    requires levels { entry.now.level + depth ≤ 100 }
-    ensures written { GoesOn result source.now.bytes.now number (next_view next.entry) Nothing entry.now.level depth
-        out.old at.old.byte out.new at.new.byte (entries_from source.now at.old.entry)
+    requires levels { entry.now.level ≤ 100 }
+    ensures written { GoesOn result source.now.bytes.now number (next_view next.entry) Nothing entry.now.level
+        (100 - entry.now.level) out.old at.old.byte out.new at.new.byte (entries_from source.now at.old.entry)
         (entries_from source.now at.new.entry) }
     ensures rest { OnOk result (rest_of entry.now.level (entries_from source.now at.new.entry)
         ≡ rest_of entry.now.level (entries_from source.now at.old.entry)) }
@@ -127,13 +130,13 @@ fn write_field(
             at.entry += 1;
         }
         Given::Message(inner) => {
-            if depth == 0 {
+            if entry.level >= MOST_LEVELS {
                 return Err(Reason::TooDeep);
             }
             let likely = measured(source, at.entry);
             at.byte = write_key(out, at.byte, number, LENGTH);
             at.entry += 1;
-            write_nested(out, at, source, inner, entry.level + 1, depth - 1, likely)?;
+            write_nested(out, at, source, inner, entry.level + 1, likely)?;
         }
     }
     Ok(())
@@ -148,12 +151,11 @@ fn write_nested(
     source: &Source<'_>,
     schema: u32,
     level: u64,
-    depth: u32,
     likely: u64,
 ) -> Result<(), Reason>
     requires start { at.old.entry ≤ length source.now.entries.now }
-    requires levels { level + depth ≤ 100 }
-    ensures written { Nests result (walk source.now.bytes.now schema (table schema) None Nothing level depth
+    requires levels { level ≤ 100 }
+    ensures written { Nests result (walk source.now.bytes.now schema (table schema) None Nothing level (100 - level)
         (entries_from source.now at.old.entry)) out.old at.old.byte out.new at.new.byte
         (entries_from source.now at.new.entry) }
     ensures rest { OnOk result (entries_from source.now at.new.entry
@@ -164,13 +166,40 @@ fn write_nested(
     let place = *at;
     let start = write_varint(out, place.byte, likely);
     at.byte = start;
-    write_message(out, at, source, schema, level, depth)?;
+    write_within(out, at, source, schema, level)?;
     if !is_room(likely, place.byte, start, at.byte) {
         *at = place;
-        return write_again(out, at, source, schema, level, depth);
+        return write_again(out, at, source, schema, level);
     }
     at.byte = write_length(out, place.byte, start, at.byte);
     Ok(())
+}
+
+/// Writes the records of the entries of a message within another one, which is flat most often.
+#[cycle(message)]
+#[inline(always)]
+fn write_within(
+    out: &mut [u8],
+    at: &mut Place,
+    source: &Source<'_>,
+    schema: u32,
+    level: u64,
+) -> Result<(), Reason>
+    requires start { at.old.entry ≤ length source.now.entries.now }
+    requires levels { level ≤ 100 }
+    ensures written { Writes result (walk source.now.bytes.now schema (table schema) None Nothing level (100 - level)
+        (entries_from source.now at.old.entry)) out.old at.old.byte out.new at.new.byte
+        (entries_from source.now at.new.entry) }
+    ensures rest { OnOk result (entries_from source.now at.new.entry
+        ≡ rest_of level (entries_from source.now at.old.entry)) }
+    ensures end { at.new.entry ≤ length source.now.entries.now }
+    ensures more { OnOk result (at.old.entry ≤ at.new.entry) }
+{
+    if let Some(end) = write_flat(out, *at, source, schema, level) {
+        *at = end;
+        return Ok(());
+    }
+    write_message(out, at, source, schema, level)
 }
 
 /// Writes a message again that is shorter than it was measured to be, and looks at no length of what was measured.
@@ -183,11 +212,10 @@ fn write_again(
     source: &Source<'_>,
     schema: u32,
     level: u64,
-    depth: u32,
 ) -> Result<(), Reason>
     requires start { at.old.entry ≤ length source.now.entries.now }
-    requires levels { level + depth ≤ 100 }
-    ensures written { Nests result (walk source.now.bytes.now schema (table schema) None Nothing level depth
+    requires levels { level ≤ 100 }
+    ensures written { Nests result (walk source.now.bytes.now schema (table schema) None Nothing level (100 - level)
         (entries_from source.now at.old.entry)) out.old at.old.byte out.new at.new.byte
         (entries_from source.now at.new.entry) }
     ensures rest { OnOk result (entries_from source.now at.new.entry
@@ -202,7 +230,7 @@ fn write_again(
     let place = at.byte;
     let start = write_varint(out, place, 0);
     at.byte = start;
-    write_message(out, at, &source, schema, level, depth)?;
+    write_message(out, at, &source, schema, level)?;
     at.byte = write_length(out, place, start, at.byte);
     Ok(())
 }

@@ -15,7 +15,6 @@ use crate::measure::lengths_of;
 use crate::walk::{Place, Source, write_message};
 use shared_core_codec::size::Size;
 use shared_core_fields::table::FieldEntry;
-use shared_core_wire::records::LEVELS;
 use std::alloc::{AllocError, Global};
 
 /// How many bytes of a payload are kept until its table is known to be accepted, of a small table and of another one.
@@ -198,7 +197,7 @@ fn fill(out: &mut [u8], schema: u32, source: &Source<'_>) -> Result<usize, Field
     ensures index { IfErr result (λ error. error.index ≤ length source.now.entries.now) }
 {
     let mut at = Place { entry: 0, byte: 0 };
-    if let Err(reason) = write_message(out, &mut at, source, schema, 0, LEVELS) {
+    if let Err(reason) = write_message(out, &mut at, source, schema, 0) {
         return Err(FieldsError {
             reason,
             index: at.entry,

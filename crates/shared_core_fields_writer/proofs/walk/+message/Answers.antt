@@ -21,51 +21,55 @@ use Rattle.shared_core_fields_writer.proofs.walk.+message.Goals.{}
 pub write_field-returns-in_err-value-clause-written : goal.write_field-returns-in_err-value-clause-written
 write_field-returns-in_err-value-clause-written t c s rows last f =
     goes_error c.from_residual.result c.in_err-value.field-0.0 _ _ _ _ _ _ _ c.from_residual.ensures.1
-    (field_fail c.args.source.now.bytes.now s rows last c.args.number c.args.entry.now.level c.args.depth _ _
-    c.args.entry.now (next_view c.args.next) c.requires.entry refl c.requires.number f _ c.in_err-value.ensures)
+    (field_fail c.args.source.now.bytes.now s rows last c.args.number c.args.entry.now.level
+    (100 - c.args.entry.now.level) _ _ c.args.entry.now (next_view c.args.next) c.requires.entry refl
+    c.requires.number f _ c.in_err-value.ensures)
 
 pub write_field-returns-then-is_packed-clause-written : goal.write_field-returns-then-is_packed-clause-written
 write_field-returns-then-is_packed-clause-written t c s rows last f =
     subst (λ (w : Walked). Goes c.write_run.result w (walk c.args.source.now.bytes.now s (rows_view c.args.next.rows)
-    (Some c.args.number) Nothing c.args.entry.now.level c.args.depth (entries_from c.args.source.now
+    (Some c.args.number) Nothing c.args.entry.now.level (100 - c.args.entry.now.level) (entries_from c.args.source.now
     c.write_run.new.at.entry)) c.args.out.now c.args.at.now.byte c.write_run.new.out c.write_run.new.at.byte
     (entries_from c.args.source.now c.write_run.new.at.entry))
-    (field_run c.args.source.now.bytes.now s rows last c.args.number c.args.entry.now.level c.args.depth _ _
-    c.args.entry.now (next_view c.args.next) c.requires.entry refl c.requires.number f c.in-Number.value
-    (rw c.in-Number.is at c.in_ok-value.ensures) c.if-is_packed.ensures)
-    (c.write_run.ensures.written s (rows_view c.args.next.rows) c.args.depth)
+    (field_run c.args.source.now.bytes.now s rows last c.args.number c.args.entry.now.level
+    (100 - c.args.entry.now.level) _ _ c.args.entry.now (next_view c.args.next) c.requires.entry refl
+    c.requires.number f c.in-Number.value (rw c.in-Number.is at c.in_ok-value.ensures) c.if-is_packed.ensures)
+    (c.write_run.ensures.written s (rows_view c.args.next.rows) (100 - c.args.entry.now.level))
 
-pub write_field-returns-then-depth-eq0-clause-written : goal.write_field-returns-then-depth-eq0-clause-written
-write_field-returns-then-depth-eq0-clause-written t c s rows last f =
-    field_last c.args.source.now.bytes.now s rows last c.args.number c.args.entry.now.level c.args.depth _ _
-    c.args.entry.now (next_view c.args.next) c.requires.entry refl c.requires.number f c.in-Message.inner
-    c.if-depth-eq0.true (rw c.in-Message.is at c.in_ok-value.ensures)
+pub write_field-returns-then-entry-ge-MOST_LEVELS-clause-written :
+    goal.write_field-returns-then-entry-ge-MOST_LEVELS-clause-written
+write_field-returns-then-entry-ge-MOST_LEVELS-clause-written t c s rows last f =
+    field_last c.args.source.now.bytes.now s rows last c.args.number c.args.entry.now.level
+    (100 - c.args.entry.now.level) _ _ c.args.entry.now (next_view c.args.next) c.requires.entry refl
+    c.requires.number f c.in-Message.inner (omega (arith, c.if-entry-ge-MOST_LEVELS.true))
+    (rw c.in-Message.is at c.in_ok-value.ensures)
 
 pub write_field-returns-in_err-write_nested-in-Message-clause-written :
     goal.write_field-returns-in_err-write_nested-in-Message-clause-written
 write_field-returns-in_err-write_nested-in-Message-clause-written t c s rows last f =
     goes_error c.from_residual-in_err-write_nested-in-Message.result c.in_err-write_nested-in-Message.field-0.0 _ _ _ _
     _ _ _ c.from_residual-in_err-write_nested-in-Message.ensures.1
-    (field_message c.args.source.now.bytes.now s rows last c.args.number c.args.entry.now.level c.args.depth _ _ _
-    c.args.entry.now (next_view c.args.next) c.requires.entry refl c.requires.number f c.in-Message.inner
-    (omega (arith, c.if-depth-eq0.false)) (rw c.in-Message.is at c.in_ok-value.ensures) refl
+    (field_message c.args.source.now.bytes.now s rows last c.args.number c.args.entry.now.level
+    (100 - c.args.entry.now.level) _ _ _ c.args.entry.now (next_view c.args.next) c.requires.entry refl
+    c.requires.number f c.in-Message.inner (omega (arith, c.if-entry-ge-MOST_LEVELS.false)) _ (omega arith)
+    (rw c.in-Message.is at c.in_ok-value.ensures) refl
     ∙ nested_error c.args.number _ _ _ _ c.in_err-write_nested-in-Message.ensures.written)
 
 pub write_field-returns-else-is_packed-clause-written : goal.write_field-returns-else-is_packed-clause-written
 write_field-returns-else-is_packed-clause-written t c s rows last f = (
   number_record c.args.next.is_plain c.args.number c.in-Number.value,
-  field_number c.args.source.now.bytes.now s rows last c.args.number c.args.entry.now.level c.args.depth _ _
-      c.args.entry.now (next_view c.args.next) c.requires.entry refl c.requires.number f c.in-Number.value
-      (rw c.in-Number.is at c.in_ok-value.ensures) c.if-is_packed.ensures,
+  field_number c.args.source.now.bytes.now s rows last c.args.number c.args.entry.now.level
+      (100 - c.args.entry.now.level) _ _ c.args.entry.now (next_view c.args.next) c.requires.entry refl
+      c.requires.number f c.in-Number.value (rw c.in-Number.is at c.in_ok-value.ensures) c.if-is_packed.ensures,
   c.write_number-at.ensures,
 )
 
 pub write_field-returns-in-Content-clause-written : goal.write_field-returns-in-Content-clause-written
 write_field-returns-in-Content-clause-written t c s rows last f = (
   content_record c.args.next.is_plain c.args.number c.in-Content.content.now,
-  field_content c.args.source.now.bytes.now s rows last c.args.number c.args.entry.now.level c.args.depth _ _
-      c.args.entry.now (next_view c.args.next) c.requires.entry refl c.requires.number f c.in-Content.content.now
-      (rw c.in-Content.is at c.in_ok-value.ensures),
+  field_content c.args.source.now.bytes.now s rows last c.args.number c.args.entry.now.level
+      (100 - c.args.entry.now.level) _ _ c.args.entry.now (next_view c.args.next) c.requires.entry refl
+      c.requires.number f c.in-Content.content.now (rw c.in-Content.is at c.in_ok-value.ensures),
   c.write_content-at.ensures,
 )
 
@@ -74,13 +78,14 @@ pub write_field-returns-in_ok-write_nested-in-Message-clause-written :
 write_field-returns-in_ok-write_nested-in-Message-clause-written t c s rows last f =
     let inner = c.in_ok-write_nested-in-Message.ensures in (
       length_record c.args.number inner.written.0,
-      field_message c.args.source.now.bytes.now s rows last c.args.number c.args.entry.now.level c.args.depth _ _
-          (entries_from c.args.source.now c.write_nested.new.at.entry) c.args.entry.now (next_view c.args.next)
-          c.requires.entry refl c.requires.number f c.in-Message.inner (omega (arith, c.if-depth-eq0.false))
+      field_message c.args.source.now.bytes.now s rows last c.args.number c.args.entry.now.level
+          (100 - c.args.entry.now.level) _ _ (entries_from c.args.source.now c.write_nested.new.at.entry)
+          c.args.entry.now (next_view c.args.next) c.requires.entry refl c.requires.number f c.in-Message.inner
+          (omega (arith, c.if-entry-ge-MOST_LEVELS.false)) _ (omega arith)
           (rw c.in-Message.is at c.in_ok-value.ensures) inner.rest
           ∙ ap (λ (w : Walked). nested_onto c.args.number w (walk c.args.source.now.bytes.now s (rows_view
-          c.args.next.rows) (Some c.args.number) Nothing c.args.entry.now.level c.args.depth (entries_from
-          c.args.source.now c.write_nested.new.at.entry))) inner.written.1,
+          c.args.next.rows) (Some c.args.number) Nothing c.args.entry.now.level (100 - c.args.entry.now.level)
+          (entries_from c.args.source.now c.write_nested.new.at.entry))) inner.written.1,
       wrote_both c.args.out.now c.write_key-at.new.out c.write_nested.new.out c.args.at.now.byte c.write_key-at.result
           c.write_nested.new.at.byte (key_bytes c.args.number 2) _ c.write_key-at.ensures inner.written.2,
     )
@@ -95,10 +100,10 @@ write_field-returns-in_ok-write_nested-in-Message-clause-rest t c =
 pub write_nested-returns-then-not-is_room-clause-written : goal.write_nested-returns-then-not-is_room-clause-written
 write_nested-returns-then-not-is_room-clause-written t c =
     let v = c.write_varint-start.ensures.written in
-    let m = c.in_ok-write_message.ensures.written in
-    nests_over c.write_again.result _ c.args.out.now c.write_message.new.out c.write_again.new.out c.args.at.now.byte
+    let m = c.in_ok-write_within.ensures.written in
+    nests_over c.write_again.result _ c.args.out.now c.write_within.new.out c.write_again.new.out c.args.at.now.byte
     c.write_again.new.at.byte _ (m.2.same_length ∙ v.same_length)
-    (less_stays c.args.at.now.byte c.write_varint-start.result c.write_message.new.out c.write_varint-start.new.out v.up
+    (less_stays c.args.at.now.byte c.write_varint-start.result c.write_within.new.out c.write_varint-start.new.out v.up
     m.2.before ∙ v.before) c.write_again.ensures.written
 
 pub write_nested-write_length-at-requires-clause-room : goal.write_nested-write_length-at-requires-clause-room
@@ -108,26 +113,26 @@ write_nested-write_length-at-requires-clause-room t c = omega
 pub write_nested-write_length-at-requires-clause-few : goal.write_nested-write_length-at-requires-clause-few
 write_nested-write_length-at-requires-clause-few t c =
     let fits : (c.args.likely < 128) ⊎ ((c.write_varint-start.result - c.args.at.now.byte ≤ length (shortest_varint
-    (c.write_message.new.at.byte - c.write_varint-start.result))) × (c.write_message.new.at.byte <
+    (c.write_within.new.at.byte - c.write_varint-start.result))) × (c.write_within.new.at.byte <
     18446744073709551615)) = c.if-not-is_room.ensures refl in
-    few_bytes c.args.at.now.byte c.write_varint-start.result c.write_message.new.at.byte c.args.likely
+    few_bytes c.args.at.now.byte c.write_varint-start.result c.write_within.new.at.byte c.args.likely
     c.write_varint-start.ensures.written.up c.write_varint-start.ensures.written.count fits
 
 pub write_nested-returns-clause-written : goal.write_nested-returns-clause-written
 write_nested-returns-clause-written t c =
     let v = c.write_varint-start.ensures.written in
-    let m = c.in_ok-write_message.ensures.written in
+    let m = c.in_ok-write_within.ensures.written in
     let fits : (c.args.likely < 128) ⊎ ((c.write_varint-start.result - c.args.at.now.byte ≤ length (shortest_varint
-    (c.write_message.new.at.byte - c.write_varint-start.result))) × (c.write_message.new.at.byte <
+    (c.write_within.new.at.byte - c.write_varint-start.result))) × (c.write_within.new.at.byte <
     18446744073709551615)) = c.if-not-is_room.ensures refl in (
       m.0,
       m.1,
-      put_nested c.args.out.now c.write_varint-start.new.out c.write_message.new.out c.write_length-at.new.out
-          c.args.at.now.byte c.write_varint-start.result c.write_message.new.at.byte c.write_length-at.result
+      put_nested c.args.out.now c.write_varint-start.new.out c.write_within.new.out c.write_length-at.new.out
+          c.args.at.now.byte c.write_varint-start.result c.write_within.new.at.byte c.write_length-at.result
           (shortest_varint c.args.likely) m.0 v m.2 c.write_length-at.ensures
-          (few_bytes c.args.at.now.byte c.write_varint-start.result c.write_message.new.at.byte c.args.likely v.up
+          (few_bytes c.args.at.now.byte c.write_varint-start.result c.write_within.new.at.byte c.args.likely v.up
           v.count fits) (some_bytes c.args.likely)
-          (one_or_less c.args.at.now.byte c.write_varint-start.result c.write_message.new.at.byte c.args.likely fits)
+          (one_or_less c.args.at.now.byte c.write_varint-start.result c.write_within.new.at.byte c.args.likely fits)
           (omega arith),
     )
 
@@ -160,26 +165,26 @@ pub write_message-returns-then-entry-level-2-clause-written :
 write_message-returns-then-entry-level-2-clause-written t c =
     let l = c.loop-at in (
       l.invariant.2.0,
-      message_stops c.args.source.now.bytes.now c.args.schema (rows_view l.rows) l.last c.args.level c.args.depth _ _ _
-          (drop_more c.args.source.now.entries.now l.at.entry _ c.loop-at-test.true) l.invariant.2.0 _ l.invariant.2.1
-          c.if-entry-level-2.true,
+      message_stops c.args.source.now.bytes.now c.args.schema (rows_view l.rows) l.last c.args.level
+          (100 - c.args.level) _ _ _ (drop_more c.args.source.now.entries.now l.at.entry _ c.loop-at-test.true)
+          l.invariant.2.0 _ l.invariant.2.1 c.if-entry-level-2.true,
       l.invariant.2.2,
     )
 
 pub write_message-returns-then-entry-level-clause-written : goal.write_message-returns-then-entry-level-clause-written
 write_message-returns-then-entry-level-clause-written t c =
     let l = c.loop-at in
-    message_deeper c.args.source.now.bytes.now c.args.schema (rows_view l.rows) l.last c.args.level c.args.depth _ _ _
-    (drop_more c.args.source.now.entries.now l.at.entry _ c.loop-at-test.true) l.invariant.2.0 _ l.invariant.2.1
-    c.if-entry-level.true c.if-entry-level-2.false
+    message_deeper c.args.source.now.bytes.now c.args.schema (rows_view l.rows) l.last c.args.level
+    (100 - c.args.level) _ _ _ (drop_more c.args.source.now.entries.now l.at.entry _ c.loop-at-test.true)
+    l.invariant.2.0 _ l.invariant.2.1 c.if-entry-level.true c.if-entry-level-2.false
 
 pub write_message-returns-in_err-number-clause-written : goal.write_message-returns-in_err-number-clause-written
 write_message-returns-in_err-number-clause-written t c =
     let l = c.loop-at in
     writes_error c.from_residual.result c.in_err-number.field-0.0 _ _ _ _ _ _ c.from_residual.ensures.1
-    (message_unknown c.args.source.now.bytes.now c.args.schema (rows_view l.rows) l.last c.args.level c.args.depth _ _ _
-    (drop_more c.args.source.now.entries.now l.at.entry _ c.loop-at-test.true) l.invariant.2.0 _ l.invariant.2.1 _
-    c.if-entry-level.false c.in_err-number.ensures.next)
+    (message_unknown c.args.source.now.bytes.now c.args.schema (rows_view l.rows) l.last c.args.level
+    (100 - c.args.level) _ _ _ (drop_more c.args.source.now.entries.now l.at.entry _ c.loop-at-test.true)
+    l.invariant.2.0 _ l.invariant.2.1 _ c.if-entry-level.false c.in_err-number.ensures.next)
 
 pub write_message-loop-at-preserved : goal.write_message-loop-at-preserved
 write_message-loop-at-preserved t c =
@@ -189,7 +194,7 @@ write_message-loop-at-preserved t c =
       omega (arith, l.invariant.0, w.more),
       w.end,
       message_step c.args.source.now.bytes.now c.args.schema (rows_view l.rows) (rows_view c.in_ok-number.next.rows)
-          l.last c.in_ok-number.number c.args.level _ c.args.depth _ _ _ c.args.out.now l.out c.write_field.new.out
+          l.last c.in_ok-number.number c.args.level _ (λ l. 100 - l) _ _ _ c.args.out.now l.out c.write_field.new.out
           c.args.at.now.byte l.at.byte c.write_field.new.at.byte same l.invariant.2
           (w.written c.args.schema (rows_view l.rows) l.last
           (ap (field_next (table c.args.schema) (rows_view l.rows) l.last) c.in_ok-number.ensures.same
@@ -201,8 +206,8 @@ pub write_message-returns-clause-written : goal.write_message-returns-clause-wri
 write_message-returns-clause-written t c =
     let l = c.loop-at in (
       l.invariant.2.0,
-      message_ends c.args.source.now.bytes.now c.args.schema (rows_view l.rows) l.last c.args.level c.args.depth _
-          l.invariant.2.0 _ l.invariant.2.1
+      message_ends c.args.source.now.bytes.now c.args.schema (rows_view l.rows) l.last c.args.level
+          (100 - c.args.level) _ l.invariant.2.0 _ l.invariant.2.1
           (drop_all l.at.entry c.args.source.now.entries.now (omega (arith, c.loop-at-test.false))),
       l.invariant.2.2,
     )

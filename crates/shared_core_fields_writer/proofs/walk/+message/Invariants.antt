@@ -6,24 +6,27 @@ use Rattle.shared_core_fields_writer.specs.Walk.{Nothing, onto, walk, entries_fr
 use Rattle.shared_core_fields_writer.proofs.walk.+message.Given as goal
 
 abbrev pub decreases-write_message : goal.decreases-write_message
-decreases-write_message l = 4 * l.depth + 2
+decreases-write_message l = 4 * (100 - l.level) + 2
 
 abbrev pub decreases-write_field : goal.decreases-write_field
-decreases-write_field l = 4 * l.depth + 1
+decreases-write_field l = 4 * (100 - l.entry.now.level) + 1
 
 abbrev pub decreases-write_nested : goal.decreases-write_nested
-decreases-write_nested l = 4 * l.depth + 4
+decreases-write_nested l = 4 * (100 - l.level) + 4
+
+abbrev pub decreases-write_within : goal.decreases-write_within
+decreases-write_within l = 4 * (100 - l.level) + 3
 
 abbrev pub decreases-write_again : goal.decreases-write_again
-decreases-write_again l = 4 * l.depth + 3
+decreases-write_again l = 4 * (100 - l.level) + 3
 
 abbrev pub invariant-write_message-loop-at : goal.invariant-write_message-loop-at
 invariant-write_message-loop-at l =
     (l.initial.at.entry ≤ l.at.entry) × (l.at.entry ≤ length l.source.entries.now)
-    × ((bytes : List ℕ) × (walk l.source.bytes.now l.schema (table l.schema) None Nothing l.level l.depth
+    × ((bytes : List ℕ) × (walk l.source.bytes.now l.schema (table l.schema) None Nothing l.level (100 - l.level)
     (entries_from l.source l.initial.at.entry) ≡ onto bytes (walk l.source.bytes.now l.schema (map row_view l.rows)
-    l.last Nothing l.level l.depth (entries_from l.source l.at.entry))) × Wrote l.initial.out l.initial.at.byte l.out
-    l.at.byte bytes)
+    l.last Nothing l.level (100 - l.level) (entries_from l.source l.at.entry))) × Wrote l.initial.out
+    l.initial.at.byte l.out l.at.byte bytes)
     × (rest_of l.level (entries_from l.source l.at.entry) ≡ rest_of l.level (entries_from l.source
     l.initial.at.entry))
 
