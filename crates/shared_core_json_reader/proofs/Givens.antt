@@ -33,7 +33,7 @@ use Rattle.shared_core_json_reader.specs.Places.{IsAbsent, Lacks}
 use Rattle.shared_core_json_reader.specs.declared.members.Places.{Places}
 use Rattle.shared_core_json_reader.specs.Appended.{field_bytes, list_bytes, given_bytes}
 use Rattle.shared_core_json_reader.specs.FirstError.{field_error, list_error, given_error}
-use Rattle.shared_core_json_reader.specs.FirstError.{Step, PathError, path_view, row_error, rows_error, first_unknown}
+use Rattle.shared_core_json_reader.specs.FirstError.{PathError, trail_view, row_error, rows_error, first_unknown}
 use Rattle.shared_core_json_reader.specs.FirstError.{HasError}
 use Rattle.shared_core_json_reader.proofs.NamesApart.{values_same, known_same}
 use Rattle.shared_core_json_reader.proofs.Levels.{nothing_after}
@@ -121,17 +121,14 @@ placed_past s number ms rest k j places e h g n m =
 
 -- ---- the fields of a schema
 
-pub own_field : (s n : ℕ) (k : Kind) (f : NamedField) → f ≡ named_field s n k → includes (all_numbers (table s)) n ≡
-    true → IsOf s f
-own_field s n k f e h = subst (λ (g : NamedField). IsOf s g) (sym e) (record { named = refl; listed = h })
-
 own_first : (n : ℕ) → includes (n ∷ []) n ≡ true
 own_first n = ap (λ (b : Bool). b || false) (eq-eqb n n refl)
 
-pub row_field : (s n : ℕ) (k : Kind) (f : NamedField) (row : Row) → numbers row ≡ n ∷ [] → IsRowOf s row → f ≡
-    named_field s n k → IsOf s f
-row_field s n k f row i h e = own_field s n k f e
-    (h.listed n (ap (λ (ns : List ℕ). includes ns n) i ∙ own_first n))
+pub row_field : (s n : ℕ) (k : Kind) (row : Row) → numbers row ≡ n ∷ [] → IsRowOf s row → IsOf s (named_field s n k)
+row_field s n k row i h = record {
+  named = refl;
+  listed = h.listed n (ap (λ (ns : List ℕ). includes ns n) i ∙ own_first n);
+}
 
 or_right : (a b : Bool) → b ≡ true → (a || b) ≡ true
 or_right true b e = refl
@@ -152,10 +149,9 @@ member_at zero (z ∷ xs) ys x e =
 member_at (suc i) (z ∷ xs) ys x e = or_right (eqb x.0 z.0) (includes (map (λ m. m.0) (map field_view xs)) x.0)
     (member_at i xs ys x e)
 
-pub oneof_field : (s i : ℕ) (xs ys : List Field) (x : Field) (f : NamedField) → IsRowOf s (OneOf (map field_view xs)) →
-    drop i xs ≡ x ∷ ys → f ≡ in_schema s x → IsOf s f
-oneof_field s i xs ys x f h e q = own_field s x.0 (kind_view x.1) f q (h.listed x.0
-    (member_at i xs ys x e))
+pub oneof_field : (s i : ℕ) (xs ys : List Field) (x : Field) → IsRowOf s (OneOf (map field_view xs)) → drop i xs ≡ x ∷
+    ys → IsOf s (in_schema s x)
+oneof_field s i xs ys x h e = record { named = refl; listed = h.listed x.0 (member_at i xs ys x e) }
 
 -- a row, at an index
 row_at : (i : ℕ) (xs ys : List ProgramRow) (x : ProgramRow) → drop i xs ≡ x ∷ ys → (n : ℕ) → includes
@@ -204,19 +200,18 @@ lacks_row nested ms places (schema.Repeated n k) h r l =
     (lacks_given n k ms places h (r.listed n (own_first n)) l)
 lacks_row nested ms places (schema.OneOf members) h r l = absurd l
 
-pub lacks_row_error : (nested : List Step → ℕ → Json → Option PathError) (ms : Members) (path : List Step)
-    (places : Places) (row : Row) → ArePlaces ms places → IsRowOf places.schema row → Lacks places row → row_error
-    nested ms path (named_row places.schema row) ≡ None
-lacks_row_error nested ms path places (schema.Plain n k) h r l =
+pub lacks_row_error : (nested : ℕ → Json → Option PathError) (ms : Members) (places : Places) (row : Row) → ArePlaces ms
+    places → IsRowOf places.schema row → Lacks places row → row_error nested ms (named_row places.schema row) ≡ None
+lacks_row_error nested ms places (schema.Plain n k) h r l =
     let f = named_field places.schema n k in
-    ap (given_error (field_error nested f) f path) (lacks_given n k ms places h (r.listed n (own_first n)) l)
-lacks_row_error nested ms path places (schema.Optional n k) h r l =
+    ap (given_error (field_error nested f) f) (lacks_given n k ms places h (r.listed n (own_first n)) l)
+lacks_row_error nested ms places (schema.Optional n k) h r l =
     let f = named_field places.schema n k in
-    ap (given_error (field_error nested f) f path) (lacks_given n k ms places h (r.listed n (own_first n)) l)
-lacks_row_error nested ms path places (schema.Repeated n k) h r l =
+    ap (given_error (field_error nested f) f) (lacks_given n k ms places h (r.listed n (own_first n)) l)
+lacks_row_error nested ms places (schema.Repeated n k) h r l =
     let f = named_field places.schema n k in
-    ap (given_error (list_error nested f) f path) (lacks_given n k ms places h (r.listed n (own_first n)) l)
-lacks_row_error nested ms path places (schema.OneOf members) h r l = absurd l
+    ap (given_error (list_error nested f) f) (lacks_given n k ms places h (r.listed n (own_first n)) l)
+lacks_row_error nested ms places (schema.OneOf members) h r l = absurd l
 
 pub lacks_member : (i : ℕ) (xs ys : List Field) (x : Field) (ms : Members) (places : Places) → ArePlaces ms places →
     IsRowOf places.schema (OneOf (map field_view xs)) → drop i xs ≡ x ∷ ys → IsAbsent places x.0 → given
@@ -307,12 +302,11 @@ pub stops : {T : Type 0} (r : Result T Reason) (x : Reason) (o : Option (List �
 stops (Ok y) x o old new a e = absurd a
 stops (Err y) x o old new a e = λ n. e (λ z. n (a ∙ z))
 
-pub stops_error : {T : Type 0} (r : Result T Reason) (x : Reason) (error : List Step → Option PathError) (old new : List
-    ProgramStep) → IsErrAnd r (λ y. y ≡ x) → (x ≢ OutOfMemory → error (path_view old) ≡ Some (x, path_view new)) →
-    HasError r error old new
-stops_error (Ok y) x error old new a e = absurd a
-stops_error (Err y) x error old new a e =
-    λ n. e (λ z. n (a ∙ z)) ∙ ap (λ (z : Reason). Some (z, path_view new)) (sym a)
+pub stops_error : {T : Type 0} (r : Result T Reason) (x : Reason) (error : Option PathError) (trail : List ProgramStep)
+    → IsErrAnd r (λ y. y ≡ x) → (x ≢ OutOfMemory → error ≡ Some (x, trail_view trail)) → HasError r error trail
+stops_error (Ok y) x error trail a e = absurd a
+stops_error (Err y) x error trail a e =
+    λ n. e (λ z. n (a ∙ z)) ∙ ap (λ (z : Reason). Some (z, trail_view trail)) (sym a)
 
 pub rows_stop : (nested : ℕ → Json → Option (List ℕ)) (ms : Members) (s : ℕ) (xs : List ProgramRow) (i : ℕ)
     (x : ProgramRow) (ys : List ProgramRow) (out old : List ℕ) (all : Option (List ℕ)) → drop i xs ≡ x ∷ ys → after out
@@ -322,11 +316,10 @@ rows_stop nested ms s xs i x ys out old all d h e =
     nothing_after old all (sym (ap (λ (zs : List ProgramRow). after out (rows_bytes nested ms (rows_view s zs))) d
     ∙ ap (λ (o : Option (List ℕ)). after out (both o (rows_bytes nested ms (rows_view s ys)))) e) ∙ h)
 
-pub rows_error_stop : (nested : List Step → ℕ → Json → Option PathError) (ms : Members) (s : ℕ) (xs : List ProgramRow)
-    (i : ℕ) (x : ProgramRow) (ys : List ProgramRow) (path at : List Step) (all : Option PathError) (error : PathError) →
-    at ≡ path → drop i xs ≡ x ∷ ys → rows_error nested ms path (rows_view s (drop i xs)) ≡ all → row_error nested ms at
-    (json_row_view s x) ≡ Some error → all ≡ Some error
-rows_error_stop nested ms s xs i x ys path at all error p d h e =
-    sym h ∙ ap (λ (zs : List ProgramRow). rows_error nested ms path (rows_view s zs)) d
-    ∙ ap (λ (o : Option PathError). option_or o (rows_error nested ms path (rows_view s ys)))
-    (ap (λ (q : List Step). row_error nested ms q (json_row_view s x)) (sym p) ∙ e)
+pub rows_error_stop : (nested : ℕ → Json → Option PathError) (ms : Members) (s : ℕ) (xs : List ProgramRow) (i : ℕ)
+    (x : ProgramRow) (ys : List ProgramRow) (all : Option PathError) (error : PathError) → drop i xs ≡ x ∷ ys →
+    rows_error nested ms (rows_view s (drop i xs)) ≡ all → row_error nested ms (json_row_view s x) ≡ Some error → all ≡
+    Some error
+rows_error_stop nested ms s xs i x ys all error d h e =
+    sym h ∙ ap (λ (zs : List ProgramRow). rows_error nested ms (rows_view s zs)) d
+    ∙ ap (λ (o : Option PathError). option_or o (rows_error nested ms (rows_view s ys))) e

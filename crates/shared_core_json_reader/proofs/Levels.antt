@@ -46,6 +46,13 @@ pub items_end : (nested : ℕ → Json → Option (List ℕ)) (f : NamedField) (
 items_end nested f js old all is h =
     sym h ∙ ap (λ (ks : Items). after old (items_bytes nested f ks)) is ∙ ap (λ (xs : List ℕ). Some xs) (append-nil old)
 
+pub items_turn : (nested : ℕ → Json → Option (List ℕ)) (f : NamedField) (js rest : Items) (j : Json) (old new : List ℕ)
+    (all : Option (List ℕ)) → js ≡ item j rest → after old (field_bytes nested false f j) ≡ Some new → after old
+    (items_bytes nested f js) ≡ all → after new (items_bytes nested f rest) ≡ all
+items_turn nested f js rest j old new all is e h =
+    sym (after_both old new (field_bytes nested false f j) (items_bytes nested f rest) e)
+    ∙ sym (ap (λ (ks : Items). after old (items_bytes nested f ks)) is) ∙ h
+
 pub run_turn : (js rest : Items) (j : Json) (m : ℕ) (old new : List ℕ) (all : Option (List ℕ)) → js ≡ item j rest →
     unsigned_read 4294967296 j ≡ Some m → new ≡ old ++ shortest_varint m → after old (run_bytes js) ≡ all → after new
     (run_bytes rest) ≡ all
@@ -72,45 +79,25 @@ one_held nested ms f fs j g = ap (option_and_then (λ o. both (or_absent [] (mem
     (oneof_bytes nested ms (held_after false o) fs))) g
 
 pub oneof_turn : (nested : ℕ → Json → Option (List ℕ)) (ms : Members) (s : ℕ) (xs : List Field) (i : ℕ) (x : Field)
-    (f : NamedField) (j : Json) (held : Bool) (old new : List ℕ) (all : Option (List ℕ))
-    → drop i xs ≡ x ∷ drop (i + 1) xs → f ≡ in_schema s x → given f ms ≡ Some (Some j) → held ≡ false
-    → after old (field_bytes nested false f j) ≡ Some new → after old
+    (j : Json) (held : Bool) (old new : List ℕ) (all : Option (List ℕ))
+    → drop i xs ≡ x ∷ drop (i + 1) xs → given (in_schema s x) ms ≡ Some (Some j) → held ≡ false
+    → after old (field_bytes nested false (in_schema s x) j) ≡ Some new → after old
     (oneof_bytes nested ms held (named_members s (drop i xs))) ≡ all
     → after new (oneof_bytes nested ms true (named_members s (drop (i + 1) xs))) ≡ all
-oneof_turn nested ms s xs i x f j held old new all here named found none e h =
+oneof_turn nested ms s xs i x j held old new all here found none e h =
     let rest = named_members s (drop (i + 1) xs) in
+    let f = in_schema s x in
     sym (after_both old new (field_bytes nested false f j) (oneof_bytes nested ms true rest) e)
     ∙ ap (after old) (sym (one_held nested ms f rest j found))
-    ∙ ap (λ (g : NamedField). after old (oneof_bytes nested ms false (g ∷ rest))) named
     ∙ sym (ap (λ (ys : List Field). after old (oneof_bytes nested ms false (named_members s ys))) here)
     ∙ sym (ap (λ (b : Bool). after old (oneof_bytes nested ms b (named_members s (drop i xs)))) none)
     ∙ h
 
--- ---- an element or a member that has an error
+-- ---- what has an error
 
 pub nothing_after : (old : List ℕ) (o : Option (List ℕ)) → None ≡ after old o → o ≡ None
 nothing_after old None e = refl
 nothing_after old (Some bytes) e = absurd cc
-
-pub items_stop : (nested : ℕ → Json → Option (List ℕ)) (f : NamedField) (js rest : Items) (j : Json)
-    (out old : List ℕ) (all : Option (List ℕ)) → js ≡ item j rest → after out (items_bytes nested f js) ≡ after old all
-    → field_bytes nested false f j ≡ None → all ≡ None
-items_stop nested f js rest j out old all is h e =
-    nothing_after old all (sym (ap (λ (ks : Items). after out (items_bytes nested f ks)) is
-    ∙ ap (λ (o : Option (List ℕ)). after out (both o (items_bytes nested f rest))) e) ∙ h)
-
-pub oneof_stop : (nested : ℕ → Json → Option (List ℕ)) (ms : Members) (s : ℕ) (xs ys : List Field) (i : ℕ) (x : Field)
-    (f : NamedField) (j : Json) (held : Bool) (out old : List ℕ) (all : Option (List ℕ)) → drop i xs ≡ x ∷ ys → f ≡
-    in_schema s x → given f ms ≡ Some (Some j) → held ≡ false → after out
-    (oneof_bytes nested ms held (named_members s (drop i xs))) ≡ after old all → field_bytes nested false f j ≡ None →
-    all ≡ None
-oneof_stop nested ms s xs ys i x f j held out old all here named found none h e =
-    let rest = named_members s ys in
-    nothing_after old all (sym (ap (λ (b : Bool). after out (oneof_bytes nested ms b (named_members s (drop i xs))))
-    none ∙ ap (λ (zs : List Field). after out (oneof_bytes nested ms false (named_members s zs))) here
-    ∙ ap (λ (g : NamedField). after out (oneof_bytes nested ms false (g ∷ rest))) (sym named)
-    ∙ ap (after out) (one_held nested ms f rest j found)
-    ∙ ap (λ (o : Option (List ℕ)). after out (both o (oneof_bytes nested ms true rest))) e) ∙ h)
 
 with_none : (o : Option (List ℕ)) → both (Some []) o ≡ o
 with_none None = refl

@@ -1,10 +1,10 @@
 -- Base64 read, and the bytes of original names.
-use Rattle.std.proofs.Common.{◌≡◌, ℕ, List, [], ◌∷◌, Bool, true, false}
-use Rattle.std.proofs.Common.{cond, ◌&&◌, Option, Some, None, option_and_then, Result, Ok, Err, refl, sym, ap, subst}
-use Rattle.std.proofs.Common.{◌∙◌, eqb}
+use Rattle.std.proofs.Common.{◌≡◌, ℕ, List, Bool, true}
+use Rattle.std.proofs.Common.{cond, Option, Some, None, option_and_then, Result, Ok, Err, sym, ap, subst}
+use Rattle.std.proofs.Common.{◌∙◌}
 use Rattle.std.specs.Result.{result_ok}
 use Rattle.std.specs.Option.{option_or}
-use Rattle.std.specs.Str.{bytes_eq, is_utf8}
+use Rattle.std.specs.Str.{is_utf8}
 use Rattle.base64.specs.GeneralPurpose.{decode_of, IsDecodeFailure}
 use Rattle.base64.specs.Engines.{standard_pad_indifferent, url_safe_pad_indifferent}
 use Rattle.base64.specs.declared.decode.DecodeError.{DecodeError}
@@ -13,7 +13,6 @@ use Rattle.base64.specs.declared.decode.DecodeAllocError.TheVariants.{DecodeErro
 use Rattle.json.specs.Json.{Json}
 use Rattle.json.specs.Find.{as_str}
 use Rattle.shared_core_json_reader.specs.Scalars.{utf8_text, text_read, base64_bytes}
-use Rattle.shared_core_json_reader.specs.Original.{after_byte}
 
 pub standard_bytes : (s b : List ℕ) → decode_of standard_pad_indifferent s ≡ Ok b → base64_bytes s ≡ Some b
 unfolding base64_bytes

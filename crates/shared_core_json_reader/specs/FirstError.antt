@@ -1,5 +1,5 @@
 -- Which error a JSON value has: the first one, and the path to the rejected value.
-use Rattle.std.specs.Prelude.{◌≡◌, ◌≢◌, ◌≤◌, ℕ, zero, suc, ◌+◌, Bool, true, false, List, [], ◌∷◌, ◌++◌, length, map}
+use Rattle.std.specs.Prelude.{◌≡◌, ◌≢◌, ◌≤◌, ℕ, zero, suc, ◌+◌, Bool, true, false, List, [], ◌∷◌, ◌++◌, length}
 use Rattle.std.specs.Prelude.{codes, if◌then◌else◌, Option, Some, None, option_map, Result, MatchResult}
 use Rattle.std.specs.Option.{option_or}
 use Rattle.std.specs.Fmt.{decimal}
@@ -53,73 +53,73 @@ base64_reason (Some s) = NotBase64
 abbrev pub bytes_reason : Json → Reason
 bytes_reason j = base64_reason (as_str j)
 
+-- The error of what is one step further in, seen from here.
+abbrev pub within : Step → Option PathError → Option PathError
+within step None = None
+within step (Some error) = Some (error.0, step ∷ error.1)
+
 -- The error of what is read as nothing.
-abbrev pub unread : {A : Type 0} → Option A → Reason → List Step → Option PathError
-unread None reason path = Some (reason, path)
-unread (Some a) reason path = None
+abbrev pub unread : {A : Type 0} → Option A → Reason → Option PathError
+unread None reason = Some (reason, [])
+unread (Some a) reason = None
 
 -- The error of a single value of a kind, where nested has that of a nested message.
-abbrev pub single_error : (List Step → ℕ → Json → Option PathError) → List Step → Kind → List (List ℕ × ℕ) → Json →
-    Option PathError
-single_error nested path U32 values j = unread (unsigned_read 4294967296 j) (number_reason j) path
-single_error nested path U64 values j = unread (unsigned_read 18446744073709551616 j) (number_reason j) path
-single_error nested path Boolean values j = unread (boolean_read j) WrongKind path
-single_error nested path Enumeration values j = unread (enum_read values j) (number_reason j) path
-single_error nested path Text values j = unread (text_read j) WrongKind path
-single_error nested path ByteString values j = unread (bytes_read j) (bytes_reason j) path
-single_error nested path (Message s) values j = nested path s j
+abbrev pub single_error : (ℕ → Json → Option PathError) → Kind → List (List ℕ × ℕ) → Json → Option PathError
+single_error nested U32 values j = unread (unsigned_read 4294967296 j) (number_reason j)
+single_error nested U64 values j = unread (unsigned_read 18446744073709551616 j) (number_reason j)
+single_error nested Boolean values j = unread (boolean_read j) WrongKind
+single_error nested Enumeration values j = unread (enum_read values j) (number_reason j)
+single_error nested Text values j = unread (text_read j) WrongKind
+single_error nested ByteString values j = unread (bytes_read j) (bytes_reason j)
+single_error nested (Message s) values j = nested s j
 
 -- The error of a value of a field.
-abbrev pub field_error : (List Step → ℕ → Json → Option PathError) → NamedField → List Step → Json → Option PathError
-field_error nested f path j = single_error nested path f.kind f.values j
+abbrev pub field_error : (ℕ → Json → Option PathError) → NamedField → Json → Option PathError
+field_error nested f j = single_error nested f.kind f.values j
 
 -- ---- rows
 
 -- The error of the elements of an array from an index on.
-abbrev pub items_error : (List Step → ℕ → Json → Option PathError) → NamedField → List Step → ℕ → Items → Option
-    PathError
-items_error nested f path i no_items = None
-items_error nested f path i (item j js) = option_or (field_error nested f (path ++ Element i ∷ []) j)
-    (items_error nested f path (i + 1) js)
+abbrev pub items_error : (ℕ → Json → Option PathError) → NamedField → ℕ → Items → Option PathError
+items_error nested f i no_items = None
+items_error nested f i (item j js) = option_or (within (Element i) (field_error nested f j))
+    (items_error nested f (i + 1) js)
 
 -- The error of the elements of an array of numbers of 32 bits from an index on.
-abbrev pub run_error : List Step → ℕ → Items → Option PathError
-run_error path i no_items = None
-run_error path i (item j js) = option_or (unread (unsigned_read 4294967296 j) (number_reason j)
-    (path ++ Element i ∷ [])) (run_error path (i + 1) js)
+abbrev pub run_error : ℕ → Items → Option PathError
+run_error i no_items = None
+run_error i (item j js) = option_or (within (Element i) (unread (unsigned_read 4294967296 j) (number_reason j)))
+    (run_error (i + 1) js)
 
 -- The error of an array.
-abbrev pub array_error : (List Step → ℕ → Json → Option PathError) → NamedField → Kind → List Step → Items → Option
-    PathError
-array_error nested f U32 path js = run_error path 0 js
-array_error nested f U64 path js = items_error nested f path 0 js
-array_error nested f Boolean path js = items_error nested f path 0 js
-array_error nested f Enumeration path js = items_error nested f path 0 js
-array_error nested f Text path js = items_error nested f path 0 js
-array_error nested f ByteString path js = items_error nested f path 0 js
-array_error nested f (Message s) path js = items_error nested f path 0 js
+abbrev pub array_error : (ℕ → Json → Option PathError) → NamedField → Kind → Items → Option PathError
+array_error nested f U32 js = run_error 0 js
+array_error nested f U64 js = items_error nested f 0 js
+array_error nested f Boolean js = items_error nested f 0 js
+array_error nested f Enumeration js = items_error nested f 0 js
+array_error nested f Text js = items_error nested f 0 js
+array_error nested f ByteString js = items_error nested f 0 js
+array_error nested f (Message s) js = items_error nested f 0 js
 
 -- The error of a repeated field.
-abbrev pub list_error : (List Step → ℕ → Json → Option PathError) → NamedField → List Step → Json → Option PathError
-list_error nested f path null = Some (WrongKind, path)
-list_error nested f path (boolean b) = Some (WrongKind, path)
-list_error nested f path (number s) = Some (WrongKind, path)
-list_error nested f path (string s) = Some (WrongKind, path)
-list_error nested f path (array js) = array_error nested f f.kind path js
-list_error nested f path (object ms) = Some (WrongKind, path)
+abbrev pub list_error : (ℕ → Json → Option PathError) → NamedField → Json → Option PathError
+list_error nested f null = Some (WrongKind, [])
+list_error nested f (boolean b) = Some (WrongKind, [])
+list_error nested f (number s) = Some (WrongKind, [])
+list_error nested f (string s) = Some (WrongKind, [])
+list_error nested f (array js) = array_error nested f f.kind js
+list_error nested f (object ms) = Some (WrongKind, [])
 
 -- The error of what an object gives a field: it is there twice, or its value has one.
-abbrev pub given_error : (List Step → Json → Option PathError) → NamedField → List Step → Option (Option Json) → Option
-    PathError
-given_error read f path None = Some (RepeatedMember, path ++ Member f.name ∷ [])
-given_error read f path (Some None) = None
-given_error read f path (Some (Some j)) = read (path ++ Member f.name ∷ []) j
+abbrev pub given_error : (Json → Option PathError) → NamedField → Option (Option Json) → Option PathError
+given_error read f None = Some (RepeatedMember, Member f.name ∷ [])
+given_error read f (Some None) = None
+given_error read f (Some (Some j)) = within (Member f.name) (read j)
 
 -- The error of a member of a oneof, of which a member is there before or not.
-abbrev pub member_error : (List Step → ℕ → Json → Option PathError) → Bool → NamedField → List Step → Json → Option
-    PathError
-member_error nested true f path j = Some (SeveralMembers, path)
-member_error nested false f path j = field_error nested f path j
+abbrev pub member_error : (ℕ → Json → Option PathError) → Bool → NamedField → Json → Option PathError
+member_error nested true f j = Some (SeveralMembers, [])
+member_error nested false f j = field_error nested f j
 
 -- Whether a member of a oneof is there, after a field that is given this.
 abbrev pub holds_after : Bool → Option (Option Json) → Bool
@@ -128,25 +128,23 @@ holds_after held (Some None) = held
 holds_after held (Some (Some j)) = true
 
 -- The error of a oneof, of which a member is there before these fields or not.
-abbrev pub oneof_error : (List Step → ℕ → Json → Option PathError) → Members → List Step → Bool → List NamedField →
-    Option PathError
-oneof_error nested ms path held [] = None
-oneof_error nested ms path held (f ∷ fs) =
-    option_or (given_error (member_error nested held f) f path (given f ms))
-    (oneof_error nested ms path (holds_after held (given f ms)) fs)
+abbrev pub oneof_error : (ℕ → Json → Option PathError) → Members → Bool → List NamedField → Option PathError
+oneof_error nested ms held [] = None
+oneof_error nested ms held (f ∷ fs) =
+    option_or (given_error (member_error nested held f) f (given f ms))
+    (oneof_error nested ms (holds_after held (given f ms)) fs)
 
 -- The error of what an object gives a row.
-abbrev pub row_error : (List Step → ℕ → Json → Option PathError) → Members → List Step → NamedRow → Option PathError
-row_error nested ms path (Plain f) = given_error (field_error nested f) f path (given f ms)
-row_error nested ms path (Optional f) = given_error (field_error nested f) f path (given f ms)
-row_error nested ms path (Repeated f) = given_error (list_error nested f) f path (given f ms)
-row_error nested ms path (OneOf fs) = oneof_error nested ms path false fs
+abbrev pub row_error : (ℕ → Json → Option PathError) → Members → NamedRow → Option PathError
+row_error nested ms (Plain f) = given_error (field_error nested f) f (given f ms)
+row_error nested ms (Optional f) = given_error (field_error nested f) f (given f ms)
+row_error nested ms (Repeated f) = given_error (list_error nested f) f (given f ms)
+row_error nested ms (OneOf fs) = oneof_error nested ms false fs
 
 -- The error of what an object gives some rows: that of the first row that has one.
-abbrev pub rows_error : (List Step → ℕ → Json → Option PathError) → Members → List Step → List NamedRow → Option
-    PathError
-rows_error nested ms path [] = None
-rows_error nested ms path (r ∷ rs) = option_or (row_error nested ms path r) (rows_error nested ms path rs)
+abbrev pub rows_error : (ℕ → Json → Option PathError) → Members → List NamedRow → Option PathError
+rows_error nested ms [] = None
+rows_error nested ms (r ∷ rs) = option_or (row_error nested ms r) (rows_error nested ms rs)
 
 -- ---- messages
 
@@ -156,31 +154,28 @@ first_unknown rows no_members = None
 first_unknown rows (member k j ms) = if names_row rows k then first_unknown rows ms else Some k
 
 -- The error of the members of an object, of which this is the first unknown key.
-abbrev pub known_error : (List Step → ℕ → Json → Option PathError) → List NamedRow → List Step → Members → Option
-    (List ℕ) → Option PathError
-known_error nested rows path ms (Some k) = Some (UnknownMember, path ++ Member k ∷ [])
-known_error nested rows path ms None = rows_error nested ms path rows
+abbrev pub known_error : (ℕ → Json → Option PathError) → List NamedRow → Members → Option (List ℕ) → Option PathError
+known_error nested rows ms (Some k) = Some (UnknownMember, Member k ∷ [])
+known_error nested rows ms None = rows_error nested ms rows
 
 -- The error of the members of an object: an unknown key, and otherwise that of a row.
-abbrev pub members_error : (List Step → ℕ → Json → Option PathError) → List NamedRow → List Step → Members → Option
-    PathError
-members_error nested rows path ms = known_error nested rows path ms (first_unknown rows ms)
+abbrev pub members_error : (ℕ → Json → Option PathError) → List NamedRow → Members → Option PathError
+members_error nested rows ms = known_error nested rows ms (first_unknown rows ms)
 
 -- The error of a value that should be an object.
-abbrev pub object_error : (List Step → ℕ → Json → Option PathError) → List NamedRow → List Step → Json → Option
-    PathError
-object_error nested rows path null = Some (WrongKind, path)
-object_error nested rows path (boolean b) = Some (WrongKind, path)
-object_error nested rows path (number s) = Some (WrongKind, path)
-object_error nested rows path (string s) = Some (WrongKind, path)
-object_error nested rows path (array js) = Some (WrongKind, path)
-object_error nested rows path (object ms) = members_error nested rows path ms
+abbrev pub object_error : (ℕ → Json → Option PathError) → List NamedRow → Json → Option PathError
+object_error nested rows null = Some (WrongKind, [])
+object_error nested rows (boolean b) = Some (WrongKind, [])
+object_error nested rows (number s) = Some (WrongKind, [])
+object_error nested rows (string s) = Some (WrongKind, [])
+object_error nested rows (array js) = Some (WrongKind, [])
+object_error nested rows (object ms) = members_error nested rows ms
 
 -- The error of a value that should be a message of the schema s, if messages are nested at most this deep, itself
--- included.
-unfoldable pub message_error : ℕ → List Step → ℕ → Json → Option PathError
-message_error zero path s j = Some (TooDeep, path)
-message_error (suc levels) path s j = object_error (message_error levels) (named_rows s) path j
+-- included; its path begins in the value.
+unfoldable pub message_error : ℕ → ℕ → Json → Option PathError
+message_error zero s j = Some (TooDeep, [])
+message_error (suc levels) s j = object_error (message_error levels) (named_rows s) j
 
 -- ---- errors
 
@@ -198,7 +193,7 @@ path_text first (step ∷ steps) = step_text first step ++ path_text false steps
 -- The error of a value that should be a message of the schema s: its reason, and the text of the path to the rejected
 -- value.
 abbrev pub value_error : ℕ → Json → Option (Reason × List ℕ)
-value_error s j = option_map (λ r. (r.0, path_text true r.1)) (message_error 101 [] s j)
+value_error s j = option_map (λ r. (r.0, path_text true r.1)) (message_error 101 s j)
 
 -- What an error says of a value that has this first one.
 abbrev pub SaysError : JsonReadError → Option (Reason × List ℕ) → Type 0
@@ -232,19 +227,15 @@ abbrev pub step_view : program.Step → Step
 step_view (variants.Member name) = Member name.now
 step_view (variants.Element i) = Element i
 
--- The path that a path of the program is.
-abbrev pub path_view : List program.Step → List Step
-path_view steps = map step_view steps
+-- The path that is noted by its steps from the rejected value outwards.
+abbrev pub trail_view : List program.Step → List Step
+trail_view [] = []
+trail_view (step ∷ steps) = trail_view steps ++ step_view step ∷ []
 
--- The last step is taken off a path.
-abbrev pub Leaves : List program.Step → List program.Step → Type 0
-Leaves old new = (steps : List program.Step) (step : program.Step) → old ≡ steps ++ step ∷ [] → new ≡ steps
-
--- How a call ended: without an error, if there is none on this path, and then the path is the same; otherwise with this
--- error, to which the path leads then.
+-- How a call ended: without an error, if there is none, and then no step is noted; otherwise with this error, to which
+-- the noted steps lead.
 -- It may fail too if an allocation fails.
-abbrev pub HasError : {T : Type 0} → Result T Reason → (List Step → Option PathError) → List program.Step → List
-    program.Step → Type 0
-HasError r error old new =
-    MatchResult r (λ _. (error (path_view old) ≡ None) × (new ≡ old))
-    (λ reason. reason ≢ OutOfMemory → error (path_view old) ≡ Some (reason, path_view new))
+abbrev pub HasError : {T : Type 0} → Result T Reason → Option PathError → List program.Step → Type 0
+HasError r error trail =
+    MatchResult r (λ _. (error ≡ None) × (trail ≡ []))
+    (λ reason. reason ≢ OutOfMemory → error ≡ Some (reason, trail_view trail))

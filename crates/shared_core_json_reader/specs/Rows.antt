@@ -9,7 +9,6 @@ use Rattle.shared_core_json.specs.Fields.{names_of, name_of}
 use Rattle.shared_core_json_reader.specs.EnumValues.{EnumField, enum_fields}
 use Rattle.shared_core_json_reader.specs.declared.rows.EnumField as program
 use Rattle.shared_core_json_reader.specs.declared.rows.EnumValue.{EnumValue}
-use Rattle.shared_core_json_reader.specs.declared.rows.Field.{Field}
 
 -- A field: its number, its name in lower camel case, its kind, and the names of its enum's values.
 pub record NamedField : Type 0 where
@@ -59,16 +58,6 @@ value_view v = (v.0.now, v.1)
 -- The field with an enum that one of the program is.
 abbrev pub enum_field_view : program.EnumField → EnumField
 enum_field_view f = record { schema = f.schema; number = f.number; values = map value_view f.values.now }
-
--- The named field of a field of the program.
-abbrev pub field_view : Field → NamedField
-field_view f = record {
-  number = f.number;
-  name = f.name.now;
-  kind = codec.kind_view f.kind;
-  values = map value_view
-      f.values.now;
-}
 
 -- The field of the schema s that a field of the codec is, with its name.
 abbrev pub in_schema : ℕ → codec_field.Field → NamedField

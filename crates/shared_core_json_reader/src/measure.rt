@@ -7,10 +7,10 @@ ghost use Rattle.shared_core_json_reader.specs.Places.{ArePlaces};
 
 use crate::bytes::decoded_len;
 use crate::members::{PLACES, Place, Places, find_places, likely};
-use crate::rows::{Field, named, rows_of};
+use crate::rows::{rows_of, values_of};
 use crate::scalars::{extended, marked_text, read_boolean, read_enumeration, read_u32, read_u64};
 use json_table::{Items, Members, Node, Shape};
-use shared_core_codec::rows::{self, Kind, Row};
+use shared_core_codec::rows::{Field, Kind, Row};
 use shared_core_record_writer::{content_len, number_len};
 use shared_core_wire::records::LEVELS;
 use shared_core_wire::varint::varint_len;
@@ -118,35 +118,9 @@ fn measure_row<'t, 'a>(
     requires { ArePlaces members.now places.now }
 {
     match row {
-        Row::Plain(field) => {
-            measure_given(
-                lengths,
-                true,
-                &named(places.schema, field),
-                members,
-                places,
-                left,
-            )
-        }
-        Row::Optional(field) => {
-            measure_given(
-                lengths,
-                false,
-                &named(places.schema, field),
-                members,
-                places,
-                left,
-            )
-        }
-        Row::Repeated(field) => {
-            measure_given(
-                lengths,
-                false,
-                &named(places.schema, field),
-                members,
-                places,
-                left,
-            )
+        Row::Plain(field) => measure_given(lengths, true, field, members, places, left),
+        Row::Optional(field) | Row::Repeated(field) => {
+            measure_given(lengths, false, field, members, places, left)
         }
         Row::OneOf(fields) => measure_oneof(lengths, fields, members, places, left),
     }
@@ -156,7 +130,7 @@ fn measure_row<'t, 'a>(
 #[cycle(measure)]
 fn measure_oneof<'t, 'a>(
     lengths: &mut Vec<u64>,
-    fields: &[rows::Field],
+    fields: &[Field],
     members: &Members<'t, 'a>,
     places: &Places,
     left: u32,
@@ -165,14 +139,7 @@ fn measure_oneof<'t, 'a>(
 {
     let mut length: u64 = 0;
     for field in fields {
-        let own = measure_given(
-            lengths,
-            false,
-            &named(places.schema, field),
-            members,
-            places,
-            left,
-        )?;
+        let own = measure_given(lengths, false, field, members, places, left)?;
         length = length.saturating_add(own);
     }
     Ok(length)
@@ -194,54 +161,58 @@ fn measure_given<'t, 'a>(
         return Ok(0);
     };
     let Shape::Array(mut items) = value.shape() else {
-        return measure_value(lengths, plain, field, &value, left);
+        return measure_value(lengths, plain, places.schema, field, &value, left);
     };
-    if let Kind::U32 = field.kind {
-        return Ok(content_len(true, field.number, run_len(&mut items)));
+    if let Kind::U32 = field.1 {
+        return Ok(content_len(true, field.0, run_len(&mut items)));
     }
     let mut length: u64 = 0;
     while let Some(item) = items.next() {
-        let own = measure_value(lengths, false, field, &item, left)?;
+        let own = measure_value(lengths, false, places.schema, field, &item, left)?;
         length = length.saturating_add(own);
     }
     Ok(length)
 }
 
-/// Measures the record of a value.
+/// Measures the record of a value of a field of a schema.
 #[cycle(measure)]
 fn measure_value<'t, 'a>(
     lengths: &mut Vec<u64>,
     plain: bool,
+    schema: u32,
     field: &Field,
     value: &Node<'t, 'a>,
     left: u32,
 ) -> Result<u64, AllocError> {
-    if let Kind::Message(schema) = field.kind {
-        let length = measure_message(lengths, schema, value, left)?;
-        return Ok(content_len(false, field.number, length));
+    if let Kind::Message(nested) = field.1 {
+        let length = measure_message(lengths, nested, value, left)?;
+        return Ok(content_len(false, field.0, length));
     }
-    Ok(single_len(plain, field, value))
+    Ok(single_len(plain, schema, field, value))
 }
 
 /// The length of the record of a value that is no message.
-fn single_len<'t, 'a>(plain: bool, field: &Field, value: &Node<'t, 'a>) -> u64 {
-    match field.kind {
-        Kind::Text => content_len(plain, field.number, text_len(value)),
-        Kind::ByteString => content_len(plain, field.number, bytes_len(value)),
-        _ => match read_number(field, value) {
-            Some(number) => number_len(plain, field.number, number),
+fn single_len<'t, 'a>(plain: bool, schema: u32, field: &Field, value: &Node<'t, 'a>) -> u64 {
+    match field.1 {
+        Kind::Text => content_len(plain, field.0, text_len(value)),
+        Kind::ByteString => content_len(plain, field.0, bytes_len(value)),
+        _ => match read_number(schema, field, value) {
+            Some(number) => number_len(plain, field.0, number),
             None => 0,
         },
     }
 }
 
 /// The number that is written for a value.
-fn read_number<'t, 'a>(field: &Field, value: &Node<'t, 'a>) -> Option<u64> {
-    match field.kind {
+fn read_number<'t, 'a>(schema: u32, field: &Field, value: &Node<'t, 'a>) -> Option<u64> {
+    match field.1 {
         Kind::U32 => Some(u64::from(read_u32(value).ok()?)),
         Kind::U64 => read_u64(value).ok(),
         Kind::Boolean => read_boolean(value).ok(),
-        Kind::Enumeration => Some(extended(read_enumeration(field.values, value).ok()?)),
+        Kind::Enumeration => Some(extended(read_enumeration(
+            values_of(schema, field.0),
+            value,
+        ).ok()?)),
         _ => None,
     }
 }

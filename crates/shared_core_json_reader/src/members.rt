@@ -13,7 +13,7 @@ ghost use Rattle.json.specs.Json.{no_members};
 ghost use Rattle.json_table.specs.Tails.{last_members, IsTail};
 ghost use Rattle.shared_core_codec.specs.ProgramRows as codec;
 ghost use Rattle.shared_core_json.specs.Fields.{name_view};
-ghost use Rattle.shared_core_json_reader.specs.Rows.{field_view, named_rows};
+ghost use Rattle.shared_core_json_reader.specs.Rows.{in_schema, named_rows};
 ghost use Rattle.shared_core_json_reader.specs.Original.{after_byte, after_original};
 ghost use Rattle.shared_core_json_reader.specs.Reading.{original_name, is_named, are_known, given, present};
 ghost use Rattle.shared_core_json_reader.specs.Places.{number_by, as_it_is, number_of, place_after};
@@ -23,10 +23,9 @@ ghost use Rattle.shared_core_json_reader.specs.declared.members.Place.TheVariant
 ghost use Rattle.shared_core_json_reader.specs.FirstError.{first_unknown};
 
 use crate::error::Reason;
-use crate::rows::Field;
 use json_table::{Members, Node};
-use shared_core_codec::rows::{self, Row};
-use shared_core_json::names::{Name, names_of};
+use shared_core_codec::rows::{Field, Row};
+use shared_core_json::names::{Name, name_of, names_of};
 
 /// How many numbers of fields have a place: those below it.
 pub const PLACES: usize = 20;
@@ -82,11 +81,12 @@ fn is_original(key: &[u8], name: &[u8]) -> bool
     rest.is_empty()
 }
 
-/// Whether a key is one of a field's two names.
-fn is_named(field: &Field, key: &str) -> bool
-    ensures { result ≡ is_named (field_view field.now) key.now }
+/// Whether a key is one of the two names of a field of a schema.
+fn is_named(schema: u32, field: &Field, key: &str) -> bool
+    ensures { result ≡ is_named (in_schema schema field.now) key.now }
 {
-    key == field.name || is_original(key.as_bytes(), field.name.as_bytes())
+    let name = name_of(schema, field.0);
+    key == name || is_original(key.as_bytes(), name.as_bytes())
 }
 
 /// The number of the first of some names that is a key.
@@ -207,15 +207,15 @@ pub fn given<'t, 'a>(
     field: &Field,
 ) -> Result<Option<Node<'t, 'a>>, Reason>
     requires places { ArePlaces members.now places.now }
-    requires field { IsOf places.now.schema (field_view field.now) }
+    requires field { IsOf places.now.schema (in_schema places.now.schema field.now) }
     ensures given { MatchResult result
-        (λ found. given (field_view field.now) members.now ≡ Some found)
-        (λ _. given (field_view field.now) members.now ≡ None) }
+        (λ found. given (in_schema places.now.schema field.now) members.now ≡ Some found)
+        (λ _. given (in_schema places.now.schema field.now) members.now ≡ None) }
     ensures repeated { IfErr result (λ reason. reason ≡ Reason.RepeatedMember) }
 {
-    let number = field.number as usize;
+    let number = field.0 as usize;
     if number >= PLACES {
-        return given_by_name(members, field);
+        return given_by_name(members, places.schema, field);
     }
     match places.numbered[number] {
         Place::Absent => Ok(None),
@@ -237,7 +237,7 @@ pub fn lacks(places: &Places, row: &Row) -> bool
 
 /// Whether an object gives a field of its schema nothing, as can be seen without the field's names.
 #[inline(always)]
-pub fn is_absent(places: &Places, field: &rows::Field) -> bool
+pub fn is_absent(places: &Places, field: &Field) -> bool
     ensures { IsTrue result → IsAbsent places.now field.now.0 }
 {
     let number = field.0 as usize;
@@ -252,9 +252,9 @@ pub fn likely<'t, 'a>(
 ) -> Option<Node<'t, 'a>>
     requires { ArePlaces members.now places.now }
 {
-    let number = field.number as usize;
+    let number = field.0 as usize;
     if number >= PLACES {
-        return match given_by_name(members, field) {
+        return match given_by_name(members, places.schema, field) {
             Ok(found) => found,
             Err(_) => None,
         };
@@ -283,20 +283,22 @@ fn present<'t, 'a>(value: Node<'t, 'a>) -> Option<Node<'t, 'a>>
     if value.is_null() { None } else { Some(value) }
 }
 
-/// The value that members give a field, by its names, if it is there and not null. An error if it comes twice.
+/// The value that members give a field of a schema, by its names, if it is there and not null. An error if it comes
+/// twice.
 fn given_by_name<'t, 'a>(
     members: &Members<'t, 'a>,
+    schema: u32,
     field: &Field,
 ) -> Result<Option<Node<'t, 'a>>, Reason>
     ensures given { MatchResult result
-        (λ found. given (field_view field.now) members.now ≡ Some found)
-        (λ _. given (field_view field.now) members.now ≡ None) }
+        (λ found. given (in_schema schema field.now) members.now ≡ Some found)
+        (λ _. given (in_schema schema field.now) members.now ≡ None) }
     ensures repeated { IfErr result (λ reason. reason ≡ Reason.RepeatedMember) }
 {
     let mut found: Option<Node<'t, 'a>> = None;
     let mut rest = members.copy();
     while let Some((key, value)) = rest.next() {
-        if is_named(field, key) {
+        if is_named(schema, field, key) {
             if found.is_some() {
                 return Err(Reason::RepeatedMember);
             }

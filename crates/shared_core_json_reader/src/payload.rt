@@ -1,23 +1,22 @@
 //! The canonical payload of a JSON value, appended row by row in the order of the schema.
 //!
-//! Each function appends the records of what it is given. After an error, part of them may be there, and the path leads
-//! to the rejected value.
+//! Each function appends the records of what it is given. After an error, part of them may be there, and each function
+//! that the error passes on its way out notes the step that it knows of: so only a rejected value costs a path.
 //! The value that a text means is never made; a proof apart from the code (`message_agrees`) says that what is appended
 //! is its canonical payload. The length of a nested message is written once its fields are there, into room that is
 //! left before them: of a deep one as much as was measured before (`measure`), otherwise a byte.
 
-ghost use Rattle.std.specs.Prelude.{◌≡◌, ◌≢◌, ◌++◌, [], ◌∷◌, Some, None, true, false, option_map, MatchOption};
-ghost use Rattle.std.specs.Prelude.{MatchResult, map};
+ghost use Rattle.std.specs.Prelude.{◌≡◌, ◌≢◌, ◌++◌, [], ◌∷◌, Some, None, true, false, option_map, map, MatchResult};
 ghost use Rattle.shared_core_wire.specs.Schema.{OneOf};
 ghost use Rattle.shared_core_codec.specs.ProgramRows as codec;
-ghost use Rattle.shared_core_json_reader.specs.Rows.{field_view, row_view, named_members, named_rows};
+ghost use Rattle.shared_core_json_reader.specs.Rows.{in_schema, row_view, named_members, named_rows};
 ghost use Rattle.shared_core_json_reader.specs.Reading.{given};
 ghost use Rattle.shared_core_json_reader.specs.Places.{ArePlaces, IsOf, IsRowOf};
 ghost use Rattle.shared_core_record_writer.specs.Records.{content_record};
 ghost use Rattle.shared_core_json_reader.specs.Appended.{field_bytes, items_bytes, run_bytes};
 ghost use Rattle.shared_core_json_reader.specs.Appended.{list_bytes, given_bytes, oneof_bytes, row_bytes, rows_bytes};
 ghost use Rattle.shared_core_json_reader.specs.Appended.{members_bytes, object_bytes, message_bytes, Appends};
-ghost use Rattle.shared_core_json_reader.specs.FirstError.{path_view, step_view, Leaves, HasError};
+ghost use Rattle.shared_core_json_reader.specs.FirstError.{Member, trail_view, HasError};
 ghost use Rattle.shared_core_json_reader.specs.FirstError.{field_error, items_error, run_error, list_error};
 ghost use Rattle.shared_core_json_reader.specs.FirstError.{given_error, oneof_error, row_error, rows_error};
 ghost use Rattle.shared_core_json_reader.specs.FirstError.{members_error, object_error, message_error};
@@ -26,14 +25,14 @@ use crate::bytes::append_bytes;
 use crate::error::Reason;
 use crate::measure::Lengths;
 use crate::members::{PLACES, Place, Places, find_places, given, is_absent, lacks};
-use crate::rows::{Field, named, rows_of};
+use crate::rows::{rows_of, values_of};
 use crate::scalars::{extended, read_boolean, read_enumeration, read_text, read_u32, read_u64};
 use json_table::{Items, Members, Node, Shape};
-use shared_core_codec::rows::{self, Kind, Row};
+use shared_core_codec::rows::{Field, Kind, Row};
+use shared_core_json::names::name_of;
 use shared_core_record_writer::{
     LENGTH, append_content, append_key, append_number, append_varint, put_length,
 };
-use std::alloc::Global;
 
 /// A step of the path to a value: a member by its name, or an element by its index.
 #[derive(Clone, Copy, Drop)]
@@ -42,31 +41,35 @@ pub enum Step<'a> {
     Element(usize),
 }
 
-/// Where a payload is appended, and the path to the value that is read.
+/// What a walk over a value keeps: the path to the rejected value, from there outwards, once there is one.
 #[derive(Drop)]
 pub struct Walk<'a> {
-    pub alloc: Global,
-    pub path: Vec<Step<'a>>,
+    pub trail: Vec<Step<'a>>,
     pub lengths: Lengths,
 }
 
 impl<'a> Walk<'a> {
-    /// Goes one step further.
-    fn enter(&mut self, step: Step<'a>) -> Result<(), Reason>
-        ensures { MatchResult result (λ _. self.new.path.items ≡ self.old.path.items ++ step.entry ∷ [])
-            (λ reason. reason ≡ Reason.OutOfMemory) }
+    /// Notes that an error is one step further in, and returns its reason.
+    #[cold]
+    fn note(&mut self, step: Step<'a>, reason: Reason) -> Reason
+        ensures { result ≢ Reason.OutOfMemory → (result ≡ reason)
+            × (self.new.trail.items ≡ self.old.trail.items ++ step.entry ∷ []) }
     {
-        match self.path.push(step) {
-            Ok(()) => Ok(()),
-            Err(_) => Err(Reason::OutOfMemory),
+        match self.trail.push(step) {
+            Ok(()) => reason,
+            Err(_) => Reason::OutOfMemory,
         }
     }
 
-    /// Goes one step back.
-    fn leave(&mut self)
-        ensures { Leaves self.old.path.items self.new.path.items }
+    /// Notes that an error is in the value of a field of a schema, and returns its reason.
+    #[cold]
+    #[tactic(auto, using(crate::proofs::FirstErrors::trail_more))]
+    fn note_field(&mut self, schema: u32, field: &Field, reason: Reason) -> Reason
+        ensures { result ≢ Reason.OutOfMemory → (result ≡ reason)
+            × (trail_view self.new.trail.items
+            ≡ Member (in_schema schema field.now).name ∷ trail_view self.old.trail.items) }
     {
-        self.path.pop();
+        self.note(Step::Member(name_of(schema, field.0)), reason)
     }
 }
 
@@ -79,9 +82,9 @@ pub fn append_message<'a>(
     value: &Node<'_, 'a>,
     levels: u32,
 ) -> Result<(), Reason>
+    requires trail { walk.old.trail.items ≡ [] }
     ensures appended { Appends result (message_bytes levels schema value.now) out.old.items out.new.items }
-    ensures error { HasError result (λ path. message_error levels path schema value.now)
-        walk.old.path.items walk.new.path.items }
+    ensures error { HasError result (message_error levels schema value.now) walk.new.trail.items }
 {
     if levels == 0 {
         return Err(Reason::TooDeep);
@@ -98,11 +101,11 @@ fn append_object<'a>(
     value: &Node<'_, 'a>,
     left: u32,
 ) -> Result<(), Reason>
+    requires trail { walk.old.trail.items ≡ [] }
     ensures appended { Appends result (object_bytes (message_bytes left) (named_rows schema) value.now)
         out.old.items out.new.items }
-    ensures error { HasError result
-        (λ path. object_error (message_error left) (named_rows schema) path value.now)
-        walk.old.path.items walk.new.path.items }
+    ensures error { HasError result (object_error (message_error left) (named_rows schema) value.now)
+        walk.new.trail.items }
 {
     let Shape::Object(members) = value.shape() else {
         return Err(Reason::WrongKind);
@@ -119,19 +122,18 @@ fn append_members<'a>(
     members: &Members<'_, 'a>,
     left: u32,
 ) -> Result<(), Reason>
+    requires trail { walk.old.trail.items ≡ [] }
     ensures appended { Appends result (members_bytes (message_bytes left) (named_rows schema)
         members.now) out.old.items out.new.items }
-    ensures error { HasError result
-        (λ path. members_error (message_error left) (named_rows schema) path members.now)
-        walk.old.path.items walk.new.path.items }
+    ensures error { HasError result (members_error (message_error left) (named_rows schema) members.now)
+        walk.new.trail.items }
 {
     let mut places = Places {
         schema,
         numbered: [Place::Absent; PLACES],
     };
     if let Err(key) = find_places(schema, members, &mut places.numbered) {
-        walk.enter(Step::Member(key))?;
-        return Err(Reason::UnknownMember);
+        return Err(walk.note(Step::Member(key), Reason::UnknownMember));
     }
     append_rows(walk, out, members, &places, left)
 }
@@ -145,12 +147,12 @@ fn append_rows<'t, 'a>(
     places: &Places,
     left: u32,
 ) -> Result<(), Reason>
+    requires trail { walk.old.trail.items ≡ [] }
     requires places { ArePlaces members.now places.now }
     ensures appended { Appends result (rows_bytes (message_bytes left) members.now
         (named_rows places.now.schema)) out.old.items out.new.items }
     ensures error { HasError result
-        (λ path. rows_error (message_error left) members.now path (named_rows places.now.schema))
-        walk.old.path.items walk.new.path.items }
+        (rows_error (message_error left) members.now (named_rows places.now.schema)) walk.new.trail.items }
 {
     let rows = rows_of(places.schema);
     for row in rows {
@@ -169,76 +171,49 @@ fn append_row<'t, 'a>(
     places: &Places,
     left: u32,
 ) -> Result<(), Reason>
+    requires trail { walk.old.trail.items ≡ [] }
     requires places { ArePlaces members.now places.now }
     requires row { IsRowOf places.now.schema (codec.row_view row.now) }
     ensures appended { Appends result (row_bytes (message_bytes left) members.now
         (row_view places.now.schema row.now))
         out.old.items out.new.items }
     ensures error { HasError result
-        (λ path. row_error (message_error left) members.now path
-        (row_view places.now.schema row.now))
-        walk.old.path.items walk.new.path.items }
+        (row_error (message_error left) members.now (row_view places.now.schema row.now)) walk.new.trail.items }
 {
     if lacks(places, row) {
         return Ok(());
     }
     match row {
-        Row::Plain(field) => append_given(
-            walk,
-            out,
-            true,
-            &named(places.schema, field),
-            members,
-            places,
-            left,
-        ),
-        Row::Optional(field) => {
-            append_given(
-                walk,
-                out,
-                false,
-                &named(places.schema, field),
-                members,
-                places,
-                left,
-            )
-        }
-        Row::Repeated(field) => append_list(
-            walk,
-            out,
-            &named(places.schema, field),
-            members,
-            places,
-            left,
-        ),
+        Row::Plain(field) => append_given(walk, out, true, field, members, places, left),
+        Row::Optional(field) => append_given(walk, out, false, field, members, places, left),
+        Row::Repeated(field) => append_list(walk, out, field, members, places, left),
         Row::OneOf(fields) => append_oneof(walk, out, fields, members, places, left),
     }
 }
 
-/// The value that an object gives a field, to which the path leads then.
-fn enter_given<'t, 'a>(
+/// The value that an object gives a field of its schema. If it comes twice, the field is noted.
+#[inline(always)]
+fn given_or_noted<'t, 'a>(
     walk: &mut Walk<'a>,
     field: &Field,
     members: &Members<'t, 'a>,
     places: &Places,
 ) -> Result<Option<Node<'t, 'a>>, Reason>
+    requires trail { walk.old.trail.items ≡ [] }
     requires places { ArePlaces members.now places.now }
-    requires field { IsOf places.now.schema (field_view field.now) }
+    requires field { IsOf places.now.schema (in_schema places.now.schema field.now) }
     ensures given { MatchResult result
-        (λ found. given (field_view field.now) members.now ≡ Some found)
-        (λ reason. reason ≢ Reason.OutOfMemory → given (field_view field.now) members.now ≡ None) }
-    ensures path { MatchResult result
-        (λ found. MatchOption found (walk.new.path.items ≡ walk.old.path.items)
-        (λ _. walk.new.path.items ≡ walk.old.path.items ++ Step.Member field.now.name ∷ []))
+        (λ found. given (in_schema places.now.schema field.now) members.now ≡ Some found)
+        (λ reason. reason ≢ Reason.OutOfMemory
+        → given (in_schema places.now.schema field.now) members.now ≡ None) }
+    ensures trail { MatchResult result (λ _. walk.new.trail.items ≡ [])
         (λ reason. reason ≢ Reason.OutOfMemory → (reason ≡ Reason.RepeatedMember)
-        × (walk.new.path.items ≡ walk.old.path.items ++ Step.Member field.now.name ∷ [])) }
+        × (trail_view walk.new.trail.items ≡ Member (in_schema places.now.schema field.now).name ∷ [])) }
 {
-    let found = given(members, places, field);
-    if let Ok(None) = found {
-        return Ok(None);
+    match given(members, places, field) {
+        Ok(found) => Ok(found),
+        Err(reason) => Err(walk.note_field(places.schema, field, reason)),
     }
-    walk.enter(Step::Member(field.name))?;
-    found
 }
 
 /// Appends the record of a field that is not repeated; a default is left out if the field is plain.
@@ -252,22 +227,24 @@ fn append_given<'t, 'a>(
     places: &Places,
     left: u32,
 ) -> Result<(), Reason>
+    requires trail { walk.old.trail.items ≡ [] }
     requires places { ArePlaces members.now places.now }
-    requires field { IsOf places.now.schema (field_view field.now) }
-    ensures appended { Appends result (given_bytes (field_bytes (message_bytes left) plain (field_view field.now))
-        (given (field_view field.now) members.now))
-        out.old.items out.new.items }
+    requires field { IsOf places.now.schema (in_schema places.now.schema field.now) }
+    ensures appended { Appends result
+        (given_bytes (field_bytes (message_bytes left) plain (in_schema places.now.schema field.now))
+        (given (in_schema places.now.schema field.now) members.now)) out.old.items out.new.items }
     ensures error { HasError result
-        (λ path. given_error (field_error (message_error left) (field_view field.now)) (field_view field.now) path
-        (given (field_view field.now) members.now))
-        walk.old.path.items walk.new.path.items }
+        (given_error (field_error (message_error left) (in_schema places.now.schema field.now))
+        (in_schema places.now.schema field.now) (given (in_schema places.now.schema field.now) members.now))
+        walk.new.trail.items }
 {
-    let Some(value) = enter_given(walk, field, members, places)? else {
+    let Some(value) = given_or_noted(walk, field, members, places)? else {
         return Ok(());
     };
-    append_value(walk, out, plain, field, &value, left)?;
-    walk.leave();
-    Ok(())
+    match append_value(walk, out, plain, places.schema, field, &value, left) {
+        Ok(()) => Ok(()),
+        Err(reason) => Err(walk.note_field(places.schema, field, reason)),
+    }
 }
 
 /// Appends the record of a oneof of an object's schema.
@@ -275,34 +252,34 @@ fn append_given<'t, 'a>(
 fn append_oneof<'t, 'a>(
     walk: &mut Walk<'a>,
     out: &mut Vec<u8>,
-    fields: &[rows::Field],
+    fields: &[Field],
     members: &Members<'t, 'a>,
     places: &Places,
     left: u32,
 ) -> Result<(), Reason>
+    requires trail { walk.old.trail.items ≡ [] }
     requires places { ArePlaces members.now places.now }
     requires row { IsRowOf places.now.schema (OneOf (map codec.field_view fields.now)) }
     ensures appended { Appends result (oneof_bytes (message_bytes left) members.now false
         (named_members places.now.schema fields.now)) out.old.items out.new.items }
     ensures error { HasError result
-        (λ path. oneof_error (message_error left) members.now path false
-        (named_members places.now.schema fields.now))
-        walk.old.path.items walk.new.path.items }
+        (oneof_error (message_error left) members.now false (named_members places.now.schema fields.now))
+        walk.new.trail.items }
 {
     let mut held = false;
-    for member in fields {
-        if is_absent(places, member) {
+    for field in fields {
+        if is_absent(places, field) {
             continue;
         }
-        let field = named(places.schema, member);
-        let Some(value) = enter_given(walk, &field, members, places)? else {
+        let Some(value) = given_or_noted(walk, field, members, places)? else {
             continue;
         };
         if held {
-            return Err(Reason::SeveralMembers);
+            return Err(walk.note_field(places.schema, field, Reason::SeveralMembers));
         }
-        append_value(walk, out, false, &field, &value, left)?;
-        walk.leave();
+        if let Err(reason) = append_value(walk, out, false, places.schema, field, &value, left) {
+            return Err(walk.note_field(places.schema, field, reason));
+        }
         held = true;
     }
     Ok(())
@@ -318,22 +295,24 @@ fn append_list<'t, 'a>(
     places: &Places,
     left: u32,
 ) -> Result<(), Reason>
+    requires trail { walk.old.trail.items ≡ [] }
     requires places { ArePlaces members.now places.now }
-    requires field { IsOf places.now.schema (field_view field.now) }
-    ensures appended { Appends result (given_bytes (list_bytes (message_bytes left) (field_view field.now))
-        (given (field_view field.now) members.now))
-        out.old.items out.new.items }
+    requires field { IsOf places.now.schema (in_schema places.now.schema field.now) }
+    ensures appended { Appends result
+        (given_bytes (list_bytes (message_bytes left) (in_schema places.now.schema field.now))
+        (given (in_schema places.now.schema field.now) members.now)) out.old.items out.new.items }
     ensures error { HasError result
-        (λ path. given_error (list_error (message_error left) (field_view field.now)) (field_view field.now) path
-        (given (field_view field.now) members.now))
-        walk.old.path.items walk.new.path.items }
+        (given_error (list_error (message_error left) (in_schema places.now.schema field.now))
+        (in_schema places.now.schema field.now) (given (in_schema places.now.schema field.now) members.now))
+        walk.new.trail.items }
 {
-    let Some(value) = enter_given(walk, field, members, places)? else {
+    let Some(value) = given_or_noted(walk, field, members, places)? else {
         return Ok(());
     };
-    append_array(walk, out, field, &value, left)?;
-    walk.leave();
-    Ok(())
+    match append_array(walk, out, places.schema, field, &value, left) {
+        Ok(()) => Ok(()),
+        Err(reason) => Err(walk.note_field(places.schema, field, reason)),
+    }
 }
 
 /// Appends the records of a value of a repeated field, which has to be an array.
@@ -341,23 +320,24 @@ fn append_list<'t, 'a>(
 fn append_array<'a>(
     walk: &mut Walk<'a>,
     out: &mut Vec<u8>,
+    schema: u32,
     field: &Field,
     value: &Node<'_, 'a>,
     left: u32,
 ) -> Result<(), Reason>
-    ensures appended { Appends result (list_bytes (message_bytes left) (field_view field.now) value.now)
+    requires trail { walk.old.trail.items ≡ [] }
+    ensures appended { Appends result (list_bytes (message_bytes left) (in_schema schema field.now) value.now)
         out.old.items out.new.items }
-    ensures error { HasError result
-        (λ path. list_error (message_error left) (field_view field.now) path value.now)
-        walk.old.path.items walk.new.path.items }
+    ensures error { HasError result (list_error (message_error left) (in_schema schema field.now) value.now)
+        walk.new.trail.items }
 {
     let Shape::Array(mut items) = value.shape() else {
         return Err(Reason::WrongKind);
     };
-    if let Kind::U32 = field.kind {
-        return append_run(walk, out, field.number, &mut items);
+    if let Kind::U32 = field.1 {
+        return append_run(walk, out, field.0, &mut items);
     }
-    append_items(walk, out, field, &mut items, left)
+    append_items(walk, out, schema, field, &mut items, left)
 }
 
 /// Appends the records of the elements of an array.
@@ -365,24 +345,25 @@ fn append_array<'a>(
 fn append_items<'a>(
     walk: &mut Walk<'a>,
     out: &mut Vec<u8>,
+    schema: u32,
     field: &Field,
     items: &mut Items<'_, 'a>,
     left: u32,
 ) -> Result<(), Reason>
+    requires trail { walk.old.trail.items ≡ [] }
     ensures appended { Appends result
-        (items_bytes (message_bytes left) (field_view field.now) items.old)
+        (items_bytes (message_bytes left) (in_schema schema field.now) items.old)
         out.old.items out.new.items }
-    ensures error { HasError result
-        (λ path. items_error (message_error left) (field_view field.now) path 0 items.old)
-        walk.old.path.items walk.new.path.items }
+    ensures error { HasError result (items_error (message_error left) (in_schema schema field.now) 0 items.old)
+        walk.new.trail.items }
 {
     for index in 0..items.at_most() {
         let Some(item) = items.next() else {
             return Ok(());
         };
-        walk.enter(Step::Element(index))?;
-        append_value(walk, out, false, field, &item, left)?;
-        walk.leave();
+        if let Err(reason) = append_value(walk, out, false, schema, field, &item, left) {
+            return Err(walk.note(Step::Element(index), reason));
+        }
     }
     Ok(())
 }
@@ -394,10 +375,10 @@ fn append_run<'a>(
     number: u32,
     items: &mut Items<'_, 'a>,
 ) -> Result<(), Reason>
+    requires trail { walk.old.trail.items ≡ [] }
     ensures appended { Appends result (option_map (content_record true number) (run_bytes items.old))
         out.old.items out.new.items }
-    ensures error { HasError result (λ path. run_error path 0 items.old)
-        walk.old.path.items walk.new.path.items }
+    ensures error { HasError result (run_error 0 items.old) walk.new.trail.items }
 {
     if items.is_empty() {
         return Ok(());
@@ -417,56 +398,57 @@ fn append_numbers<'a>(
     out: &mut Vec<u8>,
     items: &mut Items<'_, 'a>,
 ) -> Result<(), Reason>
+    requires trail { walk.old.trail.items ≡ [] }
     ensures appended { Appends result (run_bytes items.old) out.old.items out.new.items }
-    ensures error { HasError result (λ path. run_error path 0 items.old)
-        walk.old.path.items walk.new.path.items }
+    ensures error { HasError result (run_error 0 items.old) walk.new.trail.items }
 {
     for index in 0..items.at_most() {
         let Some(item) = items.next() else {
             return Ok(());
         };
-        walk.enter(Step::Element(index))?;
-        append_varint(out, u64::from(read_u32(&item)?))?;
-        walk.leave();
+        let number = match read_u32(&item) {
+            Ok(number) => number,
+            Err(reason) => return Err(walk.note(Step::Element(index), reason)),
+        };
+        append_varint(out, u64::from(number))?;
     }
     Ok(())
 }
 
-/// Appends the record of a single value of a field; a default is left out if it is of a plain field.
+/// Appends the record of a single value of a field of a schema; a default is left out if it is of a plain field.
 #[cycle(message)]
 fn append_value<'a>(
     walk: &mut Walk<'a>,
     out: &mut Vec<u8>,
     plain: bool,
+    schema: u32,
     field: &Field,
     value: &Node<'_, 'a>,
     left: u32,
 ) -> Result<(), Reason>
+    requires trail { walk.old.trail.items ≡ [] }
     ensures appended { Appends result
-        (field_bytes (message_bytes left) plain (field_view field.now) value.now)
+        (field_bytes (message_bytes left) plain (in_schema schema field.now) value.now)
         out.old.items out.new.items }
-    ensures error { HasError result
-        (λ path. field_error (message_error left) (field_view field.now) path value.now)
-        walk.old.path.items walk.new.path.items }
+    ensures error { HasError result (field_error (message_error left) (in_schema schema field.now) value.now)
+        walk.new.trail.items }
 {
-    match field.kind {
-        Kind::U32 => append_number(out, plain, field.number, u64::from(read_u32(value)?))?,
-        Kind::U64 => append_number(out, plain, field.number, read_u64(value)?)?,
-        Kind::Boolean => append_number(out, plain, field.number, read_boolean(value)?)?,
-        Kind::Enumeration => append_number(
-            out,
-            plain,
-            field.number,
-            extended(read_enumeration(field.values, value)?),
-        )?,
-        Kind::Text => append_content(out, plain, field.number, read_text(value)?)?,
-        Kind::ByteString => append_bytes(out, plain, field.number, value)?,
-        Kind::Message(schema) => {
-            append_key(out, field.number, LENGTH)?;
+    match field.1 {
+        Kind::U32 => append_number(out, plain, field.0, u64::from(read_u32(value)?))?,
+        Kind::U64 => append_number(out, plain, field.0, read_u64(value)?)?,
+        Kind::Boolean => append_number(out, plain, field.0, read_boolean(value)?)?,
+        Kind::Enumeration => {
+            let bits = read_enumeration(values_of(schema, field.0), value)?;
+            append_number(out, plain, field.0, extended(bits))?;
+        }
+        Kind::Text => append_content(out, plain, field.0, read_text(value)?)?,
+        Kind::ByteString => append_bytes(out, plain, field.0, value)?,
+        Kind::Message(nested) => {
+            append_key(out, field.0, LENGTH)?;
             let place = out.len();
-            append_varint(out, walk.lengths.next(schema, value, left)?)?;
+            append_varint(out, walk.lengths.next(nested, value, left)?)?;
             let end = out.len();
-            append_message(walk, out, schema, value, left)?;
+            append_message(walk, out, nested, value, left)?;
             put_length(out, place, end)?;
         }
     }

@@ -6,7 +6,7 @@ ghost use Rattle.std.specs.String.{string_bytes};
 ghost use Rattle.shared_core_codec.specs.Payloads.{IsAccepted, payload_meaning};
 ghost use Rattle.shared_core_json_reader.specs.Reading.{only_value, json_of_text, message_read};
 ghost use Rattle.shared_core_json_reader.specs.Reading.{value_payload, text_meaning, text_payload};
-ghost use Rattle.shared_core_json_reader.specs.FirstError.{offset_of, step_text, path_text, step_view, path_view};
+ghost use Rattle.shared_core_json_reader.specs.FirstError.{offset_of, step_text, path_text, step_view, trail_view};
 ghost use Rattle.shared_core_json_reader.specs.FirstError.{value_error, SaysError, IsNotJson};
 
 use crate::error::{JsonReadError, Reason};
@@ -23,8 +23,11 @@ const MAX_DEPTH: usize = 1000;
 /// How many bytes of a payload there is room for before it grows: most have fewer.
 const ROOM: usize = 256;
 
-/// Room for an entry of the table is made for each eight bytes of a text; a table with more entries grows.
+/// Room for an entry of the table is made for each eight bytes of a text, and for four more, which short texts need; a
+/// table with more entries grows.
 const BYTES_OF_ENTRY: usize = 8;
+
+const MORE_ENTRIES: usize = 4;
 
 /// The one value of a text.
 fn parse<'a>(alloc: Global, reader: &mut Reader<'a>, room: usize) -> Result<Table<'a>, Reason>
@@ -59,14 +62,14 @@ fn push_step(text: &mut String, is_first: bool, step: &Step<'_>) -> Result<(), A
     }
 }
 
-/// The text of a path, as `headers[2].key`.
-fn path_text(alloc: Global, path: &Vec<Step<'_>>) -> Result<String, AllocError>
-    ensures { IfOk result (λ text. string_bytes text ≡ path_text true (path_view path.now.items)) }
+/// The text of a path whose steps were noted from the rejected value outwards, as `headers[2].key`.
+fn path_text(alloc: Global, trail: &mut Vec<Step<'_>>) -> Result<String, AllocError>
+    ensures { IfOk result (λ text. string_bytes text ≡ path_text true (trail_view trail.old.items)) }
 {
     let mut text = String::new(alloc);
     let mut is_first = true;
-    for step in path {
-        push_step(&mut text, is_first, step)?;
+    while let Some(step) = trail.pop() {
+        push_step(&mut text, is_first, &step)?;
         is_first = false;
     }
     Ok(text)
@@ -88,12 +91,12 @@ fn error_at(alloc: Global, reason: Reason, offset: usize) -> JsonReadError
     }
 }
 
-/// The error for what a path leads to.
-fn error_on(alloc: Global, reason: Reason, path: &Vec<Step<'_>>) -> JsonReadError
+/// The error for a value, and the path to it by the steps that were noted.
+fn error_on(alloc: Global, reason: Reason, trail: &mut Vec<Step<'_>>) -> JsonReadError
     ensures { result.reason ≢ Reason.OutOfMemory → (result.reason ≡ reason) × (result.offset ≡ None)
-        × (string_bytes result.path ≡ path_text true (path_view path.now.items)) }
+        × (string_bytes result.path ≡ path_text true (trail_view trail.old.items)) }
 {
-    match path_text(alloc, path) {
+    match path_text(alloc, trail) {
         Ok(path) => JsonReadError {
             reason,
             offset: None,
@@ -121,7 +124,11 @@ pub fn table_of_text<'a>(
     let Ok(mut reader) = Reader::new(text, scratch) else {
         return Err(error_at(alloc, Reason::OutOfMemory, 0));
     };
-    match parse(alloc, &mut reader, text.len() / BYTES_OF_ENTRY) {
+    match parse(
+        alloc,
+        &mut reader,
+        text.len() / BYTES_OF_ENTRY + MORE_ENTRIES,
+    ) {
         Ok(table) => Ok(table),
         Err(reason) => Err(error_at(alloc, reason, reader.offset().min(text.len()))),
     }
@@ -170,15 +177,14 @@ pub fn payload_in_buffer(
         → SaysError error (value_error schema node.now)) }
 {
     let mut walk = Walk {
-        alloc,
-        path: Vec::new(alloc),
+        trail: Vec::new(alloc),
         lengths: Lengths::new(alloc),
     };
     let mut payload = buffer;
     payload.clear();
     match append_message(&mut walk, &mut payload, schema, node, LEVELS + 1) {
         Ok(()) => Ok(payload),
-        Err(reason) => Err(error_on(alloc, reason, &walk.path)),
+        Err(reason) => Err(error_on(alloc, reason, &mut walk.trail)),
     }
 }
 

@@ -1,16 +1,14 @@
-//! What JSON adds to the rows of schemas, which are those of `shared_core_codec`: the name of each field, and the names
-//! of the values of its enum.
+//! What JSON adds to the rows of schemas, which are those of `shared_core_codec`: the names of the values of enums.
 
 ghost use Rattle.std.specs.Prelude.{◌≡◌, map};
 ghost use Rattle.shared_core_codec.specs.Table.{table};
 ghost use Rattle.shared_core_codec.specs.ProgramRows.{row_view};
 ghost use Rattle.shared_core_json_reader.specs.EnumValues.{enum_fields};
 ghost use Rattle.shared_core_json_reader.specs.Rows.{value_view, enum_field_view, enum_values};
-ghost use Rattle.shared_core_json_reader.specs.Rows.{field_view, in_schema, rows_view, named_rows};
+ghost use Rattle.shared_core_json_reader.specs.Rows.{rows_view, named_rows};
 
 use crate::enum_values::ENUM_FIELDS;
-use shared_core_codec::rows::{self, Kind, Row};
-use shared_core_json::names::name_of;
+use shared_core_codec::rows::{self, Row};
 
 /// The name of a value of an enum, and its number.
 #[derive(Clone, Copy)]
@@ -24,15 +22,6 @@ pub struct EnumField {
     pub values: &'static [EnumValue],
 }
 
-/// A field of a schema: its number, its name in lower camel case, its kind, and the values of its enum, if it has one.
-#[derive(Clone, Copy)]
-pub struct Field {
-    pub number: u32,
-    pub name: &'static str,
-    pub kind: Kind,
-    pub values: &'static [EnumValue],
-}
-
 /// The fields with an enum.
 fn enum_fields() -> &'static [EnumField]
     ensures { map enum_field_view result.now ≡ enum_fields }
@@ -41,7 +30,7 @@ fn enum_fields() -> &'static [EnumField]
 }
 
 /// The values of the enum of a field; none if it has no enum.
-fn values_of(schema: u32, number: u32) -> &'static [EnumValue]
+pub fn values_of(schema: u32, number: u32) -> &'static [EnumValue]
     ensures { map value_view result.now ≡ enum_values schema number }
 {
     for field in enum_fields() {
@@ -58,16 +47,4 @@ pub fn rows_of(schema: u32) -> &'static [Row]
     ensures rows { map row_view result.now ≡ table schema }
 {
     rows::rows_of(schema)
-}
-
-/// The field of a schema that a row has, with its names.
-pub fn named(schema: u32, field: &rows::Field) -> Field
-    ensures { field_view result ≡ in_schema schema field.now }
-{
-    Field {
-        number: field.0,
-        name: name_of(schema, field.0),
-        kind: field.1,
-        values: values_of(schema, field.0),
-    }
 }

@@ -1,28 +1,28 @@
 use Rattle.std.proofs.Common.{◌∙◌, Some, ap, sym, arith}
-use Rattle.shared_core_json_reader.specs.Rows.{field_view}
+use Rattle.shared_core_json_reader.specs.Rows.{in_schema}
 use Rattle.shared_core_json_reader.proofs.Givens.{place_gives, given_at, once_within}
 use Rattle.shared_core_json_reader.proofs.members.given.Goals as goal
 
 pub first_present-requires : goal.first_present-requires
 first_present-requires c =
-    once_within c.args.places.now.schema c.args.field.now.number c.in-Once.left c.args.members.now
+    once_within c.args.places.now.schema c.args.field.now.0 c.in-Once.left c.args.members.now
     c.args.places.now.numbered c.requires.places.say (omega arith) c.in-Once.is
 
 pub returns-in-Absent-clause-given : goal.returns-in-Absent-clause-given
 returns-in-Absent-clause-given c =
-    given_at c.args.places.now.schema (field_view c.args.field.now) c.args.members.now
+    given_at c.args.places.now.schema (in_schema c.args.places.now.schema c.args.field.now) c.args.members.now
     c.args.places.now.numbered c.requires.field c.requires.places.say (omega arith)
     ∙ ap (place_gives c.args.members.now) c.in-Absent.is
 
 pub returns-in-Once-clause-given : goal.returns-in-Once-clause-given
 returns-in-Once-clause-given c =
-    given_at c.args.places.now.schema (field_view c.args.field.now) c.args.members.now
+    given_at c.args.places.now.schema (in_schema c.args.places.now.schema c.args.field.now) c.args.members.now
     c.args.places.now.numbered c.requires.field c.requires.places.say (omega arith)
     ∙ ap (place_gives c.args.members.now) c.in-Once.is
     ∙ ap (λ o. Some o) (sym c.first_present.ensures)
 
 pub returns-in-Several-clause-given : goal.returns-in-Several-clause-given
 returns-in-Several-clause-given c =
-    given_at c.args.places.now.schema (field_view c.args.field.now) c.args.members.now
+    given_at c.args.places.now.schema (in_schema c.args.places.now.schema c.args.field.now) c.args.members.now
     c.args.places.now.numbered c.requires.field c.requires.places.say (omega arith)
     ∙ ap (place_gives c.args.members.now) c.in-Several.is

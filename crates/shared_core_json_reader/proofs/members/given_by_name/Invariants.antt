@@ -1,13 +1,13 @@
 use Rattle.std.proofs.Common.{◌≡◌, ◌++◌}
 use Rattle.std.specs.Option.{option_to_list}
 use Rattle.json_table.specs.Counts.{members_count}
-use Rattle.shared_core_json_reader.specs.Rows.{field_view}
+use Rattle.shared_core_json_reader.specs.Rows.{in_schema}
 use Rattle.shared_core_json_reader.specs.Reading.{values_named}
 use Rattle.shared_core_json_reader.proofs.members.given_by_name.Given as goal
 
 abbrev pub invariant-loop-key : goal.invariant-loop-key
-invariant-loop-key l = option_to_list l.found ++ values_named (field_view l.field) l.rest ≡ values_named
-    (field_view l.field) l.members
+invariant-loop-key l = option_to_list l.found ++ values_named (in_schema l.schema l.field) l.rest ≡ values_named
+    (in_schema l.schema l.field) l.members
 
 abbrev pub decreases-loop-key : goal.decreases-loop-key
 decreases-loop-key l = members_count l.rest

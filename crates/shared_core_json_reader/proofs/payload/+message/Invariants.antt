@@ -1,8 +1,8 @@
-use Rattle.std.proofs.Common.{◌≡◌, ◌≤◌, ◌+◌, ◌*◌, drop, false}
+use Rattle.std.proofs.Common.{◌≡◌, [], ◌≤◌, ◌+◌, ◌*◌, drop, false}
 use Rattle.json_table.specs.Counts.{items_count}
-use Rattle.shared_core_json_reader.specs.Rows.{field_view, named_members, rows_view, named_rows}
+use Rattle.shared_core_json_reader.specs.Rows.{in_schema, named_members, rows_view, named_rows}
 use Rattle.shared_core_json_reader.specs.Appended.{items_bytes, oneof_bytes, rows_bytes, message_bytes, after}
-use Rattle.shared_core_json_reader.specs.FirstError.{items_error, oneof_error, rows_error, message_error, path_view}
+use Rattle.shared_core_json_reader.specs.FirstError.{items_error, oneof_error, rows_error, message_error}
 use Rattle.shared_core_json_reader.proofs.payload.+message.Given as goal
 
 abbrev pub decreases-append_message : goal.decreases-append_message
@@ -44,29 +44,26 @@ invariant-append_rows-loop-row l =
     (rows_view l.places.schema (drop l.row-index l.rows)))
     ≡ after l.initial.out.items (rows_bytes (message_bytes l.left) l.members
     (named_rows l.places.schema)))
-    × (rows_error (message_error l.left) l.members (path_view l.initial.walk.path.items)
-    (rows_view l.places.schema (drop l.row-index l.rows))
-    ≡ rows_error (message_error l.left) l.members (path_view l.initial.walk.path.items)
-    (named_rows l.places.schema))
-    × (l.walk.path.items ≡ l.initial.walk.path.items)
+    × (rows_error (message_error l.left) l.members (rows_view l.places.schema (drop l.row-index l.rows))
+    ≡ rows_error (message_error l.left) l.members (named_rows l.places.schema))
+    × (l.walk.trail.items ≡ [])
 
-abbrev pub invariant-append_oneof-loop-member : goal.invariant-append_oneof-loop-member
-invariant-append_oneof-loop-member l =
+abbrev pub invariant-append_oneof-loop-field : goal.invariant-append_oneof-loop-field
+invariant-append_oneof-loop-field l =
     (after l.out.items (oneof_bytes (message_bytes l.left) l.members l.held
-    (named_members l.places.schema (drop l.member-index l.fields)))
+    (named_members l.places.schema (drop l.field-index l.fields)))
     ≡ after l.initial.out.items (oneof_bytes (message_bytes l.left) l.members false
     (named_members l.places.schema l.fields)))
-    × (oneof_error (message_error l.left) l.members (path_view l.initial.walk.path.items) l.held
-    (named_members l.places.schema (drop l.member-index l.fields))
-    ≡ oneof_error (message_error l.left) l.members (path_view l.initial.walk.path.items) false
-    (named_members l.places.schema l.fields))
-    × (l.walk.path.items ≡ l.initial.walk.path.items)
+    × (oneof_error (message_error l.left) l.members l.held
+    (named_members l.places.schema (drop l.field-index l.fields))
+    ≡ oneof_error (message_error l.left) l.members false (named_members l.places.schema l.fields))
+    × (l.walk.trail.items ≡ [])
 
 abbrev pub invariant-append_items-loop-index : goal.invariant-append_items-loop-index
 invariant-append_items-loop-index l =
-    (after l.out.items (items_bytes (message_bytes l.left) (field_view l.field) l.items)
-    ≡ after l.initial.out.items (items_bytes (message_bytes l.left) (field_view l.field) l.initial.items))
-    × (items_error (message_error l.left) (field_view l.field) (path_view l.initial.walk.path.items) l.index l.items
-    ≡ items_error (message_error l.left) (field_view l.field) (path_view l.initial.walk.path.items) 0 l.initial.items)
-    × (l.walk.path.items ≡ l.initial.walk.path.items)
+    (after l.out.items (items_bytes (message_bytes l.left) (in_schema l.schema l.field) l.items)
+    ≡ after l.initial.out.items (items_bytes (message_bytes l.left) (in_schema l.schema l.field) l.initial.items))
+    × (items_error (message_error l.left) (in_schema l.schema l.field) l.index l.items
+    ≡ items_error (message_error l.left) (in_schema l.schema l.field) 0 l.initial.items)
+    × (l.walk.trail.items ≡ [])
     × (items_count l.items + l.index ≤ l.index-end)

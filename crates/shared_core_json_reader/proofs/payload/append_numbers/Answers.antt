@@ -9,7 +9,7 @@ returns-clause-appended c = run_end c.loop-index.items c.loop-index.out.items _
 
 pub returns-clause-error : goal.returns-clause-error
 returns-clause-error c = (
-  run_error_end c.loop-index.items c.loop-index.index _ _ (none_left c.loop-index.items (omega arith))
+  run_error_end c.loop-index.items c.loop-index.index _ (none_left c.loop-index.items (omega arith))
       c.loop-index.invariant.1,
   c.loop-index.invariant.2,
 )
