@@ -1,12 +1,14 @@
 -- The bytes of chunks.
 use Rattle.std.proofs.Common.{◌≡◌, ℕ, ◌+◌, ◌≤◌, List, [], ◌∷◌, ◌++◌, length, take, drop, append_assoc, append-nil}
 use Rattle.std.proofs.Common.{refl, ap, sym, ◌∙◌, arith, take-append-drop, true, false}
+use Rattle.std.proofs.Math.Seq.{take-append_seam}
 use Rattle.std.proofs.lemmas.Grind.{take_at_read}
 use Rattle.std.proofs.lemmas.List.{drop_all, take_all}
 use Rattle.std.proofs.lemmas.List.Elements.{All-append, All-head, All-push, All-tail}
 use Rattle.std.proofs.lemmas.List.Folds.{concat-append}
 use Rattle.std.specs.List.{concat}
-use Rattle.std.specs.Prelude.{Result, Ok, Err, OnOk, is_ok, if◌then◌else◌, ◌<◌, ◌^◌, get_or, All, Option, Some, None}
+use Rattle.std.specs.Prelude.{Result, Ok, Err, OnOk, OnErr, is_ok, if◌then◌else◌, ◌<◌, ◌^◌, get_or, All}
+use Rattle.std.specs.Prelude.{Option, Some, None}
 use Rattle.std.specs.Option.{option_to_list}
 use Rattle.bytes.proofs.Chunks.{concat_push}
 use Rattle.shared_core_chunks.proofs.Appending.{payload_after, row_joined}
@@ -108,6 +110,16 @@ copied_last (Ok t) kept cs i small copied new past before is =
     is ∙ ap (λ (l : List ℕ). l ++ small) (before ∙ ap (λ (l : List (List ℕ)). kept ++ concat l) (take_all i cs past))
     ∙ append_assoc kept (concat cs) small
 copied_last (Err e) kept cs i small copied new past before is = tt
+
+-- what was there is at the front of what some chunks were appended to
+pub cut_back : (kept more copied : List ℕ) → copied ≡ kept ++ more → take (length kept) copied ≡ kept
+cut_back kept more copied is = ap (take (length kept)) is ∙ take-append_seam kept more
+
+-- and where what is small could not be appended
+pub last_cut : {T E : Type 0} (result : Result T E) (kept more small copied new : List ℕ) → copied ≡ kept ++ more
+    → new ≡ (if is_ok result then copied ++ small else copied) → OnErr result (take (length kept) new ≡ kept)
+last_cut (Ok t) kept more small copied new before is = tt
+last_cut (Err e) kept more small copied new before is = cut_back kept more new (is ∙ before)
 
 -- ---- the first chunk
 

@@ -1,6 +1,6 @@
 //! The chunks of frames.
 
-ghost use Rattle.std.specs.Prelude.{◌≡◌, ◌<◌, ◌++◌, [], length, All, OnOk, OnErr, IfOk, MatchOption};
+ghost use Rattle.std.specs.Prelude.{◌≡◌, ◌<◌, ◌++◌, [], length, take, All, OnOk, OnErr, IfOk, MatchOption};
 ghost use Rattle.shared_core_wire.specs.Encoding.{shortest_varint, key_bytes};
 ghost use Rattle.std.specs.List.{concat};
 
@@ -81,10 +81,24 @@ impl FrameChunks {
         self.tail.clear();
     }
 
-    /// Appends a copy of all bytes.
-    #[tactic(auto, using(crate::proofs::Joining::copied_last))]
+    /// Appends a copy of all bytes. After an error nothing is appended.
     pub fn copy_to(&self, bytes: &mut Vec<u8>) -> Result<(), AllocError>
-        ensures { OnOk result (bytes.new.items ≡ bytes.old.items ++ self.now) }
+        ensures ok { OnOk result (bytes.new.items ≡ bytes.old.items ++ self.now) }
+        ensures err { OnErr result (bytes.new.items ≡ bytes.old.items) }
+    {
+        let before = bytes.len();
+        if let Err(error) = self.copy_chunks(bytes) {
+            bytes.truncate(before);
+            return Err(error);
+        }
+        Ok(())
+    }
+
+    /// Appends a copy of all bytes. After an error some of them may be appended.
+    #[tactic(auto, using(crate::proofs::Joining::copied_last, crate::proofs::Joining::cut_back, crate::proofs::Joining::last_cut))]
+    fn copy_chunks(&self, bytes: &mut Vec<u8>) -> Result<(), AllocError>
+        ensures ok { OnOk result (bytes.new.items ≡ bytes.old.items ++ self.now) }
+        ensures err { OnErr result (take (length bytes.old.items) bytes.new.items ≡ bytes.old.items) }
     {
         for i in 0..self.chunks.len() {
             bytes.extend_from_slice(self.chunks[i].as_slice())?;

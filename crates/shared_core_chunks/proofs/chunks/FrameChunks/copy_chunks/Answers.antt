@@ -1,6 +1,6 @@
 use Rattle.std.proofs.Common.{◌≡◌, ◌++◌, rules}
 use Rattle.shared_core_chunks.proofs.Joining.{copied_next}
-use Rattle.shared_core_chunks.proofs.chunks.FrameChunks.copy_to.Goals as goal
+use Rattle.shared_core_chunks.proofs.chunks.FrameChunks.copy_chunks.Goals as goal
 
 pub loop-i-preserved : goal.loop-i-preserved
 loop-i-preserved c =
