@@ -87,7 +87,8 @@ prefix=$1
 target=${DESTDIR-}$prefix
 version=$(cat "$top/VERSION")
 soname=libpendratsoa.so.${version%%.*}
-calls=$(awk '/^int64_t journal_/ { sub(/^int64_t /, ""); sub(/\(.*/, ""); print }' "$header")
+calls=$(awk '/^int64_t journal_/ { sub(/^int64_t /, ""); sub(/\(.*/, ""); print }' \
+  "$header" "$top/include/pendratsoa_messages.h")
 
 # library_files, program_files: what is installed, below PREFIX
 library_files() {

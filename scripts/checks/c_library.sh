@@ -9,10 +9,11 @@ compiled() {
   case_of "$name" "${tools:+${tools}g}cc" -O2 -Wall -Wextra -Werror -I "$prefix/include" "$@"
 }
 
-# exported_names: both libraries export the calls of include/pendratsoa.h alone, and need the C library alone
+# exported_names: both libraries export the calls of the two headers alone, and need the C library alone
 exported_names() {
   library=$prefix/lib/libpendratsoa.so
-  awk '/^int64_t journal_/ { sub(/^int64_t /, ""); sub(/\(.*/, ""); print }' include/pendratsoa.h | sort > "$work/calls"
+  awk '/^int64_t journal_/ { sub(/^int64_t /, ""); sub(/\(.*/, ""); print }' include/pendratsoa.h \
+    include/pendratsoa_messages.h | sort > "$work/calls"
   "${tools}nm" -D --defined-only "$library" | awk '{ print $3 }' | sort > "$work/names"
   same 'the names of the shared library' "$work/calls" "$work/names"
   "${tools}nm" -g --defined-only "$prefix/lib/libpendratsoa.a" | awk 'NF == 3 { print $3 }' | sort > "$work/names"

@@ -153,33 +153,18 @@ static bool are_same(uint32_t schema, const uint8_t *first, const uint8_t *secon
     return true;
 }
 
-/* Writes a record, with arenas of sizes that are too small and of what is needed, and with room of every kind. Returns
-   the length, and puts the payload where there is one. */
-static int64_t written(uint32_t schema, const union journal_record *record, const uint8_t *source, size_t source_length,
-                       uint8_t **payload, struct journal_arena *last) {
-    size_t shift = below(16), needed, step;
-    uint8_t *made, *out;
-    struct journal_arena arena = arena_of(0, 0, &made);
+/* Writes a record where it needs an arena, with sizes that are too small and with one that is enough. */
+static int64_t written_in(uint32_t schema, const union journal_record *record, size_t needed,
+                          struct journal_arena *last) {
+    size_t shift = below(16), step = needed < 800 ? 1 + below(needed / 8 + 1) : 1 + below(needed / 4);
+    struct journal_arena arena;
+    uint8_t *made;
     int64_t result;
 
-    arena.source = source;
-    arena.source_length = source_length;
-    result = journal_write_record(schema, record, &arena, NULL, 0);
-    calls++;
-    free(made);
-    *payload = NULL;
-    *last = arena;
-    if (result != JOURNAL_NO_ROOM) {
-        check(result <= 0, "a payload without a table");
-        return result;
-    }
-    /* what is not used for alignment depends on the address */
-    needed = arena.lacking + 7;
-    step = needed < 800 ? 1 + below(needed / 8 + 1) : 1 + below(needed / 4);
     for (size_t size = 0; size + 14 < needed; size += step) {
         arena = arena_of(size, shift, &made);
-        arena.source = source;
-        arena.source_length = source_length;
+        arena.source = last->source;
+        arena.source_length = last->source_length;
         check(journal_write_record(schema, record, &arena, NULL, 0) == JOURNAL_NO_ROOM, "a small arena is enough");
         check(arena.left == size && arena.lacking > 0, "the arena after a record that is not written");
         calls++;
@@ -187,11 +172,36 @@ static int64_t written(uint32_t schema, const union journal_record *record, cons
         free(made);
     }
     arena = arena_of(needed, shift, &made);
+    arena.source = last->source;
+    arena.source_length = last->source_length;
+    result = journal_write_record(schema, record, &arena, NULL, 0);
+    calls++;
+    check(arena.left == needed && result != JOURNAL_NO_ROOM, "the arena after a record that is written");
+    free(made);
+    *last = arena;
+    return result;
+}
+
+/* Writes a record, with an arena of no bytes where that is enough, and with room of every kind. Returns the length, and
+   puts the payload where there is one. */
+static int64_t written(uint32_t schema, const union journal_record *record, const uint8_t *source, size_t source_length,
+                       uint8_t **payload, struct journal_arena *last) {
+    struct journal_arena arena = journal_arena_of(NULL, 0);
+    uint8_t *made = NULL, *out;
+    int64_t result;
+
     arena.source = source;
     arena.source_length = source_length;
     result = journal_write_record(schema, record, &arena, NULL, 0);
     calls++;
-    check(arena.left == needed && result != JOURNAL_NO_ROOM, "the arena after a record that is written");
+    *payload = NULL;
+    if (result == JOURNAL_NO_ROOM) {
+        /* what is not used for alignment depends on the address */
+        arena.lacking += 7;
+        made = (uint8_t *)block(arena.lacking);
+        result = written_in(schema, record, arena.lacking, &arena);
+        arena.memory = made;
+    }
     *last = arena;
     if (result >= 0) {
         out = (uint8_t *)block((size_t)result + 1);

@@ -7,6 +7,7 @@ the tools is said by paths().
 """
 import pathlib
 import re
+import shutil
 import subprocess
 import tempfile
 
@@ -33,6 +34,7 @@ NAMES = (
     "typed_messages",
     "calls",
     "records",
+    "borrowed",
     "chunks",
     "numbered",
     "dispatch",
@@ -63,6 +65,11 @@ NAMES = (
 def missing():
     """Nothing has to be there but Python."""
     return None
+
+
+def missing_rt():
+    """The missing() of a generator whose files are laid out."""
+    return None if shutil.which("rt") else "there is no rt, which lays the files out"
 
 
 def rattle():

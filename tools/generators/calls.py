@@ -4,7 +4,8 @@ declares of the library, and the list of calls for tests/c/hostile_calls.c. Each
 import re
 import textwrap
 
-from . import ROOT, laid_out, missing  # noqa: F401
+from . import ROOT, laid_out
+from . import missing_rt as missing  # noqa: F401
 from .calls_data import BITS, PATH, calls, camel, comment, constants, described, errors, kinds
 from .calls_data import paragraphs, returned_errors, structs
 from .bindings import snake
@@ -288,7 +289,7 @@ def ffi_module(module, found):
 
 
 def ffi():
-    texts = {f"{FFI}/lib.rt": FFI_ROOT + "".join(f"pub mod {module};\n" for module in FFI_MODULES)}
+    texts = {f"{FFI}/lib.rt": FFI_ROOT + "".join(f"pub mod {module};\n" for module in (*FFI_MODULES, "records"))}
     for module in FFI_MODULES:
         texts[f"{FFI}/{module}.rt"] = ffi_module(module, [call for call in calls() if call.module == module])
     return laid_out(texts)
@@ -490,20 +491,12 @@ GO_REST = '''\
 // pointer, and what the pointers lead to holds none, as the rules of cgo want it.
 
 func pointer(slice []byte) *C.uint8_t {
-	return (*C.uint8_t)(address(slice))
-}
-
-func address[Element any](slice []Element) unsafe.Pointer {
 	if len(slice) == 0 {
 		return nil
 	}
-	return unsafe.Pointer(&slice[0])
+	return (*C.uint8_t)(unsafe.Pointer(&slice[0]))
 }
-
-func count[Element any](slice []Element) C.size_t {
-	return C.size_t(len(slice))
-}
-
+@TABLES@
 func flag(isSet bool) C.uint32_t {
 	if isSet {
 		return 1
@@ -552,7 +545,24 @@ def go_table(name):
 
 def go_entries(name):
     """A table of these structs as C takes it."""
-    return [f"(*C.struct_journal_{name})(address({name}s))", f"count({name}s)"]
+    return [f"{go_pointer(name)}({name}s)", f"C.size_t(len({name}s))"]
+
+
+def go_pointer(name):
+    """The function that gives a table of these structs as C takes it."""
+    return f"pointerTo{camel(name, True)}s"
+
+
+def go_pointers():
+    """Such a function for each struct that tables are of."""
+    text = ""
+    for name in sorted({name for call in calls() for name in (call.entries, call.table) if name}):
+        text += (
+            f"\nfunc {go_pointer(name)}(slice {go_table(name)}) *C.struct_journal_{name} {{\n"
+            "\tif len(slice) == 0 {\n\t\treturn nil\n\t}\n"
+            f"\treturn (*C.struct_journal_{name})(unsafe.Pointer(&slice[0]))\n}}\n"
+        )
+    return text
 
 
 def go_call(call):
@@ -563,7 +573,7 @@ def go_call(call):
         given += go_entries(call.entries)
     for name in call.reads:
         parameters.append((name, "[]byte"))
-        given += [f"pointer({name})", f"count({name})"]
+        given += [f"pointer({name})", f"C.size_t(len({name}))"]
     if call.flag:
         parameters.append((camel(call.flag, False), "bool"))
         given.append(f"flag({camel(call.flag, False)})")
@@ -579,7 +589,7 @@ def go_call(call):
         given += go_entries(call.table)
     if call.writes:
         parameters.append(("out", "[]byte"))
-        given += ["pointer(out)", "count(out)"]
+        given += ["pointer(out)", "C.size_t(len(out))"]
     taken = ", ".join(f"{name} {kind}" for name, kind in parameters)
     made = ", ".join(given)
     line = f"\treturn int64(C.{call.symbol()}({made}))\n"
@@ -606,7 +616,7 @@ def go():
         text += go_constants([*values, (constant, f"C.JOURNAL_{entry['constant']}")]) + "\n"
     for entry in kinds():
         text += go_kinds(entry)
-    return text + GO_REST + "".join(go_call(call) for call in calls())
+    return text + GO_REST.replace("@TABLES@", go_pointers()) + "".join(go_call(call) for call in calls())
 
 
 # Rust.

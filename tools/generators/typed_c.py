@@ -81,11 +81,12 @@ def oneof_enum(record, row):
 
 
 def oneof_members(record, row):
-    """The members of a oneof: which is there, and a union of those that hold anything."""
+    """The members of a oneof: which is there, and a struct of those that hold anything. It is no union, since Rattle
+    reads it, which has none."""
     text = f"    enum journal_{record.name}_{row.name} {member(row.name)}_case;\n"
     held = [field for field in row.members if has_content(field)]
     if held:
-        text += "    union {\n"
+        text += "    struct {\n"
         for field in held:
             text += comment(field.comment, " " * 8) + f"        {element(field)} {member(field.name)};\n"
         text += f"    }} {member(row.name)};\n"
@@ -141,6 +142,11 @@ def below(name):
                 found.add(field.record)
                 left.append(field.record)
     return found
+
+
+def is_borrowed(record):
+    """Whether the library takes the struct of a record: one that no chain of records leads back to."""
+    return all(name not in below(name) for name in {record.name} | below(record.name))
 
 
 def is_recursive(record):
@@ -266,7 +272,9 @@ def write_row(record, row):
         for field in row.members:
             lines += [f"case {case_name(record, row, field.name)}:"]
             lines += indented(write_value(record, field, f"{place}.{member(field.name)}"), 1) + ["    break;"]
-        return [*lines, f"case {case_name(record, row, 'absent')}:", "    break;", "}"]
+        lines += [f"case {case_name(record, row, 'absent')}:", "    break;", "default:"]
+        lines += [f"    journal_put_(writer, level, (uint64_t){place}_case, JOURNAL_NO_FIELD_, 0);", "    break;"]
+        return [*lines, "}"]
     if row.shape == "repeated":
         lines = [f"for (size_t i = 0; i < {place}_count; i++) {{"]
         return [*lines, *indented(write_value(record, row, f"{place}[i]"), 1), "}"]
@@ -332,10 +340,30 @@ def functions():
         text += f"        journal_read_{record.name}_(&reader, 0{', record' if has_rows else ''});\n    }}\n"
         text += "    return journal_end_reading_(&reader, arena, record, sizeof *record);\n}\n\n"
         text += declared(f"static inline int64_t journal_write_{record.name}(", writing, ") {")
-        text += "    struct journal_writer_ writer;\n\n    journal_begin_writing_(&writer, arena);\n"
+        text += "    struct journal_writer_ writer;\n"
+        if is_borrowed(record):
+            text += f"    const int64_t length = journal_encode_{record.name}(record, out, room);\n\n"
+            text += "    if (length != JOURNAL_MALFORMED) {\n        return length;\n    }\n"
+            text += "    /* a table says which field is rejected, and why */\n"
+        else:
+            text += "\n"
+        text += "    journal_begin_writing_(&writer, arena);\n"
         text += f"    journal_put_{record.name}_(&writer, 0, record);\n" if has_rows else "    (void)record;\n"
         text += filled("    return journal_end_writing_(", ["&writer", schema, "arena", "out", "room"], ");") + "}\n\n"
     return text
+
+
+def encoders():
+    """The calls that write the payloads of records, which the library has of those that are not within themselves."""
+    return "".join(
+        declared(
+            f"int64_t journal_encode_{record.name}(",
+            [f"const struct journal_{record.name} *record", "uint8_t *out", "size_t room"],
+            ");",
+        )
+        for record in records()
+        if is_borrowed(record)
+    )
 
 
 def each_record():
@@ -373,6 +401,7 @@ def header():
         "STRUCTS": "\n".join(struct(record) for record in in_order()),
         "UNION": "".join(f"    struct journal_{record.name} {record.name};\n" for record in records()),
         "ELEMENTS": "".join(f"    struct journal_{record.name} {record.name};\n" for record in pointed),
+        "ENCODERS": encoders(),
         "READERS": readers(),
         "WRITERS": writers(),
         "EACH_RECORD": each_record(),
@@ -485,8 +514,8 @@ struct record {
     {number, JOURNAL_FIELD_##kind, REPEATED, AT(record, name), AT(record, name##_count), schema}
 #define CASE_OF(record, name, number, schema) \\
     {number, JOURNAL_FIELD_MESSAGE, MEMBER, 0, AT(record, name##_case), schema}
-#define MEMBER_OF(record, name, number, kind, schema) \\
-    {number, JOURNAL_FIELD_##kind, MEMBER, AT(record, name), AT(record, name##_case), schema}
+#define MEMBER_OF(record, name, member, number, kind, schema) \\
+    {number, JOURNAL_FIELD_##kind, MEMBER, AT(record, name.member), AT(record, name##_case), schema}
 
 /* The _case of a oneof is written as four bytes. */
 typedef char case_has_four_bytes[
@@ -505,10 +534,10 @@ def row_of(record, row, field):
     kind = KINDS[field.kind].removeprefix("FIELD_")
     schema = schema_of(field.record) if field.record else 0
     if isinstance(row, TypedOneOf):
-        place = [record.name, member(row.name), str(field.number)]
-        if any(has_content(other) for other in row.members):
-            return "MEMBER_OF", [*place, kind, str(schema)]
-        return "CASE_OF", [*place, str(schema)]
+        place = [record.name, member(row.name)]
+        if has_content(field):
+            return "MEMBER_OF", [*place, member(field.name), str(field.number), kind, str(schema)]
+        return "CASE_OF", [*place, str(field.number), str(schema)]
     place = [record.name, member(field.name), str(field.number)]
     if field.shape == "plain":
         return "PLAIN_OF", [*place, kind]

@@ -9,3 +9,4 @@ pub mod Names
 pub mod Notifications
 pub mod Outcomes
 pub mod Payloads
+pub mod Records

@@ -14,3 +14,4 @@ pub mod names;
 pub mod notifications;
 pub mod outcome;
 pub mod payloads;
+pub mod records;

@@ -16,3 +16,4 @@ pub mod journals;
 pub mod names;
 pub mod notifications;
 pub mod payloads;
+pub mod records;

@@ -91,7 +91,7 @@ impl Size {
 
     /// Adds a varint without a key.
     #[inline]
-    pub(crate) fn add_varint(&mut self, number: u64)
+    pub fn add_varint(&mut self, number: u64)
         ensures { self.new ≡ capped (self.old + length (shortest_varint number)) }
     {
         self.total = (self.total + varint_size(number)).min(Size::LIMIT);
@@ -99,7 +99,7 @@ impl Size {
 
     /// Adds a length-delimited record of these bytes.
     #[inline]
-    pub(crate) fn add_length_record(&mut self, number: u32, content: &[u8])
+    pub fn add_length_record(&mut self, number: u32, content: &[u8])
         ensures { self.new ≡ capped (self.old + length (length_record number content.now)) }
     {
         let len = content.len() as u64;

@@ -12,7 +12,7 @@ use crate::size::{LENGTH, VARINT, key};
 /// Writes the shortest varint of a number.
 #[inline(always)]
 #[tactic(auto, using(crate::proofs::Backwards::one_before, crate::proofs::Varints::one_byte))]
-pub(crate) fn write_varint(out: &mut [u8], end: usize, number: u64) -> usize
+pub fn write_varint(out: &mut [u8], end: usize, number: u64) -> usize
     requires within { end ≤ length out.old }
     requires room { length (shortest_varint number) ≤ end }
     ensures start { result + length (shortest_varint number) ≡ end }
@@ -89,7 +89,7 @@ pub fn write_length(out: &mut [u8], end: usize, number: u32, len: usize) -> usiz
 /// Writes a length-delimited record.
 #[inline(always)]
 #[tactic(auto, using(crate::proofs::Backwards::record_before, crate::proofs::Backwards::record_size))]
-pub(crate) fn write_length_record(out: &mut [u8], end: usize, number: u32, content: &[u8]) -> usize
+pub fn write_length_record(out: &mut [u8], end: usize, number: u32, content: &[u8]) -> usize
     requires within { end ≤ length out.old }
     requires room { length (length_record number content.now) ≤ end }
     ensures start { result + length (length_record number content.now) ≡ end }

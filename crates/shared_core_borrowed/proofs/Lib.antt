@@ -1,0 +1,4 @@
+mod Fitting
+mod Lists
+mod Members
+mod Whole
