@@ -6,10 +6,14 @@ use std::alloc::{alloc, Layout};
 
 #[rustfmt::skip]
 mod declared;
+mod lists;
+#[rustfmt::skip]
+pub(crate) mod structs;
 mod table;
 mod writer;
 
 pub(crate) use declared::*;
+pub(crate) use lists::append_struct;
 pub use table::Table;
 pub(crate) use table::{Entry, Room};
 pub use writer::Writer;
@@ -86,20 +90,45 @@ unsafe fn appended(
     } else if out.capacity() - out.len() < guess {
         reserve(out, guess)?;
     }
+    let spare = out.spare_capacity_mut();
+    let room = spare.len();
+    let length = count(call(spare.as_mut_ptr().cast(), room))?;
+    if length > room {
+        // SAFETY: the caller of this promises what the one of that has to
+        return unsafe { appended_again(out, length, call) };
+    }
+    // SAFETY: the call has written this number of bytes, as its caller promises, and there is room for them
+    unsafe { out.set_len(out.len() + length) };
+    Ok(length)
+}
+
+/// The same for a call that has returned how much room it needs.
+///
+/// # Safety
+///
+/// As for `written`.
+#[cold]
+unsafe fn appended_again(
+    out: &mut Vec<u8>,
+    needed: usize,
+    call: impl FnMut(*mut u8, usize) -> i64,
+) -> Result<usize> {
+    let (mut call, mut needed) = (call, needed);
     loop {
+        reserve(out, needed)?;
         let spare = out.spare_capacity_mut();
-        let (first, room) = (spare.as_mut_ptr().cast(), spare.len());
-        let length = count(call(first, room))?;
-        if length <= room {
-            // SAFETY: the call has written this number of bytes, as its caller promises, and there is room for them
-            unsafe { out.set_len(out.len() + length) };
-            return Ok(length);
+        let room = spare.len();
+        needed = count(call(spare.as_mut_ptr().cast(), room))?;
+        if needed <= room {
+            // SAFETY: as in `appended`
+            unsafe { out.set_len(out.len() + needed) };
+            return Ok(needed);
         }
-        reserve(out, length)?;
     }
 }
 
 /// Makes room for this many bytes more.
+#[cold]
 fn reserve(out: &mut Vec<u8>, room: usize) -> Result<()> {
     // of a vector that holds nothing it is not known that more is appended
     let reserved = if out.is_empty() {

@@ -1,7 +1,6 @@
 //! Records and the table of fields: a record is read from the fields that the library finds in a payload, and written
 //! as those of which the library makes one. Nothing is known here of how a payload is encoded.
 
-use std::cell::RefCell;
 use std::error;
 use std::fmt;
 
@@ -57,11 +56,9 @@ pub trait Record<'a>: Fields<'a> {
     /// Appends the canonical payload of the record, and returns its length. The errors are those of [`Record::encode`],
     /// and leave the vector as it was.
     fn append_to(&self, out: &mut Vec<u8>) -> Result<usize, Error> {
-        // there is no kept table while the thread ends
-        let appended = WRITER.try_with(|kept| append(self, &mut kept.borrow_mut(), out));
-        match appended {
-            Ok(Some(length)) => Ok(length),
-            _ => append_anew(self, out),
+        match self.append_struct(out, 0) {
+            Some(length) => Ok(length),
+            None => append_table(self, out),
         }
     }
 }
@@ -80,10 +77,16 @@ pub trait MessageRecord<'a>: Record<'a> {
     fn frame(&self, version: impl Into<u32>) -> Result<Vec<u8>, Error> {
         let (version, code) = (version.into(), Self::TYPE.code());
         let mut out = Vec::new();
-        out.try_reserve_exact(FRAME_ROOM)
-            .map_err(|_| Error::OutOfMemory)?;
-        out.extend_from_slice(&[0; HEADER]);
-        let length = self.append_to(&mut out)?;
+        let length = match self.append_struct(&mut out, HEADER) {
+            Some(length) => length,
+            None => {
+                out.clear();
+                out.try_reserve_exact(HEADER)
+                    .map_err(|_| Error::OutOfMemory)?;
+                out.resize(HEADER, 0);
+                append_table(self, &mut out)?
+            }
+        };
         if schema(version, code)? == Self::SCHEMA.number() {
             out[..HEADER].copy_from_slice(&header(version, code, length)?);
             return Ok(out);
@@ -96,9 +99,8 @@ pub trait MessageRecord<'a>: Record<'a> {
     }
 }
 
-/// How many bytes a header has, and what most frames have room in.
+/// How many bytes a header has.
 const HEADER: usize = 8;
-const FRAME_ROOM: usize = 128;
 
 /// What the generated code has of each record.
 pub trait Fields<'a>: Default {
@@ -111,16 +113,18 @@ pub trait Fields<'a>: Default {
     #[doc(hidden)]
     fn write(&self, writer: &mut Writer, level: u64);
 
+    /// Appends the payload of the struct that the library takes, after so many zeros, and returns its length; `None` if
+    /// it takes none for such a record, rejects it, or there is no memory.
+    #[doc(hidden)]
+    fn append_struct(&self, _out: &mut Vec<u8>, _before: usize) -> Option<usize> {
+        None
+    }
+
     #[doc(hidden)]
     #[cold]
     fn unknown(number: u64) -> Error {
         Error::unexpected(&format!("a field of {}:", Self::LISTED.name), number)
     }
-}
-
-thread_local! {
-    /// The memory of the last table of this thread. Nothing that fills a table makes another.
-    static WRITER: RefCell<Writer> = const { RefCell::new(Writer::empty()) };
 }
 
 /// Reads the record of a table.
@@ -143,20 +147,10 @@ impl Writer {
     }
 }
 
-/// Appends the canonical payload of a record, by a table in memory that an earlier one had, and returns its length, or
-/// `None` if there is none.
-fn append<'a, R: Record<'a>>(record: &R, writer: &mut Writer, out: &mut Vec<u8>) -> Option<usize> {
-    writer.clear();
-    record.write(writer, 0);
-    let appended = writer.append_to(R::SCHEMA.number(), out);
-    writer.keep_little();
-    appended
-}
-
-/// The same by a table of its own, with why there is no payload.
+/// Appends the canonical payload of a record, by a table, with why there is no payload.
 #[cold]
-fn append_anew<'a, R: Record<'a>>(record: &R, out: &mut Vec<u8>) -> Result<usize, Error> {
-    let mut writer = Writer::empty();
+fn append_table<'a, R: Record<'a>>(record: &R, out: &mut Vec<u8>) -> Result<usize, Error> {
+    let mut writer = Writer::default();
     record.write(&mut writer, 0);
     let schema = R::SCHEMA.number();
     match writer.payload(schema, out) {

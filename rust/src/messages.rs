@@ -21,7 +21,7 @@
 use std::borrow::Cow;
 
 use crate::error::Error;
-use crate::ffi::{Table, Writer};
+use crate::ffi::{append_struct, structs, Table, Writer};
 use crate::fields::{Fields, Listed};
 use crate::message_type::MessageType;
 use crate::schema::Schema;
@@ -62,6 +62,11 @@ impl<'a> Fields<'a> for Void {
     }
 
     fn write(&self, _: &mut Writer, _: u64) {}
+
+    #[inline]
+    fn append_struct(&self, out: &mut Vec<u8>, before: usize) -> Option<usize> {
+        append_struct(out, before, |lists| structs::Void::of(self, lists))
+    }
 }
 
 impl<'a> Record<'a> for Void {
@@ -91,6 +96,11 @@ impl<'a> Fields<'a> for Value<'a> {
         if !self.content.is_empty() {
             writer.bytes(level, 1, &self.content);
         }
+    }
+
+    #[inline]
+    fn append_struct(&self, out: &mut Vec<u8>, before: usize) -> Option<usize> {
+        append_struct(out, before, |lists| structs::Value::of(self, lists))
     }
 }
 
@@ -138,6 +148,11 @@ impl<'a> Fields<'a> for Failure<'a> {
             writer.record(level, 3, element);
         }
     }
+
+    #[inline]
+    fn append_struct(&self, out: &mut Vec<u8>, before: usize) -> Option<usize> {
+        append_struct(out, before, |lists| structs::Failure::of(self, lists))
+    }
 }
 
 impl<'a> Record<'a> for Failure<'a> {
@@ -173,6 +188,11 @@ impl<'a> Fields<'a> for FailureMetadata<'a> {
         if !self.value.is_empty() {
             writer.text(level, 2, &self.value);
         }
+    }
+
+    #[inline]
+    fn append_struct(&self, out: &mut Vec<u8>, before: usize) -> Option<usize> {
+        append_struct(out, before, |lists| structs::FailureMetadata::of(self, lists))
     }
 }
 
@@ -210,6 +230,11 @@ impl<'a> Fields<'a> for Header<'a> {
             writer.text(level, 2, &self.value);
         }
     }
+
+    #[inline]
+    fn append_struct(&self, out: &mut Vec<u8>, before: usize) -> Option<usize> {
+        append_struct(out, before, |lists| structs::Header::of(self, lists))
+    }
 }
 
 impl<'a> Record<'a> for Header<'a> {
@@ -243,6 +268,11 @@ impl<'a> Fields<'a> for StateKeys<'a> {
         for element in &self.keys {
             writer.bytes(level, 1, element);
         }
+    }
+
+    #[inline]
+    fn append_struct(&self, out: &mut Vec<u8>, before: usize) -> Option<usize> {
+        append_struct(out, before, |lists| structs::StateKeys::of(self, lists))
     }
 }
 
@@ -279,6 +309,11 @@ impl<'a> Fields<'a> for StateEntry<'a> {
         if !self.value.is_empty() {
             writer.bytes(level, 2, &self.value);
         }
+    }
+
+    #[inline]
+    fn append_struct(&self, out: &mut Vec<u8>, before: usize) -> Option<usize> {
+        append_struct(out, before, |lists| structs::StateEntry::of(self, lists))
     }
 }
 
@@ -392,6 +427,11 @@ impl<'a> Fields<'a> for WorkflowTarget<'a> {
             writer.text(level, 3, value);
         }
     }
+
+    #[inline]
+    fn append_struct(&self, out: &mut Vec<u8>, before: usize) -> Option<usize> {
+        append_struct(out, before, |lists| structs::WorkflowTarget::of(self, lists))
+    }
 }
 
 impl<'a> Record<'a> for WorkflowTarget<'a> {
@@ -445,6 +485,11 @@ impl<'a> Fields<'a> for IdempotentRequestTarget<'a> {
         if let Some(value) = &self.scope {
             writer.text(level, 5, value);
         }
+    }
+
+    #[inline]
+    fn append_struct(&self, out: &mut Vec<u8>, before: usize) -> Option<usize> {
+        append_struct(out, before, |lists| structs::IdempotentRequestTarget::of(self, lists))
     }
 }
 
@@ -546,6 +591,11 @@ impl<'a> Fields<'a> for StartMessage<'a> {
             writer.text(level, 12, value);
         }
     }
+
+    #[inline]
+    fn append_struct(&self, out: &mut Vec<u8>, before: usize) -> Option<usize> {
+        append_struct(out, before, |lists| structs::StartMessage::of(self, lists))
+    }
 }
 
 impl<'a> Record<'a> for StartMessage<'a> {
@@ -641,6 +691,11 @@ impl<'a> Fields<'a> for SuspensionMessageV6<'a> {
             writer.text(level, 3, element);
         }
     }
+
+    #[inline]
+    fn append_struct(&self, out: &mut Vec<u8>, before: usize) -> Option<usize> {
+        append_struct(out, before, |lists| structs::SuspensionMessageV6::of(self, lists))
+    }
 }
 
 impl<'a> Record<'a> for SuspensionMessageV6<'a> {
@@ -718,6 +773,11 @@ impl<'a> Fields<'a> for ErrorMessage<'a> {
             writer.signed(level, 9, self.behavior.0);
         }
     }
+
+    #[inline]
+    fn append_struct(&self, out: &mut Vec<u8>, before: usize) -> Option<usize> {
+        append_struct(out, before, |lists| structs::ErrorMessage::of(self, lists))
+    }
 }
 
 impl<'a> Record<'a> for ErrorMessage<'a> {
@@ -742,6 +802,11 @@ impl<'a> Fields<'a> for EndMessage {
     }
 
     fn write(&self, _: &mut Writer, _: u64) {}
+
+    #[inline]
+    fn append_struct(&self, out: &mut Vec<u8>, before: usize) -> Option<usize> {
+        append_struct(out, before, |lists| structs::EndMessage::of(self, lists))
+    }
 }
 
 impl<'a> Record<'a> for EndMessage {
@@ -804,6 +869,11 @@ impl<'a> Fields<'a> for ProposeRunCompletionMessage<'a> {
             }
             None => {}
         }
+    }
+
+    #[inline]
+    fn append_struct(&self, out: &mut Vec<u8>, before: usize) -> Option<usize> {
+        append_struct(out, before, |lists| structs::ProposeRunCompletionMessage::of(self, lists))
     }
 }
 
@@ -882,6 +952,11 @@ impl<'a> Fields<'a> for ProposeRunCompletionAckMessage {
             writer.number32(level, 1, self.completion_id);
         }
     }
+
+    #[inline]
+    fn append_struct(&self, out: &mut Vec<u8>, before: usize) -> Option<usize> {
+        append_struct(out, before, |lists| structs::ProposeRunCompletionAckMessage::of(self, lists))
+    }
 }
 
 impl<'a> Record<'a> for ProposeRunCompletionAckMessage {
@@ -921,6 +996,11 @@ impl<'a> Fields<'a> for GetStateEphemeralCommandMessage<'a> {
         if self.completion_id != 0 {
             writer.number32(level, 2, self.completion_id);
         }
+    }
+
+    #[inline]
+    fn append_struct(&self, out: &mut Vec<u8>, before: usize) -> Option<usize> {
+        append_struct(out, before, |lists| structs::GetStateEphemeralCommandMessage::of(self, lists))
     }
 }
 
@@ -986,6 +1066,11 @@ impl<'a> Fields<'a> for GetStateEphemeralNotificationMessage<'a> {
             None => {}
         }
     }
+
+    #[inline]
+    fn append_struct(&self, out: &mut Vec<u8>, before: usize) -> Option<usize> {
+        append_struct(out, before, |lists| structs::GetStateEphemeralNotificationMessage::of(self, lists))
+    }
 }
 
 impl<'a> Record<'a> for GetStateEphemeralNotificationMessage<'a> {
@@ -1038,6 +1123,11 @@ impl<'a> Fields<'a> for InputCommandMessage<'a> {
         if let Some(value) = &self.value {
             writer.record(level, 14, value);
         }
+    }
+
+    #[inline]
+    fn append_struct(&self, out: &mut Vec<u8>, before: usize) -> Option<usize> {
+        append_struct(out, before, |lists| structs::InputCommandMessage::of(self, lists))
     }
 }
 
@@ -1103,6 +1193,11 @@ impl<'a> Fields<'a> for OutputCommandMessage<'a> {
             None => {}
         }
     }
+
+    #[inline]
+    fn append_struct(&self, out: &mut Vec<u8>, before: usize) -> Option<usize> {
+        append_struct(out, before, |lists| structs::OutputCommandMessage::of(self, lists))
+    }
 }
 
 impl<'a> Record<'a> for OutputCommandMessage<'a> {
@@ -1148,6 +1243,11 @@ impl<'a> Fields<'a> for GetLazyStateCommandMessage<'a> {
         if !self.name.is_empty() {
             writer.text(level, 12, &self.name);
         }
+    }
+
+    #[inline]
+    fn append_struct(&self, out: &mut Vec<u8>, before: usize) -> Option<usize> {
+        append_struct(out, before, |lists| structs::GetLazyStateCommandMessage::of(self, lists))
     }
 }
 
@@ -1198,6 +1298,11 @@ impl<'a> Fields<'a> for SetStateCommandMessage<'a> {
             writer.text(level, 12, &self.name);
         }
     }
+
+    #[inline]
+    fn append_struct(&self, out: &mut Vec<u8>, before: usize) -> Option<usize> {
+        append_struct(out, before, |lists| structs::SetStateCommandMessage::of(self, lists))
+    }
 }
 
 impl<'a> Record<'a> for SetStateCommandMessage<'a> {
@@ -1238,6 +1343,11 @@ impl<'a> Fields<'a> for ClearStateCommandMessage<'a> {
             writer.text(level, 12, &self.name);
         }
     }
+
+    #[inline]
+    fn append_struct(&self, out: &mut Vec<u8>, before: usize) -> Option<usize> {
+        append_struct(out, before, |lists| structs::ClearStateCommandMessage::of(self, lists))
+    }
 }
 
 impl<'a> Record<'a> for ClearStateCommandMessage<'a> {
@@ -1271,6 +1381,11 @@ impl<'a> Fields<'a> for ClearAllStateCommandMessage<'a> {
         if !self.name.is_empty() {
             writer.text(level, 12, &self.name);
         }
+    }
+
+    #[inline]
+    fn append_struct(&self, out: &mut Vec<u8>, before: usize) -> Option<usize> {
+        append_struct(out, before, |lists| structs::ClearAllStateCommandMessage::of(self, lists))
     }
 }
 
@@ -1311,6 +1426,11 @@ impl<'a> Fields<'a> for GetLazyStateKeysCommandMessage<'a> {
         if !self.name.is_empty() {
             writer.text(level, 12, &self.name);
         }
+    }
+
+    #[inline]
+    fn append_struct(&self, out: &mut Vec<u8>, before: usize) -> Option<usize> {
+        append_struct(out, before, |lists| structs::GetLazyStateKeysCommandMessage::of(self, lists))
     }
 }
 
@@ -1382,6 +1502,11 @@ impl<'a> Fields<'a> for GetEagerStateCommandMessage<'a> {
             None => {}
         }
     }
+
+    #[inline]
+    fn append_struct(&self, out: &mut Vec<u8>, before: usize) -> Option<usize> {
+        append_struct(out, before, |lists| structs::GetEagerStateCommandMessage::of(self, lists))
+    }
 }
 
 impl<'a> Record<'a> for GetEagerStateCommandMessage<'a> {
@@ -1424,6 +1549,11 @@ impl<'a> Fields<'a> for GetEagerStateKeysCommandMessage<'a> {
         if let Some(value) = &self.value {
             writer.record(level, 14, value);
         }
+    }
+
+    #[inline]
+    fn append_struct(&self, out: &mut Vec<u8>, before: usize) -> Option<usize> {
+        append_struct(out, before, |lists| structs::GetEagerStateKeysCommandMessage::of(self, lists))
     }
 }
 
@@ -1471,6 +1601,11 @@ impl<'a> Fields<'a> for GetPromiseCommandMessage<'a> {
             writer.text(level, 12, &self.name);
         }
     }
+
+    #[inline]
+    fn append_struct(&self, out: &mut Vec<u8>, before: usize) -> Option<usize> {
+        append_struct(out, before, |lists| structs::GetPromiseCommandMessage::of(self, lists))
+    }
 }
 
 impl<'a> Record<'a> for GetPromiseCommandMessage<'a> {
@@ -1516,6 +1651,11 @@ impl<'a> Fields<'a> for PeekPromiseCommandMessage<'a> {
         if !self.name.is_empty() {
             writer.text(level, 12, &self.name);
         }
+    }
+
+    #[inline]
+    fn append_struct(&self, out: &mut Vec<u8>, before: usize) -> Option<usize> {
+        append_struct(out, before, |lists| structs::PeekPromiseCommandMessage::of(self, lists))
     }
 }
 
@@ -1593,6 +1733,11 @@ impl<'a> Fields<'a> for CompletePromiseCommandMessage<'a> {
             writer.text(level, 12, &self.name);
         }
     }
+
+    #[inline]
+    fn append_struct(&self, out: &mut Vec<u8>, before: usize) -> Option<usize> {
+        append_struct(out, before, |lists| structs::CompletePromiseCommandMessage::of(self, lists))
+    }
 }
 
 impl<'a> Record<'a> for CompletePromiseCommandMessage<'a> {
@@ -1638,6 +1783,11 @@ impl<'a> Fields<'a> for SleepCommandMessage<'a> {
         if !self.name.is_empty() {
             writer.text(level, 12, &self.name);
         }
+    }
+
+    #[inline]
+    fn append_struct(&self, out: &mut Vec<u8>, before: usize) -> Option<usize> {
+        append_struct(out, before, |lists| structs::SleepCommandMessage::of(self, lists))
     }
 }
 
@@ -1737,6 +1887,11 @@ impl<'a> Fields<'a> for CallCommandMessage<'a> {
             writer.text(level, 12, &self.name);
         }
     }
+
+    #[inline]
+    fn append_struct(&self, out: &mut Vec<u8>, before: usize) -> Option<usize> {
+        append_struct(out, before, |lists| structs::CallCommandMessage::of(self, lists))
+    }
 }
 
 impl<'a> Record<'a> for CallCommandMessage<'a> {
@@ -1834,6 +1989,11 @@ impl<'a> Fields<'a> for OneWayCallCommandMessage<'a> {
         if !self.name.is_empty() {
             writer.text(level, 12, &self.name);
         }
+    }
+
+    #[inline]
+    fn append_struct(&self, out: &mut Vec<u8>, before: usize) -> Option<usize> {
+        append_struct(out, before, |lists| structs::OneWayCallCommandMessage::of(self, lists))
     }
 }
 
@@ -1943,6 +2103,11 @@ impl<'a> Fields<'a> for SendSignalCommandMessage<'a> {
             writer.text(level, 12, &self.entry_name);
         }
     }
+
+    #[inline]
+    fn append_struct(&self, out: &mut Vec<u8>, before: usize) -> Option<usize> {
+        append_struct(out, before, |lists| structs::SendSignalCommandMessage::of(self, lists))
+    }
 }
 
 impl<'a> Record<'a> for SendSignalCommandMessage<'a> {
@@ -1982,6 +2147,11 @@ impl<'a> Fields<'a> for RunCommandMessage<'a> {
         if !self.name.is_empty() {
             writer.text(level, 12, &self.name);
         }
+    }
+
+    #[inline]
+    fn append_struct(&self, out: &mut Vec<u8>, before: usize) -> Option<usize> {
+        append_struct(out, before, |lists| structs::RunCommandMessage::of(self, lists))
     }
 }
 
@@ -2062,6 +2232,11 @@ impl<'a> Fields<'a> for AttachInvocationCommandMessage<'a> {
             writer.text(level, 12, &self.name);
         }
     }
+
+    #[inline]
+    fn append_struct(&self, out: &mut Vec<u8>, before: usize) -> Option<usize> {
+        append_struct(out, before, |lists| structs::AttachInvocationCommandMessage::of(self, lists))
+    }
 }
 
 impl<'a> Record<'a> for AttachInvocationCommandMessage<'a> {
@@ -2141,6 +2316,11 @@ impl<'a> Fields<'a> for GetInvocationOutputCommandMessage<'a> {
             writer.text(level, 12, &self.name);
         }
     }
+
+    #[inline]
+    fn append_struct(&self, out: &mut Vec<u8>, before: usize) -> Option<usize> {
+        append_struct(out, before, |lists| structs::GetInvocationOutputCommandMessage::of(self, lists))
+    }
 }
 
 impl<'a> Record<'a> for GetInvocationOutputCommandMessage<'a> {
@@ -2211,6 +2391,11 @@ impl<'a> Fields<'a> for CompleteAwakeableCommandMessage<'a> {
             writer.text(level, 12, &self.name);
         }
     }
+
+    #[inline]
+    fn append_struct(&self, out: &mut Vec<u8>, before: usize) -> Option<usize> {
+        append_struct(out, before, |lists| structs::CompleteAwakeableCommandMessage::of(self, lists))
+    }
 }
 
 impl<'a> Record<'a> for CompleteAwakeableCommandMessage<'a> {
@@ -2274,6 +2459,11 @@ impl<'a> Fields<'a> for GetLazyStateCompletionNotificationMessage<'a> {
             }
             None => {}
         }
+    }
+
+    #[inline]
+    fn append_struct(&self, out: &mut Vec<u8>, before: usize) -> Option<usize> {
+        append_struct(out, before, |lists| structs::GetLazyStateCompletionNotificationMessage::of(self, lists))
     }
 }
 
@@ -2349,6 +2539,11 @@ impl<'a> Fields<'a> for GetPromiseCompletionNotificationMessage<'a> {
             None => {}
         }
     }
+
+    #[inline]
+    fn append_struct(&self, out: &mut Vec<u8>, before: usize) -> Option<usize> {
+        append_struct(out, before, |lists| structs::GetPromiseCompletionNotificationMessage::of(self, lists))
+    }
 }
 
 impl<'a> Record<'a> for GetPromiseCompletionNotificationMessage<'a> {
@@ -2422,6 +2617,11 @@ impl<'a> Fields<'a> for PeekPromiseCompletionNotificationMessage<'a> {
             }
             None => {}
         }
+    }
+
+    #[inline]
+    fn append_struct(&self, out: &mut Vec<u8>, before: usize) -> Option<usize> {
+        append_struct(out, before, |lists| structs::PeekPromiseCompletionNotificationMessage::of(self, lists))
     }
 }
 
@@ -2497,6 +2697,11 @@ impl<'a> Fields<'a> for GetInvocationOutputCompletionNotificationMessage<'a> {
             None => {}
         }
     }
+
+    #[inline]
+    fn append_struct(&self, out: &mut Vec<u8>, before: usize) -> Option<usize> {
+        append_struct(out, before, |lists| structs::GetInvocationOutputCompletionNotificationMessage::of(self, lists))
+    }
 }
 
 impl<'a> Record<'a> for GetInvocationOutputCompletionNotificationMessage<'a> {
@@ -2560,6 +2765,11 @@ impl<'a> Fields<'a> for CompletePromiseCompletionNotificationMessage<'a> {
             }
             None => {}
         }
+    }
+
+    #[inline]
+    fn append_struct(&self, out: &mut Vec<u8>, before: usize) -> Option<usize> {
+        append_struct(out, before, |lists| structs::CompletePromiseCompletionNotificationMessage::of(self, lists))
     }
 }
 
@@ -2625,6 +2835,11 @@ impl<'a> Fields<'a> for CallCompletionNotificationMessage<'a> {
             None => {}
         }
     }
+
+    #[inline]
+    fn append_struct(&self, out: &mut Vec<u8>, before: usize) -> Option<usize> {
+        append_struct(out, before, |lists| structs::CallCompletionNotificationMessage::of(self, lists))
+    }
 }
 
 impl<'a> Record<'a> for CallCompletionNotificationMessage<'a> {
@@ -2688,6 +2903,11 @@ impl<'a> Fields<'a> for RunCompletionNotificationMessage<'a> {
             }
             None => {}
         }
+    }
+
+    #[inline]
+    fn append_struct(&self, out: &mut Vec<u8>, before: usize) -> Option<usize> {
+        append_struct(out, before, |lists| structs::RunCompletionNotificationMessage::of(self, lists))
     }
 }
 
@@ -2753,6 +2973,11 @@ impl<'a> Fields<'a> for AttachInvocationCompletionNotificationMessage<'a> {
             None => {}
         }
     }
+
+    #[inline]
+    fn append_struct(&self, out: &mut Vec<u8>, before: usize) -> Option<usize> {
+        append_struct(out, before, |lists| structs::AttachInvocationCompletionNotificationMessage::of(self, lists))
+    }
 }
 
 impl<'a> Record<'a> for AttachInvocationCompletionNotificationMessage<'a> {
@@ -2795,6 +3020,11 @@ impl<'a> Fields<'a> for SleepCompletionNotificationMessage {
         if let Some(value) = &self.void {
             writer.record(level, 4, value);
         }
+    }
+
+    #[inline]
+    fn append_struct(&self, out: &mut Vec<u8>, before: usize) -> Option<usize> {
+        append_struct(out, before, |lists| structs::SleepCompletionNotificationMessage::of(self, lists))
     }
 }
 
@@ -2839,6 +3069,11 @@ impl<'a> Fields<'a> for GetLazyStateKeysCompletionNotificationMessage<'a> {
             writer.record(level, 17, value);
         }
     }
+
+    #[inline]
+    fn append_struct(&self, out: &mut Vec<u8>, before: usize) -> Option<usize> {
+        append_struct(out, before, |lists| structs::GetLazyStateKeysCompletionNotificationMessage::of(self, lists))
+    }
 }
 
 impl<'a> Record<'a> for GetLazyStateKeysCompletionNotificationMessage<'a> {
@@ -2878,6 +3113,11 @@ impl<'a> Fields<'a> for CallInvocationIdCompletionNotificationMessage<'a> {
         if !self.invocation_id.is_empty() {
             writer.text(level, 16, &self.invocation_id);
         }
+    }
+
+    #[inline]
+    fn append_struct(&self, out: &mut Vec<u8>, before: usize) -> Option<usize> {
+        append_struct(out, before, |lists| structs::CallInvocationIdCompletionNotificationMessage::of(self, lists))
     }
 }
 
@@ -2974,6 +3214,11 @@ impl<'a> Fields<'a> for SignalNotificationMessage<'a> {
             }
             None => {}
         }
+    }
+
+    #[inline]
+    fn append_struct(&self, out: &mut Vec<u8>, before: usize) -> Option<usize> {
+        append_struct(out, before, |lists| structs::SignalNotificationMessage::of(self, lists))
     }
 }
 
@@ -3098,6 +3343,11 @@ impl<'a> Fields<'a> for NotificationTemplate<'a> {
             }
             None => {}
         }
+    }
+
+    #[inline]
+    fn append_struct(&self, out: &mut Vec<u8>, before: usize) -> Option<usize> {
+        append_struct(out, before, |lists| structs::NotificationTemplate::of(self, lists))
     }
 }
 

@@ -8,7 +8,9 @@ use pendratsoa::messages::{
     SetStateCommandMessage, SignalNotificationMessage, SignalNotificationSignalId, StateKeys,
     SuspensionMessageV6, Value, Void,
 };
-use pendratsoa::{Argument, Decoder, Error, FieldReason, Item, Message, MessageType, Version};
+use pendratsoa::{
+    header, Argument, Decoder, Error, FieldReason, Item, Message, MessageType, Version,
+};
 
 const RECORDED: &[u8] = include_bytes!("../../examples/streams/recorded");
 
@@ -98,6 +100,38 @@ fn more_fields_than_the_first_room() {
         let (_, number) = number_and_length.split_last().unwrap_or((&0, &[]));
         let longer = [number, b"\x83\x00key"].concat().repeat(count);
         assert_eq!(StateKeys::decode(&longer).unwrap(), keys);
+    }
+}
+
+#[test]
+fn more_than_a_table_on_the_stack_has_room_for() {
+    for length in [0, 1, 1012, 1013, 1024, 1025, 70_000] {
+        for name in ["", "input"] {
+            for count in [0, 1, 9, 10, 11, 40] {
+                let headers = vec![
+                    Header {
+                        key: "a".into(),
+                        value: "".into(),
+                    };
+                    count
+                ];
+                let input = InputCommandMessage {
+                    headers,
+                    name: name.into(),
+                    value: Some(Value {
+                        content: vec![b'x'; length].into(),
+                    }),
+                };
+                let payload = input.encode().unwrap();
+                assert_eq!(InputCommandMessage::decode(&payload).unwrap(), input);
+                let frame = input.frame(Version::V8).unwrap();
+                let begin = header(8, MessageType::InputCommand.code(), payload.len()).unwrap();
+                assert_eq!(frame, [&begin[..], &payload].concat());
+                let mut out = b"before".to_vec();
+                assert_eq!(input.append_to(&mut out), Ok(payload.len()));
+                assert_eq!(out, [b"before", &payload[..]].concat());
+            }
+        }
     }
 }
 

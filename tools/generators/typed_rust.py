@@ -2,8 +2,10 @@
 import functools
 import textwrap
 
+from .borrowed import has_slices, is_slice
 from .calls_data import described
 from .model import camel
+from .typed_c import by_name, has_content, is_borrowed
 from .typed_model import TypedOneOf, enumerations, reasons, records
 
 HEAD = """\
@@ -29,7 +31,7 @@ HEAD = """\
 use std::borrow::Cow;
 
 use crate::error::Error;
-use crate::ffi::{Table, Writer};
+use crate::ffi::{append_struct, structs, Table, Writer};
 use crate::fields::{Fields, Listed};
 use crate::message_type::MessageType;
 use crate::schema::Schema;
@@ -196,6 +198,16 @@ def is_set(field, place):
     return place if field.kind == "bool" else f"{place}{'.0' if field.enum else ''} != 0"
 
 
+# How a record is appended that the library takes as a struct.
+APPEND = """
+    #[inline]
+    fn append_struct(&self, out: &mut Vec<u8>, before: usize) -> Option<usize> {
+        append_struct(out, before, |lists| structs::RECORD::of(self, lists))
+    }
+}
+"""
+
+
 def implementation(record):
     # a record that borrows nothing is read from any payload
     name = record.name
@@ -214,6 +226,8 @@ def implementation(record):
         text += "        if let Some(field) = table.next(level) {\n"
         text += "            table.fail(Self::unknown(field.number()));\n        }\n    }\n"
         text += "\n    fn write(&self, _: &mut Writer, _: u64) {}\n}\n"
+    if is_borrowed(record):
+        text = text.removesuffix("}\n") + APPEND.replace("RECORD", name)
     text += f"\nimpl<'a> Record<'a> for {name}{life(name)} {{\n    const SCHEMA: Schema = Schema::{name};\n}}\n"
     if record.code is not None:
         before = (
@@ -343,9 +357,136 @@ def all_records():
     return text + '        other => panic!("{other:?} is not listed"),\n    }\n}\n'
 
 
+STRUCTS = """\
+//! The records as the library takes them: the structs of pendratsoa_messages.h, each made of a record, and the calls
+//! that write their payloads. A record within itself has none, nor has one that holds such a record.
+
+use super::lists::{List, Lists, Slice, Struct};
+use crate::messages;
+
+/// The calls, as the header declares them.
+mod c {
+    extern "C" {
+CALLS    }
+}
+"""
+
+
+def struct_life(record):
+    """The lifetime of a struct that points into a record."""
+    return "<'r>" if has_slices(record) else ""
+
+
+def struct_type(field):
+    """The type of what a field holds in a struct."""
+    if field.record:
+        return f"{field.record}{struct_life(by_name()[field.record])}"
+    if field.kind in ("text", "bytes"):
+        return "Slice<'r>"
+    return {"enum": "i32"}.get(field.kind, field.kind)
+
+
+def made(field, value):
+    """What a value, to which this is a reference, is in a struct."""
+    if field.record:
+        return f"{field.record}::of({value}, lists)"
+    if field.kind in ("text", "bytes"):
+        return f"lists.{field.kind}({value})"
+    return f"{value}.0" if field.enum else f"*{value}"
+
+
+def struct_row(record, row):
+    """Of a row: the members of a struct, the statements before it is made, and what its members are."""
+    name, at = raw(row.name), f"record.{raw(row.name)}"
+    if isinstance(row, TypedOneOf):
+        held = [field for field in row.members if has_content(field)]
+        kind = f"{record.name}{camel(row.name)}"
+        life = "<'r>" if any(map(is_slice, held)) else ""
+        arms = ""
+        for field in row.members:
+            value = "value" if has_content(field) else "_"
+            arms += f"            Some(messages::{oneof_name(record, row)}::{camel(field.name)}({value})) => {{\n"
+            arms += f"                {name}_case = {field.number};\n"
+            if has_content(field):
+                arms += f"                {name}.{raw(field.name)} = {made(field, 'value')};\n"
+            arms += "            }\n"
+        before = f"        let mut {name}_case = 0;\n        let mut {name} = {kind}::default();\n"
+        before += f"        match &{at} {{\n{arms}            None => {{}}\n        }}\n"
+        return f"    {name}_case: u32,\n    {name}: {kind}{life},\n", before, [f"{name}_case", name]
+    if row.shape == "repeated":
+        kind = f"List<'r, {struct_type(row)}>"
+        if row.record:
+            value = f"lists.list(&{at}, {row.record}::of)"
+        elif row.kind in ("text", "bytes"):
+            value = f"lists.list(&{at}, |element, lists| lists.{row.kind}(element))"
+        else:
+            value = f"List::of(&{at})"
+        return f"    {name}: {kind},\n", "", [f"{name}: {value}"]
+    if row.shape == "optional":
+        member, values = f"    has_{row.name}: bool,\n", [f"has_{row.name}: {at}.is_some()"]
+        if has_content(row):
+            member += f"    {name}: {struct_type(row)},\n"
+            values.append(
+                f"{name}: match &{at} {{\n                Some(value) => {made(row, 'value')},\n"
+                "                None => Default::default(),\n            }"
+            )
+        return member, "", values
+    value = made(row, f"&{at}") if row.record or row.kind in ("text", "bytes") else made(row, at).removeprefix("*")
+    return f"    {name}: {struct_type(row)},\n", "", [f"{name}: {value}" if value != name else name]
+
+
+def members_struct(record, row):
+    """The struct of a oneof's members."""
+    held = [field for field in row.members if has_content(field)]
+    life = "<'r>" if any(map(is_slice, held)) else ""
+    return (
+        f"\n/// The members of `{row.name}` of `{record.name}`.\n#[repr(C)]\n#[derive(Clone, Copy, Default)]\n"
+        f"pub(crate) struct {record.name}{camel(row.name)}{life} {{\n"
+        + "".join(f"    {raw(field.name)}: {struct_type(field)},\n" for field in held)
+        + "}\n"
+    )
+
+
+def struct_of(record):
+    """The struct of a record, how one is made, and the call that takes it."""
+    life = struct_life(record)
+    lifetime = "'r" if life else "'_"
+    parts = [struct_row(record, row) for row in record.rows]
+    text = "".join(members_struct(record, row) for row in record.rows if isinstance(row, TypedOneOf))
+    text += f"\n/// `{record.name}`.\n#[repr(C)]\n#[derive(Clone, Copy, Default)]\n"
+    text += f"pub(crate) struct {record.name}{life} {{\n"
+    text += ("".join(member for member, _, _ in parts) or "    nothing: u8,\n") + "}\n"
+    given = "record" if parts else "_"
+    lists = "lists" if any("lists" in str(part) for part in parts) else "_"
+    borrow = f"&{lifetime} " if life else "&"
+    held = f"messages::{record.name}{'<' + chr(39) + '_>' if borrows(record.name) else ''}"
+    text += f"\nimpl{life} {record.name}{life} {{\n    #[inline(always)]\n"
+    text += f"    pub(crate) fn of({given}: {borrow}{held}, {lists}: &mut Lists<'_>) -> Self {{\n"
+    text += "".join(before for _, before, _ in parts) + "        Self {\n"
+    values = [value for _, _, found in parts for value in found] or ["nothing: 0"]
+    text += "".join(f"            {value},\n" for value in values) + "        }\n    }\n}\n"
+    shown = f"{record.name}<'_>" if life else record.name
+    text += "\n// SAFETY: the struct and the call are those of the header, of the same name\n"
+    text += f"unsafe impl Struct for {shown} {{\n"
+    text += "    const ENCODE: unsafe extern \"C\" fn(*const Self, *mut u8, usize) -> i64 =\n"
+    return text + f"        c::journal_encode_{record.name};\n}}\n"
+
+
+def structs():
+    found = [record for record in records() if is_borrowed(record)]
+    calls = "".join(
+        f"        pub(super) fn journal_encode_{record.name}(\n"
+        f"            record: *const super::{record.name}{struct_life(record).replace(chr(39) + 'r', chr(39) + '_')},\n"
+        "            out: *mut u8,\n            room: usize,\n        ) -> i64;\n"
+        for record in found
+    )
+    return STRUCTS.replace("CALLS", calls) + "".join(map(struct_of, found))
+
+
 def files():
     return {
         "rust/src/messages.rs": module(),
+        "rust/src/ffi/structs.rs": structs(),
         "rust/src/kinds.rs": kinds(),
         "rust/tests/all_records/mod.rs": all_records(),
     }
