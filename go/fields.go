@@ -187,19 +187,36 @@ type fieldWriter struct {
 	writing [writingNumbers]uint64
 }
 
-// next returns the place of the next entry.
-func (w *fieldWriter) next() *tableField {
+// hasRoom returns whether there is room for an entry, and for this many bytes.
+func (w *fieldWriter) hasRoom(length int) bool {
+	return w.count < len(w.fields) && length <= len(w.data)-w.length
+}
+
+// grow makes room for them.
+func (w *fieldWriter) grow(length int) {
 	if w.count == len(w.fields) {
 		w.fields = append(w.fields, make([]tableField, len(w.fields))...)
 	}
-	w.count++
-	return &w.fields[w.count-1]
+	if length > len(w.data)-w.length {
+		w.data = append(w.data, make([]byte, len(w.data)+length)...)
+	}
 }
 
 func (w *fieldWriter) number(level, number, kind, value uint64) {
-	field := w.next()
+	if !w.hasRoom(0) {
+		w.numberGrown(level, number, kind, value)
+		return
+	}
+	field := &w.fields[w.count]
 	field[fieldLevel], field[fieldNumber], field[fieldKind] = level, number, kind
 	field[fieldValue], field[fieldOffset], field[fieldLength] = value, 0, 0
+	w.count++
+}
+
+// numberGrown is number where there is no room. It is apart, so that number has its arguments in registers.
+func (w *fieldWriter) numberGrown(level, number, kind, value uint64) {
+	w.grow(0)
+	w.number(level, number, kind, value)
 }
 
 func (w *fieldWriter) flag(level, number uint64, isSet bool) {
@@ -208,15 +225,21 @@ func (w *fieldWriter) flag(level, number uint64, isSet bool) {
 
 // place returns where the bytes of an entry are written.
 func (w *fieldWriter) place(level, number, kind uint64, length int) []byte {
-	begin := w.length
-	if length > len(w.data)-begin {
-		w.data = append(w.data, make([]byte, len(w.data)+length)...)
+	if !w.hasRoom(length) {
+		return w.placeGrown(level, number, kind, length)
 	}
-	w.length += length
-	field := w.next()
+	field, begin := &w.fields[w.count], w.length
 	field[fieldLevel], field[fieldNumber], field[fieldKind] = level, number, kind
 	field[fieldValue], field[fieldOffset], field[fieldLength] = 0, uint64(begin), uint64(length)
+	w.count++
+	w.length = begin + length
 	return w.data[begin:w.length]
+}
+
+// placeGrown is place where there is no room.
+func (w *fieldWriter) placeGrown(level, number, kind uint64, length int) []byte {
+	w.grow(length)
+	return w.place(level, number, kind, length)
 }
 
 func (w *fieldWriter) bytes(level, number uint64, value []byte) {
@@ -248,40 +271,64 @@ func newWriter() *fieldWriter {
 // end returns the payload that the table means for a schema, after room for what comes before it, and keeps the writer
 // for another record.
 func (w *fieldWriter) end(schema, before int) ([]byte, error) {
-	payload, err := w.payload(schema, before)
-	if len(w.data) <= keptWriter && len(w.fields) <= keptWriter/48 {
-		writers.Put(w)
+	// what is enough for most
+	room := before + w.length + 6*w.count
+	if room > len(w.out) {
+		return w.endLong(schema, before, room)
 	}
-	return payload, err
+	length := journalPayloadOfFields(
+		uint32(schema), w.fields[:w.count], w.data[:w.length], &w.writing, w.out[before:],
+	)
+	if length < 0 || w.writing[writingKind] != fieldsWritten {
+		return nil, w.endRefused(schema, length)
+	}
+	end := before + int(length)
+	if end > len(w.out) {
+		return w.endLong(schema, before, end)
+	}
+	written := w.out[:end]
+	payload := make([]byte, len(written))
+	copy(payload, written)
+	w.keep()
+	return payload, nil
 }
 
-func (w *fieldWriter) payload(schema, before int) ([]byte, error) {
-	fields, data := w.fields[:w.count], w.data[:w.length]
-	// what is enough for most
-	made, room := w.out[:], before+w.length+6*w.count
-	if room > len(made) {
-		made = make([]byte, room)
-	}
+// endLong is end for a payload that out has no room for, by a guess of the room with what comes before it.
+func (w *fieldWriter) endLong(schema, before, room int) ([]byte, error) {
 	for {
-		length := journalPayloadOfFields(uint32(schema), fields, data, &w.writing, made[before:])
-		end := before + int(length)
-		switch kind := w.writing[writingKind]; {
-		case length < 0:
-			return nil, schemaError("MarshalBinary", length, schema, bytesText("payload", data))
-		case kind >= uint64(len(fieldReasons)):
-			return nil, unexpected("kind", kind)
-		case kind != fieldsWritten:
-			return nil, &FieldError{pathOf(schema, fields[:w.writing[writingIndex]+1]), fieldReasons[kind]}
-		case end > len(made):
-			made = make([]byte, end)
-		case len(made) == len(w.out):
-			written := made[:end]
-			copied := make([]byte, len(written))
-			copy(copied, written)
-			return copied, nil
-		default:
-			return made[:end:end], nil
+		made := make([]byte, room)
+		length := journalPayloadOfFields(
+			uint32(schema), w.fields[:w.count], w.data[:w.length], &w.writing, made[before:],
+		)
+		if length < 0 || w.writing[writingKind] != fieldsWritten {
+			return nil, w.endRefused(schema, length)
 		}
+		room = before + int(length)
+		if room <= len(made) {
+			w.keep()
+			return made[:room:room], nil
+		}
+	}
+}
+
+// endRefused returns why the table means no payload, and keeps the writer.
+func (w *fieldWriter) endRefused(schema int, length int64) error {
+	defer w.keep()
+	kind := w.writing[writingKind]
+	switch {
+	case length < 0:
+		return schemaError("MarshalBinary", length, schema, bytesText("payload", w.data[:w.length]))
+	case kind >= uint64(len(fieldReasons)):
+		return unexpected("kind", kind)
+	default:
+		return &FieldError{pathOf(schema, w.fields[:w.writing[writingIndex]+1]), fieldReasons[kind]}
+	}
+}
+
+// keep keeps the writer for another record, unless it has much.
+func (w *fieldWriter) keep() {
+	if len(w.data) <= keptWriter && len(w.fields) <= keptWriter/48 {
+		writers.Put(w)
 	}
 }
 

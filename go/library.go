@@ -213,18 +213,17 @@ var namesOfVerdictKind = []string{
 // pointer, and what the pointers lead to holds none, as the rules of cgo want it.
 
 func pointer(slice []byte) *C.uint8_t {
-	return (*C.uint8_t)(address(slice))
-}
-
-func address[Element any](slice []Element) unsafe.Pointer {
 	if len(slice) == 0 {
 		return nil
 	}
-	return unsafe.Pointer(&slice[0])
+	return (*C.uint8_t)(unsafe.Pointer(&slice[0]))
 }
 
-func count[Element any](slice []Element) C.size_t {
-	return C.size_t(len(slice))
+func pointerToFields(slice [][fieldNumbers]uint64) *C.struct_journal_field {
+	if len(slice) == 0 {
+		return nil
+	}
+	return (*C.struct_journal_field)(unsafe.Pointer(&slice[0]))
 }
 
 func flag(isSet bool) C.uint32_t {
@@ -235,7 +234,7 @@ func flag(isSet bool) C.uint32_t {
 }
 
 func journalLibraryVersion(out []byte) int64 {
-	return int64(C.journal_library_version(pointer(out), count(out)))
+	return int64(C.journal_library_version(pointer(out), C.size_t(len(out))))
 }
 
 func journalSchema(version uint32, code uint16) int64 {
@@ -243,67 +242,73 @@ func journalSchema(version uint32, code uint16) int64 {
 }
 
 func journalTypeName(code uint16, out []byte) int64 {
-	return int64(C.journal_type_name(C.uint16_t(code), pointer(out), count(out)))
+	return int64(C.journal_type_name(C.uint16_t(code), pointer(out), C.size_t(len(out))))
 }
 
 func journalTypeCode(name []byte) int64 {
-	return int64(C.journal_type_code(pointer(name), count(name)))
+	return int64(C.journal_type_code(pointer(name), C.size_t(len(name))))
 }
 
 func journalNext(version uint32, bytes []byte, item *[itemNumbers]uint64) int64 {
 	return int64(C.journal_next(
-		C.uint32_t(version), pointer(bytes), count(bytes), (*C.struct_journal_item)(unsafe.Pointer(item)),
+		C.uint32_t(version), pointer(bytes), C.size_t(len(bytes)), (*C.struct_journal_item)(unsafe.Pointer(item)),
 		C.size_t(len(item)),
 	))
 }
 
 func journalNextWithin(version uint32, limit uint32, bytes []byte, item *[itemNumbers]uint64) int64 {
 	return int64(C.journal_next_within(
-		C.uint32_t(version), C.uint32_t(limit), pointer(bytes), count(bytes),
+		C.uint32_t(version), C.uint32_t(limit), pointer(bytes), C.size_t(len(bytes)),
 		(*C.struct_journal_item)(unsafe.Pointer(item)), C.size_t(len(item)),
 	))
 }
 
 func journalHeader(version uint32, code uint16, payloadLength uint32, out []byte) int64 {
 	return int64(C.journal_header(
-		C.uint32_t(version), C.uint16_t(code), C.uint32_t(payloadLength), pointer(out), count(out),
+		C.uint32_t(version), C.uint16_t(code), C.uint32_t(payloadLength), pointer(out), C.size_t(len(out)),
 	))
 }
 
 func journalFrame(version uint32, code uint16, payload []byte, out []byte) int64 {
 	return int64(C.journal_frame(
-		C.uint32_t(version), C.uint16_t(code), pointer(payload), count(payload), pointer(out), count(out),
+		C.uint32_t(version), C.uint16_t(code), pointer(payload), C.size_t(len(payload)), pointer(out),
+		C.size_t(len(out)),
 	))
 }
 
 func journalIsWellFormed(schema uint32, payload []byte) int64 {
-	return int64(C.journal_is_well_formed(C.uint32_t(schema), pointer(payload), count(payload)))
+	return int64(C.journal_is_well_formed(C.uint32_t(schema), pointer(payload), C.size_t(len(payload))))
 }
 
 func journalCanonical(schema uint32, payload []byte, out []byte) int64 {
-	return int64(C.journal_canonical(C.uint32_t(schema), pointer(payload), count(payload), pointer(out), count(out)))
+	return int64(C.journal_canonical(
+		C.uint32_t(schema), pointer(payload), C.size_t(len(payload)), pointer(out), C.size_t(len(out)),
+	))
 }
 
 func journalMerge(schema uint32, first []byte, second []byte, out []byte) int64 {
 	return int64(C.journal_merge(
-		C.uint32_t(schema), pointer(first), count(first), pointer(second), count(second), pointer(out), count(out),
+		C.uint32_t(schema), pointer(first), C.size_t(len(first)), pointer(second), C.size_t(len(second)), pointer(out),
+		C.size_t(len(out)),
 	))
 }
 
 func journalJSON(schema uint32, payload []byte, out []byte) int64 {
-	return int64(C.journal_json(C.uint32_t(schema), pointer(payload), count(payload), pointer(out), count(out)))
+	return int64(C.journal_json(
+		C.uint32_t(schema), pointer(payload), C.size_t(len(payload)), pointer(out), C.size_t(len(out)),
+	))
 }
 
 func journalPayloadOfJSON(schema uint32, json []byte, reading *[readNumbers]uint64, out []byte) int64 {
 	return int64(C.journal_payload_of_json(
-		C.uint32_t(schema), pointer(json), count(json), (*C.struct_journal_reading)(unsafe.Pointer(reading)),
-		C.size_t(len(reading)), pointer(out), count(out),
+		C.uint32_t(schema), pointer(json), C.size_t(len(json)), (*C.struct_journal_reading)(unsafe.Pointer(reading)),
+		C.size_t(len(reading)), pointer(out), C.size_t(len(out)),
 	))
 }
 
 func journalFields(schema uint32, payload []byte, fields [][fieldNumbers]uint64) int64 {
 	return int64(C.journal_fields(
-		C.uint32_t(schema), pointer(payload), count(payload), (*C.struct_journal_field)(address(fields)), count(fields),
+		C.uint32_t(schema), pointer(payload), C.size_t(len(payload)), pointerToFields(fields), C.size_t(len(fields)),
 	))
 }
 
@@ -311,28 +316,30 @@ func journalPayloadOfFields(
 	schema uint32, fields [][fieldNumbers]uint64, bytes []byte, writing *[writingNumbers]uint64, out []byte,
 ) int64 {
 	return int64(C.journal_payload_of_fields(
-		C.uint32_t(schema), (*C.struct_journal_field)(address(fields)), count(fields), pointer(bytes), count(bytes),
-		(*C.struct_journal_writing)(unsafe.Pointer(writing)), C.size_t(len(writing)), pointer(out), count(out),
+		C.uint32_t(schema), pointerToFields(fields), C.size_t(len(fields)), pointer(bytes), C.size_t(len(bytes)),
+		(*C.struct_journal_writing)(unsafe.Pointer(writing)), C.size_t(len(writing)), pointer(out), C.size_t(len(out)),
 	))
 }
 
 func journalNotification(code uint16, payload []byte, notification *[notificationNumbers]uint64, out []byte) int64 {
 	return int64(C.journal_notification(
-		C.uint16_t(code), pointer(payload), count(payload),
+		C.uint16_t(code), pointer(payload), C.size_t(len(payload)),
 		(*C.struct_journal_notification)(unsafe.Pointer(notification)), C.size_t(len(notification)), pointer(out),
-		count(out),
+		C.size_t(len(out)),
 	))
 }
 
 func journalHeaderEq(code uint16, first []byte, second []byte, ignorePayloads bool) int64 {
 	return int64(C.journal_header_eq(
-		C.uint16_t(code), pointer(first), count(first), pointer(second), count(second), flag(ignorePayloads),
+		C.uint16_t(code), pointer(first), C.size_t(len(first)), pointer(second), C.size_t(len(second)),
+		flag(ignorePayloads),
 	))
 }
 
 func journalDifference(code uint16, first []byte, second []byte, out []byte) int64 {
 	return int64(C.journal_difference(
-		C.uint16_t(code), pointer(first), count(first), pointer(second), count(second), pointer(out), count(out),
+		C.uint16_t(code), pointer(first), C.size_t(len(first)), pointer(second), C.size_t(len(second)), pointer(out),
+		C.size_t(len(out)),
 	))
 }
 
@@ -340,8 +347,8 @@ func journalVerdict(
 	version uint32, recorded []byte, replayed []byte, ignorePayloads bool, verdict *[verdictNumbers]uint64, out []byte,
 ) int64 {
 	return int64(C.journal_verdict(
-		C.uint32_t(version), pointer(recorded), count(recorded), pointer(replayed), count(replayed),
+		C.uint32_t(version), pointer(recorded), C.size_t(len(recorded)), pointer(replayed), C.size_t(len(replayed)),
 		flag(ignorePayloads), (*C.struct_journal_verdict)(unsafe.Pointer(verdict)), C.size_t(len(verdict)),
-		pointer(out), count(out),
+		pointer(out), C.size_t(len(out)),
 	))
 }

@@ -118,6 +118,31 @@ func TestMoreFieldsThanTheFirstRoom(t *testing.T) {
 	}
 }
 
+func TestRecordsOfEachLength(t *testing.T) {
+	for _, length := range []int{0, 1, 480, 481, 503, 504, 512, 513, 70000} {
+		for _, name := range []string{"", "input"} {
+			for _, count := range []int{0, 1, 9, 10, 11, 40} {
+				input := &InputCommandMessage{Name: name, Value: &Value{}}
+				for len(input.Headers) < count {
+					input.Headers = append(input.Headers, HeaderRecord{Key: "a"})
+				}
+				if length > 0 {
+					input.Value.Content = bytes.Repeat([]byte("x"), length)
+				}
+				payload := must(input.MarshalBinary())(t)
+				again := new(InputCommandMessage)
+				if err := again.UnmarshalBinary(payload); err != nil || !reflect.DeepEqual(again, input) {
+					t.Errorf("%d bytes, %d headers: %v, %v", length, count, again, err)
+				}
+				frame := must(input.Frame(8))(t)
+				if want := must(Frame(8, CodeInputCommand, payload))(t); !bytes.Equal(frame, want) {
+					t.Errorf("%x, and not %x", frame, want)
+				}
+			}
+		}
+	}
+}
+
 func TestTextsAreCopies(t *testing.T) {
 	empty, name := "", "\u00e4"
 	record := &CallCommandMessage{

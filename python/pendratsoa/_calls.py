@@ -82,6 +82,13 @@ def frame(version: int, code: int, payload: BytesLike) -> bytes:
     return request.written(library.journal_frame, *parameters)
 
 
+def frame_of_canonical(version: int, code: int, payload: bytes) -> bytes:
+    """The same of a payload that is canonical, which is not read again."""
+    request = Request("frame", version=version, code=code, payload_length=len(payload))
+    parameters = request.version(), request.code("a named type"), request.length("payload_length")
+    return request.written(library.journal_header, *parameters) + payload
+
+
 def append_frame(out: bytearray, version: int, code: int, payload: BytesLike) -> int:
     """Appends the frame that `frame` returns to `out`, without a copy of it, and returns its length in bytes.
 

@@ -125,9 +125,11 @@ class MessageRecord(Record):
     def frame(self, version: int = 8) -> bytes:
         """Its frame at a version: the header, and its canonical payload. `Unknown` if it is none of the version."""
         payload = self.encode()
-        if self.BEFORE_VERSION is None:
+        if self.BEFORE_VERSION is not None:
+            return earlier_frame("frame", version, self.CODE, self.SCHEMA, payload)
+        if earlier_schema(version, self.CODE) is not None:
             return _calls.frame(version, self.CODE, payload)
-        return earlier_frame("frame", version, self.CODE, self.SCHEMA, payload)
+        return _calls.frame_of_canonical(version, self.CODE, payload)
 
 
 def described(record: Type[Record], rows: Tuple[Row, ...]) -> None:

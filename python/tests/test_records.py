@@ -188,6 +188,15 @@ class TestFrames(unittest.TestCase):
         self.assertEqual((message.type, message.version, message.message), ("SetStateCommand", 9, COMMAND))
         self.assertEqual(message.frame(), COMMAND.frame(9))
 
+    def test_a_record_at_each_version(self):
+        suspension = SuspensionMessage(awaiting_on=Future(waiting_completions=(7,)))
+        for record in (COMMAND, suspension):
+            for version in range(5, 10):
+                wanted = pendratsoa.frame(version, record.CODE, record.encode())
+                self.assertEqual(record.frame(version), wanted)
+            for version in (4, 10):
+                self.assertRaisesRegex(Unknown, f"^frame: there is no version {version}$", record.frame, version)
+
     def test_a_record_of_earlier_versions(self):
         record = SuspensionMessageV6(waiting_completions=(1, 2))
         self.assertEqual(record.frame(6), bytes.fromhex("0001000000000004" "0a020102"))

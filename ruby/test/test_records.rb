@@ -69,6 +69,19 @@ class TestRecords < Minitest::Test
     assert_raises(Pendratsoa::Unknown) { Pendratsoa::Message.new(8, CODES[:custom_entry], "").message }
   end
 
+  def test_a_record_at_each_version
+    suspension = Pendratsoa::SuspensionMessage.new(awaiting_on: Pendratsoa::Future.new(waiting_completions: [7]))
+    [COMMAND, suspension].each do |record|
+      (5..9).each do |version|
+        assert_equal Pendratsoa.frame(version, record.class::CODE, record.encode), record.frame(version)
+      end
+      [4, 10].each do |version|
+        error = assert_raises(Pendratsoa::Unknown) { record.frame(version) }
+        assert_equal "frame: there is no version #{version}", error.message
+      end
+    end
+  end
+
   def test_a_record_of_earlier_versions
     record = Pendratsoa::SuspensionMessageV6.new(waiting_completions: [1, 2])
     assert_equal unhex("00010000000000040a020102"), record.frame(6)

@@ -6,10 +6,13 @@ module Pendratsoa
     # Its frame at a version: the header, and its canonical payload. Unknown if it is no record of the version.
     def frame(version = 8)
       payload = encode
-      code = self.class::CODE
-      return Pendratsoa.frame(version, code, payload) unless self.class.const_defined?(:BEFORE_VERSION)
+      type = self.class
+      return Earlier.frame("frame", version, type::CODE, type::SCHEMA, payload) if type.const_defined?(:BEFORE_VERSION)
+      return Pendratsoa.frame(version, type::CODE, payload) if Earlier.schema(version, type::CODE)
 
-      Earlier.frame("frame", version, code, self.class::SCHEMA, payload)
+      # what `encode` returns is canonical, and is not read again
+      call = Call.new("frame", version: version, code: type::CODE, payload_length: payload.bytesize)
+      call.written(:journal_header, call.version, call.code("a named type"), call.length(:payload_length)) << payload
     end
   end
 
