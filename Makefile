@@ -31,7 +31,7 @@ generate:
 	python3 tools/generate.py $(NAME)
 
 view:
-	sh scripts/run.sh journal view '$(STREAM)' $(if $(OTHER),'$(OTHER)') $(if $(OUT),-o '$(OUT)')
+	sh scripts/run.sh journal view $(if $(STREAM),'$(STREAM)') $(if $(OTHER),'$(OTHER)') $(if $(OUT),-o '$(OUT)')
 
 install:
 	DESTDIR='$(DESTDIR)' sh scripts/install.sh '$(PREFIX)'
@@ -43,7 +43,7 @@ package:
 	sh scripts/package.sh
 
 release:
-	sh scripts/release.sh '$(OUT)'
+	sh scripts/release.sh $(if $(OUT),'$(OUT)')
 
 python:
 	sh scripts/python.sh

@@ -3,10 +3,15 @@
 #
 # It installs the packages where they are missing, but not with --no-install, and writes .cargo/config.toml, which puts
 # the distribution's folder of crates in the place of crates.io, and has the peer compiled for the processor that the
-# library is compiled for. If that is not available, it says
-# 'not run: ..' with status 1.
+# library is compiled for. If that is not available, it says 'not run: ..' with status 1.
 set -u
 cd "$(dirname "$0")" || exit 1
+
+case $#:${1-} in
+  0: | 1:--no-install) ;;
+  1:--help) sed -n '2,6s/^# \{0,1\}//p' install.sh; exit 0 ;;
+  *) echo 'usage: install.sh [--no-install]' >&2; exit 2 ;;
+esac
 
 packages='librust-prost-dev librust-prost-derive-dev librust-bytes-dev'
 packages="$packages librust-serde-dev librust-serde-json-dev librust-base64-dev"

@@ -188,6 +188,9 @@ def make(folder: pathlib.Path, work: pathlib.Path, machine: Machine) -> pathlib.
 
 
 def main(words: list[str]) -> int:
+    if words == ["--help"]:
+        print(__doc__.strip())
+        return 0
     machine = MACHINES[words[:1] == ["--arm64"]]
     rest = words[1:] if words[:1] == ["--arm64"] else words
     word = rest[0] if rest else "."

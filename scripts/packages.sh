@@ -7,6 +7,12 @@
 set -u
 cd "$(dirname "$0")/.." || exit 0
 
+case ${1-} in
+  '') ;;
+  --help) sed -n '2,6s/^# \{0,1\}//p' scripts/packages.sh; exit 0 ;;
+  *) echo 'usage: packages.sh' >&2; exit 2 ;;
+esac
+
 # after how many seconds nothing more is downloaded, and after how many it ends
 downloading=400
 seconds=600

@@ -7,10 +7,10 @@
 # file LIBRARY, for a platform as manylinux_2_17_aarch64.
 set -eu
 
-if [ $# -eq 2 ] || [ $# -gt 3 ]; then
-  echo 'usage: python.sh [FOLDER [LIBRARY PLATFORM]]' >&2
-  exit 2
-fi
+case $#:${1-} in
+  1:--help) sed -n '2,7s/^# \{0,1\}//p' "$0"; exit 0 ;;
+  *:-* | 2:* | [4-9]:*) echo 'usage: python.sh [FOLDER [LIBRARY PLATFORM]]' >&2; exit 2 ;;
+esac
 top=$(cd "$(dirname "$0")/.." && pwd)
 folder=${1:-$top/python}
 work=$(mktemp -d)

@@ -6,7 +6,10 @@
 # CC, the compiler for another processor, it is for that one. Nothing is downloaded.
 set -eu
 
-[ $# -le 1 ] || { echo 'usage: ruby.sh [FOLDER]' >&2; exit 2; }
+case $#:${1-} in
+  1:--help) sed -n '2,6s/^# \{0,1\}//p' "$0"; exit 0 ;;
+  *:-* | [2-9]:*) echo 'usage: ruby.sh [FOLDER]' >&2; exit 2 ;;
+esac
 top=$(cd "$(dirname "$0")/.." && pwd)
 folder=$(cd "${1:-$top/ruby}" && pwd)
 work=$(mktemp -d)

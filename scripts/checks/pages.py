@@ -1,10 +1,10 @@
 #!/usr/bin/env python3
 """Links, paths, worked lines and the names in tables of promises exist; the README shows what runs.
 
-Each link, anchor and path of this repository in `code`, the length of lines, the form of decisions, each worked line
-of conformance, the test vectors of each rule, the README's page of code and the dump that it shows, each name in a
-table of promises, in the crates of its section, and each `unsafe` block, which the page on what is proved names. What
-is missing is shown before the last line.
+Each link, anchor and path of this repository in `code`, the length of lines, the rows of tables, the form of
+decisions, each worked line of conformance, the test vectors of each rule, the README's page of code and the dump that
+it shows, each name in a table of promises, in the crates of its section, and each `unsafe` block, which the page on
+what is proved names. What is missing is shown before the last line.
 """
 from __future__ import annotations
 
@@ -116,6 +116,18 @@ def long_lines() -> Found:
             before = line
             if len(line) > WIDTH and not was_code and not re.match(r" *\||!\[", line):
                 yield page, f"line {number} has more than {WIDTH} characters", False
+
+
+def tables() -> Found:
+    """A row of a table is a line, with as many cells as the table's heading. Those that are so are not counted."""
+    for page in pages():
+        width = 0
+        for line, fence in fences(page):
+            is_row = fence is None and line.lstrip().startswith("|")
+            bars = len(re.findall(r"(?<!\\)\|", line)) if is_row else 0
+            if width and bars not in (0, width) or fence is None and "| |---" in line:
+                yield page, f"a row that is not as its table's heading: {line.strip()}", False
+            width = bars and (width or bars)
 
 
 def decisions() -> Found:
@@ -255,7 +267,7 @@ def unsafe_blocks() -> Found:
 
 
 PARTS = (
-    links_and_paths, anchors, long_lines, decisions, worked_lines, rules, page_of_code, quoted_code, shown_dump,
+    links_and_paths, anchors, long_lines, tables, decisions, worked_lines, rules, page_of_code, quoted_code, shown_dump,
     promised_names, guarantees, unsafe_blocks,
 )
 

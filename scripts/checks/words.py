@@ -150,7 +150,8 @@ def main(check: checks.Check) -> None:
     listed = subprocess.run(["git", "ls-files", "-z"], stdout=subprocess.PIPE, check=True, encoding="utf-8").stdout
     for file in listed.rstrip("\0").split("\0"):
         ending = next((ending for ending in endings if file.endswith(ending)), None)
-        if ending is None:
+        # a file that was removed is listed until that is staged
+        if ending is None or not pathlib.Path(file).exists():
             continue
         lines = [] if file == SELF else pathlib.Path(file).read_text(encoding="utf-8").split("\n")
         lines = [line if "@generated" not in line else "" for line in lines]

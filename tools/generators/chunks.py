@@ -1,8 +1,8 @@
 """The impls by which records, oneofs and messages are appended as chunks, of crates/shared_core_chunks, and what leads
 from a type to the one of its record, of crates/bench_ffi, which measures them."""
-import shutil
 
 from . import laid_out
+from . import missing_rt as missing  # noqa: F401
 from .dispatch import arms_by_type
 from .forms import bound
 from .proto import OneOf, camel, fields_of, messages, snake, typed
@@ -168,10 +168,6 @@ def texts():
         f"{FOLDER}/oneofs.rt": oneofs_text(),
         f"{FOLDER}/records.rt": records_text(),
     }
-
-
-def missing():
-    return None if shutil.which("rt") else "there is no rt, which lays the files out"
 
 
 def paths():

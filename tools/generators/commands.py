@@ -4,9 +4,10 @@ One file a command, one for each oneof that several commands share, the module o
 fields the proof that they follow each other.
 """
 from . import laid_out
+from . import missing_rt as missing  # noqa: F401
 from .forms import bound, writer
 from .proto import OneOf, camel, fields_of, messages, numbers, snake
-from .records import COMMAND_CRATES, CRATES, missing, shared_oneofs  # noqa: F401
+from .records import COMMAND_CRATES, CRATES, shared_oneofs
 
 CRATE = "shared_core_compare"
 

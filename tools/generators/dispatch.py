@@ -2,8 +2,9 @@
 record, the number of a type's schema, and all records by one public path.
 """
 from . import laid_out
+from . import missing_rt as missing  # noqa: F401
 from .proto import OneOf, earlier, messages, schemas, snake, typed
-from .records import CRATES, PARTS_CRATE, comment, missing  # noqa: F401
+from .records import CRATES, PARTS_CRATE, comment
 
 ABOUT = "What leads from a type or a schema to its record, and all records by one path."
 SOURCE = "proto/journal.proto"

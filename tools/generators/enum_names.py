@@ -2,8 +2,8 @@
 shared_core_json_reader cite, and that of the program, which is proved to be the same.
 """
 from . import laid_out
+from . import missing_rt as missing  # noqa: F401
 from .proto import enums, fields_of, schemas
-from .records import missing  # noqa: F401
 
 ABOUT = "The names of the values of enums in JSON, for contracts and for the program."
 SOURCE = "proto/journal.proto"

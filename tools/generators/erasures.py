@@ -3,10 +3,11 @@ there, and of which types nothing is erased. It is said as shared_core_compare h
 proto/journal.proto.
 """
 from . import laid_out
+from . import missing_rt as missing  # noqa: F401
 from .dispatch import arms_by_type
 from .forms import bound
 from .proto import OneOf, camel, messages, snake
-from .records import EMPTY, missing  # noqa: F401
+from .records import EMPTY
 
 ABOUT = "What is not compared of a command, erased."
 SOURCE = "proto/journal.proto"

@@ -7,6 +7,7 @@ here, by the fields of the protocol's description. Nothing of this project's own
 import re
 
 from . import ROOT, missing  # noqa: F401
+from .descriptors import varint
 from .proto import OneOf, schemas
 
 ABOUT = "Test vectors of fields."
@@ -22,17 +23,6 @@ HEAD = """\
 
 # The numbers of the kinds of entries.
 KINDS = {"u32": 1, "u64": 2, "bool": 3, "enum": 4, "text": 5, "bytes": 6, "message": 7}
-
-
-def varint(content, place):
-    """The varint at a place, and the place after it."""
-    number = shift = 0
-    while True:
-        byte = content[place]
-        number |= (byte & 0x7F) << shift
-        place, shift = place + 1, shift + 7
-        if byte < 0x80:
-            return number, place
 
 
 def fields_of(message):

@@ -2,8 +2,8 @@
 the table that the contracts of shared_core_json cite, and that of the program, which is proved to be the same.
 """
 from . import bracketed, laid_out
+from . import missing_rt as missing  # noqa: F401
 from .proto import fields_of, json_name, schemas
-from .records import missing  # noqa: F401
 
 ABOUT = "The names of fields in JSON, for contracts and for the program."
 SOURCE = "proto/journal.proto"

@@ -2,8 +2,8 @@
 and the members of oneofs.
 """
 from . import laid_out
+from . import missing_rt as missing  # noqa: F401
 from .proto import OneOf, camel, command_types, schemas, snake, typed
-from .records import missing  # noqa: F401
 
 ABOUT = "Lists of types, commands and schemas for programs and tests."
 SOURCE = "proto/journal.proto"

@@ -4,8 +4,9 @@ same that contracts cite.
 What both say of a type beyond that, as whether it is a command, is written by hand beside them.
 """
 from . import laid_out
+from . import missing_rt as missing  # noqa: F401
 from .proto import command_types, typed
-from .records import comment, missing  # noqa: F401
+from .records import comment
 
 ABOUT = "The types of messages and of commands, in Rattle and for contracts."
 SOURCE = "proto/journal.proto"

@@ -8,8 +8,9 @@ import itertools
 import re
 
 from . import ROOT, Refused, laid_out
+from . import missing_rt as missing  # noqa: F401
 from .proto import OneOf, fields_of, messages
-from .records import EMPTY, missing  # noqa: F401
+from .records import EMPTY
 
 ABOUT = "The numbers of fields in hand-written files."
 SOURCE = "proto/journal.proto"

@@ -5,7 +5,8 @@ import pathlib
 import textwrap
 import tomllib
 
-from . import ROOT, laid_out, missing  # noqa: F401
+from . import ROOT, laid_out
+from . import missing_rt as missing  # noqa: F401
 from .proto import typed
 from .record_vectors import LAST_VERSION
 from .versions import library_version

@@ -4,10 +4,10 @@ One file a message, in the crates below, laid out as `rt fmt` does. Future alone
 to itself and so has a form of its own; its fields and numbers are compared with the description.
 """
 import re
-import shutil
 import textwrap
 
 from . import laid_out
+from . import missing_rt as missing  # noqa: F401
 from .forms import BY_HAND, HAND_WRITTEN, INNER, PARTS_CRATE, TYPES, bound
 from .proto import OneOf, camel, earlier, messages, schema_name, snake
 
@@ -564,10 +564,6 @@ def crate_files(crate):
 def texts():
     """The files of all crates, not yet laid out."""
     return {path: text for crate in CRATES for path, text in crate_files(crate).items()}
-
-
-def missing():
-    return None if shutil.which("rt") else "there is no rt, which lays the files out"
 
 
 def paths():

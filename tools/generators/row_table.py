@@ -2,8 +2,8 @@
 The rows are proved to be those of the schemas.
 """
 from . import laid_out
+from . import missing_rt as missing  # noqa: F401
 from .proto import OneOf, schemas
-from .records import missing  # noqa: F401
 from .tables import least
 
 ABOUT = "The rows of schemas, for the program."

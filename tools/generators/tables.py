@@ -3,9 +3,10 @@ schema of each type, and what of a command is compared and printed. And the list
 list streams.
 """
 from . import bracketed, laid_out
+from . import missing_rt as missing  # noqa: F401
 from .commands import Entry, name_number
 from .proto import TEMPLATE, OneOf, earlier, fields_of, schema_name, schemas, typed
-from .records import KINDS, missing  # noqa: F401
+from .records import KINDS
 
 ABOUT = "The tables of schemas, of message types and of compared commands, for contracts."
 SOURCE = "proto/journal.proto"
