@@ -14,11 +14,13 @@ STREAMS = pathlib.Path("examples/streams")
 LIBRARIES = pathlib.Path("usr/lib/x86_64-linux-gnu")
 
 
-def rejected_words(check: checks.Check) -> None:
-    """Wrong words are rejected with a line on the standard error."""
-    for words in (["nothing"], ["--help"], [".", "."]):
-        ended = checks.run(["sh", "scripts/package.sh", *words])
-        check.case(f"package.sh {' '.join(words)}", ended.status == 2 and ended.err.count(b"\n") == 1, ended)
+def words(check: checks.Check) -> None:
+    """Wrong words are rejected with a line on the standard error; --help says what there is."""
+    for given in (["nothing"], ["--halp"], [".", "."]):
+        ended = checks.run(["sh", "scripts/package.sh", *given])
+        check.case(f"package.sh {' '.join(given)}", ended.status == 2 and ended.err.count(b"\n") == 1, ended)
+    ended = checks.run(["sh", "scripts/package.sh", "--help"])
+    check.case("package.sh --help", ended.status == 0 and b"package.sh [--arm64] [FOLDER]" in ended.out, ended)
 
 
 def made(check: checks.Check) -> pathlib.Path:
@@ -70,7 +72,7 @@ def main(check: checks.Check) -> None:
     for name in checks.PROGRAMS:
         check.program(name)
     check.static_library()
-    rejected_words(check)
+    words(check)
     package = made(check)
     root = check.work / "root"
     contents(check, package, root)
