@@ -16,3 +16,5 @@ pub mod Canonicity
 pub mod CanonicityExact
 pub mod NextFields
 pub mod Positions
+pub mod Copying
+pub mod Ascii

@@ -1,5 +1,5 @@
 -- What a record keeps of what it held, whether a merge succeeds or fails.
-use Rattle.std.specs.Prelude.{◌≡◌, ℕ, Bool, true, false, List, [], ◌∷◌, take, Some, Result}
+use Rattle.std.specs.Prelude.{◌≡◌, ℕ, Bool, true, false, List, ◌∷◌, take, Some, Result}
 use Rattle.shared_core_wire.specs.declared.error.WireError.{WireError}
 use Rattle.shared_core_wire.specs.ReadRecords.{PlacedRecord}
 use Rattle.shared_core_wire.specs.Schema.{Row, numbers, includes}

@@ -1,6 +1,5 @@
 //! Fields of the kind `bool`: reading, measuring and writing one value.
 
-ghost use Rattle.std.specs.Prelude.{◌≡◌};
 ghost use Rattle.shared_core_wire.specs.Schema.{Boolean};
 ghost use Rattle.shared_core_codec.specs.FieldParts.{boolean_part};
 

@@ -1,6 +1,5 @@
 //! Fields of the kind `bytes`: reading, measuring and writing one value.
 
-ghost use Rattle.std.specs.Prelude.{◌≡◌};
 ghost use Rattle.shared_core_wire.specs.Schema.{ByteString};
 ghost use Rattle.shared_core_wire.specs.Value.{Bytes as Content};
 

@@ -1,6 +1,6 @@
 //! Checking whether payloads are canonical, by the rows of their schema: without a record and without allocating.
 
-ghost use Rattle.std.specs.Prelude.{◌≡◌, ◌↔◌, IsTrue, map, option_map, length, is_some};
+ghost use Rattle.std.specs.Prelude.{◌≡◌, ◌↔◌, IsTrue, map, option_map, length};
 ghost use Rattle.shared_core_wire.specs.Reader.{Gives};
 ghost use Rattle.shared_core_wire.specs.View.{value_of};
 ghost use Rattle.shared_core_codec.specs.Checking.{field_record_of};
@@ -12,9 +12,9 @@ ghost use Rattle.shared_core_codec.specs.Canonicity.{is_written_number, is_writt
 ghost use Rattle.shared_core_codec.specs.Canonicity.{is_written_run, is_written_element, is_default_value, is_plain};
 ghost use Rattle.shared_core_codec.specs.Canonicity.{is_written_field, written_size};
 
-use crate::check::is_text;
 use crate::rows::{Found, Kind, Row, find_in_row, rows_of};
 use crate::size::{LENGTH, Size, VARINT, key, varint_size};
+use crate::utf8::is_text;
 use shared_core_wire::record::WireValue;
 use shared_core_wire::records::{LEVELS, Record, Records};
 use shared_core_wire::varint::read_varint;

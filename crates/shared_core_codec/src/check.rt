@@ -2,7 +2,6 @@
 
 ghost use Rattle.std.specs.Prelude.{◌≡◌, ◌↔◌, IsTrue, map, true};
 ghost use Rattle.std.specs.Option.{is_some};
-ghost use Rattle.std.specs.Str.{is_utf8};
 ghost use Rattle.shared_core_wire.specs.Acceptance.{accepts_payload, accepts_message, accepts_record};
 ghost use Rattle.shared_core_wire.specs.Acceptance.{accepts_element, accepts_value, accepts_number};
 ghost use Rattle.shared_core_wire.specs.Reader.{packed_numbers};
@@ -15,6 +14,7 @@ ghost use Rattle.shared_core_codec.specs.ProgramRows.{kind_view, row_view};
 
 pub use crate::rows::is_schema;
 use crate::rows::{Kind, Row, find_field, rows_of};
+use crate::utf8::is_text;
 use shared_core_wire::record::WireValue;
 use shared_core_wire::records::{LEVELS, Record, Records};
 use shared_core_wire::varint::read_varint;
@@ -102,16 +102,6 @@ fn is_number(kind: Kind) -> bool
         Kind::Boolean => true,
         Kind::Enumeration => true,
         _ => false,
-    }
-}
-
-/// Whether bytes are UTF-8.
-pub(crate) fn is_text(bytes: &[u8]) -> bool
-    ensures { result ≡ is_utf8 bytes.now }
-{
-    match std::str::from_utf8(bytes) {
-        Ok(_text) => true,
-        Err(_) => false,
     }
 }
 

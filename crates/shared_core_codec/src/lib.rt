@@ -2,14 +2,16 @@
 //!
 //! Users of records call `record` and `error`. The code of a record uses the other modules: `kind`, with a file for
 //! each kind of field; the fields by their presence, `plain`, `optional`, `repeated`, `packed` and `oneof`; and below
-//! them `message_bytes` and `occurrence` for reading, `size` for measuring, and `write`. Whoever goes over payloads
-//! without a record has the rows of schemas in `rows`, and a check of payloads by them in `check`.
+//! them `message_bytes` and `occurrence` for reading, `size` for measuring, and `write`; texts are checked by `utf8`,
+//! and bytes copied by `copy`. Whoever goes over payloads without a record has the rows of schemas in `rows`, and a
+//! check of payloads by them in `check`.
 #![tactic(auto)]
 
 pub mod boolean;
 pub mod byte_string;
 pub mod canonical;
 pub mod check;
+pub mod copy;
 pub mod enumeration;
 pub mod error;
 pub mod kind;
@@ -29,4 +31,5 @@ pub mod size;
 pub mod text;
 pub mod uint32;
 pub mod uint64;
+pub mod utf8;
 pub mod write;

@@ -1,6 +1,5 @@
 //! Fields that hold messages.
 
-ghost use Rattle.std.specs.Prelude.{◌≡◌};
 ghost use Rattle.shared_core_wire.specs.Schema.{Message};
 ghost use Rattle.shared_core_codec.specs.FieldParts.{message_part};
 

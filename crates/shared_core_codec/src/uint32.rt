@@ -1,6 +1,5 @@
 //! Fields of the kind `uint32`: reading, measuring and writing one value, which is the low 32 bits.
 
-ghost use Rattle.std.specs.Prelude.{◌≡◌};
 ghost use Rattle.shared_core_wire.specs.Schema.{U32};
 ghost use Rattle.shared_core_wire.specs.Value.{Number};
 

@@ -1,6 +1,5 @@
 //! Fields of the kind `uint64`: reading, measuring and writing one value.
 
-ghost use Rattle.std.specs.Prelude.{◌≡◌};
 ghost use Rattle.shared_core_wire.specs.Schema.{U64};
 ghost use Rattle.shared_core_wire.specs.Value.{Number};
 

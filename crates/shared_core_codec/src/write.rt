@@ -3,10 +3,11 @@
 //! Each function writes the bytes of a slice right before `end`, and returns where they begin. The caller has checked
 //! that there is room, so nothing is tested and nothing can fail.
 
-ghost use Rattle.std.specs.Prelude.{◌≡◌, ◌+◌, ◌*◌, ◌^◌, ◌<◌, ◌≤◌, ◌++◌, length, drop};
+ghost use Rattle.std.specs.Prelude.{◌≡◌, ◌+◌, ◌<◌, ◌≤◌, ◌++◌, length, drop};
 ghost use Rattle.shared_core_wire.specs.Encoding.{shortest_varint, key_bytes};
 ghost use Rattle.shared_core_codec.specs.RowEncoding.{length_record, varint_record};
 
+use crate::copy::copy;
 use crate::size::{LENGTH, VARINT, key};
 
 /// Writes the shortest varint of a number.
@@ -56,7 +57,7 @@ fn write_content(out: &mut [u8], end: usize, content: &[u8]) -> usize
     ensures written { drop result out.new ≡ content.now ++ drop end out.old }
 {
     let start = end - content.len();
-    out[start..end].copy_from_slice(content);
+    copy(&mut out[start..end], content);
     start
 }
 

@@ -1,7 +1,7 @@
 use Rattle.std.proofs.Common.{sym}
 use Rattle.std.proofs.lemmas.Str.{is_utf8-from_IsUtf8}
 use Rattle.shared_core_codec.proofs.FieldElements.{not_utf8}
-use Rattle.shared_core_codec.proofs.check.is_text.Goals as goal
+use Rattle.shared_core_codec.proofs.utf8.is_any_text.Goals as goal
 
 pub returns-in-Ok : goal.returns-in-Ok
 returns-in-Ok c = sym (is_utf8-from_IsUtf8 c.args.bytes.now c.in-Ok.ensures.cases.1)
