@@ -316,10 +316,6 @@ comes_after nested rows room r next e =
     ∙ some_field (is_written_field nested next.is_plain next.field r.value) (ltb room (written_size r)) next.rows
     (room - written_size r)
 
-unless_room : (b : Bool) (o : Option ℕ) → None ≡ o → None ≡ cond b o None
-unless_room true o e = e
-unless_room false o e = refl
-
 pub comes_then : (nested : NestedAcceptance) (rows : List Row) (room size : ℕ) (r : FieldRecord) (next : Next)
     → Some next ≡ next_field rows r.number → size ≡ written_size r → size ≤ room
     → true ≡ is_written_field nested next.is_plain next.field r.value → Some (next.rows, room - size) ≡ coming_after

@@ -1,21 +1,26 @@
 -- What the bytes of a canonical payload begin with: a record that may come next.
-use Rattle.std.proofs.Common.{◌*◌, ◌/◌, ◌%◌, ◌≤◌, cond, ltb, inl, inr}
-use Rattle.std.proofs.lemmas.Bool.{le-ltb, ltb-false}
-use Rattle.std.proofs.lemmas.List.{take_all}
+use Rattle.std.proofs.Common.{◌*◌, ◌/◌, ◌%◌, ◌≤◌, cond, ltb, inl, inr, eq-eqb}
+use Rattle.std.proofs.lemmas.Bool.{ltb-false}
+use Rattle.std.proofs.lemmas.List.{take_all, length-append, length-take, length-drop}
 use Rattle.std.proofs.Common.{◌≡◌, ℕ, ◌+◌, ◌-◌, ◌<◌, List, [], ◌∷◌, ◌++◌, length, Bool, true, false, ◌&&◌, Option, Some}
 use Rattle.std.proofs.Common.{None, Ok, refl, sym, ap, ◌∙◌, arith, append_assoc, subst}
-use Rattle.std.specs.Prelude.{is_some, get_or, take, drop, ◌==◌}
-use Rattle.shared_core_wire.specs.Grammar.{RecordValue, Varint, Fixed64, Length, Group, Fixed32, FieldRecord}
+use Rattle.std.specs.Prelude.{is_some, get_or, take, drop, ◌==◌, option_map}
+use Rattle.shared_core_wire.specs.Grammar.{RecordValue, Varint, Fixed64, Length, Group, Fixed32, FieldRecord, content}
 use Rattle.shared_core_wire.specs.Grammar.{IsRecordWithin}
 use Rattle.shared_core_wire.specs.Reader.{◌>>=◌, varint_at, varint_within, bytes_at, key_at, record_at}
 use Rattle.shared_core_wire.specs.ReadRecords.{records_past}
 use Rattle.shared_core_wire.specs.Schema.{Kind, Row, U32, U64, Boolean, Enumeration, Text, ByteString, Message}
 use Rattle.shared_core_wire.proofs.Readers.{BeginsWith, some_is, varint_again, bytes_again, key_again, key_reads}
+use Rattle.shared_core_wire.proofs.Readers.{key_pos}
+use Rattle.shared_core_wire.proofs.VarintLoop.{varint_one}
+use Rattle.shared_core_wire.specs.Value.{Part}
 use Rattle.shared_core_wire.proofs.ReadRecords.{cases_option, place, step, read_stop, read_encoded}
 use Rattle.shared_core_wire.proofs.Runs.{and_split}
 use Rattle.shared_core_codec.specs.Canonicity.{Next, next_field, is_written_value, is_written_element}
 use Rattle.shared_core_fields.specs.Coming.{is_nested, is_short, is_typed, are_coming}
-use Rattle.shared_core_fields.specs.KnownValues.{known_value_at}
+use Rattle.shared_core_fields.specs.KnownValues.{front_at, is_known, typed_parts, value_after}
+use Rattle.shared_core_fields.specs.Fields.{record_part}
+use Rattle.shared_core_fields.specs.Views.{content_offset}
 use Rattle.shared_core_fields.proofs.SingleBytes.{byte_varint}
 
 -- ---- varints
@@ -66,50 +71,138 @@ key_from bytes rest k n h v e = elim (cases_option (key_at bytes)) [
       ∙ ap (λ (r : List ℕ). Some (n, k % 8, r)) last
 ]
 
+-- ---- a key and the varint after it
+
+-- The varint after a key.
+abbrev with_varint : ℕ → ℕ → ℕ × List ℕ → Option (ℕ × ℕ × ℕ × List ℕ)
+with_varint n wire x = Some (n, wire, x.0, x.1)
+
+abbrev with_key : ℕ × ℕ × List ℕ → Option (ℕ × ℕ × ℕ × List ℕ)
+with_key k = varint_at k.2 >>= with_varint k.0 k.1
+
+pub front_from : (bytes body rest : List ℕ) (n wire m : ℕ) → key_at bytes ≡ Some (n, wire, body) → varint_at body ≡ Some
+    (m, rest) → front_at bytes ≡ Some (n, wire, m, rest)
+front_from bytes body rest n wire m k v =
+    ap (λ (o : Option (ℕ × ℕ × List ℕ)). o >>= with_key) k
+    ∙ ap (λ (o : Option (ℕ × List ℕ)). o >>= with_varint n wire) v
+
+pub front_key : (bytes : List ℕ) → is_some (front_at bytes) ≡ true → is_some (key_at bytes) ≡ true
+front_key bytes h = by_key (key_at bytes) h
+  where
+    by_key : (o : Option (ℕ × ℕ × List ℕ)) → is_some (o >>= with_key) ≡ true → is_some o ≡ true
+    by_key None g = absurd cc
+    by_key (Some k) g = refl
+
+pub front_varint : (bytes body : List ℕ) (n wire : ℕ) → is_some (front_at bytes) ≡ true → key_at bytes ≡ Some
+    (n, wire, body) → is_some (varint_at body) ≡ true
+front_varint bytes body n wire h k =
+    by_varint (varint_at body) (sym (ap (λ (o : Option (ℕ × ℕ × List ℕ)). is_some (o >>= with_key)) k) ∙ h)
+  where
+    by_varint : (o : Option (ℕ × List ℕ)) → is_some (o >>= with_varint n wire) ≡ true → is_some o ≡ true
+    by_varint None g = absurd cc
+    by_varint (Some x) g = refl
+
+pub front_there : (bytes : List ℕ) → is_some (front_at bytes) ≡ true → 2 ≤ length bytes
+front_there bytes h = elim (cases_option (key_at bytes)) [
+  | inl none ↦ absurd (let n = ap is_some none in let k = front_key bytes h in cc)
+  | inr w ↦
+      let t = key_reads bytes w.0 w.1 in
+      let some = varint_there w.0.2 (front_varint bytes w.0.2 w.0.0 w.0.1 h w.1) in
+      omega (arith, ap length t.parts, length-append t.text w.0.2, key_pos t.text w.0.0 w.0.1 t.is, some)
+]
+
+pub front_bytes : (bytes rest : List ℕ) (b m n v : ℕ) → is_some (front_at bytes) ≡ true → b ≡ get_or bytes 0 0 → m ≡
+    get_or bytes 1 0 → b < 128 → m < 128 → n ≡ b / 8 → v ≡ m → rest ≡ take (length bytes - 2) (drop 2 bytes) → front_at
+    bytes ≡ Some (n, b % 8, v, rest)
+front_bytes [] rest b m n v h first second low small number is last =
+    absurd (omega (arith, front_there [] h))
+front_bytes (x ∷ []) rest b m n v h first second low small number is last =
+    absurd (omega (arith, front_there (x ∷ []) h))
+front_bytes (x ∷ y ∷ bs) rest b m n v h first second low small number is last =
+    let bytes = x ∷ y ∷ bs in
+    let two : length bytes - 2 ≡ length bs = omega arith in
+    let all : bs ≡ rest = sym (last ∙ ap (λ (n : ℕ). take n bs) two ∙ take_all (length bs) bs (omega arith)) in
+    let key_byte : varint_at bytes ≡ Some (b, y ∷ bs) = varint_one x (y ∷ bs) (omega (arith, first, low)) ∙ ap
+    (λ (z : ℕ). Some (z, y ∷ bs)) (sym first) in
+    let next_byte : varint_at (y ∷ bs) ≡ Some (v, bs) = varint_one y bs (omega (arith, second, small)) ∙ ap
+    (λ (z : ℕ). Some (z, bs)) (sym (is ∙ second)) in
+    let key = key_from bytes (y ∷ bs) b n (front_key bytes h) key_byte (omega (arith, number, low)) in
+    front_from bytes (y ∷ bs) bs n (b % 8) v key next_byte
+    ∙ ap (λ (z : List ℕ). Some (n, b % 8, v, z)) all
+
 -- ---- values
+
+-- A value that is length-delimited: what a field of a kind says of it.
+pub record Delimited (f : Kind × Bool) (wire n : ℕ) (bytes : List ℕ) : Type 0 where
+  pub enough : n ≤ length bytes
+  pub value : value_after wire (n, bytes) ≡ Some (Length (take n bytes), drop n bytes)
+  pub short : is_short (Length (take n bytes)) ≡ true
+  pub typed : is_typed f (Length (take n bytes)) ≡ true
 
 -- Length-delimited bytes, as a value.
 abbrev as_length : List ℕ × List ℕ → Option (RecordValue × List ℕ)
 as_length x = Some (Length x.0, x.1)
 
-delimited : (wire : ℕ) (bytes rest : List ℕ) (n : ℕ) → wire ≡ 2 → varint_at bytes ≡ Some (n, rest) → known_value_at wire
-    bytes ≡ (bytes_at n rest >>= as_length)
-delimited wire bytes rest n w v =
-    ap (λ (m : ℕ). known_value_at m bytes) w
-    ∙ ap (λ (o : Option (ℕ × List ℕ)). o >>= λ x. bytes_at x.0 x.1 >>= as_length) v
-
--- A varint after a key, as a value, or what its length begins.
-abbrev from_varint : ℕ → ℕ × List ℕ → Option (RecordValue × List ℕ)
-from_varint wire n = cond (wire == 2) (bytes_at n.0 n.1 >>= as_length) (Some (Varint n.0, n.1))
-
-pub value_varint : (wire : ℕ) (bytes : List ℕ) → is_some (known_value_at wire bytes) ≡ true → is_some (varint_at bytes)
-    ≡ true
-value_varint wire bytes h = by_varint (varint_at bytes) h
-  where
-    by_varint : (o : Option (ℕ × List ℕ)) → is_some (o >>= from_varint wire) ≡ true → is_some o ≡ true
-    by_varint None g = absurd cc
-    by_varint (Some x) g = refl
-
-pub value_enough : (wire : ℕ) (bytes rest : List ℕ) (n : ℕ) → is_some (known_value_at wire bytes) ≡ true → wire ≡ 2 →
-    varint_at bytes ≡ Some (n, rest) → n ≤ length rest
+of_length : (f : Kind × Bool) (wire n : ℕ) (bytes : List ℕ) → (wire == 2) ≡ true → is_known f
+    (value_after wire (n, bytes)) ≡ true → Delimited f wire n bytes
 unfolding bytes_at
-value_enough wire bytes rest n h w v =
-    by_size (ltb (length rest) n) refl (sym (ap is_some (delimited wire bytes rest n w v)) ∙ h)
+of_length f wire n bytes two h = by_size (ltb (length bytes) n) refl
+    (sym (ap (λ (b : Bool). is_known f (cond b (bytes_at n bytes >>= as_length) (Some (Varint n, bytes)))) two) ∙ h)
   where
-    by_size : (b : Bool) → ltb (length rest) n ≡ b → is_some (cond b None (Some (take n rest, drop n rest)) >>=
-        as_length) ≡ true → n ≤ length rest
+    by_size : (b : Bool) → ltb (length bytes) n ≡ b → is_known f (cond b None (Some (take n bytes, drop n bytes)) >>=
+        as_length) ≡ true → Delimited f wire n bytes
     by_size true e g = absurd cc
-    by_size false e g = ltb-false _ _ e
+    by_size false e g =
+        let t = and_split _ _ g in
+        record {
+          enough = ltb-false _ _ e;
+          value = ap (λ (b : Bool). cond b (bytes_at n bytes >>= as_length) (Some (Varint n, bytes))) two
+              ∙ ap (λ (b : Bool). cond b None (Some (take n bytes, drop n bytes)) >>= as_length) e;
+          short = t.0;
+          typed = t.1;
+        }
 
-pub value_length : (wire : ℕ) (bytes rest content after : List ℕ) (n : ℕ) → wire ≡ 2 → varint_at bytes ≡ Some
-    (n, rest) → n ≤ length rest → content ≡ take n rest → after ≡ drop n rest → known_value_at wire bytes ≡ Some
-    (Length content, after)
+pub delimited : (f : Kind × Bool) (wire n : ℕ) (bytes : List ℕ) → wire ≡ 2 → is_known f (value_after wire (n, bytes)) ≡
+    true → Delimited f wire n bytes
+delimited f wire n bytes w h = of_length f wire n bytes (eq-eqb wire 2 w) h
+
+pub delimited_by_kind : (f : Kind × Bool) (wire n : ℕ) (bytes : List ℕ) → is_typed f (Varint n) ≡ false → is_known f
+    (value_after wire (n, bytes)) ≡ true → Delimited f wire n bytes
+delimited_by_kind f wire n bytes none h = by_wire (wire == 2) refl
+  where
+    by_wire : (b : Bool) → (wire == 2) ≡ b → Delimited f wire n bytes
+    by_wire true e = of_length f wire n bytes e h
+    by_wire false e =
+        let number : is_known f (Some (Varint n, bytes)) ≡ true = sym (ap (λ (b : Bool). is_known f
+        (cond b (bytes_at n bytes >>= as_length) (Some (Varint n, bytes)))) e) ∙ h in
+        let t = and_split (is_short (Varint n)) (is_typed f (Varint n)) number in
+        absurd (let typed = t.1 in cc)
+
+pub offset_is : (wire n end : ℕ) (bytes rest : List ℕ) (w : RecordValue) → value_after wire (n, bytes) ≡ Some (w, rest)
+    → cond (wire == 2) (end - length bytes) 0 ≡ content_offset w (end - length rest)
 unfolding bytes_at
-value_length wire bytes rest content after n w v long front back =
-    delimited wire bytes rest n w v
-    ∙ ap (λ (b : Bool). cond b None (Some (take n rest, drop n rest)) >>= as_length) (le-ltb (length rest) n long)
-    ∙ ap (λ (c : List ℕ). Some (Length c, drop n rest)) (sym front)
-    ∙ ap (λ (c : List ℕ). Some (Length content, c)) (sym back)
+offset_is wire n end bytes rest w v = by_wire (wire == 2) v
+  where
+    by_size : (b : Bool) → ltb (length bytes) n ≡ b → (cond b None (Some (take n bytes, drop n bytes)) >>= as_length) ≡
+        Some (w, rest) → end - length bytes ≡ content_offset w (end - length rest)
+    by_size true e g = absurd cc
+    by_size false e g =
+        let read : RecordValue × List ℕ = (Length (take n bytes), drop n bytes) in
+        let given : RecordValue × List ℕ = (w, rest) in
+        let same : read ≡ given = some_is read given g in
+        let long = ltb-false _ _ e in
+        let here : end - length bytes ≡ end - length (drop n bytes) - length (take n bytes) = omega
+        (arith, long, length-take n bytes, length-drop n bytes) in
+        here ∙ ap (λ (p : RecordValue × List ℕ). content_offset p.0 (end - length p.1)) same
+
+    by_wire : (b : Bool) → cond b (bytes_at n bytes >>= as_length) (Some (Varint n, bytes)) ≡ Some (w, rest) → cond b
+        (end - length bytes) 0 ≡ content_offset w (end - length rest)
+    by_wire true g = by_size (ltb (length bytes) n) refl g
+    by_wire false g =
+        let read : RecordValue × List ℕ = (Varint n, bytes) in
+        let given : RecordValue × List ℕ = (w, rest) in
+        let same : read ≡ given = some_is read given g in
+        ap (λ (p : RecordValue × List ℕ). content_offset p.0 (end - length p.1)) same
 
 -- ---- the record at the front
 
@@ -120,8 +213,11 @@ record_of n w = record { number = n; value = w }
 record Known (bytes : List ℕ) (r : FieldRecord) (rest : List ℕ) : Type 0 where
   body : List ℕ
   wire : ℕ
+  first : ℕ
+  after : List ℕ
   key : key_at bytes ≡ Some (r.number, wire, body)
-  value : known_value_at wire body ≡ Some (r.value, rest)
+  varint : varint_at body ≡ Some (first, after)
+  value : value_after wire (first, after) ≡ Some (r.value, rest)
 
 front_parts : (bytes key body rest : List ℕ) → bytes ≡ (key ++ body) ++ rest → bytes ≡ key ++ (body ++ rest)
 front_parts bytes key body rest e = e ∙ append_assoc key body rest
@@ -144,8 +240,11 @@ known_of f n (Varint m) bytes rest h b =
     record {
       body = b.is.body ++ rest;
       wire = 0;
+      first = m;
+      after = rest;
       key = ap key_at parts ∙ key_again b.is.key (b.is.body ++ rest) n 0 b.is.keyed;
-      value = rw (varint_again b.is.body rest m b.is.valued) refl;
+      varint = varint_again b.is.body rest m b.is.valued;
+      value = refl;
     }
 known_of f n (Length bs) bytes rest h b =
     let parts = front_parts bytes b.is.key b.is.body rest (b.parts ∙ ap (λ (t : List ℕ). t ++ rest) b.is.parts) in
@@ -155,9 +254,11 @@ known_of f n (Length bs) bytes rest h b =
     record {
       body = b.is.body ++ rest;
       wire = 2;
+      first = length bs;
+      after = bs ++ rest;
       key = ap key_at parts ∙ key_again b.is.key (b.is.body ++ rest) n 2 b.is.keyed;
-      value = ap (known_value_at 2) same
-          ∙ rw (varint_again len.0 (bs ++ rest) (length bs) len.1, bytes_again bs rest (length bs) refl) refl;
+      varint = ap varint_at same ∙ varint_again len.0 (bs ++ rest) (length bs) len.1;
+      value = ap (λ (o : Option (List ℕ × List ℕ)). o >>= as_length) (bytes_again bs rest (length bs) refl);
     }
 known_of (k, b) n (Fixed64 bs) bytes rest h t =
     absurd (let none = untyped (Fixed64 bs) (λ j. refl) refl k b in cc)
@@ -170,12 +271,13 @@ known_of (k, b) n (Fixed32 bs) bytes rest h t =
 pub record Front (rows : List Row) (end : ℕ) (bytes : List ℕ) : Type 0 where
   pub number : ℕ
   pub wire : ℕ
+  pub first : ℕ
   pub body : List ℕ
   pub value : RecordValue
   pub rest : List ℕ
   pub next : Next
-  pub key_is : key_at bytes ≡ Some (number, wire, body)
-  pub value_is : known_value_at wire body ≡ Some (value, rest)
+  pub front_is : front_at bytes ≡ Some (number, wire, first, body)
+  pub value_is : value_after wire (first, body) ≡ Some (value, rest)
   pub next_is : next_field rows number ≡ Some next
   pub short : is_short value ≡ true
   pub typed : is_typed next.field value ≡ true
@@ -203,11 +305,12 @@ front rows end bytes some h = by_record (record_at 0 bytes) refl
         record {
           number = x.0.number;
           wire = k.wire;
-          body = k.body;
+          first = k.first;
+          body = k.after;
           value = x.0.value;
           rest = x.1;
           next = next;
-          key_is = k.key;
+          front_is = front_from bytes k.body k.after x.0.number k.wire k.first k.key k.varint;
           value_is = k.value;
           next_is = is;
           short = u.0;
@@ -223,59 +326,70 @@ front rows end bytes some h = by_record (record_at 0 bytes) refl
         let s = step 0 end bytes x.0 x.1 e in
         by_next x e (next_field rows x.0.number) refl (sym (ap (are_coming rows) s.more) ∙ h)
 
--- The same by what the program has read.
-pub record Turn (rows : List Row) (end : ℕ) (bytes : List ℕ) (n : ℕ) (w : RecordValue) (rest : List ℕ) (next : Next) :
-    Type 0 where
-  pub short : is_short w ≡ true
-  pub typed : is_typed next.field w ≡ true
+-- The same by what the program has read: a value of a kind, its part and its bytes, and the bytes after it.
+pub record Turn (rows : List Row) (end : ℕ) (bytes : List ℕ) (n : ℕ) (next : Next) (k : Kind) (p : Part)
+    (bs rest : List ℕ) (wire first : ℕ) (body : List ℕ) : Type 0 where
+  pub value : RecordValue
+  pub value_is : value_after wire (first, body) ≡ Some (value, rest)
+  pub kind : next.field.0 ≡ k
+  pub part : record_part next.field value ≡ p
+  pub content_is : content value ≡ bs
   pub shorter : length rest < length bytes
   pub items : records_past (record_at 0) end 0 bytes
-      ≡ Ok (place end bytes (record_of n w) rest) ∷ records_past (record_at 0) end 0 rest
+      ≡ Ok (place end bytes (record_of n value) rest) ∷ records_past (record_at 0) end 0 rest
   pub coming : are_coming next.rows (records_past (record_at 0) end 0 rest) ≡ true
 
-module _ (rows : List Row) (end : ℕ) (bytes : List ℕ) (f : Front rows end bytes) (n wire : ℕ) (body : List ℕ)
-    (k : key_at bytes ≡ Some (n, wire, body)) where
-  abbrev front_key : ℕ × ℕ × List ℕ
-  front_key = (f.number, f.wire, f.body)
+module _ (rows : List Row) (end : ℕ) (bytes : List ℕ) (f : Front rows end bytes) (n wire first : ℕ) (body : List ℕ)
+    (k : front_at bytes ≡ Some (n, wire, first, body)) where
+  abbrev front_read : ℕ × ℕ × ℕ × List ℕ
+  front_read = (f.number, f.wire, f.first, f.body)
 
-  abbrev read_key : ℕ × ℕ × List ℕ
-  read_key = (n, wire, body)
+  abbrev program_read : ℕ × ℕ × ℕ × List ℕ
+  program_read = (n, wire, first, body)
 
-  same_key : front_key ≡ read_key
-  same_key = some_is front_key read_key (sym f.key_is ∙ k)
+  same_front : front_read ≡ program_read
+  same_front = some_is front_read program_read (sym f.front_is ∙ k)
 
   next_there : next_field rows n ≡ Some f.next
-  next_there = ap (λ (p : ℕ × ℕ × List ℕ). next_field rows p.0) (sym same_key) ∙ f.next_is
+  next_there = ap (λ (p : ℕ × ℕ × ℕ × List ℕ). next_field rows p.0) (sym same_front) ∙ f.next_is
 
-  value_there : known_value_at wire body ≡ Some (f.value, f.rest)
-  value_there = ap (λ (p : ℕ × ℕ × List ℕ). known_value_at p.1 p.2) (sym same_key) ∙ f.value_is
+  value_there : value_after wire (first, body) ≡ Some (f.value, f.rest)
+  value_there = ap (λ (p : ℕ × ℕ × ℕ × List ℕ). value_after p.1 (p.2, p.3)) (sym same_front) ∙ f.value_is
 
   pub front_next : is_some (next_field rows n) ≡ true
   front_next = ap is_some next_there
 
-  pub front_value : is_some (known_value_at wire body) ≡ true
-  front_value = ap is_some value_there
-
-  pub turn : (w : RecordValue) (rest : List ℕ) (next : Next) → Some next ≡ next_field rows n → known_value_at wire body
-      ≡ Some (w, rest) → Turn rows end bytes n w rest next
-  turn w rest next x v =
-      let number : f.number ≡ n = ap (λ (p : ℕ × ℕ × List ℕ). p.0) same_key in
-      let front_value_is : RecordValue × List ℕ = (f.value, f.rest) in
-      let read_value_is : RecordValue × List ℕ = (w, rest) in
-      let same : front_value_is ≡ read_value_is = some_is front_value_is read_value_is (sym value_there ∙ v) in
-      let value : f.value ≡ w = ap (λ (p : RecordValue × List ℕ). p.0) same in
-      let last : f.rest ≡ rest = ap (λ (p : RecordValue × List ℕ). p.1) same in
+  pub front_known : (next : Next) → Some next ≡ next_field rows n → is_known next.field (value_after wire (first, body))
+      ≡ true
+  front_known next x =
       let is : f.next ≡ next = some_is f.next next (sym next_there ∙ sym x) in
+      ap (is_known next.field) value_there
+      ∙ ap (λ (b : Bool). b && is_typed next.field f.value) f.short
+      ∙ ap (λ (m : Next). is_typed m.field f.value) (sym is) ∙ f.typed
+
+  pub turn : (next : Next) (kind : Kind) (p : Part) (bs rest : List ℕ) → Some next ≡ next_field rows n → option_map
+      (typed_parts next.field) (value_after wire (first, body)) ≡ Some (kind, p, bs, rest) → Turn rows end bytes n next
+      kind p bs rest wire first body
+  turn next kind p bs rest x v =
+      let number : f.number ≡ n = ap (λ (p : ℕ × ℕ × ℕ × List ℕ). p.0) same_front in
+      let is : f.next ≡ next = some_is f.next next (sym next_there ∙ sym x) in
+      let read : Kind × Part × List ℕ × List ℕ = (next.field.0, record_part next.field f.value, content f.value, f.rest)
+      in
+      let given : Kind × Part × List ℕ × List ℕ = (kind, p, bs, rest) in
+      let same : read ≡ given = some_is read given (sym (ap (option_map (typed_parts next.field)) value_there) ∙ v) in
+      let last : f.rest ≡ rest = ap (λ (q : Kind × Part × List ℕ × List ℕ). q.3) same in
       record {
-        short = ap is_short (sym value) ∙ f.short;
-        typed = ap (λ (m : Next). is_typed m.field w) (sym is) ∙ ap (is_typed f.next.field) (sym value) ∙ f.typed;
+        value = f.value;
+        value_is = value_there ∙ ap (λ (r : List ℕ). Some (f.value, r)) last;
+        kind = ap (λ (q : Kind × Part × List ℕ × List ℕ). q.0) same;
+        part = ap (λ (q : Kind × Part × List ℕ × List ℕ). q.1) same;
+        content_is = ap (λ (q : Kind × Part × List ℕ × List ℕ). q.2) same;
         shorter = subst (λ (r : List ℕ). length r < length bytes) last f.shorter;
         items = f.items
             ∙ ap (λ (m : ℕ). Ok (place end bytes (record_of m f.value) f.rest) ∷ records_past (record_at 0) end 0
             f.rest) number
-            ∙ ap (λ (z : RecordValue). Ok (place end bytes (record_of n z) f.rest) ∷ records_past (record_at 0) end 0
-            f.rest) value
-            ∙ ap (λ (r : List ℕ). Ok (place end bytes (record_of n w) r) ∷ records_past (record_at 0) end 0 r) last;
+            ∙ ap (λ (r : List ℕ). Ok (place end bytes (record_of n f.value) r) ∷ records_past (record_at 0) end 0 r)
+            last;
         coming = ap (λ (m : Next). are_coming m.rows (records_past (record_at 0) end 0 rest)) (sym is)
             ∙ ap (λ (r : List ℕ). are_coming f.next.rows (records_past (record_at 0) end 0 r)) (sym last) ∙ f.coming;
       }

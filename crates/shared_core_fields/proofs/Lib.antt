@@ -7,7 +7,8 @@ pub mod Appending
 pub mod Written
 pub mod FewRows
 pub mod Checked
-pub mod Ascii
 pub mod SingleBytes
 pub mod Fronts
+pub mod ValueParts
+pub mod Goes
 pub mod WrittenRecords

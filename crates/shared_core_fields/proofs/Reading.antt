@@ -7,7 +7,7 @@ use Rattle.shared_core_wire.specs.Grammar.{RecordValue, Varint, Fixed64, Length,
 use Rattle.shared_core_wire.specs.ReadRecords.{PlacedRecord, read_records, without_place}
 use Rattle.shared_core_wire.specs.Places.{LiesBefore, EachLies}
 use Rattle.shared_core_wire.specs.Encoding.{record_list_bytes}
-use Rattle.shared_core_wire.specs.Schema.{Kind, Row, U32, Text}
+use Rattle.shared_core_wire.specs.Schema.{Kind, Row, Text}
 use Rattle.shared_core_wire.specs.Canonical.{message_records, canonical_payload}
 use Rattle.shared_core_wire.specs.declared.error.WireError.{WireError}
 use Rattle.shared_core_wire.proofs.Readers.{bind_some, not_stopped, passed, some_is}
@@ -17,7 +17,7 @@ use Rattle.shared_core_wire.proofs.Runs.{and_split, and_join}
 use Rattle.shared_core_codec.specs.Table.{table}
 use Rattle.shared_core_codec.specs.Payloads.{payload_meaning}
 use Rattle.shared_core_codec.specs.ProgramRows.{field_numbered}
-use Rattle.shared_core_codec.specs.Canonicity.{IsCanonical, Next, Coming, is_written_run, is_written_field, next_field}
+use Rattle.shared_core_codec.specs.Canonicity.{IsCanonical, Next, Coming, is_written_field, next_field}
 use Rattle.shared_core_codec.specs.Canonicity.{rows_after_field, rows_after, written_size, coming_after, all_come}
 use Rattle.shared_core_codec.proofs.Canonicity.{total_size, rows_may_be_empty}
 use Rattle.shared_core_codec.proofs.CanonicityExact.{value_comes, records_encode, records_encoded, canonical_comes}
@@ -47,10 +47,6 @@ typed_as k j repeated w bytes e f h = ap (λ (v : RecordValue). is_typed (j, rep
 pub typed_text : (k : Kind) (repeated : Bool) (w : RecordValue) (bytes : List ℕ) → k ≡ Text → w ≡ Length bytes →
     is_typed (k, repeated) w ≡ true → is_utf8 bytes ≡ true
 typed_text k repeated w bytes e f h = text_typed repeated bytes (typed_as k Text repeated w bytes e f h)
-
-run_typed : (repeated : Bool) (run : List ℕ) → is_typed (U32, repeated) (Length run) ≡ true → is_written_run run ≡ true
-run_typed true run e = e
-run_typed false run e = absurd cc
 
 -- ---- one record
 

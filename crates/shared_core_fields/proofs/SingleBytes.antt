@@ -1,7 +1,7 @@
 -- Records whose key and length are one byte each, and messages that are one such record.
 use Rattle.std.proofs.Common.{◌≡◌, ℕ, ◌+◌, ◌-◌, ◌*◌, ◌/◌, ◌%◌, ◌<◌, ◌≤◌, Bool, true, false, cond, List, [], ◌∷◌}
 use Rattle.std.proofs.Common.{◌++◌, map, take, drop, set, length, Option, Some, None, Result}
-use Rattle.std.proofs.Common.{refl, sym, ap, ◌∙◌, subst, arith, append-nil, eqb, eq-eqb, ne_eqb, not}
+use Rattle.std.proofs.Common.{refl, sym, ap, ◌∙◌, subst, arith, append-nil, eqb, eq-eqb, ne_eqb, not, get_or}
 use Rattle.std.proofs.lemmas.List.{length-append, take_all}
 use Rattle.shared_core_wire.specs.Grammar.{RecordValue, Length, FieldRecord, IsVarint, IsKey}
 use Rattle.shared_core_wire.specs.Reader.{record_at}
@@ -103,6 +103,16 @@ is_single s b m n bytes tail content rows first second low high key h size some 
       long = omega (arith, many);
       some = some;
     }
+
+pub single_at : (s b m n : ℕ) (bytes : List ℕ) → table s ≡ Plain n ByteString ∷ [] → 3 ≤ length bytes → length bytes <
+    130 → b ≡ get_or bytes 0 0 → m ≡ get_or bytes 1 0 → m ≡ length bytes - 2 → 8 ≤ b → b < 128 → b ≡ 8 * n + 2 →
+    IsSingle n s bytes
+single_at s b m n [] rows long short first second size low high key = absurd (omega (arith, long))
+single_at s b m n (x ∷ []) rows long short first second size low high key = absurd (omega (arith, long))
+single_at s b m n (x ∷ y ∷ content) rows long short first second size low high key =
+    is_single s x y n (x ∷ y ∷ content) (y ∷ content) content rows refl refl (omega (arith, first, low))
+    (omega (arith, first, high)) (omega (arith, first, key)) (omega (arith, second, size, short))
+    (omega (arith, second, size)) (omega (arith, long))
 
 -- ---- the message
 

@@ -1,11 +1,16 @@
 -- Which records an iterator over fields may have left: those that may come next in a canonical payload.
-use Rattle.std.specs.Prelude.{ℕ, Bool, true, false, ◌&&◌, List, [], ◌∷◌, length, nat_lt, Some, None, Result, Ok, Err}
+use Rattle.std.specs.Prelude.{◌≡◌, ℕ, Bool, true, false, ◌&&◌, List, [], ◌∷◌, length, nat_lt, Option, Some, None}
+use Rattle.std.specs.Prelude.{Result, Ok, Err}
 use Rattle.shared_core_wire.specs.Grammar.{RecordValue, content}
 use Rattle.shared_core_wire.specs.ReadRecords.{PlacedRecord}
-use Rattle.shared_core_wire.specs.Schema.{Kind, Row, Plain, Optional}
+use Rattle.shared_core_wire.specs.Schema.{Kind, Row, Plain, Optional, Repeated, OneOf}
 use Rattle.shared_core_wire.specs.Acceptance.{NestedAcceptance}
 use Rattle.shared_core_wire.specs.declared.error.WireError.{WireError}
 use Rattle.shared_core_codec.specs.Canonicity.{is_canonical_payload, is_written_value, is_written_element, next_field}
+use Rattle.shared_core_codec.specs.Canonicity.{Next, is_plain}
+use Rattle.shared_core_codec.specs.ProgramRows.{kind_view, row_view, rows_view}
+use Rattle.shared_core_codec.specs.declared.rows.Field.{Field}
+use Rattle.shared_core_fields.specs.declared.next.FoundField.{FoundField}
 
 -- Whether bytes are a canonical payload of the schema s, if they are short.
 abbrev pub is_nested : NestedAcceptance
@@ -34,3 +39,27 @@ are_coming rows (Err e ∷ items) = false
 abbrev pub single_row : Bool → ℕ × Kind → Row
 single_row true f = Plain f.0 f.1
 single_row false f = Optional f.0 f.1
+
+-- Whether a row is a repeated field.
+abbrev pub is_repeated : Row → Bool
+is_repeated (Repeated n k) = true
+is_repeated row = false
+
+-- The kind of a field of the program and whether it is repeated, by its row.
+abbrev pub of_row : Row → Field → Kind × Bool
+of_row row f = (kind_view f.1, is_repeated row)
+
+-- This is the field of the row, if the row is one field.
+abbrev pub IsRowField : Row → Option (ℕ × Kind) → Type 0
+IsRowField (Plain n k) o = o ≡ Some (n, k)
+IsRowField (Optional n k) o = o ≡ Some (n, k)
+IsRowField (Repeated n k) o = o ≡ Some (n, k)
+IsRowField (OneOf members) o = o ≡ None
+
+-- The field of which a record may come next that a field of the program is.
+abbrev pub found_next : FoundField → Next
+found_next f = record {
+  field = of_row (row_view f.row.now) f.field.now;
+  is_plain = is_plain (row_view f.row.now);
+  rows = rows_view f.rows;
+}

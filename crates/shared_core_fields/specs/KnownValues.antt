@@ -1,9 +1,28 @@
 -- Reading the records of a payload that is known to be canonical.
-use Rattle.std.specs.Prelude.{ℕ, List, Option, Some, if◌then◌else◌, ◌==◌}
-use Rattle.shared_core_wire.specs.Grammar.{RecordValue, Varint, Length}
-use Rattle.shared_core_wire.specs.Reader.{◌>>=◌, varint_at, bytes_at}
+use Rattle.std.specs.Prelude.{ℕ, Bool, false, ◌&&◌, List, Option, Some, None, if◌then◌else◌, ◌==◌}
+use Rattle.shared_core_wire.specs.Grammar.{RecordValue, Varint, Length, content}
+use Rattle.shared_core_wire.specs.Reader.{◌>>=◌, varint_at, key_at, bytes_at}
+use Rattle.shared_core_wire.specs.Schema.{Kind}
+use Rattle.shared_core_wire.specs.Value.{Part}
+use Rattle.shared_core_fields.specs.Coming.{is_short, is_typed}
+use Rattle.shared_core_fields.specs.Fields.{record_part}
 
--- The value after a key of a wire type: bytes after their length, or a varint.
-abbrev pub known_value_at : ℕ → List ℕ → Option (RecordValue × List ℕ)
-known_value_at wire bytes = varint_at bytes >>= λ n.
-    if wire == 2 then (bytes_at n.0 n.1 >>= λ x. Some (Length x.0, x.1)) else Some (Varint n.0, n.1)
+-- The field number and the wire type of the record that the bytes begin with, the varint after its key, which is its
+-- number or how long its content is, and the bytes after that.
+abbrev pub front_at : List ℕ → Option (ℕ × ℕ × ℕ × List ℕ)
+front_at bytes = key_at bytes >>= λ k. varint_at k.2 >>= λ n. Some (k.0, k.1, n.0, n.1)
+
+-- The value of a wire type whose varint is this, before these bytes, and the bytes after it: bytes of that length, or
+-- the varint.
+abbrev pub value_after : ℕ → ℕ × List ℕ → Option (RecordValue × List ℕ)
+value_after wire n = if wire == 2 then (bytes_at n.0 n.1 >>= λ x. Some (Length x.0, x.1)) else Some (Varint n.0, n.1)
+
+-- Whether there is a value, which a field of a kind, repeated or not, may have.
+abbrev pub is_known : Kind × Bool → Option (RecordValue × List ℕ) → Bool
+is_known f None = false
+is_known f (Some x) = is_short x.0 && is_typed f x.0
+
+-- What a value gives to a field of a kind, repeated or not: the kind, the part, the bytes that it holds; and the bytes
+-- after it.
+abbrev pub typed_parts : Kind × Bool → RecordValue × List ℕ → Kind × Part × List ℕ × List ℕ
+typed_parts f x = (f.0, record_part f x.0, content x.0, x.1)

@@ -1,8 +1,8 @@
 pub mod Runs
 pub mod Fields
-pub mod KnownValues
 pub mod WrittenRecords
 pub mod Coming
+pub mod KnownValues
 pub mod Views
 pub mod Entries
 pub mod Rows

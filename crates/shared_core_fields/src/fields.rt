@@ -7,11 +7,11 @@ ghost use Rattle.shared_core_wire.specs.Reader.{record_at};
 ghost use Rattle.shared_core_wire.specs.ReadRecords.{records_past};
 ghost use Rattle.shared_core_fields.specs.Coming.{are_coming};
 
-use crate::known::{known_key, known_value};
+use crate::check::is_canonical;
+use crate::known::known_front;
 use crate::next::known_next;
 use crate::runs::Run;
-use crate::table::check::check_payload;
-use crate::typed::{content_offset, typed_value};
+use crate::typed::{content_offset, known_value};
 use shared_core_codec::rows::{Row, rows_of};
 
 /// A payload that is canonical for a schema: `check` makes one, and so does reading a message field, without a second
@@ -80,12 +80,14 @@ impl<'a> CanonicalPayload<'a> {
         ensures canonical { (is_some result ≡ true) ↔ IsCanonical schema payload.now }
         ensures same { IfSome result (λ c. (c.schema ≡ schema) × (c.bytes.now ≡ payload.now)) }
     {
-        // no entry is written
-        let _count = check_payload(&mut [], schema, payload)?;
-        Some(CanonicalPayload {
-            schema,
-            bytes: payload,
-        })
+        if is_canonical(schema, payload) {
+            Some(CanonicalPayload {
+                schema,
+                bytes: payload,
+            })
+        } else {
+            None
+        }
     }
 
     /// Returns an iterator over its fields: those of what it means, row by row in the order of the schema, without the
@@ -137,17 +139,17 @@ impl<'a> Iterator for Fields<'a> {
         if self.rest.is_empty() {
             return None;
         }
-        let (number, wire, bytes) = known_key(self.rest);
+        let (number, wire, first, bytes) = known_front(self.rest);
         let next = known_next(self.rows, number);
-        let (value, rest) = known_value(wire, bytes);
-        let to = self.end - rest.len();
+        let (value, rest) = known_value(next.field, wire, first, bytes);
+        let offset = content_offset(wire, bytes, self.end);
         self.rest = rest;
         self.rows = next.rows;
         Some(Field {
             number,
             is_repeated: next.field.is_repeated,
-            value: typed_value(next.field, value),
-            offset: content_offset(value, to),
+            value,
+            offset,
         })
     }
 }

@@ -2,6 +2,7 @@
 //! it has no error. Those of all levels can be appended to a table.
 #![tactic(auto)]
 
+mod check;
 pub mod fields;
 mod known;
 pub mod laws;
@@ -9,5 +10,4 @@ mod next;
 pub mod runs;
 mod shortest;
 pub mod table;
-pub mod text;
 mod typed;

@@ -1,12 +1,157 @@
 //! The field of which a record may come next.
 
-ghost use Rattle.std.specs.Prelude.{◌≡◌, map, option_map, is_some, true, IfSome};
-ghost use Rattle.shared_core_codec.specs.Canonicity.{next_field, next_view};
-ghost use Rattle.shared_core_codec.specs.ProgramRows.{field_view, row_view};
-ghost use Rattle.shared_core_fields.specs.Coming.{single_row};
+ghost use Rattle.std.specs.Prelude.{◌≡◌, map, option_map, is_some, true, false, not, IfSome};
+ghost use Rattle.std.specs.Borrow.{Bor};
+ghost use Rattle.shared_core_codec.specs.Canonicity.{is_plain, next_field, next_view, may_recur};
+ghost use Rattle.shared_core_codec.specs.ProgramRows.{field_in_row, field_view, kind_view, member_numbered, row_view};
+ghost use Rattle.shared_core_codec.specs.RowEncoding.{unpacked};
+ghost use Rattle.shared_core_codec.specs.declared.rows.Field.{Field};
+ghost use Rattle.shared_core_fields.specs.Coming.{IsRowField, found_next, is_repeated, of_row, single_row};
 
 use shared_core_codec::canonical::{NextField, next_field};
-use shared_core_codec::rows::{Field, Found, Row};
+use shared_core_codec::rows::{Field, Found, Kind, Row};
+
+/// A field of which a record may come next: the row that it is of, the field, and the rows of which records may come
+/// after that record.
+#[derive(Clone, Copy)]
+pub(crate) struct FoundField<'a> {
+    pub row: &'a Row,
+    pub field: &'a Field,
+    pub rows: &'a [Row],
+}
+
+impl<'a> FoundField<'a> {
+    /// Whether it is a plain field, of which a default is not written.
+    #[inline(always)]
+    pub(crate) fn is_plain(self) -> bool
+        ensures { result ≡ is_plain (row_view self.entry.row.now) }
+    {
+        match self.row {
+            Row::Plain(_) => true,
+            _ => false,
+        }
+    }
+
+    /// Whether it is repeated.
+    #[inline(always)]
+    pub(crate) fn is_repeated(self) -> bool
+        ensures { result ≡ is_repeated (row_view self.entry.row.now) }
+    {
+        match self.row {
+            Row::Repeated(_) => true,
+            _ => false,
+        }
+    }
+}
+
+/// The field of the first row, if that is one field which is not repeated and has the number, as most often. `None`
+/// says nothing.
+#[inline(always)]
+pub(crate) fn first_field<'a>(rows: &'a [Row], number: u32) -> Option<FoundField<'a>>
+    ensures { IfSome result (λ f. Some (found_next f) ≡ next_field (map row_view rows.now) number) }
+{
+    let (row, rows) = rows.split_first()?;
+    let (field, _is_plain) = single_field(row)?;
+    if field.0 == number {
+        Some(FoundField { row, field, rows })
+    } else {
+        None
+    }
+}
+
+/// The field of the first row that has the number, as `next_field` has it. Of a row that is passed over, if it is no
+/// oneof, the number alone is looked at.
+#[inline(always)]
+pub(crate) fn find_field<'a>(rows: &'a [Row], number: u32) -> Option<FoundField<'a>>
+    ensures { option_map found_next result ≡ next_field (map row_view rows.now) number }
+{
+    let mut rest = rows;
+    while let Some((row, after)) = rest.split_first() {
+        if let Some(field) = field_of(row, number) {
+            return Some(FoundField {
+                row,
+                field,
+                rows: if recurs(row, field) { rest } else { after },
+            });
+        }
+        rest = after;
+    }
+    None
+}
+
+/// The field of a row that is one field which is not repeated, and whether it is plain.
+#[inline(always)]
+fn single_field(row: &Row) -> Option<(&Field, bool)>
+    ensures { IfSome result (λ x. row_view row.now ≡ single_row x.1 (field_view x.0.now)) }
+{
+    match row {
+        Row::Plain(field) => Some((field, true)),
+        Row::Optional(field) => Some((field, false)),
+        _ => None,
+    }
+}
+
+/// The field of a row that has the number.
+#[inline(always)]
+fn field_of(row: &Row, number: u32) -> Option<&Field>
+    ensures { option_map (λ (f : Bor Field). of_row (row_view row.now) f.now) result
+        ≡ field_in_row (row_view row.now) number }
+{
+    if let Row::OneOf(members) = row {
+        return find_member(members, number);
+    }
+    let field = row_field(row)?;
+    if field.0 == number { Some(field) } else { None }
+}
+
+/// The field of a row that is one field.
+#[inline(always)]
+fn row_field(row: &Row) -> Option<&Field>
+    ensures { IsRowField (row_view row.now) (option_map (λ (f : Bor Field). field_view f.now) result) }
+{
+    match row {
+        Row::Plain(field) => Some(field),
+        Row::Optional(field) => Some(field),
+        Row::Repeated(field) => Some(field),
+        Row::OneOf(_) => None,
+    }
+}
+
+/// The member of a oneof that has the number.
+#[inline(always)]
+fn find_member(members: &[Field], number: u32) -> Option<&Field>
+    ensures { option_map (λ (f : Bor Field). (kind_view f.now.1, false)) result
+        ≡ member_numbered (map field_view members.now) number }
+{
+    for member in members {
+        if member.0 == number {
+            return Some(member);
+        }
+    }
+    None
+}
+
+/// Whether more than one record may come of a field of a row.
+#[inline(always)]
+fn recurs(row: &Row, field: &Field) -> bool
+    ensures { result ≡ may_recur (of_row (row_view row.now) field.now) }
+{
+    match row {
+        Row::Repeated(_) => !is_u32(field.1),
+        _ => false,
+    }
+}
+
+/// Whether a kind is a uint32.
+#[inline(always)]
+fn is_u32(kind: Kind) -> bool
+    ensures { result ≡ not (unpacked (kind_view kind)) }
+{
+    match kind {
+        Kind::U32 => true,
+        _ => false,
+    }
+}
 
 /// The field of which a record may come next, as `next_field` has it: most often that of the first row.
 #[inline(always)]
@@ -52,16 +197,4 @@ pub(crate) fn known_next<'a>(rows: &'a [Row], number: u32) -> NextField<'a>
         unreachable!();
     };
     next
-}
-
-/// The field of a row that is one field which is not repeated, and whether it is plain.
-#[inline(always)]
-fn single_field(row: &Row) -> Option<(&Field, bool)>
-    ensures { IfSome result (λ x. row_view row.now ≡ single_row x.1 (field_view x.0.now)) }
-{
-    match row {
-        Row::Plain(field) => Some((field, true)),
-        Row::Optional(field) => Some((field, false)),
-        _ => None,
-    }
 }

@@ -35,7 +35,7 @@ fn read_other(bytes: &[u8]) -> Option<(u32, WireValue<'_>, &[u8])>
 /// The same of a record whose key, and whose length or number, is one byte each, as those of most are. `None` says
 /// nothing.
 #[inline(always)]
-fn read_short(bytes: &[u8]) -> Option<(u32, WireValue<'_>, &[u8])>
+pub(crate) fn read_short(bytes: &[u8]) -> Option<(u32, WireValue<'_>, &[u8])>
     ensures { IfSome result (λ x. written_record_at bytes.now
         ≡ Some (record { number = x.0; value = value_of x.1 }, x.2.now)) }
 {
@@ -62,7 +62,7 @@ fn read_short(bytes: &[u8]) -> Option<(u32, WireValue<'_>, &[u8])>
 /// The same of any record.
 #[inline(never)]
 #[tactic(auto, unfolding(crate::specs::WrittenRecords::written_record_at))]
-fn read_long(bytes: &[u8]) -> Option<(u32, WireValue<'_>, &[u8])>
+pub(crate) fn read_long(bytes: &[u8]) -> Option<(u32, WireValue<'_>, &[u8])>
     ensures { Gives (λ x. (record { number = x.0; value = value_of x.1 }, x.2.now)) result
         (written_record_at bytes.now) }
 {

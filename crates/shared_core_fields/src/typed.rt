@@ -1,55 +1,70 @@
 //! The value of a record, typed.
 
-ghost use Rattle.std.specs.Prelude.{◌≡◌, true};
-ghost use Rattle.shared_core_wire.specs.Grammar.{content};
-ghost use Rattle.shared_core_wire.specs.View.{value_of};
-ghost use Rattle.shared_core_codec.specs.ProgramRows.{kind_view, found_view};
-ghost use Rattle.shared_core_fields.specs.Coming.{is_short, is_typed};
-ghost use Rattle.shared_core_fields.specs.Fields.{record_part};
-ghost use Rattle.shared_core_fields.specs.Views.{value_kind, value_part, value_bytes, content_offset};
+ghost use Rattle.std.specs.Prelude.{◌≡◌, ◌-◌, ◌==◌, if◌then◌else◌, true, length, option_map, Some};
+ghost use Rattle.shared_core_codec.specs.ProgramRows.{found_view};
+ghost use Rattle.shared_core_fields.specs.KnownValues.{is_known, typed_parts, value_after};
+ghost use Rattle.shared_core_fields.specs.Views.{value_kind, value_part, value_bytes};
 
 use crate::fields::{CanonicalPayload, FieldValue};
 use crate::runs::Run;
 use shared_core_codec::rows::{Found, Kind};
-use shared_core_wire::record::WireValue;
 use shared_core_wire::varint::low_32;
 
-/// The value of a record of a canonical payload, for the field that it is of.
+/// The value of a record of a canonical payload, for the field that it is of, by its wire type, the varint after its
+/// key and the bytes after that. Returns it and the bytes after it.
 #[inline(always)]
-pub(crate) fn typed_value<'a>(found: Found, value: WireValue<'a>) -> FieldValue<'a>
-    requires short { is_short (value_of value) ≡ true }
-    requires typed { is_typed (found_view found) (value_of value) ≡ true }
-    ensures kind { value_kind result ≡ kind_view found.kind }
-    ensures part { value_part result ≡ record_part (found_view found) (value_of value.entry) }
-    ensures bytes { value_bytes result ≡ content (value_of value.entry) }
+pub(crate) fn known_value<'a>(
+    found: Found,
+    wire: u8,
+    number: u64,
+    bytes: &'a [u8],
+) -> (FieldValue<'a>, &'a [u8])
+    requires { is_known (found_view found) (value_after wire (number, bytes.now)) ≡ true }
+    ensures { option_map (typed_parts (found_view found)) (value_after wire (number, bytes.now))
+        ≡ Some (value_kind result.0, value_part result.0, value_bytes result.0, result.1.now) }
 {
-    match value {
-        WireValue::Varint(number) => match found.kind {
-            Kind::U32 => FieldValue::U32(low_32(number)),
-            Kind::U64 => FieldValue::U64(number),
-            Kind::Boolean => FieldValue::Boolean(number != 0),
-            Kind::Enumeration => FieldValue::Enumeration(low_32(number).cast_signed()),
-            _ => unreachable!(),
-        },
-        WireValue::Length(bytes) => match found.kind {
-            Kind::U32 => FieldValue::Numbers(Run { bytes }),
+    // a kind has one wire type, but for a uint32
+    match found.kind {
+        Kind::U32 => {
+            if wire == 2 {
+                let (bytes, rest) = bytes.split_at(number as usize);
+                (FieldValue::Numbers(Run { bytes }), rest)
+            } else {
+                (FieldValue::U32(low_32(number)), bytes)
+            }
+        }
+        Kind::U64 => (FieldValue::U64(number), bytes),
+        Kind::Boolean => (FieldValue::Boolean(number != 0), bytes),
+        Kind::Enumeration => (FieldValue::Enumeration(low_32(number).cast_signed()), bytes),
+        Kind::Text => {
+            let (content, rest) = bytes.split_at(number as usize);
             // the check has seen that it is UTF-8
-            Kind::Text => FieldValue::Text(unsafe { std::str::from_utf8_unchecked(bytes) }),
-            Kind::ByteString => FieldValue::ByteString(bytes),
-            Kind::Message(schema) => FieldValue::Message(CanonicalPayload { schema, bytes }),
-            _ => unreachable!(),
-        },
-        _ => unreachable!(),
+            let text = unsafe { std::str::from_utf8_unchecked(content) };
+            (FieldValue::Text(text), rest)
+        }
+        Kind::ByteString => {
+            let (content, rest) = bytes.split_at(number as usize);
+            (FieldValue::ByteString(content), rest)
+        }
+        Kind::Message(schema) => {
+            let (bytes, rest) = bytes.split_at(number as usize);
+            (
+                FieldValue::Message(CanonicalPayload { schema, bytes }),
+                rest,
+            )
+        }
     }
 }
 
-/// Where the content of a record begins that ends at an offset; 0 of a record that is not length-delimited.
+/// Where the content of a record begins in a payload of a length, whose bytes from there on these are; 0 of a record
+/// that is not length-delimited.
 #[inline(always)]
-pub(crate) fn content_offset(value: WireValue<'_>, end: usize) -> usize
-    ensures { result ≡ content_offset (value_of value.entry) end }
+pub(crate) fn content_offset(wire: u8, bytes: &[u8], end: usize) -> usize
+    ensures { result ≡ if wire == 2 then end - length bytes.now else 0 }
 {
-    match value {
-        WireValue::Length(bytes) => end.saturating_sub(bytes.len()),
-        _ => 0,
+    if wire == 2 {
+        end.saturating_sub(bytes.len())
+    } else {
+        0
     }
 }

@@ -8,7 +8,7 @@ ghost use Rattle.shared_core_codec.specs.Canonicity.{IsCanonical, is_canonical_p
 ghost use Rattle.shared_core_codec.specs.Canonicity.{rows_after, is_written_field};
 ghost use Rattle.shared_core_codec.specs.Checking.{field_record_of};
 ghost use Rattle.shared_core_codec.specs.Payloads.{payload_meaning};
-ghost use Rattle.shared_core_codec.specs.ProgramRows.{found_view, kind_view, row_view, rows_view};
+ghost use Rattle.shared_core_codec.specs.ProgramRows.{found_view, row_view, rows_view};
 ghost use Rattle.shared_core_codec.specs.Table.{table};
 ghost use Rattle.shared_core_fields.specs.Checked.{IsSingle, WritesNext, WritesTo, record_rows};
 ghost use Rattle.shared_core_fields.specs.Fields.{message_fields};
@@ -20,10 +20,10 @@ use super::{FieldEntry, kind_number};
 use crate::next::find_next;
 use crate::runs::Run;
 use crate::shortest::read_written;
-use crate::text::is_text;
 use shared_core_codec::canonical::{NextField, is_written_number, is_written_run};
 use shared_core_codec::rows::{Kind, Row, rows_of};
 use shared_core_codec::size::Size;
+use shared_core_codec::utf8::is_text;
 use shared_core_wire::record::WireValue;
 use shared_core_wire::records::{LEVELS, Record};
 
@@ -90,7 +90,7 @@ fn write_kept(
 }
 
 /// Checks a payload and writes its entries as it goes: where it is not canonical, some of them may have been written.
-pub(crate) fn check_payload(out: &mut [FieldEntry], schema: u32, payload: &[u8]) -> Option<usize>
+fn check_payload(out: &mut [FieldEntry], schema: u32, payload: &[u8]) -> Option<usize>
     ensures canonical { (is_some result ≡ true) ↔ IsCanonical schema payload.now }
     ensures rows { IfSome result (λ n. WritesTo payload.now (table_rows schema (payload_meaning schema payload.now)) 0
         out.old out.new n) }
@@ -338,9 +338,17 @@ fn check_content<'a>(
 /// The number of the only field of a schema, if that is a plain field of bytes, and these are one record of it whose
 /// key and length are one byte each: most messages within others are such.
 #[inline(always)]
-fn single_bytes(schema: u32, bytes: &[u8]) -> Option<u32>
+pub(crate) fn single_bytes(schema: u32, bytes: &[u8]) -> Option<u32>
     ensures { IfSome result (λ n. IsSingle n schema bytes.now) }
 {
+    // the bytes first, so that each test is compiled on its own
+    if bytes.len() < 3 || bytes.len() >= 130 || usize::from(bytes[1]) != bytes.len() - 2 {
+        return None;
+    }
+    let key = bytes[0];
+    if key < 8 || key >= 128 {
+        return None;
+    }
     let (row, others) = rows_of(schema).split_first()?;
     if !others.is_empty() {
         return None;
@@ -351,13 +359,9 @@ fn single_bytes(schema: u32, bytes: &[u8]) -> Option<u32>
     let Kind::ByteString = field.1 else {
         return None;
     };
-    let (key, rest) = bytes.split_first()?;
-    let (size, content) = rest.split_first()?;
-    if *key < 8 || *key >= 128 || u64::from(*key) != 8 * u64::from(field.0) + 2 {
-        return None;
+    if u64::from(key) == 8 * u64::from(field.0) + 2 {
+        Some(field.0)
+    } else {
+        None
     }
-    if *size >= 128 || content.is_empty() || usize::from(*size) != content.len() {
-        return None;
-    }
-    Some(field.0)
 }

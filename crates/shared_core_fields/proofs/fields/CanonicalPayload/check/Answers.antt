@@ -1,8 +1,7 @@
-use Rattle.std.proofs.Common.{refl}
 use Rattle.shared_core_codec.proofs.CanonicityExact.{complete}
 use Rattle.shared_core_fields.proofs.fields.CanonicalPayload.check.Goals as goal
 
 pub invariant_of-result : goal.invariant_of-result
 invariant_of-result c =
-    let h = c.in_ok-_count.ensures.canonical.0 refl in
+    let h = c.is_canonical.ensures.0 c.if-is_canonical.true in
     record { short = h.short; canonical = complete c.args.schema c.args.payload.now h }
