@@ -1,6 +1,5 @@
 mod ShortRecords
 mod Rooms
-mod Ends
 mod Walking
 mod Stepping
 mod Whole

@@ -66,11 +66,6 @@ nests_over (Ok y) w a b c i k left s t n = (
 )
 nests_over (Err y) w a b c i k left s t n = n
 
-pub writes_over : {T : Type 0} (r : Result T Reason) (w : Walked) (a b c : List ℕ) (i k : ℕ) (left : List FieldEntry) →
-    length b ≡ length a → take i b ≡ take i a → Writes r w b i c k left → Writes r w a i c k left
-writes_over (Ok y) w a b c i k left s t n = (n.0, n.1, wrote_over a b c i k n.0 s t n.2)
-writes_over (Err y) w a b c i k left s t n = n
-
 -- the room is that of a short length, or was compared with the length
 pub few_bytes : (place start end likely : ℕ) → place ≤ start → start ≡ at_most_64_bits (place + length (shortest_varint
     likely)) → (likely < 128) ⊎ ((start - place ≤ length (shortest_varint (end - start))) × (end <

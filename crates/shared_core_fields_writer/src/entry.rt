@@ -12,8 +12,8 @@ ghost use Rattle.shared_core_fields_writer.specs.Given.{share_oneof, has_both, f
 use crate::error::Reason;
 use shared_core_codec::canonical::{NextField, is_written_number, next_field};
 use shared_core_codec::rows::{Found, Kind, Row, find_field, find_in_row, rows_of};
+use shared_core_codec::utf8::is_text;
 use shared_core_fields::table::{FieldEntry, kind_number};
-use shared_core_fields::text::is_text;
 
 /// What an entry gives to a field of its kind.
 #[derive(Clone, Copy)]

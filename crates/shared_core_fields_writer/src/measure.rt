@@ -3,7 +3,7 @@
 //! The lengths only say how much room to leave, so nothing is proved of them: the writer puts the length of what it has
 //! written, and moves it where the room was another one. Entries that may not come are measured as if they might.
 
-ghost use Rattle.std.specs.Prelude.{◌≡◌, ◌+◌, ◌<◌, ◌≤◌, length};
+ghost use Rattle.std.specs.Prelude.{◌<◌, ◌≤◌, length};
 
 use crate::walk::{Source, is_number_of, is_packed};
 use shared_core_codec::canonical::{NextField, next_field};

@@ -3,7 +3,7 @@
 //! Each function goes on from a place, which it leaves at the first entry that is not its own and after its bytes, or
 //! at the entry that may not come. After an error part of the records may be there.
 
-ghost use Rattle.std.specs.Prelude.{◌≡◌, ◌+◌, ◌-◌, ◌<◌, ◌≤◌, ◌⊎◌, ◌∷◌, ℕ, List, Option, Some, None, IsTrue, OnOk};
+ghost use Rattle.std.specs.Prelude.{◌≡◌, ◌+◌, ◌-◌, ◌<◌, ◌≤◌, ◌⊎◌, ◌∷◌, ℕ, List, Some, None, IsTrue, OnOk};
 ghost use Rattle.std.specs.Prelude.{◌&&◌, length, nat_eq};
 ghost use Rattle.shared_core_wire.specs.Encoding.{shortest_varint};
 ghost use Rattle.shared_core_wire.specs.Schema as schema;

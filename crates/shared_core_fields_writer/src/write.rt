@@ -10,9 +10,9 @@ ghost use Rattle.shared_core_fields_writer.specs.Written.{WritesPayload};
 ghost use Rattle.shared_core_fields_writer.specs.declared.error.Reason.TheVariants.{OutOfMemory};
 
 use crate::error::{FieldsError, Reason};
-use crate::few::overwrite;
 use crate::measure::lengths_of;
 use crate::walk::{Place, Source, write_message};
+use shared_core_codec::copy::copy;
 use shared_core_codec::size::Size;
 use shared_core_fields::table::FieldEntry;
 use std::alloc::{AllocError, Global};
@@ -156,7 +156,7 @@ fn put(
 {
     let length = out.len();
     if length <= kept.len() {
-        overwrite(out, &kept[..length]);
+        copy(out, &kept[..length]);
         return Ok(());
     }
     put_long(alloc, out, schema, entries, bytes)
