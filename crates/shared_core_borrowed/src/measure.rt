@@ -30,6 +30,7 @@ impl Measure {
         ensures size { self.new.size ≡ self.old.size }
         ensures fits { self.new.fits ≡ (self.old.fits && fits) }
     {
-        self.fits = self.fits && fits;
+        // without a branch
+        self.fits = self.fits & fits;
     }
 }

@@ -53,6 +53,7 @@ impl<R: Record> FieldValue for R {
         measure.check(nested.fits);
     }
 
+    #[inline(always)]
     #[tactic(auto, using(shared_core_codec::proofs::Backwards::message_before, shared_core_codec::proofs::Backwards::message_size))]
     fn write_value(&self, out: &mut [u8], end: usize, number: u32) -> usize {
         let start = self.encode_back(out, end);

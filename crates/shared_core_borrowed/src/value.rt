@@ -11,8 +11,8 @@ ghost use Rattle.shared_core_borrowed.specs.Fit.{value_fits};
 
 use crate::measure::Measure;
 use shared_core_codec::kind::{FieldKind, Scalar};
+use shared_core_codec::utf8::is_text;
 use shared_core_codec::write::write_length_record;
-use shared_core_fields::text::is_text;
 
 /// Bytes of a caller.
 #[repr(C)]
