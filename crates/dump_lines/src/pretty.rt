@@ -1,6 +1,6 @@
 //! Objects on several lines.
 
-ghost use Rattle.std.specs.Prelude.{◌≡◌, ◌++◌, codes, if◌then◌else◌, IfOk};
+ghost use Rattle.std.specs.Prelude.{◌≡◌, IfOk};
 ghost use Rattle.std.specs.Str.{IsUtf8};
 ghost use Rattle.json.specs.Layout.{pretty};
 ghost use Rattle.json.specs.Lex.{tokens};

@@ -1,5 +1,6 @@
 pub mod Names
 mod Placing
+mod Heads
 pub mod Taking
 pub mod Steps
 pub mod Progress

@@ -1,32 +1,33 @@
 -- The places of a line's names, as its members are gone over.
 use Rattle.std.proofs.Common.{◌≡◌, ◌≢◌, ℕ, zero, suc, ◌+◌, ◌-◌, ◌<◌, ◌≤◌, ◌⊎◌, List, [], ◌∷◌, length, get_or, map}
-use Rattle.std.proofs.Common.{drop, slice_set}
+use Rattle.std.proofs.Common.{drop, replicate, slice_set}
 use Rattle.std.proofs.Common.{Bool, true, false, cond, Option, Some, None}
 use Rattle.std.proofs.Common.{refl, sym, ap, ◌∙◌, inl, inr, arith, ltb, ◌||◌}
-use Rattle.std.proofs.lemmas.Bool.{cases_eq, ltb-true}
+use Rattle.std.proofs.lemmas.Bool.{cases_eq, ltb-true, ne_eqb}
 use Rattle.std.proofs.lemmas.List.{length-set, length-drop, length-map, get_or-set_same, get_or-set_other, get_or-drop}
-use Rattle.std.proofs.lemmas.List.{drop_more, drop_all}
+use Rattle.std.proofs.lemmas.List.{drop_more, get_or-replicate}
 use Rattle.std.proofs.lemmas.Slice.Eq.{bytes_eq-Decides}
 use Rattle.std.specs.Borrow.{Bor}
 use Rattle.std.specs.Prelude.{is_some}
 use Rattle.std.specs.Str.{bytes_eq}
-use Rattle.json.specs.Json.{Json, Members, no_members, member}
+use Rattle.json.specs.Json.{Json, Members, member}
 use Rattle.json.specs.Find.{get_member, later_or}
+use Rattle.json_table.specs.Entries.{members_entries}
 use Rattle.json_table.specs.Tails.{members_len, last_members, IsTail}
 use Rattle.json_table.proofs.Tails.{last_whole, last_next}
 use Rattle.shared_core_json_reader.specs.declared.error.Reason.TheVariants.{UnknownMember, RepeatedMember}
 use Rattle.make_lines.specs.declared.error.LineReason.TheVariants.{Json as Wrong}
 use Rattle.make_lines.specs.Errors.{at}
 use Rattle.make_lines.specs.Members.{is_known, has_key, members_fault}
-use Rattle.make_lines.specs.Places.{names, name_at, place_count, index_in, place_of, first_value, value_at, ArePlaces}
+use Rattle.make_lines.specs.Places.{names, name_at, place_count, index_in, place_of, first_value, value_at}
 
 -- The places of the members before `rest`, which are at the end of all.
-pub record ArePlacesSoFar (ms rest : Members) (places : List (Option ℕ)) : Type 0 where
+pub record ArePlacesSoFar (ms rest : Members) (places : List ℕ) : Type 0 where
   pub many : length places ≡ place_count
   pub at_end : last_members (members_len rest) ms ≡ rest
-  pub tails : (place n : ℕ) → place < place_count → get_or places place None ≡ Some n → IsTail n ms
+  pub tails : (place n : ℕ) → place < place_count → get_or places place 0 ≡ n → n ≢ 0 → IsTail n ms
   pub values : (place : ℕ) → place < place_count → get_member (name_at place) ms ≡ later_or (get_member (name_at place)
-      rest) (value_at ms (get_or places place None))
+      rest) (value_at ms (get_or places place 0))
 
 -- ---- keys and places
 
@@ -173,11 +174,6 @@ past_place xs i from d key e h so_far is =
     (drop_more names i [] within) ∙ rw here refl in
     ap (λ n. index_in (drop (i + 1) names) n key) (sym next) ∙ sym past ∙ so_far
 
-pub no_place : (xs : List (Bor (List ℕ))) (i from : ℕ) (key : List ℕ) → map (λ s. s.now) xs ≡ names → length xs ≤ i →
-    index_in (drop i names) i key ≡ index_in (drop from names) from key → None ≡ index_in (drop from names) from key
-no_place xs i from key e h so_far =
-    sym (ap (λ ns. index_in ns i key) (drop_all i names (omega (arith, h, many_names xs e)))) ∙ so_far
-
 pub from_found : (from : ℕ) (key : List ℕ) (i : ℕ) → index_in (drop from names) from key ≡ Some i → (i < place_count) ×
     (place_of key ≡ Some i)
 from_found from key i e =
@@ -193,10 +189,6 @@ unfolding place_of
 known_if None key e = sym (unknown_place key (sym e))
 known_if (Some i) key e = sym (known_place key i (sym e))
 
-pub free_if : (o : Option ℕ) → is_some o ≡ false → o ≡ None
-free_if None e = refl
-free_if (Some n) e = absurd cc
-
 -- ---- going over the members
 
 none_later : (o : Option Json) → later_or o None ≡ o
@@ -208,46 +200,40 @@ some_later None p j = refl
 some_later (Some i) p j = refl
 
 -- No place is known.
-abbrev pub nones : List (Option ℕ)
-nones =
-    None ∷ None ∷ None ∷ None ∷ None ∷ None ∷ None ∷ None ∷ None ∷ None ∷ None ∷ None ∷ None ∷ None ∷ []
+abbrev pub nones : List ℕ
+nones = replicate place_count 0
 
-none_at : (i : ℕ) → i < place_count → get_or nones i None ≡ None
-none_at zero h = refl
-none_at (suc zero) h = refl
-none_at (suc (suc zero)) h = refl
-none_at (suc (suc (suc zero))) h = refl
-none_at (suc (suc (suc (suc zero)))) h = refl
-none_at (suc (suc (suc (suc (suc zero))))) h = refl
-none_at (suc (suc (suc (suc (suc (suc zero)))))) h = refl
-none_at (suc (suc (suc (suc (suc (suc (suc zero))))))) h = refl
-none_at (suc (suc (suc (suc (suc (suc (suc (suc zero)))))))) h = refl
-none_at (suc (suc (suc (suc (suc (suc (suc (suc (suc zero))))))))) h = refl
-none_at (suc (suc (suc (suc (suc (suc (suc (suc (suc (suc zero)))))))))) h = refl
-none_at (suc (suc (suc (suc (suc (suc (suc (suc (suc (suc (suc zero))))))))))) h = refl
-none_at (suc (suc (suc (suc (suc (suc (suc (suc (suc (suc (suc (suc zero)))))))))))) h = refl
-none_at (suc (suc (suc (suc (suc (suc (suc (suc (suc (suc (suc (suc (suc zero))))))))))))) h = refl
-none_at (suc (suc (suc (suc (suc (suc (suc (suc (suc (suc (suc (suc (suc (suc i)))))))))))))) h = absurd (omega arith)
+none_at : (i : ℕ) → i < place_count → get_or nones i 0 ≡ 0
+none_at i h = get_or-replicate place_count i 0 0 h
+
+-- A member has entries.
+pub some_left : (k : List ℕ) (j : Json) (rest : Members) → members_len (member k j rest) ≢ 0
+unfolding members_len members_entries
+some_left k j rest e = absurd (omega (arith, e))
+
+-- The value at a place that is taken.
+value_is : (ms : Members) (n : ℕ) → n ≢ 0 → value_at ms n ≡ first_value (last_members n ms)
+value_is ms n ne = ap (λ (b : Bool). cond b None (first_value (last_members n ms))) (ne_eqb n 0 ne)
 
 -- At first no member was seen.
 pub no_places : (ms : Members) → ArePlacesSoFar ms ms nones
 no_places ms = record {
   many = refl;
   at_end = last_whole ms;
-  tails = λ i n h e. absurd (let t = sym (none_at i h) ∙ e in cc);
-  values = λ i h. sym (ap (λ o. later_or (get_member (name_at i) ms) (value_at ms o)) (none_at i h)
+  tails = λ i n h e ne. absurd (ne (sym e ∙ none_at i h));
+  values = λ i h. sym (ap (λ n. later_or (get_member (name_at i) ms) (value_at ms n)) (none_at i h)
       ∙ none_later (get_member (name_at i) ms));
 }
 
-module _ (ms rest : Members) (k : List ℕ) (j : Json) (places : List (Option ℕ)) (so_far : ArePlacesSoFar ms (member k j
-    rest) places) where
+module _ (ms rest : Members) (k : List ℕ) (j : Json) (places : List ℕ) (so_far : ArePlacesSoFar ms (member k j rest)
+    places) where
   -- A member whose key has a place is the last one of its name so far.
-  pub placed : (place : ℕ) → place_of k ≡ Some place → ArePlacesSoFar ms rest (slice_set places place (Some (members_len
-      (member k j rest))))
+  pub placed : (place : ℕ) → place_of k ≡ Some place → ArePlacesSoFar ms rest (slice_set places place (members_len
+      (member k j rest)))
   placed place found = record {
-    many = length-set places place (Some left) ∙ so_far.many;
+    many = length-set places place left ∙ so_far.many;
     at_end = last_next ms rest k j so_far.at_end;
-    tails = λ i n h e. tail i n h (cases_eq i place) e;
+    tails = λ i n h e ne. tail i n h (cases_eq i place) e ne;
     values = λ i h. value i h (cases_eq i place);
   }
     where
@@ -257,65 +243,58 @@ module _ (ms rest : Members) (k : List ℕ) (j : Json) (places : List (Option �
       here : place < place_count
       here = (found_place k place found).0
 
-      tail : (i n : ℕ) → i < place_count → (i ≡ place) ⊎ (i ≢ place) → get_or (slice_set places place (Some left)) i
-          None ≡ Some n → IsTail n ms
-      tail i n h (inl same) e =
-          let set : get_or (slice_set places place (Some left)) i None ≡ Some left = ap (λ x. get_or (slice_set places
-          place (Some left)) x None) same ∙ get_or-set_same places place (Some left) None
+      set_here : (i : ℕ) → i ≡ place → get_or (slice_set places place left) i 0 ≡ left
+      set_here i same = ap (λ x. get_or (slice_set places place left) x 0) same ∙ get_or-set_same places place left 0
           (omega (arith, so_far.many, here))
-          in
-          let is : left ≡ n = cc in
+
+      tail : (i n : ℕ) → i < place_count → (i ≡ place) ⊎ (i ≢ place) → get_or (slice_set places place left) i 0 ≡ n →
+          n ≢ 0 → IsTail n ms
+      tail i n h (inl same) e ne =
+          let is : left ≡ n = sym (set_here i same) ∙ e in
           record { len = ap (λ x. members_len (last_members x ms)) (sym is) ∙ ap members_len so_far.at_end ∙ is }
-      tail i n h (inr other) e = so_far.tails i n h (sym (get_or-set_other places place i (Some left) None other) ∙ e)
+      tail i n h (inr other) e ne = so_far.tails i n h (sym (get_or-set_other places place i left 0 other) ∙ e) ne
 
       value : (i : ℕ) → i < place_count → (i ≡ place) ⊎ (i ≢ place) → get_member (name_at i) ms ≡ later_or (get_member
-          (name_at i) rest) (value_at ms (get_or (slice_set places place (Some left)) i None))
+          (name_at i) rest) (value_at ms (get_or (slice_set places place left) i 0))
       value i h (inl same) =
-          let set : get_or (slice_set places place (Some left)) i None ≡ Some left = ap (λ x. get_or (slice_set places
-          place (Some left)) x None) same ∙ get_or-set_same places place (Some left) None
-          (omega (arith, so_far.many, here))
-          in
           let is : bytes_eq k (name_at i) ≡ true = ap (λ x. bytes_eq k (name_at x)) same ∙ (found_place k place
           found).1 in
           so_far.values i h
           ∙ ap (λ b. later_or (later_or (get_member (name_at i) rest) (cond b (Some j) None)) (value_at ms (get_or
-          places i None))) is
-          ∙ some_later (get_member (name_at i) rest) (value_at ms (get_or places i None)) j
+          places i 0))) is
+          ∙ some_later (get_member (name_at i) rest) (value_at ms (get_or places i 0)) j
           ∙ ap (λ o. later_or (get_member (name_at i) rest) o) (sym (ap first_value so_far.at_end))
-          ∙ ap (λ o. later_or (get_member (name_at i) rest) (value_at ms o)) (sym set)
+          ∙ ap (λ o. later_or (get_member (name_at i) rest) o) (sym (value_is ms left (some_left k j rest)))
+          ∙ ap (λ n. later_or (get_member (name_at i) rest) (value_at ms n)) (sym (set_here i same))
       value i h (inr other) =
           so_far.values i h
           ∙ ap (λ b. later_or (later_or (get_member (name_at i) rest) (cond b (Some j) None)) (value_at ms (get_or
-          places i None))) (other_name k place i h found (λ e. other (sym e)))
-          ∙ ap (λ o. later_or o (value_at ms (get_or places i None))) (none_later (get_member (name_at i) rest))
-          ∙ ap (λ o. later_or (get_member (name_at i) rest) (value_at ms o)) (sym (get_or-set_other places place i (Some
-          left) None other))
+          places i 0))) (other_name k place i h found (λ e. other (sym e)))
+          ∙ ap (λ o. later_or o (value_at ms (get_or places i 0))) (none_later (get_member (name_at i) rest))
+          ∙ ap (λ n. later_or (get_member (name_at i) rest) (value_at ms n)) (sym (get_or-set_other places place i left
+          0 other))
 
 -- ---- the fault of the members
 
 -- The rest has none of the keys that have a place.
-abbrev pub HasNoneOf : List (Option ℕ) → Members → Type 0
-HasNoneOf places rest = (place n : ℕ) → place < place_count → get_or places place None ≡ Some n → has_key
-    (name_at place) rest ≡ false
+abbrev pub HasNoneOf : List ℕ → Members → Type 0
+HasNoneOf places rest = (place : ℕ) → place < place_count → get_or places place 0 ≢ 0 → has_key (name_at place) rest ≡
+    false
 
 -- The members before `rest` are known and differ, and have these places.
-pub record AreWellSoFar (ms rest : Members) (places : List (Option ℕ)) : Type 0 where
+pub record AreWellSoFar (ms rest : Members) (places : List ℕ) : Type 0 where
   pub well : members_fault rest ≡ None → HasNoneOf places rest → members_fault ms ≡ None
   pub fault : members_fault rest ≢ None → members_fault ms ≢ None
-  pub repeated : (place n : ℕ) → place < place_count → get_or places place None ≡ Some n → has_key (name_at place) rest
-      ≡ true → members_fault ms ≢ None
+  pub repeated : (place : ℕ) → place < place_count → get_or places place 0 ≢ 0 → has_key (name_at place) rest ≡ true →
+      members_fault ms ≢ None
 
 -- At first no member was seen.
 pub no_keys : (ms : Members) → AreWellSoFar ms ms nones
 no_keys ms = record {
   well = λ e none. e;
   fault = λ ne. ne;
-  repeated = λ i n h e. absurd (let t = sym (none_at i h) ∙ e in cc);
+  repeated = λ i h ne. absurd (ne (none_at i h));
 }
-
--- At the end there is no fault.
-pub all_well : (ms : Members) (places : List (Option ℕ)) → AreWellSoFar ms no_members places → members_fault ms ≡ None
-all_well ms places so_far = so_far.well refl (λ i n h e. refl)
 
 unknown_is : (k : List ℕ) (j : Json) (rest : Members) → is_known k ≡ false → members_fault (member k j rest) ≡ Some
     (at k (Wrong UnknownMember))
@@ -330,12 +309,12 @@ next_is : (k : List ℕ) (j : Json) (rest : Members) → is_known k ≡ true →
 next_is k j rest e f = rw (e, f) refl
 
 -- A key that has no place is a fault.
-pub no_place_fault : (ms rest : Members) (k : List ℕ) (j : Json) (places : List (Option ℕ)) → AreWellSoFar ms
+pub no_place_fault : (ms rest : Members) (k : List ℕ) (j : Json) (places : List ℕ) → AreWellSoFar ms
     (member k j rest) places → place_of k ≡ None → members_fault ms ≢ None
 no_place_fault ms rest k j places so_far none = so_far.fault (λ e. absurd (let t = sym (unknown_is k j rest
     (unknown_place k none)) ∙ e in cc))
 
-module _ (ms rest : Members) (k : List ℕ) (j : Json) (places : List (Option ℕ)) (place : ℕ) (many : length places ≡
+module _ (ms rest : Members) (k : List ℕ) (j : Json) (places : List ℕ) (place : ℕ) (many : length places ≡
     place_count) (found : place_of k ≡ Some place) (so_far : AreWellSoFar ms (member k j rest) places) where
   here : place < place_count
   here = (found_place k place found).0
@@ -350,46 +329,38 @@ module _ (ms rest : Members) (k : List ℕ) (j : Json) (places : List (Option �
   known = known_place k place found
 
   -- A key whose place is taken is a fault.
-  pub taken_fault : is_some (get_or places place None) ≡ true → members_fault ms ≢ None
-  taken_fault e = by_value (get_or places place None) refl e
-    where
-      by_value : (o : Option ℕ) → get_or places place None ≡ o → is_some o ≡ true → members_fault ms ≢ None
-      by_value None f g = absurd cc
-      by_value (Some n) f g = so_far.repeated place n here f (rw is refl)
+  pub taken_fault : get_or places place 0 ≢ 0 → members_fault ms ≢ None
+  taken_fault ne = so_far.repeated place here ne (rw is refl)
 
   repeated_fault : has_key k rest ≡ true → members_fault (member k j rest) ≢ None
   repeated_fault f e = absurd (let t = sym (repeated_is k j rest known f) ∙ e in cc)
 
   -- A key whose place is free takes it.
-  pub taken : (left : ℕ) → is_some (get_or places place None) ≡ false → AreWellSoFar ms rest (slice_set places place
-      (Some left))
-  taken left is_free = record {
-    well = λ e none. so_far.well (next_is k j rest known (absent none) ∙ e) (λ i n h f. others none i n h f (cases_eq i
+  pub taken : (left : ℕ) → left ≢ 0 → get_or places place 0 ≡ 0 → AreWellSoFar ms rest (slice_set places place left)
+  taken left some free = record {
+    well = λ e none. so_far.well (next_is k j rest known (absent none) ∙ e) (λ i h ne. others none i h ne (cases_eq i
         place));
     fault = λ ne. so_far.fault (λ e. by_test (has_key k rest) refl ne e);
-    repeated = λ i n h f g. again i n h f g (cases_eq i place);
+    repeated = λ i h ne g. again i h ne g (cases_eq i place);
   }
     where
-      free : get_or places place None ≡ None
-      free = free_if (get_or places place None) is_free
+      absent : HasNoneOf (slice_set places place left) rest → has_key k rest ≡ false
+      absent none = ap (λ x. has_key x rest) name_is ∙ none place here (λ e. some (sym (get_or-set_same places place
+          left 0 (omega (arith, many, here))) ∙ e))
 
-      absent : HasNoneOf (slice_set places place (Some left)) rest → has_key k rest ≡ false
-      absent none = ap (λ x. has_key x rest) name_is ∙ none place left here (get_or-set_same places place (Some left)
-          None (omega (arith, many, here)))
-
-      others : HasNoneOf (slice_set places place (Some left)) rest → (i n : ℕ) → i < place_count → get_or places i None
-          ≡ Some n → (i ≡ place) ⊎ (i ≢ place) → has_key (name_at i) (member k j rest) ≡ false
-      others none i n h f (inl same) = absurd (let t = sym f ∙ ap (λ x. get_or places x None) same ∙ free in cc)
-      others none i n h f (inr other) = rw (other_name k place i h found (λ e. other (sym e))) (none i n h
-          (get_or-set_other places place i (Some left) None other ∙ f))
+      others : HasNoneOf (slice_set places place left) rest → (i : ℕ) → i < place_count → get_or places i 0 ≢ 0 →
+          (i ≡ place) ⊎ (i ≢ place) → has_key (name_at i) (member k j rest) ≡ false
+      others none i h ne (inl same) = absurd (ne (ap (λ x. get_or places x 0) same ∙ free))
+      others none i h ne (inr other) = rw (other_name k place i h found (λ e. other (sym e))) (none i h
+          (λ e. ne (sym (get_or-set_other places place i left 0 other) ∙ e)))
 
       by_test : (b : Bool) → has_key k rest ≡ b → members_fault rest ≢ None → members_fault (member k j rest) ≡ None → ⊥
       by_test true f ne e = repeated_fault f e
       by_test false f ne e = ne (sym (next_is k j rest known f) ∙ e)
 
-      again : (i n : ℕ) → i < place_count → get_or (slice_set places place (Some left)) i None ≡ Some n → has_key
-          (name_at i) rest ≡ true → (i ≡ place) ⊎ (i ≢ place) → members_fault ms ≢ None
-      again i n h f g (inl same) = so_far.fault (repeated_fault (ap (λ x. has_key x rest)
+      again : (i : ℕ) → i < place_count → get_or (slice_set places place left) i 0 ≢ 0 → has_key (name_at i) rest ≡
+          true → (i ≡ place) ⊎ (i ≢ place) → members_fault ms ≢ None
+      again i h ne g (inl same) = so_far.fault (repeated_fault (ap (λ x. has_key x rest)
           (name_is ∙ ap name_at (sym same)) ∙ g))
-      again i n h f g (inr other) = so_far.repeated i n h (sym (get_or-set_other places place i (Some left) None other)
-          ∙ f) (rw (other_name k place i h found (λ e. other (sym e))) g)
+      again i h ne g (inr other) = so_far.repeated i h (λ e. ne (get_or-set_other places place i left 0 other ∙ e))
+          (rw (other_name k place i h found (λ e. other (sym e))) g)

@@ -1,27 +1,61 @@
 -- What a call appends, and why a line is rejected.
 use Rattle.std.specs.Prelude.{◌≡◌, ◌≢◌, ℕ, ◌-◌, Bool, false, not, ◌&&◌, ◌||◌, List, [], ◌∷◌, ◌++◌, length, slice_get}
 use Rattle.std.specs.Prelude.{◌==◌, if◌then◌else◌, Option, Some, None, Result, Ok, Err, MatchOption, MatchResult}
+use Rattle.std.specs.Prelude.{codes, option_and_then}
+use Rattle.json.specs.Json.{Json}
+use Rattle.json.specs.Find.{as_str}
 use Rattle.shared_core_base.specs.declared.version.Version.{Version}
 use Rattle.shared_core_json_reader.specs.Reading.{json_of_text}
 use Rattle.shared_core_json_reader.specs.FirstError.{IsPlace}
 use Rattle.make_lines.specs.declared.error.LineError.{LineError}
-use Rattle.make_lines.specs.declared.error.LineReason.TheVariants.{CutOff}
+use Rattle.make_lines.specs.declared.error.LineReason.{LineReason}
+use Rattle.make_lines.specs.declared.error.LineReason.TheVariants.{CutOff, UnknownType}
+use Rattle.make_lines.specs.declared.reject.Fault.{Fault}
 use Rattle.make_lines.specs.Errors.{LineFault, lack, fault_of, at, not_json}
+use Rattle.make_lines.specs.Members.{given}
+use Rattle.make_lines.specs.Places.{name_at}
 use Rattle.make_lines.specs.Lines.{is_space, line_said, line_made}
 
 -- Unless an allocation failed, this is the fault.
 abbrev pub HasFault : Option LineFault → LineError → Type 0
 HasFault fault error = error.reason ≢ lack → fault ≡ Some (fault_of error)
 
--- Unless an allocation failed, what is read has this fault.
-abbrev pub Rejects : {A : Type 0} → Result A LineFault → LineError → Type 0
-Rejects read error = error.reason ≢ lack → read ≡ Err (fault_of error)
+-- The name that no type has, if that is the reason: what a line has as its type.
+abbrev pub untyped : LineReason → Json → Option (List ℕ)
+untyped UnknownType j = option_and_then as_str (given (codes "type") j)
+untyped reason j = None
+
+-- What a fault says of a line.
+abbrev pub said_of : Json → Fault → LineFault
+said_of j fault =
+    record { reason = fault.reason; offset = None; path = name_at fault.place; name = untyped fault.reason j }
+
+-- Unless an allocation failed, what is read has the fault that an error says.
+abbrev pub Fails : {A : Type 0} → Result A LineFault → LineError → Type 0
+Fails read error = error.reason ≢ lack → read ≡ Err (fault_of error)
+
+-- Unless an allocation failed, what is read of a line has this fault.
+abbrev pub Rejects : {A : Type 0} → Json → Result A LineFault → Fault → Type 0
+Rejects j read fault = fault.reason ≢ lack → read ≡ Err (said_of j fault)
+
+-- The same, whichever the line is.
+abbrev pub RejectsAnywhere : {A : Type 0} → Result A LineFault → Fault → Type 0
+RejectsAnywhere read fault = (j : Json) → Rejects j read fault
 
 -- A call appends these bytes, if they are read; otherwise it fails with their fault, and nothing is appended. It may
 -- also fail because an allocation fails.
 abbrev pub Appends : {T : Type 0} → Result T LineError → Result (List ℕ) LineFault → List ℕ → List ℕ → Type 0
 Appends r read old new = MatchResult r (λ _. (bytes : List ℕ) × (read ≡ Ok bytes) × (new ≡ old ++ bytes))
     (λ error. error.reason ≢ lack → (read ≡ Err (fault_of error)) × (new ≡ old))
+
+-- The same, for a fault of a line.
+abbrev pub AppendsOf : {T : Type 0} → Json → Result T Fault → Result (List ℕ) LineFault → List ℕ → List ℕ → Type 0
+AppendsOf j r read old new = MatchResult r (λ _. (bytes : List ℕ) × (read ≡ Ok bytes) × (new ≡ old ++ bytes))
+    (λ fault. fault.reason ≢ lack → (read ≡ Err (said_of j fault)) × (new ≡ old))
+
+-- The same, whichever the line is.
+abbrev pub AppendsAnywhere : {T : Type 0} → Result T Fault → Result (List ℕ) LineFault → List ℕ → List ℕ → Type 0
+AppendsAnywhere r read old new = (j : Json) → AppendsOf j r read old new
 
 -- Whether a line begins an object.
 abbrev pub begins_object : List ℕ → Bool

@@ -1,5 +1,6 @@
 -- The members of a line by the places of their names.
-use Rattle.std.specs.Prelude.{◌≡◌, ℕ, suc, ◌<◌, List, [], ◌∷◌, get_or, codes, if◌then◌else◌, Option, Some, None}
+use Rattle.std.specs.Prelude.{◌≡◌, ◌≢◌, ℕ, suc, ◌<◌, ◌==◌, List, [], ◌∷◌, get_or, codes, if◌then◌else◌, Option, Some}
+use Rattle.std.specs.Prelude.{None}
 use Rattle.std.specs.Str.{bytes_eq}
 use Rattle.json.specs.Json.{Json, Members, no_members, member}
 use Rattle.json.specs.Find.{get_member}
@@ -34,13 +35,11 @@ abbrev pub first_value : Members → Option Json
 first_value no_members = None
 first_value (member k j ms) = Some j
 
--- The value with which those of the members begin, at the end, that have this many entries.
-abbrev pub value_at : Members → Option ℕ → Option Json
-value_at ms None = None
-value_at ms (Some n) = first_value (last_members n ms)
+-- The value with which those of the members begin, at the end, that have this many entries; none if that is 0.
+abbrev pub value_at : Members → ℕ → Option Json
+value_at ms n = if n == 0 then None else first_value (last_members n ms)
 
--- Each place says where the last member of its name is.
-pub record ArePlaces (ms : Members) (places : List (Option ℕ)) : Type 0 where
-  pub tails : (place n : ℕ) → place < place_count → get_or places place None ≡ Some n → IsTail n ms
-  pub values : (place : ℕ) → place < place_count → get_member (name_at place) ms ≡ value_at ms (get_or places place
-      None)
+-- Each place says where the last member of its name is; 0 if there is none.
+pub record ArePlaces (ms : Members) (places : List ℕ) : Type 0 where
+  pub tails : (place n : ℕ) → place < place_count → get_or places place 0 ≡ n → n ≢ 0 → IsTail n ms
+  pub values : (place : ℕ) → place < place_count → get_member (name_at place) ms ≡ value_at ms (get_or places place 0)

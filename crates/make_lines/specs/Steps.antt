@@ -8,17 +8,17 @@ use Rattle.make_lines.specs.declared.stream.Lines.{Lines}
 use Rattle.make_lines.specs.declared.stream.Rejected.{Rejected}
 use Rattle.make_lines.specs.Made.{made, counted, AreLines, BeginWith}
 
--- A line is taken, and what it means is appended; or it is rejected, and nothing is appended. If an allocation fails,
--- nothing is specified.
-abbrev pub LineIsTaken : {E : Type 0} → (List ℕ → Option (List ℕ)) → (List ℕ → LineError → Type 0) → Result
+-- The pending bytes, and then others, are taken as a line, and what it means is appended; or it is rejected, and
+-- nothing is appended. If an allocation fails, nothing is specified.
+abbrev pub LineIsTaken : {E : Type 0} → (List ℕ → Option (List ℕ)) → (List ℕ → LineError → Type 0) → List ℕ → Result
     (Option Rejected) E → Lines → Lines → Type 0
-LineIsTaken means fails (Ok None) old new =
-    (bytes : List ℕ) × (means old.pending.items ≡ Some bytes) × (new.made.items ≡ old.made.items ++ bytes) ×
+LineIsTaken means fails end (Ok None) old new =
+    (bytes : List ℕ) × (means (old.pending.items ++ end) ≡ Some bytes) × (new.made.items ≡ old.made.items ++ bytes) ×
     (new.pending.items ≡ []) × (new.taken ≡ counted (suc old.taken))
-LineIsTaken means fails (Ok (Some rejected)) old new =
-    fails old.pending.items rejected.error × (new.made.items ≡ old.made.items) ×
+LineIsTaken means fails end (Ok (Some rejected)) old new =
+    fails (old.pending.items ++ end) rejected.error × (new.made.items ≡ old.made.items) ×
     (rejected.number ≡ counted (suc old.taken))
-LineIsTaken means fails (Err lack) old new = Unit {0}
+LineIsTaken means fails end (Err lack) old new = Unit {0}
 
 -- The lines that these bytes end are taken, or those before a rejected one.
 abbrev pub AreTaken : (List ℕ → Option (List ℕ)) → (List ℕ → LineError → Type 0) → List ℕ → Option Rejected → Lines →

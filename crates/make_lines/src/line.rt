@@ -1,25 +1,31 @@
 //! The bytes that a line means: the header and the payload of an item, or the bytes after the last one.
 
-ghost use Rattle.std.specs.Prelude.{◌≡◌, ◌++◌, length, Some, None, option_and_then, Ok, IfOk, IfErr, OnOk, MatchResult};
+ghost use Rattle.std.specs.Prelude.{◌≡◌, ◌++◌, codes, length, Some, None, option_and_then, Ok, IfOk, IfErr, OnOk};
+ghost use Rattle.std.specs.Prelude.{MatchResult};
+ghost use Rattle.json.specs.Json.{Json};
 ghost use Rattle.shared_core_base.specs.MessageType.{type_of};
 ghost use Rattle.shared_core_message.specs.Schemas.{schema_at};
 ghost use Rattle.make_lines.specs.Errors.{lack};
-ghost use Rattle.make_lines.specs.Lines.{code_read, name_read, code_named, code_of_name, is_name_of, code_if};
+ghost use Rattle.make_lines.specs.Lines.{then_read, code_read, name_read, code_named, is_name_of, code_if};
 ghost use Rattle.make_lines.specs.Lines.{line_code};
 ghost use Rattle.make_lines.specs.Lines.{bytes_said, bytes_name, message_said, nothing_said, line_payload};
 ghost use Rattle.make_lines.specs.Lines.{has_flag, ack_name, line_flag, word, is_alone, line_header, framed};
 ghost use Rattle.make_lines.specs.Lines.{agrees_in_flag, word_fault, alone_given, with_size, header_given};
-ghost use Rattle.make_lines.specs.Lines.{item_said, says_no_item, rest_said, line_said};
-ghost use Rattle.make_lines.specs.Appending.{HasFault, Rejects, Appends, AppendsLine};
+ghost use Rattle.make_lines.specs.Lines.{item_said, says_no_item, rest_said, said, line_said};
+ghost use Rattle.make_lines.specs.Members.{given};
+ghost use Rattle.make_lines.specs.Places.{name_at};
+ghost use Rattle.make_lines.specs.Appending.{said_of, Fails, Rejects, RejectsAnywhere};
+ghost use Rattle.make_lines.specs.Appending.{Appends, AppendsOf, AppendsAnywhere, AppendsLine};
 
 use crate::error::{LineError, LineReason};
 use crate::members::{
-    ACK, BYTES, CODE, HEADER, Line, MESSAGE, PAYLOAD, REQUESTED_ACK, REST, TYPE, UNKNOWN,
+    ACK, BYTES, CODE, HEADER, LINE, Line, MESSAGE, PAYLOAD, PLACES, REQUESTED_ACK, REST, TYPE,
+    UNKNOWN, find_places, first_fault,
 };
-use crate::reject::{out_of_memory, reject, reject_inside, reject_name, reject_text};
+use crate::reject::{Fault, error_of, out_of_memory, reject, reject_inside, reject_text};
 use crate::text::is_blank;
 use json::Scratch;
-use json_table::Node;
+use json_table::{Node, Shape};
 use shared_core_base::header::MessageType;
 use shared_core_base::version::Version;
 use shared_core_json_reader::{
@@ -40,25 +46,25 @@ const LENGTHS: u64 = 1 << 32;
 // ---- the code
 
 /// The code that a value is.
-fn read_code(alloc: Global, value: &Node<'_, '_>) -> Result<u16, LineError>
+fn read_code(value: &Node<'_, '_>) -> Result<u16, Fault>
     ensures { MatchResult result (λ code. code_read value.now ≡ Ok code)
-        (Rejects (code_read value.now)) }
+        (RejectsAnywhere (code_read value.now)) }
 {
     match read_u32(value) {
         Ok(code) if code < 65536 => Ok(code as u16),
-        Ok(_) => Err(reject(alloc, LineReason::Json(Reason::OutOfRange), "code")),
-        Err(reason) => Err(reject(alloc, LineReason::Json(reason), "code")),
+        Ok(_) => Err(Fault::at(CODE, LineReason::Json(Reason::OutOfRange))),
+        Err(reason) => Err(Fault::at(CODE, LineReason::Json(reason))),
     }
 }
 
 /// The name that a value is.
-fn read_name<'a>(alloc: Global, value: &Node<'_, 'a>) -> Result<&'a str, LineError>
+fn read_name<'a>(value: &Node<'_, 'a>) -> Result<&'a str, Fault>
     ensures { MatchResult result (λ name. name_read value.now ≡ Ok name.now)
-        (Rejects (name_read value.now)) }
+        (RejectsAnywhere (name_read value.now)) }
 {
     match value.as_str() {
         Some(name) => Ok(name),
-        None => Err(reject(alloc, LineReason::Json(Reason::WrongKind), "type")),
+        None => Err(Fault::at(TYPE, LineReason::Json(Reason::WrongKind))),
     }
 }
 
@@ -86,43 +92,35 @@ fn is_name_of(alloc: Global, ty: MessageType, name: &str) -> Result<bool, AllocE
 }
 
 /// A code, if its type has this name.
-fn code_if(alloc: Global, code: u16, name: &str) -> Result<u16, LineError>
+fn code_if(alloc: Global, code: u16, name: &str) -> Result<u16, Fault>
     ensures { MatchResult result (λ said. code_if code name.now ≡ Ok said)
-        (Rejects (code_if code name.now)) }
+        (RejectsAnywhere (code_if code name.now)) }
 {
     let Ok(ty) = MessageType::try_from(code) else {
-        return Err(reject(alloc, LineReason::OtherType, "type"));
+        return Err(Fault::at(TYPE, LineReason::OtherType));
     };
     match is_name_of(alloc, ty, name) {
         Ok(true) => Ok(code),
-        Ok(false) => Err(reject(alloc, LineReason::OtherType, "type")),
-        Err(_) => Err(out_of_memory(alloc)),
-    }
-}
-
-/// The code of the named type that has this name.
-fn code_of_name(alloc: Global, name: &str) -> Result<u16, LineError>
-    ensures { MatchResult result (λ code. code_of_name name.now ≡ Ok code)
-        (Rejects (code_of_name name.now)) }
-{
-    match code_named(name.as_bytes()) {
-        Some(code) => Ok(code),
-        None => Err(reject_name(alloc, name)),
+        Ok(false) => Err(Fault::at(TYPE, LineReason::OtherType)),
+        Err(_) => Err(Fault::out_of_memory()),
     }
 }
 
 /// The code of a line, by its type and its code.
-fn code_of(alloc: Global, line: &Line<'_, '_>) -> Result<u16, LineError>
+fn code_of(alloc: Global, line: &Line<'_, '_>) -> Result<u16, Fault>
     ensures { MatchResult result (λ code. line_code line.now ≡ Ok code)
-        (Rejects (line_code line.now)) }
+        (Rejects line.now (line_code line.now)) }
 {
     match (line.given(TYPE), line.given(CODE)) {
-        (None, None) => Err(reject(alloc, LineReason::NoType, "")),
-        (Some(ty), None) => code_of_name(alloc, read_name(alloc, &ty)?),
-        (None, Some(code)) => read_code(alloc, &code),
+        (None, None) => Err(Fault::at(LINE, LineReason::NoType)),
+        (Some(ty), None) => match code_named(read_name(&ty)?.as_bytes()) {
+            Some(code) => Ok(code),
+            None => Err(Fault::at(TYPE, LineReason::UnknownType)),
+        },
+        (None, Some(code)) => read_code(&code),
         (Some(ty), Some(code)) => {
-            let code = read_code(alloc, &code)?;
-            code_if(alloc, code, read_name(alloc, &ty)?)
+            let code = read_code(&code)?;
+            code_if(alloc, code, read_name(&ty)?)
         }
     }
 }
@@ -130,23 +128,23 @@ fn code_of(alloc: Global, line: &Line<'_, '_>) -> Result<u16, LineError>
 // ---- the payload
 
 /// The bytes that a value is, in base64.
-fn bytes_of(alloc: Global, value: &Node<'_, '_>, member: &str) -> Result<Vec<u8>, LineError>
-    ensures { MatchResult result (λ bytes. bytes_said member.now value.now ≡ Ok bytes.items)
-        (Rejects (bytes_said member.now value.now)) }
+fn bytes_of(alloc: Global, value: &Node<'_, '_>, place: u8) -> Result<Vec<u8>, Fault>
+    ensures { MatchResult result (λ bytes. bytes_said (name_at place) value.now ≡ Ok bytes.items)
+        (RejectsAnywhere (bytes_said (name_at place) value.now)) }
 {
     match read_bytes(alloc, value) {
         Ok(bytes) => Ok(bytes),
-        Err(reason) => Err(reject(alloc, LineReason::Json(reason), member)),
+        Err(reason) => Err(Fault::at(place, LineReason::Json(reason))),
     }
 }
 
-/// The name of the member that gives bytes.
-fn bytes_name(line: &Line<'_, '_>) -> &'static str
-    ensures { result.now ≡ bytes_name line.now }
+/// The place of the member that gives bytes.
+fn bytes_place(line: &Line<'_, '_>) -> u8
+    ensures { name_at result ≡ bytes_name line.now }
 {
     match line.given(BYTES) {
-        Some(_) => "bytes",
-        None => "payload",
+        Some(_) => BYTES,
+        None => PAYLOAD,
     }
 }
 
@@ -169,7 +167,7 @@ fn message_of(
     buffer: Vec<u8>,
 ) -> Result<Vec<u8>, LineError>
     ensures { MatchResult result (λ bytes. message_said version code message.now ≡ Ok bytes.items)
-        (Rejects (message_said version code message.now)) }
+        (Fails (message_said version code message.now)) }
 {
     let Some(schema) = schema_of(version, code) else {
         return Err(reject(alloc, LineReason::NoSchema, "message"));
@@ -183,7 +181,7 @@ fn message_of(
 /// The payload of an item that is a header alone.
 fn nothing_of(alloc: Global, code: u16, value: &Node<'_, '_>) -> Result<Vec<u8>, LineError>
     ensures { MatchResult result (λ bytes. nothing_said code value.now ≡ Ok bytes.items)
-        (Rejects (nothing_said code value.now)) }
+        (Fails (nothing_said code value.now)) }
 {
     let Some(true) = value.as_bool() else {
         return Err(reject(alloc, LineReason::Json(Reason::WrongKind), "unknown"));
@@ -203,14 +201,17 @@ fn payload_of(
     buffer: Vec<u8>,
 ) -> Result<Vec<u8>, LineError>
     ensures { MatchResult result (λ payload. line_payload version code line.now ≡ Ok payload.items)
-        (Rejects (line_payload version code line.now)) }
+        (Fails (line_payload version code line.now)) }
 {
     let message = line.given(MESSAGE);
     let bytes = line.given_either(BYTES, PAYLOAD);
     let unknown = line.given(UNKNOWN);
     match (message, bytes, unknown) {
         (Some(message), None, None) => message_of(alloc, version, code, &message, buffer),
-        (None, Some(bytes), None) => bytes_of(alloc, &bytes, bytes_name(line)),
+        (None, Some(bytes), None) => match bytes_of(alloc, &bytes, bytes_place(line)) {
+            Ok(bytes) => Ok(bytes),
+            Err(fault) => Err(error_of(alloc, line, fault)),
+        },
         (None, None, Some(unknown)) => nothing_of(alloc, code, &unknown),
         (None, None, None) => Err(reject(alloc, LineReason::NoPayload, "")),
         _ => Err(reject(alloc, LineReason::SeveralPayloads, "")),
@@ -229,30 +230,30 @@ fn has_flag(code: u16) -> bool
     }
 }
 
-/// The name of the member that says whether an acknowledgement is requested.
-fn ack_name(line: &Line<'_, '_>) -> &'static str
-    ensures { result.now ≡ ack_name line.now }
+/// The place of the member that says whether an acknowledgement is requested.
+fn ack_place(line: &Line<'_, '_>) -> u8
+    ensures { name_at result ≡ ack_name line.now }
 {
     match line.given(REQUESTED_ACK) {
-        Some(_) => "requestedAck",
-        None => "ack",
+        Some(_) => REQUESTED_ACK,
+        None => ACK,
     }
 }
 
 /// Whether a line requests an acknowledgement.
-fn flag_of(alloc: Global, code: u16, line: &Line<'_, '_>) -> Result<bool, LineError>
+fn flag_of(code: u16, line: &Line<'_, '_>) -> Result<bool, Fault>
     ensures { MatchResult result (λ flag. line_flag code line.now ≡ Ok flag)
-        (Rejects (line_flag code line.now)) }
+        (Rejects line.now (line_flag code line.now)) }
 {
     let Some(value) = line.given_either(REQUESTED_ACK, ACK) else {
         return Ok(false);
     };
     if !has_flag(code) {
-        return Err(reject(alloc, LineReason::NoFlag, ack_name(line)));
+        return Err(Fault::at(ack_place(line), LineReason::NoFlag));
     }
     match value.as_bool() {
         Some(flag) => Ok(flag),
-        None => Err(reject(alloc, LineReason::Json(Reason::WrongKind), ack_name(line))),
+        None => Err(Fault::at(ack_place(line), LineReason::Json(Reason::WrongKind))),
     }
 }
 
@@ -279,137 +280,136 @@ fn agrees_in_flag(code: u16, flag: bool, word: u64) -> bool
     !has_flag(code) || word / FLAG % 2 == bit
 }
 
+/// What a line says of the header of its item, but for the length.
+#[derive(Clone, Copy, Drop)]
+struct Head {
+    version: Version,
+    code: u16,
+    flag: bool,
+}
+
 /// Checks that the word of a header has this code and this flag.
-fn check_word(alloc: Global, code: u16, flag: bool, word: u64) -> Result<(), LineError>
-    ensures { MatchResult result (λ _. word_fault code flag word ≡ None) (HasFault (word_fault code flag word)) }
+fn check_word(head: &Head, word: u64) -> Result<(), Fault>
+    ensures { MatchResult result (λ _. word_fault head.now.code head.now.flag word ≡ None)
+        (λ fault. (line : Json) → word_fault head.now.code head.now.flag word ≡ Some (said_of line fault)) }
 {
-    if word / CODE_UNIT != u64::from(code) {
-        return Err(reject(alloc, LineReason::OtherCode, "header"));
+    if word / CODE_UNIT != u64::from(head.code) {
+        return Err(Fault::at(HEADER, LineReason::OtherCode));
     }
-    if !agrees_in_flag(code, flag, word) {
-        return Err(reject(alloc, LineReason::OtherFlag, "header"));
+    if !agrees_in_flag(head.code, head.flag, word) {
+        return Err(Fault::at(HEADER, LineReason::OtherFlag));
     }
     Ok(())
 }
 
 /// Appends a given header that stands alone. Where unknown types are skipped with their payloads, it has no length.
-fn append_alone(
-    alloc: Global,
-    version: Version,
-    word: u64,
-    header: &[u8],
-    out: &mut Vec<u8>,
-) -> Result<(), LineError>
-    ensures { Appends result (alone_given version word header.now) out.old.items out.new.items }
+fn append_alone(version: Version, word: u64, header: &[u8], out: &mut Vec<u8>) -> Result<(), Fault>
+    ensures { AppendsAnywhere result (alone_given version word header.now) out.old.items out.new.items }
 {
     if version.skips_unknown_messages() && word % LENGTHS != 0 {
-        return Err(reject(alloc, LineReason::NoSuchPayload, "header"));
+        return Err(Fault::at(HEADER, LineReason::NoSuchPayload));
     }
-    append(alloc, header, out)
+    append(header, out)
 }
 
 /// Appends the header that has the code and the flags of a given one, and this length.
-fn append_sized(
-    alloc: Global,
-    size: usize,
-    header: &[u8],
-    out: &mut Vec<u8>,
-) -> Result<(), LineError>
+fn append_sized(size: usize, header: &[u8], out: &mut Vec<u8>) -> Result<(), Fault>
     requires { length header.now ≡ 8 }
-    ensures { Appends result (with_size size header.now) out.old.items out.new.items }
+    ensures { AppendsAnywhere result (with_size size header.now) out.old.items out.new.items }
 {
     let Ok(size) = u32::try_from(size) else {
-        return Err(reject(alloc, LineReason::TooLong, ""));
+        return Err(Fault::at(LINE, LineReason::TooLong));
     };
-    append(alloc, &header[..4], out)?;
-    append(alloc, &size.to_be_bytes(), out)
+    append(&header[..4], out)?;
+    append(&size.to_be_bytes(), out)
 }
 
 /// Appends the header by eight given bytes: all of them if there is no payload, otherwise the first four, which are the
 /// code and the flags, and the length of the payload.
 fn append_given(
-    alloc: Global,
-    version: Version,
-    code: u16,
-    flag: bool,
+    head: &Head,
     size: usize,
     alone: bool,
     header: &[u8],
     out: &mut Vec<u8>,
-) -> Result<(), LineError>
-    ensures { Appends result (header_given version code flag size alone header.now) out.old.items out.new.items }
+) -> Result<(), Fault>
+    ensures { AppendsAnywhere result (header_given head.now.version head.now.code head.now.flag size alone header.now)
+        out.old.items out.new.items }
 {
     let Ok(bytes) = <[u8; 8]>::try_from(header) else {
-        return Err(reject(alloc, LineReason::HeaderLength, "header"));
+        return Err(Fault::at(HEADER, LineReason::HeaderLength));
     };
     let word = u64::from_be_bytes(bytes);
-    check_word(alloc, code, flag, word)?;
+    check_word(head, word)?;
     if alone {
-        append_alone(alloc, version, word, header, out)
+        append_alone(head.version, word, header, out)
     } else {
-        append_sized(alloc, size, header, out)
+        append_sized(size, header, out)
     }
 }
 
 /// Appends a header, of a payload of this size.
 fn append_header(
     alloc: Global,
-    version: Version,
-    code: u16,
-    flag: bool,
+    head: &Head,
     size: usize,
     line: &Line<'_, '_>,
     out: &mut Vec<u8>,
-) -> Result<(), LineError>
-    ensures { Appends result (line_header version code flag size line.now) out.old.items out.new.items }
+) -> Result<(), Fault>
+    ensures { AppendsOf line.now result (line_header head.now.version head.now.code head.now.flag size line.now)
+        out.old.items out.new.items }
 {
     if let Some(header) = line.given(HEADER) {
-        let header = bytes_of(alloc, &header, "header")?;
-        let alone = is_alone(line);
-        return append_given(
-            alloc,
-            version,
-            code,
-            flag,
-            size,
-            alone,
-            header.as_slice(),
-            out,
-        );
+        let header = bytes_of(alloc, &header, HEADER)?;
+        return append_given(head, size, is_alone(line), header.as_slice(), out);
     }
     let Ok(size) = u32::try_from(size) else {
-        return Err(reject(alloc, LineReason::TooLong, ""));
+        return Err(Fault::at(LINE, LineReason::TooLong));
     };
-    append(alloc, &word(code, flag, size).to_be_bytes(), out)
+    append(&word(head.code, head.flag, size).to_be_bytes(), out)
 }
 
 // ---- lines
 
 /// Appends bytes.
-fn append(alloc: Global, bytes: &[u8], out: &mut Vec<u8>) -> Result<(), LineError>
+fn append(bytes: &[u8], out: &mut Vec<u8>) -> Result<(), Fault>
     ensures ok { OnOk result (out.new.items ≡ out.old.items ++ bytes.now) }
-    ensures err { IfErr result (λ error. error.reason ≡ lack) }
+    ensures err { IfErr result (λ fault. fault.reason ≡ lack) }
 {
     match out.extend_from_slice(bytes) {
         Ok(()) => Ok(()),
-        Err(_) => Err(out_of_memory(alloc)),
+        Err(_) => Err(Fault::out_of_memory()),
     }
 }
 
 /// Appends a header and its payload.
 fn append_framed(
     alloc: Global,
-    version: Version,
-    code: u16,
-    flag: bool,
+    head: &Head,
     payload: &[u8],
     line: &Line<'_, '_>,
     out: &mut Vec<u8>,
-) -> Result<(), LineError>
-    ensures { Appends result (framed version code flag line.now payload.now) out.old.items out.new.items }
+) -> Result<(), Fault>
+    ensures { AppendsOf line.now result (framed head.now.version head.now.code head.now.flag line.now payload.now)
+        out.old.items out.new.items }
 {
-    append_header(alloc, version, code, flag, payload.len(), line, out)?;
-    append(alloc, payload, out)
+    append_header(alloc, head, payload.len(), line, out)?;
+    append(payload, out)
+}
+
+/// What a line says of the header of its item.
+fn head_of(alloc: Global, version: Version, line: &Line<'_, '_>) -> Result<Head, Fault>
+    ensures ok { IfOk result (λ head. (head.version ≡ version) × (line_code line.now ≡ Ok head.code)
+        × (line_flag head.code line.now ≡ Ok head.flag)) }
+    ensures err { IfErr result (Rejects line.now (then_read (λ code. line_flag code line.now) (line_code line.now))) }
+{
+    let code = code_of(alloc, line)?;
+    let flag = flag_of(code, line)?;
+    Ok(Head {
+        version,
+        code,
+        flag,
+    })
 }
 
 /// Appends the bytes of an item. The buffer is kept for the next payload.
@@ -423,13 +423,19 @@ fn append_item(
 ) -> Result<(), LineError>
     ensures { Appends result (item_said version line.now) out.old.items out.new.items }
 {
-    let code = code_of(alloc, line)?;
-    let flag = flag_of(alloc, code, line)?;
+    let head = match head_of(alloc, version, line) {
+        Ok(head) => head,
+        Err(fault) => return Err(error_of(alloc, line, fault)),
+    };
     let kept = std::mem::replace(buffer, Vec::new(alloc));
-    let payload = payload_of(alloc, version, code, line, kept)?;
-    append_framed(alloc, version, code, flag, payload.as_slice(), line, out)?;
-    *buffer = payload;
-    Ok(())
+    let payload = payload_of(alloc, version, head.code, line, kept)?;
+    match append_framed(alloc, &head, payload.as_slice(), line, out) {
+        Ok(()) => {
+            *buffer = payload;
+            Ok(())
+        }
+        Err(fault) => Err(error_of(alloc, line, fault)),
+    }
 }
 
 /// Whether a line has none of the members that say what an item is.
@@ -446,25 +452,57 @@ fn says_no_item(line: &Line<'_, '_>) -> bool
 
 /// The bytes after the last item.
 #[tactic(auto, unfolding(crate::specs::Lines::rest_said))]
-fn rest_of(alloc: Global, rest: &Node<'_, '_>, line: &Line<'_, '_>) -> Result<Vec<u8>, LineError>
+fn rest_of(alloc: Global, rest: &Node<'_, '_>, line: &Line<'_, '_>) -> Result<Vec<u8>, Fault>
     ensures { MatchResult result (λ bytes. rest_said rest.now line.now ≡ Ok bytes.items)
-        (Rejects (rest_said rest.now line.now)) }
+        (RejectsAnywhere (rest_said rest.now line.now)) }
 {
     if !says_no_item(line) {
-        return Err(reject(alloc, LineReason::ItemInRest, "rest"));
+        return Err(Fault::at(REST, LineReason::ItemInRest));
     }
     if let Some(bytes) = line.given_either(BYTES, PAYLOAD) {
-        return bytes_of(alloc, &bytes, bytes_name(line));
+        return bytes_of(alloc, &bytes, bytes_place(line));
     }
     match read_u64(rest) {
         Ok(0) => Ok(Vec::new(alloc)),
-        Ok(_) => Err(reject(alloc, LineReason::NoBytes, "rest")),
-        Err(reason) => Err(reject(alloc, LineReason::Json(reason), "rest")),
+        Ok(_) => Err(Fault::at(REST, LineReason::NoBytes)),
+        Err(reason) => Err(Fault::at(REST, LineReason::Json(reason))),
+    }
+}
+
+/// Appends the bytes after the last item.
+fn append_rest(
+    alloc: Global,
+    rest: &Node<'_, '_>,
+    line: &Line<'_, '_>,
+    out: &mut Vec<u8>,
+) -> Result<(), Fault>
+    ensures { AppendsOf line.now result (rest_said rest.now line.now) out.old.items out.new.items }
+{
+    let bytes = rest_of(alloc, rest, line)?;
+    append(bytes.as_slice(), out)
+}
+
+/// Appends the bytes of a line that has no fault in its members.
+fn append_whole(
+    alloc: Global,
+    version: Version,
+    line: &Line<'_, '_>,
+    buffer: &mut Vec<u8>,
+    out: &mut Vec<u8>,
+) -> Result<(), LineError>
+    ensures { Appends result (said version (given (codes "rest") line.now) line.now) out.old.items out.new.items }
+{
+    let Some(rest) = line.given(REST) else {
+        return append_item(alloc, version, line, buffer, out);
+    };
+    match append_rest(alloc, &rest, line, out) {
+        Ok(()) => Ok(()),
+        Err(fault) => Err(error_of(alloc, line, fault)),
     }
 }
 
 /// Appends the bytes that the value of a line means.
-#[tactic(auto, unfolding(crate::specs::Lines::line_said))]
+#[tactic(auto, unfolding(crate::specs::Lines::line_said, crate::specs::Members::shape_fault))]
 fn append_said(
     alloc: Global,
     version: Version,
@@ -474,15 +512,18 @@ fn append_said(
 ) -> Result<(), LineError>
     ensures { Appends result (line_said version value.now) out.old.items out.new.items }
 {
-    let line = match Line::of_value(alloc, value) {
-        Ok(line) => line,
-        Err(error) => return Err(error),
+    let Shape::Object(members) = value.shape() else {
+        return Err(reject(alloc, LineReason::Json(Reason::WrongKind), ""));
     };
-    let Some(rest) = line.given(REST) else {
-        return append_item(alloc, version, &line, buffer, out);
-    };
-    let bytes = rest_of(alloc, &rest, &line)?;
-    append(alloc, bytes.as_slice(), out)
+    let mut places = [0; PLACES];
+    if !find_places(&members, &mut places) {
+        return Err(first_fault(alloc, &members));
+    }
+    let line = Line::new(members, &places);
+    match line.pairs_fault() {
+        Some(fault) => Err(error_of(alloc, &line, fault)),
+        None => append_whole(alloc, version, &line, buffer, out),
+    }
 }
 
 /// What is kept from line to line: the buffers for reading JSON, and that of a payload.

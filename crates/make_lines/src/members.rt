@@ -2,24 +2,29 @@
 //!
 //! A line is gone over once: each name has a place (`Line`), and only a line with a fault is gone over again.
 
-ghost use Rattle.std.specs.Prelude.{◌≡◌, ◌≢◌, ◌<◌, None, map, drop, IfSome, option_and_then, MatchOption, MatchResult};
+ghost use Rattle.std.specs.Prelude.{◌≡◌, ◌≢◌, ◌<◌, None, map, drop, replicate, IfSome, IsTrue, MatchBool};
+ghost use Rattle.std.specs.Prelude.{option_map, option_and_then};
+ghost use Rattle.json.specs.Json.{object};
 ghost use Rattle.json_table.specs.Tails.{last_members, IsTail};
 ghost use Rattle.shared_core_json_reader.specs.Reading.{present};
-ghost use Rattle.make_lines.specs.Appending.{HasFault};
-ghost use Rattle.make_lines.specs.Members.{is_known, has_key, members_fault, shape_fault};
+ghost use Rattle.make_lines.specs.Appending.{said_of, HasFault};
+ghost use Rattle.make_lines.specs.Members.{is_known, has_key, members_fault, pairs_fault};
 ghost use Rattle.make_lines.specs.Members.{given, given_either, gives_both};
 ghost use Rattle.make_lines.specs.Places.{names, index_in, place_of, name_at, place_count, first_value, ArePlaces};
 
 use crate::error::{LineError, LineReason};
-use crate::reject::reject;
-use json_table::{Members, Node, Shape};
+use crate::reject::{Fault, reject};
+use json_table::{Members, Node};
 use shared_core_json_reader::Reason;
 use std::alloc::Global;
 use std::marker::Model;
 
+/// How many places there are.
+pub const PLACES: usize = 14;
+
 /// The names of the members that a line may have, in the order in which a dump has them; the place of a name is its
 /// index.
-static NAMES: [&str; 14] = [
+static NAMES: [&str; PLACES] = [
     "offset",
     "type",
     "code",
@@ -37,32 +42,35 @@ static NAMES: [&str; 14] = [
 ];
 
 /// The place of the member `type`; the names of the other places are their names.
-pub const TYPE: usize = 1;
+pub const TYPE: u8 = 1;
 
-pub const CODE: usize = 2;
+pub const CODE: u8 = 2;
 
-pub const REQUESTED_ACK: usize = 4;
+pub const REQUESTED_ACK: u8 = 4;
 
-pub const HEADER: usize = 5;
+pub const HEADER: u8 = 5;
 
-pub const MESSAGE: usize = 6;
+pub const MESSAGE: u8 = 6;
 
-pub const BYTES: usize = 7;
+pub const BYTES: u8 = 7;
 
-pub const UNKNOWN: usize = 9;
+pub const UNKNOWN: u8 = 9;
 
-pub const REST: usize = 11;
+pub const REST: u8 = 11;
 
-pub const PAYLOAD: usize = 12;
+pub const PAYLOAD: u8 = 12;
 
-pub const ACK: usize = 13;
+pub const ACK: u8 = 13;
+
+/// The place of no member, whose name is empty: that of the line itself.
+pub const LINE: u8 = 14;
 
 /// The value of a line: an object of members that a line may have. A contract sees the value.
 #[derive(Drop)]
 pub struct Line<'t, 'a> {
     members: Members<'t, 'a>,
-    /// With how many entries the members end that begin with the one of a place's name.
-    places: [Option<usize>; 14],
+    /// With how many entries the members end that begin with the one of a place's name; 0 if there is none.
+    places: &'t [usize; PLACES],
 }
 
 impl<'t, 'a> Model for Line<'t, 'a> {
@@ -77,7 +85,7 @@ impl<'t, 'a> Model for Line<'t, 'a> {
 
     ghost view = { λ a. object a.members };
 
-    ghost invariant = { λ a. ArePlaces a.members a.places };
+    ghost invariant = { λ a. ArePlaces a.members a.places.now };
 }
 
 /// The names of the members that a line may have.
@@ -85,6 +93,16 @@ fn names() -> &'static [&'static str]
     ensures { map (λ s. s.now) result.now ≡ names }
 {
     &NAMES
+}
+
+/// The name of a place.
+pub fn name_at(place: u8) -> &'static str
+    ensures { result.now ≡ name_at place }
+{
+    match names().get(usize::from(place)) {
+        Some(name) => *name,
+        None => "",
+    }
 }
 
 /// The place of the first of the names, from a place on, that is a key.
@@ -142,7 +160,7 @@ fn has_key(key: &str, members: &Members<'_, '_>) -> bool
 
 /// The fault of the first member whose key a line may not have, or whose key occurs again.
 #[cold]
-fn first_fault(alloc: Global, members: &Members<'_, '_>) -> LineError
+pub fn first_fault(alloc: Global, members: &Members<'_, '_>) -> LineError
     requires { members_fault members.now ≢ None }
     ensures { HasFault (members_fault members.now) result }
 {
@@ -158,28 +176,27 @@ fn first_fault(alloc: Global, members: &Members<'_, '_>) -> LineError
     unreachable!()
 }
 
-/// Where the member of each name is; none if a key is one that a line may not have, or occurs twice.
+/// Finds where the member of each name is, and returns whether there are no other members and none twice.
 #[inline(always)]
-fn places_of(members: &Members<'_, '_>) -> Option<[Option<usize>; 14]>
-    ensures places { IfSome result (λ places. ArePlaces members.now places) }
-    ensures fault { MatchOption result (members_fault members.now ≢ None)
-        (λ _. members_fault members.now ≡ None) }
+pub fn find_places(members: &Members<'_, '_>, places: &mut [usize; PLACES]) -> bool
+    requires { places.old ≡ replicate place_count 0 }
+    ensures places { IsTrue result → ArePlaces members.now places.new }
+    ensures fault { MatchBool result (members_fault members.now ≡ None) (members_fault members.now ≢ None) }
 {
-    let mut places = [None; 14];
     let mut rest = members.copy();
     let mut next = 0;
     loop {
         let left = rest.left();
         let Some((key, _)) = rest.next() else {
-            return Some(places);
+            return true;
         };
         let Some(place) = next_place(&mut next, key) else {
-            return None;
+            return false;
         };
-        if places[place].is_some() {
-            return None;
+        if places[place] != 0 {
+            return false;
         }
-        places[place] = Some(left);
+        places[place] = left;
     }
 }
 
@@ -193,44 +210,45 @@ fn first_present<'t, 'a>(members: &Members<'t, 'a>, left: usize) -> Option<Node<
 }
 
 impl<'t, 'a> Line<'t, 'a> {
-    /// Checks that a value is an object of members that a line may have, none of them twice or under two names, and
-    /// returns it as a line.
-    #[tactic(auto, unfolding(crate::specs::Members::shape_fault))]
-    pub fn of_value(alloc: Global, value: &Node<'t, 'a>) -> Result<Line<'t, 'a>, LineError>
-        ensures { MatchResult result (λ line. (line ≡ value.now) × (shape_fault value.now ≡ None))
-            (HasFault (shape_fault value.now)) }
+    /// The line of these members, by where those of each name are.
+    #[inline(always)]
+    pub fn new(members: Members<'t, 'a>, places: &'t [usize; PLACES]) -> Line<'t, 'a>
+        requires { ArePlaces members places.now }
+        ensures { result ≡ object members.entry }
     {
-        let Shape::Object(members) = value.shape() else {
-            return Err(reject(alloc, LineReason::Json(Reason::WrongKind), ""));
-        };
-        let Some(places) = places_of(&members) else {
-            return Err(first_fault(alloc, &members));
-        };
-        let line = Line { members, places };
-        if line.gives_both(BYTES, PAYLOAD) {
-            return Err(reject(alloc, LineReason::SeveralPayloads, ""));
+        Line { members, places }
+    }
+
+    /// The fault of two members that give the same under two names.
+    #[inline(always)]
+    pub fn pairs_fault(&self) -> Option<Fault>
+        ensures { option_map (said_of self.now) result ≡ pairs_fault self.now }
+    {
+        if self.gives_both(BYTES, PAYLOAD) {
+            return Some(Fault::at(LINE, LineReason::SeveralPayloads));
         }
-        if line.gives_both(REQUESTED_ACK, ACK) {
-            return Err(reject(alloc, LineReason::Json(Reason::RepeatedMember), "ack"));
+        if self.gives_both(REQUESTED_ACK, ACK) {
+            return Some(Fault::at(ACK, LineReason::Json(Reason::RepeatedMember)));
         }
-        Ok(line)
+        None
     }
 
     /// The value of the member of a place, if it is present and not null.
     #[inline(always)]
-    pub fn given(&self, place: usize) -> Option<Node<'t, 'a>>
+    pub fn given(&self, place: u8) -> Option<Node<'t, 'a>>
         requires { place < place_count }
         ensures { result ≡ given (name_at place) self.now }
     {
-        match self.places[place] {
-            Some(left) => first_present(&self.members, left),
-            None => None,
+        let left = self.places[usize::from(place)];
+        if left == 0 {
+            return None;
         }
+        first_present(&self.members, left)
     }
 
     /// The value of a member by either of its names.
     #[inline(always)]
-    pub fn given_either(&self, place: usize, other: usize) -> Option<Node<'t, 'a>>
+    pub fn given_either(&self, place: u8, other: u8) -> Option<Node<'t, 'a>>
         requires { (place < place_count) × (other < place_count) }
         ensures { result ≡ given_either (name_at place) (name_at other) self.now }
     {
@@ -242,7 +260,7 @@ impl<'t, 'a> Line<'t, 'a> {
 
     /// Whether both names have values.
     #[inline(always)]
-    fn gives_both(&self, place: usize, other: usize) -> bool
+    fn gives_both(&self, place: u8, other: u8) -> bool
         requires { (place < place_count) × (other < place_count) }
         ensures { result ≡ gives_both (name_at place) (name_at other) self.now }
     {

@@ -1,15 +1,45 @@
 //! The errors of lines, with the paths to the rejected values.
+//!
+//! What reads the members of a line hands back a `Fault`, which is a few bytes and copied at each step; the error, with
+//! its texts, is made of it once.
 
-ghost use Rattle.std.specs.Prelude.{◌≡◌, ◌≢◌, [], None, IfOk};
+ghost use Rattle.std.specs.Prelude.{◌≡◌, ◌≢◌, [], None, option_map, IfOk};
 ghost use Rattle.std.specs.String.{string_bytes};
-ghost use Rattle.make_lines.specs.Errors.{lack, fault_of, at, inside as fault_inside, no_type_named, path_inside};
+ghost use Rattle.make_lines.specs.Errors.{lack, fault_of, at, inside as fault_inside, path_inside};
 ghost use Rattle.make_lines.specs.declared.error.LineReason.TheVariants as variant;
-ghost use Rattle.make_lines.specs.Appending.{text_fault};
+ghost use Rattle.make_lines.specs.Places.{name_at};
+ghost use Rattle.make_lines.specs.Appending.{said_of, untyped, text_fault};
 
 use crate::error::{LineError, LineReason};
+use crate::members::{LINE, Line, TYPE, name_at};
 use crate::text::is_cut_off;
 use shared_core_json_reader::{JsonReadError, Reason};
 use std::alloc::{AllocError, Global};
+
+/// Why a line is rejected: for the value of the member of a place, or for itself if the place is `LINE`. If no type has
+/// its type's name, the line has that name.
+#[derive(Clone, Copy, Drop)]
+pub struct Fault {
+    pub reason: LineReason,
+    pub place: u8,
+}
+
+impl Fault {
+    /// The fault of the value of a place.
+    #[inline(always)]
+    pub fn at(place: u8, reason: LineReason) -> Fault
+        ensures { (result.reason ≡ reason) × (result.place ≡ place) }
+    {
+        Fault { reason, place }
+    }
+
+    /// The fault of a failed allocation.
+    pub fn out_of_memory() -> Fault
+        ensures { result.reason ≡ lack }
+    {
+        Fault::at(LINE, LineReason::Json(Reason::OutOfMemory))
+    }
+}
 
 /// The error of a failed allocation.
 pub fn out_of_memory(alloc: Global) -> LineError
@@ -68,19 +98,41 @@ pub fn reject(alloc: Global, reason: LineReason, member: &str) -> LineError
     }
 }
 
-/// The error for a name that no named type has.
-pub fn reject_name(alloc: Global, name: &str) -> LineError
-    ensures { result.reason ≢ lack → fault_of result ≡ no_type_named name.now }
+/// A copy of the name that no type has, if that is the reason.
+fn untyped(
+    alloc: Global,
+    reason: LineReason,
+    line: &Line<'_, '_>,
+) -> Result<Option<String>, AllocError>
+    ensures { IfOk result (λ name. option_map string_bytes name ≡ untyped reason line.now) }
 {
-    let Ok(copy) = copied(alloc, name) else {
+    if reason != LineReason::UnknownType {
+        return Ok(None);
+    }
+    let Some(ty) = line.given(TYPE) else {
+        return Ok(None);
+    };
+    match ty.as_str() {
+        Some(name) => Ok(Some(copied(alloc, name)?)),
+        None => Ok(None),
+    }
+}
+
+/// The error that a fault of a line is.
+#[cold]
+pub fn error_of(alloc: Global, line: &Line<'_, '_>, fault: Fault) -> LineError
+    ensures reason { result.reason ≢ lack → result.reason ≡ fault.reason }
+    ensures fault { result.reason ≢ lack → fault_of result ≡ said_of line.now fault }
+{
+    let Ok(path) = copied(alloc, name_at(fault.place)) else {
         return out_of_memory(alloc);
     };
-    match copied(alloc, "type") {
-        Ok(path) => LineError {
-            reason: LineReason::UnknownType,
+    match untyped(alloc, fault.reason, line) {
+        Ok(name) => LineError {
+            reason: fault.reason,
             offset: None,
             path,
-            name: Some(copy),
+            name,
         },
         Err(_) => out_of_memory(alloc),
     }

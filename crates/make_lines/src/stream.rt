@@ -3,12 +3,13 @@
 ghost use Rattle.std.specs.Prelude.{◌≡◌, ◌++◌, ℕ, List, [], false};
 ghost use Rattle.std.specs.Io.KnownBytes.{Appends, Consumes};
 ghost use Rattle.make_lines.specs.Lines.{line_made};
-ghost use Rattle.make_lines.specs.Appending.{IsRejected};
+ghost use Rattle.make_lines.specs.Appending.{IsRejected, AppendsLine};
 ghost use Rattle.make_lines.specs.Made.{has_newline, IsMade};
 ghost use Rattle.make_lines.specs.Steps.{IsTaken, IsStep, IsFinished, LineIsTaken};
 
 use crate::error::{LineError, LineReason, MakeError};
 use crate::line::{Buffers, append_line};
+use crate::reject::out_of_memory;
 use memchr::memchr;
 use shared_core_base::version::Version;
 use shared_core_io::read_some;
@@ -38,23 +39,45 @@ pub struct Rejected {
     pub error: LineError,
 }
 
-/// Takes the pending bytes as a line.
+/// Appends what the line means that the pending bytes and then these are. A line that came in one piece is not copied.
+fn append_ended(
+    alloc: Global,
+    version: Version,
+    end: &[u8],
+    buffers: &mut Buffers,
+    lines: &mut Lines,
+) -> Result<(), LineError>
+    ensures made { AppendsLine version (lines.old.pending.items ++ end.now) result
+        lines.old.made.items lines.new.made.items }
+    ensures taken { lines.new.taken ≡ lines.old.taken }
+{
+    if lines.pending.is_empty() {
+        return append_line(alloc, version, end, buffers, &mut lines.made);
+    }
+    match lines.pending.extend_from_slice(end) {
+        Ok(()) => append_line(
+            alloc,
+            version,
+            lines.pending.as_slice(),
+            buffers,
+            &mut lines.made,
+        ),
+        Err(_) => Err(out_of_memory(alloc)),
+    }
+}
+
+/// Takes the pending bytes, and then these, as a line.
 fn take_line(
     alloc: Global,
     version: Version,
+    end: &[u8],
     buffers: &mut Buffers,
     lines: &mut Lines,
 ) -> Result<Option<Rejected>, AllocError>
-    ensures { LineIsTaken (line_made version) (IsRejected version) result lines.old lines.new }
+    ensures { LineIsTaken (line_made version) (IsRejected version) end.now result lines.old lines.new }
 {
     let number = lines.taken.saturating_add(1);
-    match append_line(
-        alloc,
-        version,
-        lines.pending.as_slice(),
-        buffers,
-        &mut lines.made,
-    ) {
+    match append_ended(alloc, version, end, buffers, lines) {
         Ok(()) => {
             lines.taken = number;
             lines.pending.clear();
@@ -79,8 +102,7 @@ fn take_chunk(
 {
     let mut rest = chunk;
     while let Some(at) = memchr(b'\n', rest) {
-        lines.pending.extend_from_slice(&rest[..at])?;
-        if let Some(rejected) = take_line(alloc, version, buffers, lines)? {
+        if let Some(rejected) = take_line(alloc, version, &rest[..at], buffers, lines)? {
             return Ok(Some(rejected));
         }
         rest = &rest[at + 1..];
@@ -127,7 +149,7 @@ fn finish<W: Write>(
         × Appends (W.contents output.old) (W.contents output.new) written
         × IsFinished (line_made version) (IsRejected version) result written lines.old }
 {
-    if let Some(rejected) = take_line(alloc, version, buffers, lines)? {
+    if let Some(rejected) = take_line(alloc, version, &[], buffers, lines)? {
         return Err(MakeError::Line(rejected.number, rejected.error));
     }
     write_whole(output, lines.made.as_slice())?;

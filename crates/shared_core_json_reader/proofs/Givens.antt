@@ -240,11 +240,12 @@ pub record Steps (s : ℕ) (ms rest : Members) (places : List Place) : Type 0 wh
   pub last : last_members (members_len rest) ms ≡ rest
   pub unknown : first_unknown (named_rows s) rest ≡ first_unknown (named_rows s) ms
 
-pub first_step : (s : ℕ) (ms : Members) (places : List Place) → places ≡ replicate 20 Absent → Steps s ms ms places
+pub first_step : (s : ℕ) (ms : Members) (places : List Place) → places ≡ replicate place_count Absent → Steps s ms ms
+    places
 first_step s ms places e = record {
-  count = ap length e ∙ length-replicate 20 Absent;
+  count = ap length e ∙ length-replicate place_count Absent;
   say = λ n h. subst (λ (p : Place). Says ms p (values_numbered s n ms) (values_numbered s n ms))
-      (sym (ap (λ (ps : List Place). get_or ps n Absent) e ∙ get_or-replicate 20 n Absent Absent h)) refl;
+      (sym (ap (λ (ps : List Place). get_or ps n Absent) e ∙ get_or-replicate place_count n Absent Absent h)) refl;
   last = last_whole ms;
   unknown = refl;
 }

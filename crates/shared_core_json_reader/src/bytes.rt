@@ -14,7 +14,7 @@ use crate::scalars::marked_text;
 use base64::DecodeAllocError;
 use base64::engine::general_purpose::{STANDARD_PAD_INDIFFERENT, URL_SAFE_PAD_INDIFFERENT};
 use json_table::Node;
-use shared_core_record_writer::{LENGTH, append_content, append_key, append_varint, put_length};
+use shared_core_record_writer::{append_content, append_prefix, put_length};
 use std::alloc::Global;
 
 /// The bytes that a value is: a string is their base64, and an object with the one member `text` has the text that they
@@ -94,9 +94,7 @@ fn append_base64(out: &mut Vec<u8>, plain: bool, number: u32, text: &[u8]) -> Re
     ensures reason { IfErr result (λ reason. reason ≢ Reason.OutOfMemory → reason ≡ Reason.NotBase64) }
 {
     let start = out.len();
-    append_key(out, number, LENGTH)?;
-    let place = out.len();
-    append_varint(out, decoded_len(text))?;
+    let place = append_prefix(out, number, decoded_len(text))?;
     let end = out.len();
     append_decoded(out, text)?;
     if is_left_out(plain, out.len(), end) {

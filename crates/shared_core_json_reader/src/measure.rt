@@ -1,7 +1,11 @@
-//! How long the content of messages that are nested deep is, before it is written.
+//! How long messages that are nested deep will be, before they are written.
 //!
-//! The lengths only say how much room to leave, so nothing is proved of them: the writer puts the length of what it has
-//! written, and moves it where the room was another one. Values that are rejected are measured as if they were absent.
+//! The length of a message comes before its fields. Of one that is not deep a byte is left for it, and the fields are
+//! moved if it takes more; in a deep tree a byte would be moved at each level above it. So the messages of the level
+//! `SHALLOW` are measured, with those within them, and as much room is left as the lengths take.
+//!
+//! A wrong length costs a move, and changes no byte: the writer puts the length of what it has written. So nothing is
+//! proved of these functions, and values that will be rejected are measured as if they were absent.
 
 ghost use Rattle.shared_core_json_reader.specs.Places.{ArePlaces};
 
@@ -16,7 +20,7 @@ use shared_core_wire::records::LEVELS;
 use shared_core_wire::varint::varint_len;
 use std::alloc::{AllocError, Global};
 
-/// How deep messages may be nested before they are measured: then few bytes are moved more than once.
+/// The level whose messages are measured: above it few bytes are moved more than once.
 const SHALLOW: u32 = 3;
 
 /// The lengths that were measured, in the order in which the messages are written.

@@ -31,7 +31,7 @@ use json_table::{Items, Members, Node, Shape};
 use shared_core_codec::rows::{Field, Kind, Row};
 use shared_core_json::names::name_of;
 use shared_core_record_writer::{
-    LENGTH, append_content, append_key, append_number, append_varint, put_length,
+    append_content, append_number, append_prefix, append_varint, put_length,
 };
 
 /// A step of the path to a value: a member by its name, or an element by its index.
@@ -75,6 +75,7 @@ impl<'a> Walk<'a> {
 
 /// Appends the payload of a message that may be nested this deep, itself included.
 #[cycle(message)]
+#[inline(always)]
 pub fn append_message<'a>(
     walk: &mut Walk<'a>,
     out: &mut Vec<u8>,
@@ -94,6 +95,7 @@ pub fn append_message<'a>(
 
 /// Appends the records of an object of a schema.
 #[cycle(message)]
+#[inline(always)]
 fn append_object<'a>(
     walk: &mut Walk<'a>,
     out: &mut Vec<u8>,
@@ -218,6 +220,7 @@ fn given_or_noted<'t, 'a>(
 
 /// Appends the record of a field that is not repeated; a default is left out if the field is plain.
 #[cycle(message)]
+#[inline(always)]
 fn append_given<'t, 'a>(
     walk: &mut Walk<'a>,
     out: &mut Vec<u8>,
@@ -238,8 +241,10 @@ fn append_given<'t, 'a>(
         (in_schema places.now.schema field.now) (given (in_schema places.now.schema field.now) members.now))
         walk.new.trail.items }
 {
-    let Some(value) = given_or_noted(walk, field, members, places)? else {
-        return Ok(());
+    let value = match given(members, places, field) {
+        Ok(Some(value)) => value,
+        Ok(None) => return Ok(()),
+        Err(reason) => return Err(walk.note_field(places.schema, field, reason)),
     };
     match append_value(walk, out, plain, places.schema, field, &value, left) {
         Ok(()) => Ok(()),
@@ -383,9 +388,7 @@ fn append_run<'a>(
     if items.is_empty() {
         return Ok(());
     }
-    append_key(out, number, LENGTH)?;
-    let place = out.len();
-    append_varint(out, 0)?;
+    let place = append_prefix(out, number, 0)?;
     let end = out.len();
     append_numbers(walk, out, items)?;
     put_length(out, place, end)?;
@@ -417,6 +420,7 @@ fn append_numbers<'a>(
 
 /// Appends the record of a single value of a field of a schema; a default is left out if it is of a plain field.
 #[cycle(message)]
+#[inline(always)]
 fn append_value<'a>(
     walk: &mut Walk<'a>,
     out: &mut Vec<u8>,
@@ -444,9 +448,8 @@ fn append_value<'a>(
         Kind::Text => append_content(out, plain, field.0, read_text(value)?)?,
         Kind::ByteString => append_bytes(out, plain, field.0, value)?,
         Kind::Message(nested) => {
-            append_key(out, field.0, LENGTH)?;
-            let place = out.len();
-            append_varint(out, walk.lengths.next(nested, value, left)?)?;
+            let room = walk.lengths.next(nested, value, left)?;
+            let place = append_prefix(out, field.0, room)?;
             let end = out.len();
             append_message(walk, out, nested, value, left)?;
             put_length(out, place, end)?;

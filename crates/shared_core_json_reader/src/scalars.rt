@@ -1,17 +1,15 @@
 //! The numbers, texts and bytes that single JSON values mean.
 
-ghost use Rattle.std.specs.Prelude.{◌≡◌, ◌≢◌, ◌<◌, ◌^◌, Some, None, option_map, IfOk, IfErr, OnErr, MatchResult};
-ghost use Rattle.std.specs.Prelude.{IfSome, decimal};
-ghost use Rattle.json.specs.Word.{after_minus, head};
+ghost use Rattle.std.specs.Prelude.{◌≡◌, ◌<◌, ◌^◌, Some, None, map, option_map, decimal, IfSome, IfErr, MatchResult};
+ghost use Rattle.json.specs.Word.{after_minus};
 ghost use Rattle.shared_core_json_reader.specs.Rows.{value_view};
-ghost use Rattle.std.specs.Prelude.{map};
 ghost use Rattle.shared_core_wire.specs.Schema.{Enumeration};
 ghost use Rattle.shared_core_wire.specs.Canonical.{written_number};
 ghost use Rattle.shared_core_json_reader.specs.Scalars.{number_text, whole_of_text, whole_read};
 ghost use Rattle.shared_core_json_reader.specs.Scalars.{unsigned_read, boolean_read, signed_bits};
 ghost use Rattle.shared_core_json_reader.specs.Scalars.{value_named, enum_read, text_read};
-ghost use Rattle.shared_core_json_reader.specs.Scalars.{only_text, marked_text, base64_bytes, bytes_read};
-ghost use Rattle.shared_core_json_reader.specs.FirstError.{number_text_reason, number_reason, bytes_reason};
+ghost use Rattle.shared_core_json_reader.specs.Scalars.{only_text, marked_text};
+ghost use Rattle.shared_core_json_reader.specs.FirstError.{number_text_reason, number_reason};
 ghost use Rattle.shared_core_json_reader.specs.Views.{whole_view};
 
 use crate::error::Reason;

@@ -31,6 +31,17 @@ short_content plain n content old first mid h l k a b =
     (sym (short_key n 2 h (omega arith)))
     ∙ ap (λ (b : Bool). old ++ cond b [] (key_bytes n 2 ++ (shortest_varint (length content) ++ content))) (sym k)
 
+pub short_prefix : (n len : ℕ) (old first new : List ℕ) → n < 16 → len < 128 → first ≡ old ++ (8 * n + 2) ∷ []
+    → new ≡ first ++ len ∷ [] → (first ≡ old ++ key_bytes n 2)
+    × (new ≡ (old ++ key_bytes n 2) ++ shortest_varint len)
+short_prefix n len old first new h l a b =
+    let key : first ≡ old ++ key_bytes n 2 = a ∙ ap (λ (xs : List ℕ). old ++ xs) (sym (short_key n 2 h (omega arith)))
+    in (
+      key,
+      b ∙ ap (λ (xs : List ℕ). xs ++ len ∷ []) key
+          ∙ ap (λ (xs : List ℕ). (old ++ key_bytes n 2) ++ xs) (sym (shortest_small len l)),
+    )
+
 pub not_plain : (plain left : Bool) → plain ≡ false → plain && left ≡ false
 not_plain true left h = absurd cc
 not_plain false left h = refl

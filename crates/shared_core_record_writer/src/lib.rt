@@ -9,5 +9,5 @@ mod records;
 mod short;
 
 pub use lengths::{content_len, number_len};
-pub use records::{LENGTH, append_key, append_varint};
-pub use short::{append_content, append_number, put_length};
+pub use records::{LENGTH, append_varint};
+pub use short::{append_content, append_number, append_prefix, put_length};

@@ -1,13 +1,13 @@
 //! Varints, keys and records, appended to a payload.
 
-ghost use Rattle.std.specs.Prelude.{◌≡◌, ◌+◌, ◌*◌, ◌<◌, ◌++◌, OnOk};
+ghost use Rattle.std.specs.Prelude.{◌≡◌, ◌+◌, ◌*◌, ◌<◌, ◌++◌, IfOk, OnOk, length};
 ghost use Rattle.shared_core_wire.specs.Encoding.{shortest_varint, key_bytes};
 ghost use Rattle.shared_core_record_writer.specs.Records.{number_record, content_record};
 
 use std::alloc::AllocError;
 
 /// The wire type of a varint.
-pub const VARINT: u32 = 0;
+pub(crate) const VARINT: u32 = 0;
 
 /// The wire type of length-delimited bytes.
 pub const LENGTH: u32 = 2;
@@ -26,11 +26,23 @@ pub fn append_varint(out: &mut Vec<u8>, number: u64) -> Result<(), AllocError>
 }
 
 /// Appends the key of a record of a wire type, which is below 8.
-pub fn append_key(out: &mut Vec<u8>, number: u32, wire: u32) -> Result<(), AllocError>
+fn append_key(out: &mut Vec<u8>, number: u32, wire: u32) -> Result<(), AllocError>
     requires { wire < 8 }
     ensures { OnOk result (out.new.items ≡ out.old.items ++ key_bytes number wire) }
 {
     append_varint(out, 8 * u64::from(number) + u64::from(wire))
+}
+
+/// Appends what a record of bytes begins with: its key, and their number as a varint. Returns where the latter begins.
+pub(crate) fn append_prefix(out: &mut Vec<u8>, number: u32, size: u64) -> Result<usize, AllocError>
+    ensures bytes { OnOk result (out.new.items
+        ≡ (out.old.items ++ key_bytes number 2) ++ shortest_varint size) }
+    ensures place { IfOk result (λ place. place ≡ length (out.old.items ++ key_bytes number 2)) }
+{
+    append_key(out, number, LENGTH)?;
+    let place = out.len();
+    append_varint(out, size)?;
+    Ok(place)
 }
 
 /// Appends the record of a number; 0 is left out in a plain field.

@@ -1,8 +1,8 @@
 //! Records whose key and length, or number, are a byte each, as most are: appended without a loop, and with one test
 //! for room. All others are appended by `records`, and put by `lengths`.
 
-ghost use Rattle.std.specs.Prelude.{◌≡◌, ◌-◌, ◌≤◌, ◌++◌, OnOk, length, take, drop};
-ghost use Rattle.shared_core_wire.specs.Encoding.{shortest_varint};
+ghost use Rattle.std.specs.Prelude.{◌≡◌, ◌-◌, ◌≤◌, ◌++◌, IfOk, OnOk, length, take, drop};
+ghost use Rattle.shared_core_wire.specs.Encoding.{shortest_varint, key_bytes};
 ghost use Rattle.shared_core_record_writer.specs.Records.{number_record, content_record};
 
 use crate::{lengths, records};
@@ -47,6 +47,23 @@ pub fn append_content(
     out.push_reserved(8 * number as u8 + 2);
     out.push_reserved(content.len() as u8);
     out.extend_from_slice(content)
+}
+
+/// Appends what a record of bytes begins with: its key, and their number as a varint. Returns where the latter begins.
+#[inline(always)]
+pub fn append_prefix(out: &mut Vec<u8>, number: u32, size: u64) -> Result<usize, AllocError>
+    ensures bytes { OnOk result (out.new.items
+        ≡ (out.old.items ++ key_bytes number 2) ++ shortest_varint size) }
+    ensures place { IfOk result (λ place. place ≡ length (out.old.items ++ key_bytes number 2)) }
+{
+    if number >= SHORT_KEYS || size >= 128 {
+        return records::append_prefix(out, number, size);
+    }
+    out.reserve(2)?;
+    out.push_reserved(8 * number as u8 + 2);
+    let place = out.len();
+    out.push_reserved(size as u8);
+    Ok(place)
 }
 
 /// Puts the length of what comes from `end` on in the place of the bytes from `place` to there, as a varint. What comes

@@ -2,15 +2,17 @@ use Rattle.std.proofs.Common.{◌≡◌, ℕ, Some, None, slice_set, sym, ap, su
 use Rattle.json.specs.Json.{Members, member}
 use Rattle.json_table.specs.Tails.{members_len}
 use Rattle.make_lines.specs.Places.{place_of}
-use Rattle.make_lines.proofs.Placing.{ArePlacesSoFar, AreWellSoFar, nones, no_places, no_keys, placed, taken}
+use Rattle.make_lines.proofs.Placing.{ArePlacesSoFar, AreWellSoFar, no_places, no_keys, placed, taken, some_left}
 use Rattle.make_lines.proofs.Placing.{no_place_fault, taken_fault}
-use Rattle.make_lines.proofs.members.places_of.Goals as goal
+use Rattle.make_lines.proofs.members.find_places.Goals as goal
 
 pub loop-next-init : goal.loop-next-init
 loop-next-init c =
     let ms = c.args.members.now in (
-      subst (λ (rest : Members). ArePlacesSoFar ms rest nones) (sym c.copy-rest.ensures) (no_places ms),
-      subst (λ (rest : Members). AreWellSoFar ms rest nones) (sym c.copy-rest.ensures) (no_keys ms),
+      subst (λ (rest : Members). ArePlacesSoFar ms rest c.args.places.now) (sym c.copy-rest.ensures)
+          (subst (λ places. ArePlacesSoFar ms ms places) (sym c.requires) (no_places ms)),
+      subst (λ (rest : Members). AreWellSoFar ms rest c.args.places.now) (sym c.copy-rest.ensures)
+          (subst (λ places. AreWellSoFar ms ms places) (sym c.requires) (no_keys ms)),
     )
 
 pub returns-in_default-next_place-clause-fault : goal.returns-in_default-next_place-clause-fault
@@ -22,15 +24,14 @@ returns-in_default-next_place-clause-fault c =
     no_place_fault ms c.next.new.self k c.in-Some.field-0-1 l.places
     (subst (λ (r : Members). AreWellSoFar ms r l.places) c.in-Some.ensures l.invariant.1) none
 
-pub returns-then-is_some-clause-fault : goal.returns-then-is_some-clause-fault
-returns-then-is_some-clause-fault c =
+pub returns-then-places-place-ne0-clause-fault : goal.returns-then-places-place-ne0-clause-fault
+returns-then-places-place-ne0-clause-fault c =
     let l = c.loop-next in
     let ms = c.args.members.now in
     let k = c.in-Some.key.now in
     let found : place_of k ≡ Some c.in-Some-next_place.place = cc in
     taken_fault ms c.next.new.self k c.in-Some.field-0-1 l.places c.in-Some-next_place.place l.invariant.0.many found
-    (subst (λ (r : Members). AreWellSoFar ms r l.places) c.in-Some.ensures l.invariant.1)
-    (sym c.is_some.ensures ∙ c.if-is_some.true)
+    (subst (λ (r : Members). AreWellSoFar ms r l.places) c.in-Some.ensures l.invariant.1) c.if-places-place-ne0.true
 
 pub loop-next-preserved : goal.loop-next-preserved
 loop-next-preserved c =
@@ -46,8 +47,8 @@ loop-next-preserved c =
     let well = subst (λ (r : Members). AreWellSoFar ms r l.places) next l.invariant.1 in
     let left : members_len (member k j rest) ≡ c.left-left.result = ap members_len (sym next)
     ∙ sym c.left-left.ensures in (
-      subst (λ (n : ℕ). ArePlacesSoFar ms rest (slice_set l.places place (Some n))) left
+      subst (λ (n : ℕ). ArePlacesSoFar ms rest (slice_set l.places place n)) left
           (placed ms rest k j l.places so_far place found),
       taken ms rest k j l.places place so_far.many found well c.left-left.result
-          (sym c.is_some.ensures ∙ c.if-is_some.false),
+          (λ e. some_left k j rest (left ∙ e)) c.if-places-place-ne0.false,
     )

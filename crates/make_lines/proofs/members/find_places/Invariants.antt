@@ -1,6 +1,6 @@
 use Rattle.json_table.specs.Counts.{members_count}
 use Rattle.make_lines.proofs.Placing.{ArePlacesSoFar, AreWellSoFar}
-use Rattle.make_lines.proofs.members.places_of.Given as goal
+use Rattle.make_lines.proofs.members.find_places.Given as goal
 
 abbrev pub invariant-loop-next : goal.invariant-loop-next
 invariant-loop-next l = ArePlacesSoFar l.members l.rest l.places × AreWellSoFar l.members l.rest l.places
