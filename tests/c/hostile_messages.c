@@ -163,8 +163,6 @@ static int64_t written_in(uint32_t schema, const union journal_record *record, s
 
     for (size_t size = 0; size + 14 < needed; size += step) {
         arena = arena_of(size, shift, &made);
-        arena.source = last->source;
-        arena.source_length = last->source_length;
         check(journal_write_record(schema, record, &arena, NULL, 0) == JOURNAL_NO_ROOM, "a small arena is enough");
         check(arena.left == size && arena.lacking > 0, "the arena after a record that is not written");
         calls++;
@@ -172,8 +170,6 @@ static int64_t written_in(uint32_t schema, const union journal_record *record, s
         free(made);
     }
     arena = arena_of(needed, shift, &made);
-    arena.source = last->source;
-    arena.source_length = last->source_length;
     result = journal_write_record(schema, record, &arena, NULL, 0);
     calls++;
     check(arena.left == needed && result != JOURNAL_NO_ROOM, "the arena after a record that is written");
@@ -184,14 +180,12 @@ static int64_t written_in(uint32_t schema, const union journal_record *record, s
 
 /* Writes a record, with an arena of no bytes where that is enough, and with room of every kind. Returns the length, and
    puts the payload where there is one. */
-static int64_t written(uint32_t schema, const union journal_record *record, const uint8_t *source, size_t source_length,
-                       uint8_t **payload, struct journal_arena *last) {
+static int64_t written(uint32_t schema, const union journal_record *record, uint8_t **payload,
+                       struct journal_arena *last) {
     struct journal_arena arena = journal_arena_of(NULL, 0);
     uint8_t *made = NULL, *out;
     int64_t result;
 
-    arena.source = source;
-    arena.source_length = source_length;
     result = journal_write_record(schema, record, &arena, NULL, 0);
     calls++;
     *payload = NULL;
@@ -275,11 +269,8 @@ static void read_and_write(uint32_t schema, const uint8_t *payload, size_t lengt
         }
         free(little_made);
     }
-    result = written(schema, &record, arena.source, arena.source_length, &again, &last);
+    result = written(schema, &record, &again, &last);
     check(result == canonical && (again == NULL || memcmp(again, wanted, (size_t)result) == 0), "what is written");
-    free(again);
-    result = written(schema, &record, NULL, 0, &again, &last);
-    check(result == canonical && (again == NULL || memcmp(again, wanted, (size_t)result) == 0), "what is copied");
     free(again);
     free(made);
     free(wanted);
@@ -473,7 +464,7 @@ static void made_record(void) {
     uint32_t schema = (uint32_t)below(JOURNAL_SCHEMAS);
     union journal_record record, again;
     struct journal_arena arena, last;
-    uint8_t *payload, *other, *made;
+    uint8_t *payload, *made;
     size_t size = 0, chain = below(8) == 0 ? 99 + below(5) : below(4);
     int64_t length, result;
 
@@ -485,11 +476,7 @@ static void made_record(void) {
     memset(&wrong, 0, sizeof wrong);
     given.used = 0;
     make_record(schema, (uint8_t *)&record, 0, chain);
-    length = written(schema, &record, NULL, 0, &payload, &last);
-    /* the same where some of its slices are within a source, or begin there */
-    result = written(schema, &record, given.bytes, below(given.used + 1), &other, &last);
-    check(result == length && (length <= 0 || memcmp(payload, other, (size_t)length) == 0), "what is partly copied");
-    free(other);
+    length = written(schema, &record, &payload, &last);
     if (wrong.kind != 0) {
         check(length == JOURNAL_MALFORMED, "a record that is wrong");
         check(last.rejected_kind == wrong.kind && last.rejected_schema == wrong.schema &&

@@ -1,6 +1,6 @@
 //! The entries of an alignment: runs of commands that are the same, and the differences between them.
 
-ghost use Rattle.std.specs.Prelude.{◌≡◌, ◌≤◌, ◌<◌, ◌++◌, ◌^◌, length, option_copied, IfOk, OnOk};
+ghost use Rattle.std.specs.Prelude.{◌≡◌, ◌≤◌, ◌<◌, ◌++◌, ◌^◌, option_copied, IfOk, OnOk};
 ghost use Rattle.std.specs.Option.{option_flatten};
 ghost use Rattle.edit_script.specs.Scripts as scripts;
 ghost use Rattle.replay_bench.specs.Verdicts as verdicts;

@@ -6,7 +6,7 @@ ghost use Rattle.json.specs.Token.{end_object, key};
 ghost use Rattle.json.specs.Token as token;
 ghost use Rattle.json.specs.Tree.{json_tokens, members_tokens};
 ghost use Rattle.diff_lines.specs.MovedJson.{change_word, changed_members, count_tokens, counts_members, entry_json};
-ghost use Rattle.diff_lines.specs.MovedJson.{entry_member, IsEntryJson, IsJsonText, IsWholeLine, line_of};
+ghost use Rattle.diff_lines.specs.MovedJson.{entry_member, IsEntryJson, IsJsonText, IsWholeLine};
 ghost use Rattle.diff_lines.specs.MovedJson.{place_tokens, said_member, type_tokens, whole_json};
 
 use crate::entries::{

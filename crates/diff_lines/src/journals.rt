@@ -1,6 +1,6 @@
 //! The calls that compare two journals from any sources, and write the verdict to any writer.
 
-ghost use Rattle.std.specs.Prelude.{◌≡◌, ◌++◌, ℕ, List, IfErr, IfOk, None, OnOk};
+ghost use Rattle.std.specs.Prelude.{◌≡◌, ℕ, List, IfErr, IfOk, None, OnOk};
 ghost use Rattle.std.specs.Io.KnownBytes.{Appends};
 ghost use Rattle.std.specs.String.{string_bytes};
 ghost use Rattle.diff_lines.specs.Moved.{IsFormText, IsShownForm, ReportsAligned, ReportsMoved};
@@ -17,10 +17,9 @@ use crate::json_line::json_line;
 use crate::passed_over::{Trouble, strict_trouble};
 use crate::shown::shown_text;
 use replay_bench::{
-    AlignedComparison, BenchError, Comparison, FieldDifference, ReaderError, Source, Survey,
-    Verdict, align_sources, survey_sources,
+    AlignedComparison, BenchError, Comparison, ComparisonOptions, FieldDifference, Journals,
+    ReaderError, Source, Survey, Verdict, align_sources, survey_sources,
 };
-use shared_core_base::version::Version;
 use std::alloc::{AllocError, Global};
 use std::error::Error;
 use std::fmt;
@@ -106,40 +105,30 @@ pub struct Findings {
     pub replayed: Survey,
 }
 
-/// Compares two journals of this version from two sources, writes the verdict in this form, a text in one line or in
+/// Compares two journals that sources of their version give, writes the verdict in this form, a text in one line or in
 /// several, and returns what the journals have and whether they are the same.
 ///
 /// Both are read to their ends. The line is written only once all of that is known and its whole text is made. If
-/// `is_strict`, an unknown header, a payload that is not well-formed, or bytes after the last whole item are an error:
-/// the first of them in the recorded journal, or else in the replayed one.
+/// the comparison is strict, an unknown header, a payload that is not well-formed, or bytes after the last whole item
+/// are an error: the first of them in the recorded journal, or else in the replayed one.
 #[tactic(auto, using(crate::proofs::Reporting::reported, crate::proofs::Reporting::report_fails))]
 pub fn diff<A: Source, B: Source, W: Write>(
     alloc: Global,
-    version: Version,
-    recorded: A,
-    replayed: B,
-    ignore_payloads: bool,
-    is_strict: bool,
+    journals: Journals<A, B>,
+    options: ComparisonOptions,
     form: Form,
     output: &mut W,
 ) -> Result<Findings, DiffError>
-    requires recorded { A.version recorded ≡ version }
-    requires replayed { B.version replayed ≡ version }
+    requires recorded { A.version journals.recorded ≡ journals.version }
+    requires replayed { B.version journals.replayed ≡ journals.version }
     ensures reported { (written : List ℕ)
         × Appends (W.contents output.old) (W.contents output.new) written
-        × Reports version ignore_payloads is_strict form
-        (A.coming recorded) (B.coming replayed) result written }
-    ensures failed { MayFailFor A.may_fail (A.limit recorded) B.may_fail (B.limit replayed) result }
+        × Reports journals.version options.ignore_payload_equality options.is_strict form
+        (A.coming journals.recorded) (B.coming journals.replayed) result written }
+    ensures failed { MayFailFor A.may_fail (A.limit journals.recorded) B.may_fail (B.limit journals.replayed) result }
 {
-    let found = survey_sources(
-        alloc,
-        version,
-        recorded,
-        replayed,
-        ignore_payloads,
-        is_strict,
-    )?;
-    pass_strictly(is_strict, &found)?;
+    let found = survey_sources(alloc, journals, options)?;
+    pass_strictly(options.is_strict, &found)?;
     report(alloc, found, form, output)
 }
 
@@ -151,33 +140,23 @@ pub fn diff<A: Source, B: Source, W: Write>(
 #[tactic(auto, using(crate::proofs::Reporting::reported_moved, crate::proofs::Reporting::moved_fails))]
 pub fn diff_all<A: Source, B: Source, W: Write>(
     alloc: Global,
-    version: Version,
-    recorded: A,
-    replayed: B,
-    ignore_payloads: bool,
-    is_strict: bool,
+    journals: Journals<A, B>,
+    options: ComparisonOptions,
     form: Form,
     is_colored: bool,
     output: &mut W,
 ) -> Result<Findings, DiffError>
-    requires recorded { A.version recorded ≡ version }
-    requires replayed { B.version replayed ≡ version }
+    requires recorded { A.version journals.recorded ≡ journals.version }
+    requires replayed { B.version journals.replayed ≡ journals.version }
     ensures reported { (written : List ℕ)
         × Appends (W.contents output.old) (W.contents output.new) written
-        × ReportsMoved version ignore_payloads is_strict form is_colored
-        (A.coming recorded) (B.coming replayed) result written }
-    ensures failed { MayFailFor A.may_fail (A.limit recorded) B.may_fail (B.limit replayed) result }
+        × ReportsMoved journals.version options.ignore_payload_equality options.is_strict form is_colored
+        (A.coming journals.recorded) (B.coming journals.replayed) result written }
+    ensures failed { MayFailFor A.may_fail (A.limit journals.recorded) B.may_fail (B.limit journals.replayed) result }
 {
-    let found = align_sources(
-        alloc,
-        version,
-        recorded,
-        replayed,
-        ignore_payloads,
-        is_strict,
-        ALIGNMENT_LIMIT,
-    )?;
-    pass_strictly(is_strict, &found.comparison)?;
+    let found = align_sources(alloc, journals, options, ALIGNMENT_LIMIT)?;
+    pass_strictly(options.is_strict, &found.comparison)?;
+    let ignore_payloads = options.ignore_payload_equality;
     report_moved(alloc, &found, ignore_payloads, form, is_colored, output)
 }
 
@@ -247,33 +226,21 @@ fn form_text(
 #[tactic(auto, using(crate::proofs::Reporting::reported_text, crate::proofs::Reporting::out_of_memory, crate::proofs::Reporting::colored_fails))]
 pub fn diff_with_colors<A: Source, B: Source, W: Write>(
     alloc: Global,
-    version: Version,
-    recorded: A,
-    replayed: B,
-    ignore_payloads: bool,
-    is_strict: bool,
+    journals: Journals<A, B>,
+    options: ComparisonOptions,
     form: Form,
     output: &mut W,
 ) -> Result<Findings, DiffError>
-    requires recorded { A.version recorded ≡ version }
-    requires replayed { B.version replayed ≡ version }
+    requires recorded { A.version journals.recorded ≡ journals.version }
+    requires replayed { B.version journals.replayed ≡ journals.version }
     ensures reported { (written : List ℕ)
         × Appends (W.contents output.old) (W.contents output.new) written
-        × ReportsWithColors version ignore_payloads is_strict form
-        (A.coming recorded) (B.coming replayed) result written }
-    ensures failed { MayFailFor A.may_fail (A.limit recorded) B.may_fail (B.limit replayed) result }
+        × ReportsWithColors journals.version options.ignore_payload_equality options.is_strict form
+        (A.coming journals.recorded) (B.coming journals.replayed) result written }
+    ensures failed { MayFailFor A.may_fail (A.limit journals.recorded) B.may_fail (B.limit journals.replayed) result }
 {
     let mut text = Vec::new(alloc);
-    let compared = diff(
-        alloc,
-        version,
-        recorded,
-        replayed,
-        ignore_payloads,
-        is_strict,
-        form,
-        &mut text,
-    );
+    let compared = diff(alloc, journals, options, form, &mut text);
     match compared {
         Ok(findings) => write_with_colors(alloc, findings, text.as_slice(), output),
         // a vector takes all, unless an allocation fails

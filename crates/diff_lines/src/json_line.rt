@@ -5,7 +5,6 @@ ghost use Rattle.json.specs.Json.{Members};
 ghost use Rattle.json.specs.Token.{key, end_object};
 ghost use Rattle.json.specs.Token as token;
 ghost use Rattle.json.specs.Tree.{json_tokens, members_tokens};
-ghost use Rattle.std.specs.String.{string_bytes};
 ghost use Rattle.diff_lines.specs.Json.{ended_members, field_json, field_members, fields_members};
 ghost use Rattle.diff_lines.specs.Json.{found_json, json_line, mismatch_members};
 ghost use Rattle.diff_lines.specs.Json.{offset_tokens, verdict_members};

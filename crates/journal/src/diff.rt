@@ -14,7 +14,7 @@ use diff_lines::{
     DiffError, Findings, Form, diff, diff_all, diff_with_colors, no_item_note, rest_note,
     unknown_note,
 };
-use replay_bench::{ReaderError, Side};
+use replay_bench::{ComparisonOptions, Journals, ReaderError, Side};
 use shared_core::encoding::ItemReader;
 use shared_core_base::version::Version;
 use std::io::{IsTerminal, Stdout};
@@ -71,61 +71,41 @@ fn run_parsed(call: &Call<'_>, parsed: &Arguments<'_>, inputs: Inputs) -> ExitCo
     requires { 5 ≤ version_number parsed.now.version }
 {
     let progress = Progress::new(call.rt, call.name, inputs.size());
-    let recorded = ItemReader::with_limit(
-        call.rt.alloc(),
-        parsed.version,
-        parsed.limit,
-        Watched::new(inputs.recorded, &progress),
-    );
-    let replayed = ItemReader::with_limit(
-        call.rt.alloc(),
-        parsed.version,
-        parsed.limit,
-        Watched::new(inputs.replayed, &progress),
-    );
+    let alloc = call.rt.alloc();
+    let journals = Journals {
+        version: parsed.version,
+        recorded: ItemReader::with_limit(
+            alloc,
+            parsed.version,
+            parsed.limit,
+            Watched::new(inputs.recorded, &progress),
+        ),
+        replayed: ItemReader::with_limit(
+            alloc,
+            parsed.version,
+            parsed.limit,
+            Watched::new(inputs.replayed, &progress),
+        ),
+    };
+    let options = ComparisonOptions {
+        ignore_payload_equality: parsed.ignore_payloads,
+        is_strict: parsed.is_strict,
+    };
     let is_terminal = call.rt.stdout().is_terminal();
     let form = form_of(parsed.is_json, is_terminal);
     let mut output = Pipe::new(Escaping::new(
-        call.rt.alloc(),
+        alloc,
         call.rt.stdout(),
         Escapes::Json,
         is_terminal && parsed.is_json,
     ));
     let is_colored = !parsed.is_json && has_color(call.rt, parsed.color);
     let found = if parsed.is_all {
-        diff_all(
-            call.rt.alloc(),
-            parsed.version,
-            recorded,
-            replayed,
-            parsed.ignore_payloads,
-            parsed.is_strict,
-            form,
-            is_colored,
-            &mut output,
-        )
+        diff_all(alloc, journals, options, form, is_colored, &mut output)
     } else if is_colored {
-        diff_with_colors(
-            call.rt.alloc(),
-            parsed.version,
-            recorded,
-            replayed,
-            parsed.ignore_payloads,
-            parsed.is_strict,
-            form,
-            &mut output,
-        )
+        diff_with_colors(alloc, journals, options, form, &mut output)
     } else {
-        diff(
-            call.rt.alloc(),
-            parsed.version,
-            recorded,
-            replayed,
-            parsed.ignore_payloads,
-            parsed.is_strict,
-            form,
-            &mut output,
-        )
+        diff(alloc, journals, options, form, &mut output)
     };
     progress.clear();
     end(call, parsed.version, found, &output)

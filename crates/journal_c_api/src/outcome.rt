@@ -3,8 +3,8 @@
 //! What is given the result of a call, or of a notification, names it `outcome`: in a contract `result` is what the
 //! function itself returns.
 
-ghost use Rattle.std.specs.Prelude.{◌≡◌, MatchOption};
-ghost use Rattle.journal_c_api.specs.Outcomes.{outcome_number, bytes_of, supported_version};
+ghost use Rattle.std.specs.Prelude.{◌≡◌};
+ghost use Rattle.journal_c_api.specs.Outcomes.{outcome_number, bytes_of};
 ghost use Rattle.journal_c_api.specs.Outcomes.{written_over, IsSpoken, Writes};
 
 use shared_core::header::UnknownMessageType;

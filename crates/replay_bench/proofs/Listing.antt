@@ -1,18 +1,8 @@
 -- Fields that are listed.
-use Rattle.std.proofs.Common.{◌≡◌, List, ℕ, [], ◌∷◌, ◌++◌, ◌∙◌, Option, Some, None, refl, sym, ap, append_assoc}
+use Rattle.std.proofs.Common.{◌≡◌, List, [], ◌∷◌, ◌++◌, ◌∙◌, sym, ap, append_assoc}
 use Rattle.std.proofs.Common.{append-nil}
-use Rattle.std.specs.Prelude.{IfSome, IsSome, unwrap_or}
 use Rattle.std.specs.List.{FoldsTo}
-use Rattle.std.proofs.lemmas.Bool.{both_ways}
 use Rattle.shared_core_compare.specs.Differences.{FieldTexts, HasWrittenFields}
-use Rattle.replay_bench.specs.declared.fields.FieldDifference.{FieldDifference}
-use Rattle.replay_bench.specs.Fields.{listed_texts, texts_of}
-
--- A text that is what is printed, where something is.
-pub text_is : (output : Option (List ℕ)) (text : List ℕ) → IsSome output → IfSome output (λ bytes. text ≡ bytes) → text
-    ≡ unwrap_or output []
-text_is None text some is = absurd (both_ways _ refl some)
-text_is (Some bytes) text some is = is
 
 module _ {T : Type 0} (texts : T → List FieldTexts) where
   -- How a field is written to what has fields already.

@@ -37,12 +37,6 @@ counts_found (Message message) = is_found (command_type_of message.header.ty) me
 counts_found (Unknown code) = refl
 counts_found (Skipped code payload) = refl
 
--- a survey is of no item, strict or not, as it says
-pub nothing_noted : (version : Version) (is_strict : Bool) (survey : Survey) → survey ≡ survey_of version is_strict [] 0
-    → survey ≡ survey_of version survey.is_strict [] 0
-nothing_noted version is_strict survey is =
-    subst (λ (strict : Bool). survey ≡ survey_of version strict [] 0) (sym (ap (λ (s : Survey). s.is_strict) is)) is
-
 module _ (version : Version) (is_strict : Bool) where
   -- ---- the items of a journal whose bytes are known
 

@@ -5,7 +5,6 @@ use Rattle.std.specs.Prelude.{count_by}
 use Rattle.std.proofs.lemmas.List.Sums.{count_by-le-length, sum_by-append}
 use Rattle.shared_core_base.specs.declared.version.Version.{Version}
 use Rattle.shared_core_stream.specs.declared.encoding.item.Item.{Item}
-use Rattle.shared_core_stream.specs.declared.encoding.item.Item.TheVariants.{Message, Unknown, Skipped}
 use Rattle.replay_bench.specs.declared.faults.Fault.{Fault}
 use Rattle.replay_bench.specs.declared.survey.Survey.{Survey}
 use Rattle.stream_lines.specs.Printing.{item_size, items_size}
@@ -14,9 +13,7 @@ use Rattle.replay_bench.specs.Survey.{is_skipped, is_unknown, last_command, surv
 
 -- an item has eight bytes at least
 pub eight : (item : Item) → 8 ≤ item_size item
-eight (Message message) = omega arith
-eight (Unknown code) = omega arith
-eight (Skipped code payload) = omega arith
+eight item = omega arith
 
 -- items have eight bytes each, at least
 eight_each : (items : List Item) → 8 * length items ≤ items_size items

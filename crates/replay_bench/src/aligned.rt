@@ -8,11 +8,10 @@ ghost use Rattle.replay_bench.specs.Verdicts.{MayFailOn};
 use crate::alignment::align_commands;
 use crate::commands::HeldCommands;
 use crate::comparison::find_verdict;
+use crate::journals::{ComparisonOptions, Journals};
 use crate::sources::Source;
 use crate::verdicts::{Comparison, ReaderError};
 use edit_script::Alignment;
-use shared_core::version::Version;
-use shared_core_io::ItemReader;
 use std::alloc::Global;
 use std::io::Read;
 
@@ -36,56 +35,32 @@ pub struct AlignedComparison {
 /// with the chunks that their payloads share, and are aligned when both journals were read to their ends.
 pub fn align_readers<A: Read + Drop, B: Read + Drop>(
     alloc: Global,
-    version: Version,
-    recorded: A,
-    replayed: B,
-    ignore_payload_equality: bool,
-    is_strict: bool,
+    journals: Journals<A, B>,
+    options: ComparisonOptions,
     limit: u32,
 ) -> Result<AlignedComparison, ReaderError>
-    requires { 5 ≤ version_number version }
-    ensures aligned { AlignsKnown version ignore_payload_equality is_strict limit
-        (A.remaining recorded) (B.remaining replayed) result }
+    requires { 5 ≤ version_number journals.version }
+    ensures aligned { AlignsKnown journals.version options.ignore_payload_equality options.is_strict limit
+        (A.remaining journals.recorded) (B.remaining journals.replayed) result }
     ensures unlimited { MayFailOn true 4294967295 true 4294967295 result }
 {
-    let recorded = ItemReader::new(alloc, version, recorded);
-    let replayed = ItemReader::new(alloc, version, replayed);
-    align_sources(
-        alloc,
-        version,
-        recorded,
-        replayed,
-        ignore_payload_equality,
-        is_strict,
-        limit,
-    )
+    align_sources(alloc, journals.into_sources(alloc), options, limit)
 }
 
-/// Compares, surveys and aligns two journals of any sources of this version, as `align_readers` does.
+/// Compares, surveys and aligns two journals of any sources of their version, as `align_readers` does.
 pub fn align_sources<A: Source, B: Source>(
     alloc: Global,
-    version: Version,
-    recorded: A,
-    replayed: B,
-    ignore_payload_equality: bool,
-    is_strict: bool,
+    journals: Journals<A, B>,
+    options: ComparisonOptions,
     limit: u32,
 ) -> Result<AlignedComparison, ReaderError>
-    requires recorded { A.version recorded ≡ version }
-    requires replayed { B.version replayed ≡ version }
-    ensures aligned { AlignsKnown version ignore_payload_equality is_strict limit
-        (A.coming recorded) (B.coming replayed) result }
-    ensures failed { MayFailOn A.may_fail (A.limit recorded) B.may_fail (B.limit replayed) result }
+    requires recorded { A.version journals.recorded ≡ journals.version }
+    requires replayed { B.version journals.replayed ≡ journals.version }
+    ensures aligned { AlignsKnown journals.version options.ignore_payload_equality options.is_strict limit
+        (A.coming journals.recorded) (B.coming journals.replayed) result }
+    ensures failed { MayFailOn A.may_fail (A.limit journals.recorded) B.may_fail (B.limit journals.replayed) result }
 {
-    let stopped = find_verdict(
-        alloc,
-        version,
-        recorded,
-        replayed,
-        ignore_payload_equality,
-        is_strict,
-        true,
-    )?;
+    let stopped = find_verdict(alloc, journals, options, true)?;
     let recorded_at = stopped.recorded.last_command();
     let replayed_at = stopped.replayed.last_command();
     let (recorded_held, recorded) = stopped.recorded.hold(alloc, stopped.recorded_next)?;
@@ -94,7 +69,7 @@ pub fn align_sources<A: Source, B: Source>(
         alloc,
         recorded_held.commands.as_slice(),
         replayed_held.commands.as_slice(),
-        ignore_payload_equality,
+        options.ignore_payload_equality,
         limit,
     )?;
     Ok(AlignedComparison {

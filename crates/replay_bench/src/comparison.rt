@@ -12,6 +12,7 @@ ghost use Rattle.replay_bench.specs.Verdicts.{recorded_ended, recorded_seen, rep
 ghost use Rattle.replay_bench.specs.Verdicts.{stopped_index, ReturnsNext};
 
 use crate::commands::Commands;
+use crate::journals::{ComparisonOptions, Journals};
 use crate::mismatches::{Found, Pair, compare_commands};
 use crate::slice_items::SliceItems;
 use crate::sources::Source;
@@ -19,7 +20,6 @@ use crate::verdicts::{BenchError, Comparison, ReaderError, Side, Verdict};
 use bytes::Bytes;
 use shared_core::encoding::RawMessage;
 use shared_core::version::Version;
-use shared_core_io::ItemReader;
 use std::alloc::Global;
 use std::io::Read;
 
@@ -42,9 +42,12 @@ pub fn compare_journals(
     requires { 5 ≤ version_number version }
     ensures { Compares version ignore_payload_equality (concat recorded.now) (concat replayed.now) result }
 {
-    let recorded = SliceItems::new(alloc, version, recorded);
-    let replayed = SliceItems::new(alloc, version, replayed);
-    match compare_sources(alloc, version, recorded, replayed, ignore_payload_equality) {
+    let journals = Journals {
+        version,
+        recorded: SliceItems::new(alloc, version, recorded),
+        replayed: SliceItems::new(alloc, version, replayed),
+    };
+    match compare_sources(alloc, journals, ignore_payload_equality) {
         Ok(verdict) => Ok(verdict),
         Err(ReaderError::Bench(error)) => Err(error),
         // a slice does not fail, and has no limit
@@ -59,48 +62,39 @@ pub fn compare_journals(
 /// lost by it, since the first result ends the comparison.
 pub fn compare_readers<A: Read + Drop, B: Read + Drop>(
     alloc: Global,
-    version: Version,
-    recorded: A,
-    replayed: B,
+    journals: Journals<A, B>,
     ignore_payload_equality: bool,
 ) -> Result<Verdict, ReaderError>
-    requires { 5 ≤ version_number version }
+    requires { 5 ≤ version_number journals.version }
     // the verdict of all that the readers would give, read or not, where they tell it
-    ensures compared { ComparesKnown version ignore_payload_equality
-        (A.remaining recorded) (B.remaining replayed) result }
+    ensures compared { ComparesKnown journals.version ignore_payload_equality
+        (A.remaining journals.recorded) (B.remaining journals.replayed) result }
     ensures unlimited { MayFailOn true 4294967295 true 4294967295 result }
 {
-    let recorded = ItemReader::new(alloc, version, recorded);
-    let replayed = ItemReader::new(alloc, version, replayed);
-    compare_sources(alloc, version, recorded, replayed, ignore_payload_equality)
+    compare_sources(alloc, journals.into_sources(alloc), ignore_payload_equality)
 }
 
-/// Compares two journals of any sources of this version, as `compare_journals` does: one may be given in chunks
+/// Compares two journals of any sources of their version, as `compare_journals` does: one may be given in chunks
 /// (`SliceItems`) and the other by a reader (`ItemReader`), which may have a limit.
 ///
 /// Items are taken from a source only as far as the result needs them. `Read` names a side only where its source may
 /// fail, which a slice does not, and `MessageTooLong` only where it has a limit.
 pub fn compare_sources<A: Source, B: Source>(
     alloc: Global,
-    version: Version,
-    recorded: A,
-    replayed: B,
+    journals: Journals<A, B>,
     ignore_payload_equality: bool,
 ) -> Result<Verdict, ReaderError>
-    requires recorded { A.version recorded ≡ version }
-    requires replayed { B.version replayed ≡ version }
-    ensures compared { ComparesKnown version ignore_payload_equality (A.coming recorded) (B.coming replayed) result }
-    ensures failed { MayFailOn A.may_fail (A.limit recorded) B.may_fail (B.limit replayed) result }
+    requires recorded { A.version journals.recorded ≡ journals.version }
+    requires replayed { B.version journals.replayed ≡ journals.version }
+    ensures compared { ComparesKnown journals.version ignore_payload_equality
+        (A.coming journals.recorded) (B.coming journals.replayed) result }
+    ensures failed { MayFailOn A.may_fail (A.limit journals.recorded) B.may_fail (B.limit journals.replayed) result }
 {
-    let stopped = find_verdict(
-        alloc,
-        version,
-        recorded,
-        replayed,
+    let options = ComparisonOptions {
         ignore_payload_equality,
-        false,
-        false,
-    )?;
+        is_strict: false,
+    };
+    let stopped = find_verdict(alloc, journals, options, false)?;
     Ok(stopped.found.verdict)
 }
 
@@ -162,39 +156,38 @@ impl NextCommands {
 /// which two commands differ come with the verdict.
 pub(crate) fn find_verdict<A: Source, B: Source>(
     alloc: Global,
-    version: Version,
-    recorded: A,
-    replayed: B,
-    ignore_payload_equality: bool,
-    is_strict: bool,
+    journals: Journals<A, B>,
+    options: ComparisonOptions,
     is_listed: bool,
 ) -> Result<Stopped<A, B>, ReaderError>
-    requires recorded { A.version recorded ≡ version }
-    requires replayed { B.version replayed ≡ version }
-    ensures compared { ComparesKnown version ignore_payload_equality
-        (A.coming recorded) (B.coming replayed) (verdict_alone result) }
-    ensures failed { MayFailOn A.may_fail (A.limit recorded) B.may_fail (B.limit replayed) result }
-    ensures limit { IfOk result (λ stopped. A.limit stopped.recorded.source ≡ A.limit recorded) }
-    ensures other_limit { IfOk result (λ stopped. B.limit stopped.replayed.source ≡ B.limit replayed) }
-    ensures fields { IfOk result (λ stopped. IsTrue is_listed → HasFieldsOn version
-        (A.coming recorded) (B.coming replayed) stopped.found.verdict stopped.found.fields.items) }
-    ensures recorded { IfOk result (λ stopped. IsReading version Recorded is_strict
-        (A.coming recorded) (recorded_ended stopped.found.verdict) (recorded_seen stopped.found.verdict)
+    requires recorded { A.version journals.recorded ≡ journals.version }
+    requires replayed { B.version journals.replayed ≡ journals.version }
+    ensures compared { ComparesKnown journals.version options.ignore_payload_equality
+        (A.coming journals.recorded) (B.coming journals.replayed) (verdict_alone result) }
+    ensures failed { MayFailOn A.may_fail (A.limit journals.recorded) B.may_fail (B.limit journals.replayed) result }
+    ensures limit { IfOk result (λ stopped. A.limit stopped.recorded.source ≡ A.limit journals.recorded) }
+    ensures other_limit { IfOk result (λ stopped. B.limit stopped.replayed.source ≡ B.limit journals.replayed) }
+    ensures fields { IfOk result (λ stopped. IsTrue is_listed → HasFieldsOn journals.version
+        (A.coming journals.recorded) (B.coming journals.replayed) stopped.found.verdict stopped.found.fields.items) }
+    ensures recorded { IfOk result (λ stopped. IsReading journals.version Recorded options.is_strict
+        (A.coming journals.recorded) (recorded_ended stopped.found.verdict) (recorded_seen stopped.found.verdict)
         stopped.recorded.side stopped.recorded.version (A.version stopped.recorded.source)
         (A.coming stopped.recorded.source) stopped.recorded.survey) }
-    ensures replayed { IfOk result (λ stopped. IsReading version Replayed is_strict
-        (B.coming replayed) (replayed_ended stopped.found.verdict) (replayed_seen stopped.found.verdict)
+    ensures replayed { IfOk result (λ stopped. IsReading journals.version Replayed options.is_strict
+        (B.coming journals.replayed) (replayed_ended stopped.found.verdict) (replayed_seen stopped.found.verdict)
         stopped.replayed.side stopped.replayed.version (B.version stopped.replayed.source)
         (B.coming stopped.replayed.source) stopped.replayed.survey) }
-    ensures stopped { IfOk result (λ stopped. IsStopped version (A.coming recorded)
+    ensures stopped { IfOk result (λ stopped. IsStopped journals.version (A.coming journals.recorded)
         (stopped_index stopped.found.verdict) (recorded_ended stopped.found.verdict) stopped.recorded_next
         (A.coming stopped.recorded.source)) }
-    ensures other_stopped { IfOk result (λ stopped. IsStopped version (B.coming replayed)
+    ensures other_stopped { IfOk result (λ stopped. IsStopped journals.version (B.coming journals.replayed)
         (stopped_index stopped.found.verdict) (replayed_ended stopped.found.verdict) stopped.replayed_next
         (B.coming stopped.replayed.source)) }
 {
-    let mut recorded = Commands::new(version, Side::Recorded, recorded, is_strict);
-    let mut replayed = Commands::new(version, Side::Replayed, replayed, is_strict);
+    let version = journals.version;
+    let is_strict = options.is_strict;
+    let mut recorded = Commands::new(version, Side::Recorded, journals.recorded, is_strict);
+    let mut replayed = Commands::new(version, Side::Replayed, journals.replayed, is_strict);
     let mut index: u64 = 0;
     loop {
         let recorded_next = recorded.next_command()?;
@@ -203,7 +196,7 @@ pub(crate) fn find_verdict<A: Source, B: Source>(
             recorded: recorded_next,
             replayed: replayed_next,
         };
-        let found = next.compare(alloc, index, ignore_payload_equality, is_listed)?;
+        let found = next.compare(alloc, index, options.ignore_payload_equality, is_listed)?;
         if let Some(found) = found {
             return Ok(Stopped {
                 found,
@@ -227,54 +220,31 @@ pub(crate) fn find_verdict<A: Source, B: Source>(
 /// `Malformed`, strict or not.
 pub fn survey_readers<A: Read + Drop, B: Read + Drop>(
     alloc: Global,
-    version: Version,
-    recorded: A,
-    replayed: B,
-    ignore_payload_equality: bool,
-    is_strict: bool,
+    journals: Journals<A, B>,
+    options: ComparisonOptions,
 ) -> Result<Comparison, ReaderError>
-    requires { 5 ≤ version_number version }
-    ensures surveyed { Surveys version ignore_payload_equality is_strict
-        (A.remaining recorded) (B.remaining replayed) result }
+    requires { 5 ≤ version_number journals.version }
+    ensures surveyed { Surveys journals.version options.ignore_payload_equality options.is_strict
+        (A.remaining journals.recorded) (B.remaining journals.replayed) result }
     ensures unlimited { MayFailOn true 4294967295 true 4294967295 result }
 {
-    let recorded = ItemReader::new(alloc, version, recorded);
-    let replayed = ItemReader::new(alloc, version, replayed);
-    survey_sources(
-        alloc,
-        version,
-        recorded,
-        replayed,
-        ignore_payload_equality,
-        is_strict,
-    )
+    survey_sources(alloc, journals.into_sources(alloc), options)
 }
 
-/// Compares two journals of any sources of this version, as `compare_sources` does, and surveys both, as
+/// Compares two journals of any sources of their version, as `compare_sources` does, and surveys both, as
 /// `survey_readers` does.
 pub fn survey_sources<A: Source, B: Source>(
     alloc: Global,
-    version: Version,
-    recorded: A,
-    replayed: B,
-    ignore_payload_equality: bool,
-    is_strict: bool,
+    journals: Journals<A, B>,
+    options: ComparisonOptions,
 ) -> Result<Comparison, ReaderError>
-    requires recorded { A.version recorded ≡ version }
-    requires replayed { B.version replayed ≡ version }
-    ensures compared { Surveys version ignore_payload_equality is_strict
-        (A.coming recorded) (B.coming replayed) result }
-    ensures failed { MayFailOn A.may_fail (A.limit recorded) B.may_fail (B.limit replayed) result }
+    requires recorded { A.version journals.recorded ≡ journals.version }
+    requires replayed { B.version journals.replayed ≡ journals.version }
+    ensures compared { Surveys journals.version options.ignore_payload_equality options.is_strict
+        (A.coming journals.recorded) (B.coming journals.replayed) result }
+    ensures failed { MayFailOn A.may_fail (A.limit journals.recorded) B.may_fail (B.limit journals.replayed) result }
 {
-    let stopped = find_verdict(
-        alloc,
-        version,
-        recorded,
-        replayed,
-        ignore_payload_equality,
-        is_strict,
-        true,
-    )?;
+    let stopped = find_verdict(alloc, journals, options, true)?;
     let recorded_at = stopped.recorded.last_command();
     let replayed_at = stopped.replayed.last_command();
     let recorded = stopped

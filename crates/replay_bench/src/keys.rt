@@ -4,7 +4,6 @@ ghost use Rattle.std.specs.Prelude.{◌≡◌, IfOk, option_map};
 ghost use Rattle.std.specs.String.{string_bytes};
 ghost use Rattle.replay_bench.specs.Fields.{listed_texts};
 ghost use Rattle.replay_bench.specs.Keys.{first_key, HasKey, is_key_name, IsKeyOf};
-ghost use Rattle.replay_bench.specs.Journals.{IsCommand};
 
 use crate::fields::{FieldDifference, list_fields};
 use crate::verdicts::BenchError;

@@ -11,6 +11,7 @@ mod erasures;
 mod faults;
 mod fields;
 mod forms;
+mod journals;
 mod keys;
 pub mod laws;
 mod mismatches;
@@ -28,6 +29,7 @@ pub use crate::comparison::{
 };
 pub use crate::faults::{Fault, FaultReason};
 pub use crate::fields::FieldDifference;
+pub use crate::journals::{ComparisonOptions, Journals};
 pub use crate::keys::command_key;
 pub use crate::slice_items::SliceItems;
 pub use crate::sources::{Next, Source, SourceError};

@@ -3,7 +3,7 @@
 ghost use Rattle.std.specs.Prelude.{◌≡◌, ◌+◌, ◌<◌, ◌^◌, ◌++◌, ◌∷◌, [], Bool, List, Some, if◌then◌else◌};
 ghost use Rattle.shared_core_base.specs.declared.version.Version.{Version as AnyVersion};
 ghost use Rattle.shared_core_stream.specs.declared.encoding.item.Item.{Item as AnyItem};
-ghost use Rattle.stream_lines.specs.Printing.{item_size as size_of_item, items_size};
+ghost use Rattle.stream_lines.specs.Printing.{items_size};
 ghost use Rattle.replay_bench.specs.Survey.{fault_with, survey_of, trouble_of};
 ghost use Rattle.replay_bench.specs.Survey as test;
 
@@ -75,7 +75,7 @@ impl Survey {
         count(&mut self.unknown, is_unknown(item));
         count(&mut self.skipped, is_skipped(item));
         count(&mut self.malformed, is_next_malformed);
-        self.size += item_size(item);
+        self.size += item.size() as u128;
     }
 
     /// The survey of a whole stream, of whose end this many bytes are in no item.
@@ -108,18 +108,6 @@ impl Survey {
         if self.is_strict && self.fault.is_none() {
             self.fault = fault_at(self.size, is_malformed, item);
         }
-    }
-}
-
-/// The number of bytes of an item.
-fn item_size(item: &Item) -> u128
-    ensures size { result ≡ size_of_item item.now }
-    ensures small { result < 2 ^ 65 }
-{
-    match item {
-        Item::Message(message) => 8 + message.payload().len() as u128,
-        Item::Unknown(_) => 8,
-        Item::Skipped(_, payload) => 8 + payload.len() as u128,
     }
 }
 

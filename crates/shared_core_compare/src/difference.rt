@@ -8,13 +8,12 @@ ghost use Rattle.std.specs.Prelude.{◌≡◌, true, IsOk, IsSome, Some, [], ◌
 ghost use Rattle.std.specs.Fmt.{HasWritten, IsPlainFormatter, WritesOnOk};
 ghost use Rattle.shared_core_wire.specs.Schema.{ByteString, Message, Text, U32};
 ghost use Rattle.shared_core_wire.specs.Value.{Bytes as Content, Number};
-ghost use Rattle.shared_core_codec.specs.Equality.{part_equal};
 ghost use Rattle.shared_core_codec.specs.FieldParts.{elements_part, message_part, option_part, text_part};
 ghost use Rattle.shared_core_codec.specs.Table as schema;
 ghost use Rattle.shared_core_compare.specs.Differences.{FieldTexts, WritesFields};
 ghost use Rattle.shared_core_compare.specs.Differences.{differing_fields, difference, field_difference, field_line};
 ghost use Rattle.shared_core_compare.specs.Differences.{elements_text, field_texts, is_printed_whole, kind_text};
-ghost use Rattle.shared_core_compare.specs.Differences.{member_text, message_text, present_text};
+ghost use Rattle.shared_core_compare.specs.Differences.{member_text, present_text};
 
 use crate::equality::{same_message, same_messages, same_oneof};
 use crate::printed::{PrintedMessage, PrintedOneOf};

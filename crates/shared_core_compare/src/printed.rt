@@ -1,6 +1,5 @@
 //! `Display` of the contents of fields, as a difference prints them.
 
-ghost use Rattle.std.specs.Prelude.{◌≡◌};
 ghost use Rattle.std.specs.Fmt.{WritesOnOk};
 ghost use Rattle.shared_core_compare.specs.Differences.{member_text, message_text};
 

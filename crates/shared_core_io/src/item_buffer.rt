@@ -7,7 +7,7 @@ ghost use Rattle.std.specs.Prelude.{◌≡◌, ◌⊎◌, ◌+◌, ◌<◌, ◌�
 ghost use Rattle.std.specs.Prelude.{OnErr, true, false, None, Err};
 ghost use Rattle.std.specs.Io.KnownBytes.{Consumes, IsAtEnd};
 ghost use Rattle.shared_core_base.specs.Version.{version_number};
-ghost use Rattle.shared_core_stream.specs.Items.{front_word, TakesItem};
+ghost use Rattle.shared_core_stream.specs.Items.{TakesItem};
 ghost use Rattle.shared_core_stream.specs.Limits.{without_word};
 ghost use Rattle.shared_core_stream.specs.declared.encoding.item.Item.{Item as AnyItem};
 ghost use Rattle.shared_core_io.specs.Reading.{most_held, most_of_a_part, result_at_end, with_more, HasWord};

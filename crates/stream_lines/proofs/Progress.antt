@@ -160,11 +160,6 @@ items_size_join : (items others : List Item) → items_size (items ++ others) �
 items_size_join [] others = zero_more (items_size others)
 items_size_join (item ∷ items) others = omega (arith, items_size_join items others)
 
-pub size_is : (item : Item) → item_size item ≡ 8 + payload_length item
-size_is (Message message) = refl
-size_is (Unknown code) = refl
-size_is (Skipped code payload) = refl
-
 -- what is held after an item is taken
 pub moved : (version : Version) (limit offset : ℕ) (bytes rest : List ℕ) (size : ℕ) → length bytes ≡ size + length rest
     → after_item (holding version limit offset bytes) rest ≡ holding version limit (offset + size) rest
@@ -172,15 +167,6 @@ moved version limit offset bytes rest size long =
     ap (λ (o : ℕ). record
     { unread = record { version = version; bytes = rest }; limit = limit; offset = o; rejected = None })
     (omega (arith, long))
-
--- what is held, by where it begins
-state_of : (state : Limited) (offset : ℕ) (rejected : Option Longer) → state.offset ≡ offset → state.rejected ≡ rejected
-    → state ≡ record { unread = state.unread; limit = state.limit; offset = offset; rejected = rejected }
-state_of state offset rejected place is = rw (sym place, sym is) refl
-
-pub held_is : (state : Limited) (offset : ℕ) → state.rejected ≡ None → state.offset ≡ offset_after 0 offset → state ≡
-    holding state.unread.version state.limit offset state.unread.bytes
-held_is state offset none place = state_of state (offset_after 0 offset) None place none
 
 -- what is held after more was read
 pub filled : (version : Version) (limit offset : ℕ) (old new : Limited) (read : List ℕ) → old ≡ holding version limit

@@ -6,7 +6,6 @@ use Rattle.std.specs.Option.{option_map, option_or}
 use Rattle.std.specs.Io.KnownBytes.{IsAtEnd}
 use Rattle.shared_core_base.specs.declared.version.Version.{Version}
 use Rattle.shared_core_stream.specs.declared.encoding.item.Item.{Item}
-use Rattle.shared_core_stream.specs.declared.encoding.item.Item.TheVariants.{Message, Unknown, Skipped}
 use Rattle.shared_core_stream.specs.declared.encoding.limit_error.MessageTooLong.{MessageTooLong as Longer}
 use Rattle.shared_core_stream.specs.Errors.{message_too_long_text}
 use Rattle.shared_core_stream.specs.Items.{front_word, IsItemsThen, SplitsInto}
@@ -19,9 +18,7 @@ use Rattle.stream_lines.specs.declared.error.PrintError.TheVariants.{MessageTooL
 
 -- The number of bytes of an item.
 abbrev pub item_size : Item → ℕ
-item_size (Message message) = 8 + length message.payload
-item_size (Unknown code) = 8
-item_size (Skipped code payload) = 8 + length payload
+item_size item = 8 + payload_length item
 
 -- The number of bytes of some items.
 abbrev pub items_size : List Item → ℕ

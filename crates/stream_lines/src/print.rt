@@ -8,7 +8,7 @@
 //! What calls `print_lines` has its own lines of contract on what is read and written, each of its own reader and
 //! writer. `ArePrinted` takes the four definitions of a printer one by one, since those below it take one or two.
 
-ghost use Rattle.std.specs.Prelude.{◌≡◌, ◌+◌, ◌<◌, ◌≤◌, ◌++◌, ◌^◌, ℕ, List, [], length, IfOk, IfErr, OnOk, None};
+ghost use Rattle.std.specs.Prelude.{◌≡◌, ◌+◌, ◌<◌, ◌≤◌, ◌++◌, ◌^◌, ℕ, List, length, IfOk, IfErr, OnOk, None};
 ghost use Rattle.std.specs.Io.KnownBytes.{Appends, Consumes};
 ghost use Rattle.std.specs.Option.{option_or};
 ghost use Rattle.shared_core_base.specs.Version.{version_number};
@@ -148,22 +148,11 @@ impl Lines {
             ≡ option_or self.old.trouble (trouble_at (P.item_trouble printer.now) self.old.offset item)) }
         ensures lack { IfErr result (IsLack (P.is_long printer.now item)) }
     {
-        let size = size_of(&item);
+        let size = item.size() as u128;
         self.trouble = first(printer, self.offset, &item, self.trouble);
         printer.print_item(alloc, self.offset, word, item, scratch, &mut self.text)?;
         self.offset += size;
         Ok(())
-    }
-}
-
-/// The number of bytes of an item.
-fn size_of(item: &Item) -> u128
-    ensures { result ≡ item_size item.now }
-{
-    match item {
-        Item::Message(message) => 8 + message.payload().len() as u128,
-        Item::Unknown(_) => 8,
-        Item::Skipped(_, payload) => 8 + payload.len() as u128,
     }
 }
 

@@ -18,4 +18,5 @@ returns-in_err-pass_strictly-clause-failed g c =
     let from = err_from_is_err_and c.from_residual-in_err-pass_strictly.result
     c.from_residual-in_err-pass_strictly.ensures.1 in
     rw (from.1, from.2)
-    (faulty_fails _ _ _ _ c.args.is_strict c.in_ok-found.found.comparison _ c.in_err-pass_strictly.ensures.failed)
+    (faulty_fails _ _ _ _ c.args.options.is_strict c.in_ok-found.found.comparison _
+    c.in_err-pass_strictly.ensures.failed)

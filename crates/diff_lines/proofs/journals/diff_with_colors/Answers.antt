@@ -8,9 +8,9 @@ returns-in-Ok-clause-reported g c =
     let (written, wrote, painted) = c.write_with_colors.ensures in (
       written,
       wrote,
-      reported_text c.args.version c.args.ignore_payloads c.args.is_strict c.args.form _ _ c.in-Ok.findings
-          c.new-text.result.items _ c.as_slice.result.now text c.write_with_colors.result written
-          c.new-text.ensures.items items_is c.as_slice.ensures.value reports painted,
+      reported_text c.args.journals.version c.args.options.ignore_payload_equality c.args.options.is_strict
+          c.args.form _ _ c.in-Ok.findings c.new-text.result.items _ c.as_slice.result.now text
+          c.write_with_colors.result written c.new-text.ensures.items items_is c.as_slice.ensures.value reports painted,
     )
 
 pub returns-clause-reported : goal.returns-clause-reported

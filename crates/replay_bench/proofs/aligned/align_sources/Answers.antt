@@ -9,7 +9,7 @@ use Rattle.replay_bench.proofs.aligned.align_sources.Goals as goal
 
 pub returns-clause-aligned : goal.returns-clause-aligned
 returns-clause-aligned g c =
-    let v = c.args.version in
+    let v = c.args.journals.version in
     let verdict = c.in_ok-stopped.stopped.found.verdict in
     let recorded = c.in_ok-stopped.ensures.recorded in
     let replayed = c.in_ok-stopped.ensures.replayed in
@@ -19,10 +19,10 @@ returns-clause-aligned g c =
       compared = record {
         verdict = c.in_ok-stopped.ensures.compared;
         fields = c.in_ok-stopped.ensures.fields refl;
-        recorded_survey = finished v _ c.args.is_strict _ _ (recorded_ended verdict) _ _
+        recorded_survey = finished v _ c.args.options.is_strict _ _ (recorded_ended verdict) _ _
             c.in_ok-recorded_held.recorded
             recorded.noted_is stopped.ended recorded.read_on c.in_ok-recorded_held.ensures.survey;
-        replayed_survey = finished v _ c.args.is_strict _ _ (replayed_ended verdict) _ _
+        replayed_survey = finished v _ c.args.options.is_strict _ _ (replayed_ended verdict) _ _
             c.in_ok-replayed_held.replayed
             replayed.noted_is other_stopped.ended replayed.read_on c.in_ok-replayed_held.ensures.survey;
         recorded_last = on_last v _ _ _ _ _ _ _ recorded.read_on recorded.counted
@@ -30,12 +30,12 @@ returns-clause-aligned g c =
         replayed_last = on_last v _ _ _ _ _ _ _ replayed.read_on replayed.counted
             c.last_command-replayed_at.ensures;
       };
-      recorded_held = held_of v _ c.args.is_strict _ _ (stopped_index verdict) _ _ _ _
+      recorded_held = held_of v _ c.args.options.is_strict _ _ (stopped_index verdict) _ _ _ _
           c.in_ok-recorded_held.recorded_held
           recorded.noted_is stopped recorded.read_on recorded.counted
           c.in_ok-recorded_held.ensures.held c.in_ok-recorded_held.ensures.long
           c.in_ok-recorded_held.ensures.offsets;
-      replayed_held = held_of v _ c.args.is_strict _ _ (stopped_index verdict) _ _ _ _
+      replayed_held = held_of v _ c.args.options.is_strict _ _ (stopped_index verdict) _ _ _ _
           c.in_ok-replayed_held.replayed_held
           replayed.noted_is other_stopped replayed.read_on replayed.counted
           c.in_ok-replayed_held.ensures.held c.in_ok-replayed_held.ensures.long
@@ -55,7 +55,7 @@ returns-in_err-recorded_held-clause-aligned g c =
     let from = err_from_is_err_and c.from_residual-in_err-recorded_held.result
     c.from_residual-in_err-recorded_held.ensures.1 in
     rw (from.1, from.2) (rejects_recorded _ _ _ _ _ _ _ _ recorded.side_is
-    (rejected_on c.args.version _ c.args.is_strict _ _ _ _ _ _ _ _ _ recorded.noted_is
+    (rejected_on c.args.journals.version _ c.args.options.is_strict _ _ _ _ _ _ _ _ _ recorded.noted_is
     c.in_ok-stopped.ensures.stopped.ended recorded.read_on c.in_err-recorded_held.ensures.rejected))
 
 pub returns-in_err-recorded_held-clause-failed : goal.returns-in_err-recorded_held-clause-failed
@@ -65,7 +65,7 @@ returns-in_err-recorded_held-clause-failed g c =
     c.from_residual-in_err-recorded_held.ensures.1 in
     let rejected = rw c.in_ok-stopped.ensures.limit at c.in_err-recorded_held.ensures.rejected in
     rw (from.1, from.2) (fails_recorded _ _ _ _ _ _ _ _ recorded.side_is
-    (rejected_on c.args.version _ c.args.is_strict _ _ _ _ _ _ _ _ _ recorded.noted_is
+    (rejected_on c.args.journals.version _ c.args.options.is_strict _ _ _ _ _ _ _ _ _ recorded.noted_is
     c.in_ok-stopped.ensures.stopped.ended recorded.read_on rejected))
 
 pub returns-in_err-replayed_held-clause-aligned : goal.returns-in_err-replayed_held-clause-aligned
@@ -74,7 +74,7 @@ returns-in_err-replayed_held-clause-aligned g c =
     let from = err_from_is_err_and c.from_residual-in_err-replayed_held.result
     c.from_residual-in_err-replayed_held.ensures.1 in
     rw (from.1, from.2) (rejects_replayed _ _ _ _ _ _ _ _ replayed.side_is
-    (rejected_on c.args.version _ c.args.is_strict _ _ _ _ _ _ _ _ _ replayed.noted_is
+    (rejected_on c.args.journals.version _ c.args.options.is_strict _ _ _ _ _ _ _ _ _ replayed.noted_is
     c.in_ok-stopped.ensures.other_stopped.ended replayed.read_on c.in_err-replayed_held.ensures.rejected))
 
 pub returns-in_err-replayed_held-clause-failed : goal.returns-in_err-replayed_held-clause-failed
@@ -84,5 +84,5 @@ returns-in_err-replayed_held-clause-failed g c =
     c.from_residual-in_err-replayed_held.ensures.1 in
     let rejected = rw c.in_ok-stopped.ensures.other_limit at c.in_err-replayed_held.ensures.rejected in
     rw (from.1, from.2) (fails_replayed _ _ _ _ _ _ _ _ replayed.side_is
-    (rejected_on c.args.version _ c.args.is_strict _ _ _ _ _ _ _ _ _ replayed.noted_is
+    (rejected_on c.args.journals.version _ c.args.options.is_strict _ _ _ _ _ _ _ _ _ replayed.noted_is
     c.in_ok-stopped.ensures.other_stopped.ended replayed.read_on rejected))

@@ -1,16 +1,11 @@
-use Rattle.std.proofs.Common.{ap}
-use Rattle.replay_bench.proofs.Giving.{fresh_coming, fresh_limit}
 use Rattle.replay_bench.proofs.comparison.compare_readers.Goals as goal
 
 pub returns-clause-compared : goal.returns-clause-compared
 returns-clause-compared g c =
-    let one = fresh_coming _ _ _ c.new-recorded.ensures.nothing_held _ _
-    (ap g.A.Read.remaining c.new-recorded.ensures.reader) in
-    let other = fresh_coming _ _ _ c.new-replayed.ensures.nothing_held _ _
-    (ap g.B.Read.remaining c.new-replayed.ensures.reader) in
-    rw (one, other) at c.compare_sources.ensures.compared
+    let journals = c.into_sources.ensures in
+    rw (journals.recorded_coming, journals.replayed_coming, journals.version) at c.compare_sources.ensures.compared
 
 pub returns-clause-unlimited : goal.returns-clause-unlimited
 returns-clause-unlimited g c =
-    rw (fresh_limit _ _ _ c.new-recorded.ensures.nothing_held, fresh_limit _ _ _ c.new-replayed.ensures.nothing_held)
-    at c.compare_sources.ensures.failed
+    let journals = c.into_sources.ensures in
+    rw (journals.recorded_limit, journals.replayed_limit) at c.compare_sources.ensures.failed

@@ -14,7 +14,7 @@ next_command-requires-clause-same g c = c.loop-replayed.invariant.version ∙ sy
 pub next_command-requires-clause-read : goal.next_command-requires-clause-read
 next_command-requires-clause-read g c =
     let inv = c.loop-replayed.invariant in
-    (c.args.is_strict, g.A.Source.coming c.args.recorded, rw inv.same inv.read)
+    (c.args.options.is_strict, g.A.Source.coming c.args.journals.recorded, rw inv.same inv.read)
 
 pub compare-requires-clause-index : goal.compare-requires-clause-index
 compare-requires-clause-index g c =
@@ -72,13 +72,13 @@ returns-in-Some-clause-fields g c is_listed =
     let one = rw inv.same at c.in_ok-recorded_next.ensures.taken in
     let other = rw inv.other_same at c.in_ok-replayed_next.ensures.taken in
     let found = rw c.in-Some.is at c.in_ok-found.ensures in
-    fields_next c.args.version _ _ _ _ _ _ _ _ _ _ _ _ inv.after inv.other_after one other found is_listed
+    fields_next c.args.journals.version _ _ _ _ _ _ _ _ _ _ _ _ inv.after inv.other_after one other found is_listed
 
 pub returns-in-Some-clause-recorded : goal.returns-in-Some-clause-recorded
 returns-in-Some-clause-recorded g c =
     let inv = c.loop-replayed.invariant in
     let reads = rw inv.same at c.in_ok-recorded_next.ensures.read in
-    let seen = seen_next c.args.version _ _ _ _ _ _ (rw c.in-Some.is at c.in_ok-found.ensures) in
+    let seen = seen_next c.args.journals.version _ _ _ _ _ _ (rw c.in-Some.is at c.in_ok-found.ensures) in
     rw (seen.recorded_goes, seen.recorded) (record {
       side_is = c.in_ok-recorded_next.ensures.side ∙ inv.side;
       noted_is = c.in_ok-recorded_next.ensures.same ∙ inv.same;
@@ -92,7 +92,7 @@ pub returns-in-Some-clause-replayed : goal.returns-in-Some-clause-replayed
 returns-in-Some-clause-replayed g c =
     let inv = c.loop-replayed.invariant in
     let reads = rw inv.other_same at c.in_ok-replayed_next.ensures.read in
-    let seen = seen_next c.args.version _ _ _ _ _ _ (rw c.in-Some.is at c.in_ok-found.ensures) in
+    let seen = seen_next c.args.journals.version _ _ _ _ _ _ (rw c.in-Some.is at c.in_ok-found.ensures) in
     rw (seen.replayed_goes, seen.replayed) (record {
       side_is = c.in_ok-replayed_next.ensures.side ∙ inv.other_side;
       noted_is = c.in_ok-replayed_next.ensures.same ∙ inv.other_same;
@@ -106,23 +106,24 @@ pub returns-in-Some-clause-stopped : goal.returns-in-Some-clause-stopped
 returns-in-Some-clause-stopped g c =
     let inv = c.loop-replayed.invariant in
     let next = rw inv.same at c.in_ok-recorded_next.ensures.taken in
-    let seen = seen_next c.args.version _ _ _ _ _ _ (rw c.in-Some.is at c.in_ok-found.ensures) in
+    let seen = seen_next c.args.journals.version _ _ _ _ _ _ (rw c.in-Some.is at c.in_ok-found.ensures) in
     rw seen.stopped
-    (stops c.args.version _ _ _ _ _ _ inv.after next c.in_ok-recorded_next.ensures.command (sym seen.recorded_goes))
+    (stops c.args.journals.version _ _ _ _ _ _ inv.after next c.in_ok-recorded_next.ensures.command
+    (sym seen.recorded_goes))
 
 pub returns-in-Some-clause-other_stopped : goal.returns-in-Some-clause-other_stopped
 returns-in-Some-clause-other_stopped g c =
     let inv = c.loop-replayed.invariant in
     let next = rw inv.other_same at c.in_ok-replayed_next.ensures.taken in
-    let seen = seen_next c.args.version _ _ _ _ _ _ (rw c.in-Some.is at c.in_ok-found.ensures) in
+    let seen = seen_next c.args.journals.version _ _ _ _ _ _ (rw c.in-Some.is at c.in_ok-found.ensures) in
     rw seen.stopped
-    (stops c.args.version _ _ _ _ _ _ inv.other_after next c.in_ok-replayed_next.ensures.command
+    (stops c.args.journals.version _ _ _ _ _ _ inv.other_after next c.in_ok-replayed_next.ensures.command
     (sym seen.replayed_goes))
 
 pub loop-replayed-preserved : goal.loop-replayed-preserved
 loop-replayed-preserved g c =
     let inv = c.loop-replayed.invariant in
-    let (one, other, is, is_other, alike) = both_go_on c.args.version _ _ _ _ _
+    let (one, other, is, is_other, alike) = both_go_on c.args.journals.version _ _ _ _ _
     (rw c.in_default.is at c.in_ok-found.ensures) in
     let taken = rw (inv.same, is) at c.in_ok-recorded_next.ensures.taken in
     let other_taken = rw (inv.other_same, is_other) at c.in_ok-replayed_next.ensures.taken in

@@ -43,7 +43,7 @@ returns-clause-noted c = λ is_strict items is.
       c.count-4.ensures,
       c.count-5.ensures,
       c.last_of-self.ensures,
-      c.item_size.ensures.size,
+      c.size.ensures,
       c.note_fault.ensures,
       c.is_command-is_next_command.ensures,
       c.is_other.ensures,
