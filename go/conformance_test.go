@@ -115,9 +115,8 @@ func payloadVector(names []string, data [][]byte) (string, error) {
 	if err := record.UnmarshalBinary(data[0]); err != nil {
 		return "", fmt.Errorf("the record of %x: %v", data[0], err)
 	}
-	encoded, err := record.MarshalBinary()
-	if err != nil || !bytes.Equal(encoded, canonical) {
-		return "", fmt.Errorf("the record is %x, %v, and not %x", encoded, err, canonical)
+	if err := encodedAs(record, canonical); err != nil {
+		return "", err
 	}
 	json, err := ToJSON(schema, data[0])
 	canonicalJSON, canonicalErr := ToJSON(schema, canonical)
@@ -128,6 +127,52 @@ func payloadVector(names []string, data [][]byte) (string, error) {
 		return "", err
 	}
 	return digits(canonical), nil
+}
+
+// encodedAs returns an error if a record has not this payload, by each way in which it is written.
+func encodedAs(record Record, canonical []byte) error {
+	encoded, err := record.MarshalBinary()
+	if err != nil || !bytes.Equal(encoded, canonical) {
+		return fmt.Errorf("the record is %x, %v, and not %x", encoded, err, canonical)
+	}
+	appended, err := record.AppendBinary([]byte("before"))
+	if err != nil || string(appended) != "before"+string(canonical) {
+		return fmt.Errorf("the record is appended as %x, %v, and is %x", appended, err, canonical)
+	}
+	writer := newWriter()
+	record.write(writer, 0)
+	byTable, err := writer.appendTo(nil, &place{schema: record.Schema()})
+	if err != nil || !bytes.Equal(byTable, canonical) {
+		return fmt.Errorf("the record by its table is %x, %v, and not %x", byTable, err, canonical)
+	}
+	code, isMessage := codesOfSchemas()[record.Schema()]
+	if !isMessage {
+		return nil
+	}
+	wanted, err := Frame(LastVersion, code, canonical)
+	if err != nil {
+		return err
+	}
+	frame, err := record.(interface{ Frame(int) ([]byte, error) }).Frame(LastVersion)
+	if err != nil || !bytes.Equal(frame, wanted) {
+		return fmt.Errorf("the frame is %x, %v, and not %x", frame, err, wanted)
+	}
+	return nil
+}
+
+var codes map[int]uint16
+
+// codesOfSchemas returns the code of each type by the number of its schema at the last version.
+func codesOfSchemas() map[int]uint16 {
+	if codes == nil {
+		codes = map[int]uint16{}
+		for code := 0; code <= 0xffff; code++ {
+			if schema, err := Schema(LastVersion, uint16(code)); err == nil {
+				codes[schema] = uint16(code)
+			}
+		}
+	}
+	return codes
 }
 
 // readBack returns an error if a JSON text is not read as this payload.

@@ -33,6 +33,8 @@ func (e *FieldError) Unwrap() error {
 type Record interface {
 	encoding.BinaryMarshaler
 	encoding.BinaryUnmarshaler
+	// AppendBinary appends the canonical payload to a slice, as append does.
+	AppendBinary(dst []byte) ([]byte, error)
 	// Schema returns the number of its schema.
 	Schema() int
 	read(table *fieldTable, level uint64) error
@@ -168,7 +170,7 @@ func (t *fieldTable) find(schema int, payload []byte) error {
 	return nil
 }
 
-// How many entries, and how many bytes beside them and of a payload, a writer has room for at first.
+// How many entries, and how many bytes beside them, a writer has room for at first.
 const (
 	writerFields = 32
 	writerBytes  = 512
@@ -181,8 +183,6 @@ type fieldWriter struct {
 	count  int
 	data   []byte
 	length int
-	// out is room for a short payload
-	out [writerBytes]byte
 	// writing is what the library writes: why there is no payload, and the index of the entry
 	writing [writingNumbers]uint64
 }
@@ -254,8 +254,8 @@ func (w *fieldWriter) message(level, number, schema uint64) {
 	w.number(level, number, kindOfFieldMessage, schema)
 }
 
-// The most that a writer keeps for the next record.
-const keptWriter = 64 << 10
+// The most bytes that are kept for the next record.
+const keptBytes = 64 << 10
 
 var writers = sync.Pool{New: func() any {
 	return &fieldWriter{fields: make([]tableField, writerFields), data: make([]byte, writerBytes)}
@@ -268,104 +268,94 @@ func newWriter() *fieldWriter {
 	return writer
 }
 
-// end returns the payload that the table means for a schema, after room for what comes before it, and keeps the writer
-// for another record.
-func (w *fieldWriter) end(schema, before int) ([]byte, error) {
-	// what is enough for most
-	room := before + w.length + 6*w.count
-	if room > len(w.out) {
-		return w.endLong(schema, before, room)
-	}
-	length := journalPayloadOfFields(
-		uint32(schema), w.fields[:w.count], w.data[:w.length], &w.writing, w.out[before:],
-	)
-	if length < 0 || w.writing[writingKind] != fieldsWritten {
-		return nil, w.endRefused(schema, length)
-	}
-	end := before + int(length)
-	if end > len(w.out) {
-		return w.endLong(schema, before, end)
-	}
-	written := w.out[:end]
-	payload := make([]byte, len(written))
-	copy(payload, written)
-	w.keep()
-	return payload, nil
-}
-
-// endLong is end for a payload that out has no room for, by a guess of the room with what comes before it.
-func (w *fieldWriter) endLong(schema, before, room int) ([]byte, error) {
+// appendTo appends the payload that the table means to where a record goes, and keeps the writer for another record.
+func (w *fieldWriter) appendTo(dst []byte, to *place) ([]byte, error) {
+	extended := roomFor(dst, to.header+w.length, 6*w.count)
 	for {
-		made := make([]byte, room)
+		out := extended[len(extended):cap(extended)]
 		length := journalPayloadOfFields(
-			uint32(schema), w.fields[:w.count], w.data[:w.length], &w.writing, made[before:],
+			uint32(to.schema), w.fields[:w.count], w.data[:w.length], &w.writing, out[to.header:],
 		)
 		if length < 0 || w.writing[writingKind] != fieldsWritten {
-			return nil, w.endRefused(schema, length)
+			return dst, w.refused(to, length)
 		}
-		room = before + int(length)
-		if room <= len(made) {
-			w.keep()
-			return made[:room:room], nil
+		end := to.header + int(length)
+		if end > len(out) {
+			extended = withRoom(extended, end)
+			continue
 		}
+		w.keep()
+		if to.header > 0 {
+			if err := to.writeHeader(out[:end]); err != nil {
+				return dst, err
+			}
+		}
+		return extended[:len(extended)+end], nil
 	}
 }
 
-// endRefused returns why the table means no payload, and keeps the writer.
-func (w *fieldWriter) endRefused(schema int, length int64) error {
+// refused returns why the table means no payload, and keeps the writer.
+func (w *fieldWriter) refused(to *place, length int64) error {
 	defer w.keep()
 	kind := w.writing[writingKind]
 	switch {
 	case length < 0:
-		return schemaError("MarshalBinary", length, schema, bytesText("payload", w.data[:w.length]))
+		return schemaError(to.call, length, to.schema, bytesText("payload", w.data[:w.length]))
 	case kind >= uint64(len(fieldReasons)):
 		return unexpected("kind", kind)
 	default:
-		return &FieldError{pathOf(schema, w.fields[:w.writing[writingIndex]+1]), fieldReasons[kind]}
+		return &FieldError{pathOf(to.schema, w.fields[:w.writing[writingIndex]+1]), fieldReasons[kind]}
 	}
 }
 
 // keep keeps the writer for another record, unless it has much.
 func (w *fieldWriter) keep() {
-	if len(w.data) <= keptWriter && len(w.fields) <= keptWriter/48 {
+	if len(w.data) <= keptBytes && len(w.fields) <= keptBytes/48 {
 		writers.Put(w)
 	}
 }
 
-// frame returns the frame at a version of the payload that the table means for a schema: its header, and the payload.
-func (w *fieldWriter) frame(schema, version int, code uint16) ([]byte, error) {
-	frame, err := w.end(schema, headerSize)
-	if err != nil {
-		return nil, err
-	}
-	number, err := unsigned("Frame", "version", version)
-	if err != nil {
-		return nil, err
-	}
-	result := journalHeader(number, code, uint32(len(frame)-headerSize), frame[:headerSize])
+// A place says where a record goes: after a header, if it is to be a frame of a version. An error names the call.
+type place struct {
+	call    string
+	schema  int
+	header  int
+	version uint32
+	code    uint16
+}
+
+// writeHeader writes the header of a frame.
+func (to *place) writeHeader(frame []byte) error {
+	result := journalHeader(to.version, to.code, uint32(len(frame)-to.header), frame[:to.header])
 	if result < 0 {
-		return nil, versionAndCode(version, code).refusal("Frame", result)
+		return versionAndCode(int(to.version), to.code).refusal(to.call, result)
 	}
-	return frame, nil
+	return nil
 }
 
-// laterFrame returns the frame of a record of a type that has another one at earlier versions, which is written of what
-// it has of this one.
-func laterFrame(record Record, version int, code uint16) ([]byte, error) {
-	payload, err := record.MarshalBinary()
-	if err != nil {
-		return nil, err
-	}
-	return Frame(version, code, payload)
+// placeOfFrame returns where the record of a type goes that is to be a frame of a version.
+func placeOfFrame(call string, schema, version int, code uint16) (place, error) {
+	number, err := unsigned(call, "version", version)
+	return place{call, schema, headerSize, number, code}, err
 }
 
-// earlierFrame returns the frame of a record that a type has at earlier versions only.
-func earlierFrame(record Record, version int, code uint16) ([]byte, error) {
+// appendLaterRecord appends the frame of a record of a type that has another one at earlier versions, which is written
+// of what it has of this one.
+func appendLaterRecord(call string, dst []byte, version int, code uint16, record Record) ([]byte, error) {
 	payload, err := record.MarshalBinary()
 	if err != nil {
-		return nil, err
+		return dst, err
 	}
-	return appendEarlierFrame("Frame", nil, version, code, record.Schema(), payload)
+	return appendFrame(call, dst, version, code, payload)
+}
+
+// appendEarlierRecord appends the frame of a record that a type has at earlier versions only.
+func appendEarlierRecord(call string, dst []byte, version int, code uint16, record Record) ([]byte, error) {
+	payload, err := record.MarshalBinary()
+	if err != nil {
+		return dst, err
+	}
+	return appendEarlierFrame(call, dst, version, code, record.Schema(), payload)
 }
 
 // pathOf returns what leads to the last of these entries, as "headers[2].key".

@@ -30,9 +30,12 @@ func (r *Void) Schema() int {
 
 // MarshalBinary returns the canonical payload. The error is a *FieldError, ErrTooLong or ErrOutOfMemory.
 func (r *Void) MarshalBinary() ([]byte, error) {
-	writer := newWriter()
-	r.write(writer, 0)
-	return writer.end(SchemaVoid, 0)
+	return r.appendTo(nil, &place{call: "MarshalBinary", schema: SchemaVoid})
+}
+
+// AppendBinary appends the canonical payload to a slice, as append does. The errors are those of MarshalBinary.
+func (r *Void) AppendBinary(dst []byte) ([]byte, error) {
+	return r.appendTo(dst, &place{call: "AppendBinary", schema: SchemaVoid})
 }
 
 // UnmarshalBinary reads a payload, in any encoding. Bytes in the record are parts of it, without a copy, or of its
@@ -64,9 +67,12 @@ func (r *Value) Schema() int {
 
 // MarshalBinary returns the canonical payload. The error is a *FieldError, ErrTooLong or ErrOutOfMemory.
 func (r *Value) MarshalBinary() ([]byte, error) {
-	writer := newWriter()
-	r.write(writer, 0)
-	return writer.end(SchemaValue, 0)
+	return r.appendTo(nil, &place{call: "MarshalBinary", schema: SchemaValue})
+}
+
+// AppendBinary appends the canonical payload to a slice, as append does. The errors are those of MarshalBinary.
+func (r *Value) AppendBinary(dst []byte) ([]byte, error) {
+	return r.appendTo(dst, &place{call: "AppendBinary", schema: SchemaValue})
 }
 
 // UnmarshalBinary reads a payload, in any encoding. Bytes in the record are parts of it, without a copy, or of its
@@ -112,9 +118,12 @@ func (r *Failure) Schema() int {
 
 // MarshalBinary returns the canonical payload. The error is a *FieldError, ErrTooLong or ErrOutOfMemory.
 func (r *Failure) MarshalBinary() ([]byte, error) {
-	writer := newWriter()
-	r.write(writer, 0)
-	return writer.end(SchemaFailure, 0)
+	return r.appendTo(nil, &place{call: "MarshalBinary", schema: SchemaFailure})
+}
+
+// AppendBinary appends the canonical payload to a slice, as append does. The errors are those of MarshalBinary.
+func (r *Failure) AppendBinary(dst []byte) ([]byte, error) {
+	return r.appendTo(dst, &place{call: "AppendBinary", schema: SchemaFailure})
 }
 
 // UnmarshalBinary reads a payload, in any encoding. Bytes in the record are parts of it, without a copy, or of its
@@ -172,9 +181,12 @@ func (r *FailureMetadata) Schema() int {
 
 // MarshalBinary returns the canonical payload. The error is a *FieldError, ErrTooLong or ErrOutOfMemory.
 func (r *FailureMetadata) MarshalBinary() ([]byte, error) {
-	writer := newWriter()
-	r.write(writer, 0)
-	return writer.end(SchemaFailureMetadata, 0)
+	return r.appendTo(nil, &place{call: "MarshalBinary", schema: SchemaFailureMetadata})
+}
+
+// AppendBinary appends the canonical payload to a slice, as append does. The errors are those of MarshalBinary.
+func (r *FailureMetadata) AppendBinary(dst []byte) ([]byte, error) {
+	return r.appendTo(dst, &place{call: "AppendBinary", schema: SchemaFailureMetadata})
 }
 
 // UnmarshalBinary reads a payload, in any encoding. Bytes in the record are parts of it, without a copy, or of its
@@ -223,9 +235,12 @@ func (r *HeaderRecord) Schema() int {
 
 // MarshalBinary returns the canonical payload. The error is a *FieldError, ErrTooLong or ErrOutOfMemory.
 func (r *HeaderRecord) MarshalBinary() ([]byte, error) {
-	writer := newWriter()
-	r.write(writer, 0)
-	return writer.end(SchemaHeader, 0)
+	return r.appendTo(nil, &place{call: "MarshalBinary", schema: SchemaHeader})
+}
+
+// AppendBinary appends the canonical payload to a slice, as append does. The errors are those of MarshalBinary.
+func (r *HeaderRecord) AppendBinary(dst []byte) ([]byte, error) {
+	return r.appendTo(dst, &place{call: "AppendBinary", schema: SchemaHeader})
 }
 
 // UnmarshalBinary reads a payload, in any encoding. Bytes in the record are parts of it, without a copy, or of its
@@ -272,9 +287,12 @@ func (r *StateKeys) Schema() int {
 
 // MarshalBinary returns the canonical payload. The error is a *FieldError, ErrTooLong or ErrOutOfMemory.
 func (r *StateKeys) MarshalBinary() ([]byte, error) {
-	writer := newWriter()
-	r.write(writer, 0)
-	return writer.end(SchemaStateKeys, 0)
+	return r.appendTo(nil, &place{call: "MarshalBinary", schema: SchemaStateKeys})
+}
+
+// AppendBinary appends the canonical payload to a slice, as append does. The errors are those of MarshalBinary.
+func (r *StateKeys) AppendBinary(dst []byte) ([]byte, error) {
+	return r.appendTo(dst, &place{call: "AppendBinary", schema: SchemaStateKeys})
 }
 
 // UnmarshalBinary reads a payload, in any encoding. Bytes in the record are parts of it, without a copy, or of its
@@ -318,9 +336,12 @@ func (r *StateEntry) Schema() int {
 
 // MarshalBinary returns the canonical payload. The error is a *FieldError, ErrTooLong or ErrOutOfMemory.
 func (r *StateEntry) MarshalBinary() ([]byte, error) {
-	writer := newWriter()
-	r.write(writer, 0)
-	return writer.end(SchemaStateEntry, 0)
+	return r.appendTo(nil, &place{call: "MarshalBinary", schema: SchemaStateEntry})
+}
+
+// AppendBinary appends the canonical payload to a slice, as append does. The errors are those of MarshalBinary.
+func (r *StateEntry) AppendBinary(dst []byte) ([]byte, error) {
+	return r.appendTo(dst, &place{call: "AppendBinary", schema: SchemaStateEntry})
 }
 
 // UnmarshalBinary reads a payload, in any encoding. Bytes in the record are parts of it, without a copy, or of its
@@ -375,9 +396,12 @@ func (r *Future) Schema() int {
 
 // MarshalBinary returns the canonical payload. The error is a *FieldError, ErrTooLong or ErrOutOfMemory.
 func (r *Future) MarshalBinary() ([]byte, error) {
-	writer := newWriter()
-	r.write(writer, 0)
-	return writer.end(SchemaFuture, 0)
+	return r.appendTo(nil, &place{call: "MarshalBinary", schema: SchemaFuture})
+}
+
+// AppendBinary appends the canonical payload to a slice, as append does. The errors are those of MarshalBinary.
+func (r *Future) AppendBinary(dst []byte) ([]byte, error) {
+	return r.appendTo(dst, &place{call: "AppendBinary", schema: SchemaFuture})
 }
 
 // UnmarshalBinary reads a payload, in any encoding. Bytes in the record are parts of it, without a copy, or of its
@@ -447,9 +471,12 @@ func (r *WorkflowTarget) Schema() int {
 
 // MarshalBinary returns the canonical payload. The error is a *FieldError, ErrTooLong or ErrOutOfMemory.
 func (r *WorkflowTarget) MarshalBinary() ([]byte, error) {
-	writer := newWriter()
-	r.write(writer, 0)
-	return writer.end(SchemaWorkflowTarget, 0)
+	return r.appendTo(nil, &place{call: "MarshalBinary", schema: SchemaWorkflowTarget})
+}
+
+// AppendBinary appends the canonical payload to a slice, as append does. The errors are those of MarshalBinary.
+func (r *WorkflowTarget) AppendBinary(dst []byte) ([]byte, error) {
+	return r.appendTo(dst, &place{call: "AppendBinary", schema: SchemaWorkflowTarget})
 }
 
 // UnmarshalBinary reads a payload, in any encoding. Bytes in the record are parts of it, without a copy, or of its
@@ -510,9 +537,12 @@ func (r *IdempotentRequestTarget) Schema() int {
 
 // MarshalBinary returns the canonical payload. The error is a *FieldError, ErrTooLong or ErrOutOfMemory.
 func (r *IdempotentRequestTarget) MarshalBinary() ([]byte, error) {
-	writer := newWriter()
-	r.write(writer, 0)
-	return writer.end(SchemaIdempotentRequestTarget, 0)
+	return r.appendTo(nil, &place{call: "MarshalBinary", schema: SchemaIdempotentRequestTarget})
+}
+
+// AppendBinary appends the canonical payload to a slice, as append does. The errors are those of MarshalBinary.
+func (r *IdempotentRequestTarget) AppendBinary(dst []byte) ([]byte, error) {
+	return r.appendTo(dst, &place{call: "AppendBinary", schema: SchemaIdempotentRequestTarget})
 }
 
 // UnmarshalBinary reads a payload, in any encoding. Bytes in the record are parts of it, without a copy, or of its
@@ -598,9 +628,12 @@ func (r *StartMessage) Schema() int {
 
 // MarshalBinary returns the canonical payload. The error is a *FieldError, ErrTooLong or ErrOutOfMemory.
 func (r *StartMessage) MarshalBinary() ([]byte, error) {
-	writer := newWriter()
-	r.write(writer, 0)
-	return writer.end(SchemaStartMessage, 0)
+	return r.appendTo(nil, &place{call: "MarshalBinary", schema: SchemaStartMessage})
+}
+
+// AppendBinary appends the canonical payload to a slice, as append does. The errors are those of MarshalBinary.
+func (r *StartMessage) AppendBinary(dst []byte) ([]byte, error) {
+	return r.appendTo(dst, &place{call: "AppendBinary", schema: SchemaStartMessage})
 }
 
 // UnmarshalBinary reads a payload, in any encoding. Bytes in the record are parts of it, without a copy, or of its
@@ -611,9 +644,20 @@ func (r *StartMessage) UnmarshalBinary(payload []byte) error {
 
 // Frame returns the message as a frame of a version: its header, and its canonical payload. The errors are those of MarshalBinary and Frame.
 func (r *StartMessage) Frame(version int) ([]byte, error) {
-	writer := newWriter()
-	r.write(writer, 0)
-	return writer.frame(SchemaStartMessage, version, CodeStart)
+	to, err := placeOfFrame("Frame", SchemaStartMessage, version, CodeStart)
+	if err != nil {
+		return nil, err
+	}
+	return r.appendTo(nil, &to)
+}
+
+// AppendFrame appends the frame that Frame returns to a slice, as append does. The errors are those of Frame.
+func (r *StartMessage) AppendFrame(dst []byte, version int) ([]byte, error) {
+	to, err := placeOfFrame("AppendFrame", SchemaStartMessage, version, CodeStart)
+	if err != nil {
+		return dst, err
+	}
+	return r.appendTo(dst, &to)
 }
 
 func (r *StartMessage) read(table *fieldTable, level uint64) error {
@@ -711,9 +755,12 @@ func (r *SuspensionMessage) Schema() int {
 
 // MarshalBinary returns the canonical payload. The error is a *FieldError, ErrTooLong or ErrOutOfMemory.
 func (r *SuspensionMessage) MarshalBinary() ([]byte, error) {
-	writer := newWriter()
-	r.write(writer, 0)
-	return writer.end(SchemaSuspensionMessage, 0)
+	return r.appendTo(nil, &place{call: "MarshalBinary", schema: SchemaSuspensionMessage})
+}
+
+// AppendBinary appends the canonical payload to a slice, as append does. The errors are those of MarshalBinary.
+func (r *SuspensionMessage) AppendBinary(dst []byte) ([]byte, error) {
+	return r.appendTo(dst, &place{call: "AppendBinary", schema: SchemaSuspensionMessage})
 }
 
 // UnmarshalBinary reads a payload, in any encoding. Bytes in the record are parts of it, without a copy, or of its
@@ -724,7 +771,12 @@ func (r *SuspensionMessage) UnmarshalBinary(payload []byte) error {
 
 // Frame returns the message as a frame of a version: its header, and its canonical payload. The errors are those of MarshalBinary and Frame.
 func (r *SuspensionMessage) Frame(version int) ([]byte, error) {
-	return laterFrame(r, version, CodeSuspension)
+	return appendLaterRecord("Frame", nil, version, CodeSuspension, r)
+}
+
+// AppendFrame appends the frame that Frame returns to a slice, as append does. The errors are those of Frame.
+func (r *SuspensionMessage) AppendFrame(dst []byte, version int) ([]byte, error) {
+	return appendLaterRecord("AppendFrame", dst, version, CodeSuspension, r)
 }
 
 func (r *SuspensionMessage) read(table *fieldTable, level uint64) error {
@@ -768,9 +820,12 @@ func (r *SuspensionMessageV6) Schema() int {
 
 // MarshalBinary returns the canonical payload. The error is a *FieldError, ErrTooLong or ErrOutOfMemory.
 func (r *SuspensionMessageV6) MarshalBinary() ([]byte, error) {
-	writer := newWriter()
-	r.write(writer, 0)
-	return writer.end(SchemaSuspensionMessageV6, 0)
+	return r.appendTo(nil, &place{call: "MarshalBinary", schema: SchemaSuspensionMessageV6})
+}
+
+// AppendBinary appends the canonical payload to a slice, as append does. The errors are those of MarshalBinary.
+func (r *SuspensionMessageV6) AppendBinary(dst []byte) ([]byte, error) {
+	return r.appendTo(dst, &place{call: "AppendBinary", schema: SchemaSuspensionMessageV6})
 }
 
 // UnmarshalBinary reads a payload, in any encoding. Bytes in the record are parts of it, without a copy, or of its
@@ -782,7 +837,12 @@ func (r *SuspensionMessageV6) UnmarshalBinary(payload []byte) error {
 // Frame returns the message as a frame of a version: its header, and its canonical payload. The errors are those of MarshalBinary and Frame, and
 // ErrUnknown from version 7 on.
 func (r *SuspensionMessageV6) Frame(version int) ([]byte, error) {
-	return earlierFrame(r, version, CodeSuspension)
+	return appendEarlierRecord("Frame", nil, version, CodeSuspension, r)
+}
+
+// AppendFrame appends the frame that Frame returns to a slice, as append does. The errors are those of Frame.
+func (r *SuspensionMessageV6) AppendFrame(dst []byte, version int) ([]byte, error) {
+	return appendEarlierRecord("AppendFrame", dst, version, CodeSuspension, r)
 }
 
 func (r *SuspensionMessageV6) read(table *fieldTable, level uint64) error {
@@ -842,9 +902,12 @@ func (r *ErrorMessage) Schema() int {
 
 // MarshalBinary returns the canonical payload. The error is a *FieldError, ErrTooLong or ErrOutOfMemory.
 func (r *ErrorMessage) MarshalBinary() ([]byte, error) {
-	writer := newWriter()
-	r.write(writer, 0)
-	return writer.end(SchemaErrorMessage, 0)
+	return r.appendTo(nil, &place{call: "MarshalBinary", schema: SchemaErrorMessage})
+}
+
+// AppendBinary appends the canonical payload to a slice, as append does. The errors are those of MarshalBinary.
+func (r *ErrorMessage) AppendBinary(dst []byte) ([]byte, error) {
+	return r.appendTo(dst, &place{call: "AppendBinary", schema: SchemaErrorMessage})
 }
 
 // UnmarshalBinary reads a payload, in any encoding. Bytes in the record are parts of it, without a copy, or of its
@@ -855,9 +918,20 @@ func (r *ErrorMessage) UnmarshalBinary(payload []byte) error {
 
 // Frame returns the message as a frame of a version: its header, and its canonical payload. The errors are those of MarshalBinary and Frame.
 func (r *ErrorMessage) Frame(version int) ([]byte, error) {
-	writer := newWriter()
-	r.write(writer, 0)
-	return writer.frame(SchemaErrorMessage, version, CodeError)
+	to, err := placeOfFrame("Frame", SchemaErrorMessage, version, CodeError)
+	if err != nil {
+		return nil, err
+	}
+	return r.appendTo(nil, &to)
+}
+
+// AppendFrame appends the frame that Frame returns to a slice, as append does. The errors are those of Frame.
+func (r *ErrorMessage) AppendFrame(dst []byte, version int) ([]byte, error) {
+	to, err := placeOfFrame("AppendFrame", SchemaErrorMessage, version, CodeError)
+	if err != nil {
+		return dst, err
+	}
+	return r.appendTo(dst, &to)
 }
 
 func (r *ErrorMessage) read(table *fieldTable, level uint64) error {
@@ -929,9 +1003,12 @@ func (r *EndMessage) Schema() int {
 
 // MarshalBinary returns the canonical payload. The error is a *FieldError, ErrTooLong or ErrOutOfMemory.
 func (r *EndMessage) MarshalBinary() ([]byte, error) {
-	writer := newWriter()
-	r.write(writer, 0)
-	return writer.end(SchemaEndMessage, 0)
+	return r.appendTo(nil, &place{call: "MarshalBinary", schema: SchemaEndMessage})
+}
+
+// AppendBinary appends the canonical payload to a slice, as append does. The errors are those of MarshalBinary.
+func (r *EndMessage) AppendBinary(dst []byte) ([]byte, error) {
+	return r.appendTo(dst, &place{call: "AppendBinary", schema: SchemaEndMessage})
 }
 
 // UnmarshalBinary reads a payload, in any encoding. Bytes in the record are parts of it, without a copy, or of its
@@ -942,9 +1019,20 @@ func (r *EndMessage) UnmarshalBinary(payload []byte) error {
 
 // Frame returns the message as a frame of a version: its header, and its canonical payload. The errors are those of MarshalBinary and Frame.
 func (r *EndMessage) Frame(version int) ([]byte, error) {
-	writer := newWriter()
-	r.write(writer, 0)
-	return writer.frame(SchemaEndMessage, version, CodeEnd)
+	to, err := placeOfFrame("Frame", SchemaEndMessage, version, CodeEnd)
+	if err != nil {
+		return nil, err
+	}
+	return r.appendTo(nil, &to)
+}
+
+// AppendFrame appends the frame that Frame returns to a slice, as append does. The errors are those of Frame.
+func (r *EndMessage) AppendFrame(dst []byte, version int) ([]byte, error) {
+	to, err := placeOfFrame("AppendFrame", SchemaEndMessage, version, CodeEnd)
+	if err != nil {
+		return dst, err
+	}
+	return r.appendTo(dst, &to)
 }
 
 func (r *EndMessage) read(table *fieldTable, level uint64) error {
@@ -983,9 +1071,12 @@ func (r *ProposeRunCompletionMessage) Schema() int {
 
 // MarshalBinary returns the canonical payload. The error is a *FieldError, ErrTooLong or ErrOutOfMemory.
 func (r *ProposeRunCompletionMessage) MarshalBinary() ([]byte, error) {
-	writer := newWriter()
-	r.write(writer, 0)
-	return writer.end(SchemaProposeRunCompletionMessage, 0)
+	return r.appendTo(nil, &place{call: "MarshalBinary", schema: SchemaProposeRunCompletionMessage})
+}
+
+// AppendBinary appends the canonical payload to a slice, as append does. The errors are those of MarshalBinary.
+func (r *ProposeRunCompletionMessage) AppendBinary(dst []byte) ([]byte, error) {
+	return r.appendTo(dst, &place{call: "AppendBinary", schema: SchemaProposeRunCompletionMessage})
 }
 
 // UnmarshalBinary reads a payload, in any encoding. Bytes in the record are parts of it, without a copy, or of its
@@ -996,9 +1087,20 @@ func (r *ProposeRunCompletionMessage) UnmarshalBinary(payload []byte) error {
 
 // Frame returns the message as a frame of a version: its header, and its canonical payload. The errors are those of MarshalBinary and Frame.
 func (r *ProposeRunCompletionMessage) Frame(version int) ([]byte, error) {
-	writer := newWriter()
-	r.write(writer, 0)
-	return writer.frame(SchemaProposeRunCompletionMessage, version, CodeProposeRunCompletion)
+	to, err := placeOfFrame("Frame", SchemaProposeRunCompletionMessage, version, CodeProposeRunCompletion)
+	if err != nil {
+		return nil, err
+	}
+	return r.appendTo(nil, &to)
+}
+
+// AppendFrame appends the frame that Frame returns to a slice, as append does. The errors are those of Frame.
+func (r *ProposeRunCompletionMessage) AppendFrame(dst []byte, version int) ([]byte, error) {
+	to, err := placeOfFrame("AppendFrame", SchemaProposeRunCompletionMessage, version, CodeProposeRunCompletion)
+	if err != nil {
+		return dst, err
+	}
+	return r.appendTo(dst, &to)
 }
 
 func (r *ProposeRunCompletionMessage) read(table *fieldTable, level uint64) error {
@@ -1053,9 +1155,12 @@ func (r *AwaitingOnMessage) Schema() int {
 
 // MarshalBinary returns the canonical payload. The error is a *FieldError, ErrTooLong or ErrOutOfMemory.
 func (r *AwaitingOnMessage) MarshalBinary() ([]byte, error) {
-	writer := newWriter()
-	r.write(writer, 0)
-	return writer.end(SchemaAwaitingOnMessage, 0)
+	return r.appendTo(nil, &place{call: "MarshalBinary", schema: SchemaAwaitingOnMessage})
+}
+
+// AppendBinary appends the canonical payload to a slice, as append does. The errors are those of MarshalBinary.
+func (r *AwaitingOnMessage) AppendBinary(dst []byte) ([]byte, error) {
+	return r.appendTo(dst, &place{call: "AppendBinary", schema: SchemaAwaitingOnMessage})
 }
 
 // UnmarshalBinary reads a payload, in any encoding. Bytes in the record are parts of it, without a copy, or of its
@@ -1066,9 +1171,20 @@ func (r *AwaitingOnMessage) UnmarshalBinary(payload []byte) error {
 
 // Frame returns the message as a frame of a version: its header, and its canonical payload. The errors are those of MarshalBinary and Frame.
 func (r *AwaitingOnMessage) Frame(version int) ([]byte, error) {
-	writer := newWriter()
-	r.write(writer, 0)
-	return writer.frame(SchemaAwaitingOnMessage, version, CodeAwaitingOn)
+	to, err := placeOfFrame("Frame", SchemaAwaitingOnMessage, version, CodeAwaitingOn)
+	if err != nil {
+		return nil, err
+	}
+	return r.appendTo(nil, &to)
+}
+
+// AppendFrame appends the frame that Frame returns to a slice, as append does. The errors are those of Frame.
+func (r *AwaitingOnMessage) AppendFrame(dst []byte, version int) ([]byte, error) {
+	to, err := placeOfFrame("AppendFrame", SchemaAwaitingOnMessage, version, CodeAwaitingOn)
+	if err != nil {
+		return dst, err
+	}
+	return r.appendTo(dst, &to)
 }
 
 func (r *AwaitingOnMessage) read(table *fieldTable, level uint64) error {
@@ -1113,9 +1229,12 @@ func (r *ProposeRunCompletionAckMessage) Schema() int {
 
 // MarshalBinary returns the canonical payload. The error is a *FieldError, ErrTooLong or ErrOutOfMemory.
 func (r *ProposeRunCompletionAckMessage) MarshalBinary() ([]byte, error) {
-	writer := newWriter()
-	r.write(writer, 0)
-	return writer.end(SchemaProposeRunCompletionAckMessage, 0)
+	return r.appendTo(nil, &place{call: "MarshalBinary", schema: SchemaProposeRunCompletionAckMessage})
+}
+
+// AppendBinary appends the canonical payload to a slice, as append does. The errors are those of MarshalBinary.
+func (r *ProposeRunCompletionAckMessage) AppendBinary(dst []byte) ([]byte, error) {
+	return r.appendTo(dst, &place{call: "AppendBinary", schema: SchemaProposeRunCompletionAckMessage})
 }
 
 // UnmarshalBinary reads a payload, in any encoding. Bytes in the record are parts of it, without a copy, or of its
@@ -1126,9 +1245,20 @@ func (r *ProposeRunCompletionAckMessage) UnmarshalBinary(payload []byte) error {
 
 // Frame returns the message as a frame of a version: its header, and its canonical payload. The errors are those of MarshalBinary and Frame.
 func (r *ProposeRunCompletionAckMessage) Frame(version int) ([]byte, error) {
-	writer := newWriter()
-	r.write(writer, 0)
-	return writer.frame(SchemaProposeRunCompletionAckMessage, version, CodeProposeRunCompletionAck)
+	to, err := placeOfFrame("Frame", SchemaProposeRunCompletionAckMessage, version, CodeProposeRunCompletionAck)
+	if err != nil {
+		return nil, err
+	}
+	return r.appendTo(nil, &to)
+}
+
+// AppendFrame appends the frame that Frame returns to a slice, as append does. The errors are those of Frame.
+func (r *ProposeRunCompletionAckMessage) AppendFrame(dst []byte, version int) ([]byte, error) {
+	to, err := placeOfFrame("AppendFrame", SchemaProposeRunCompletionAckMessage, version, CodeProposeRunCompletionAck)
+	if err != nil {
+		return dst, err
+	}
+	return r.appendTo(dst, &to)
 }
 
 func (r *ProposeRunCompletionAckMessage) read(table *fieldTable, level uint64) error {
@@ -1166,9 +1296,12 @@ func (r *GetStateEphemeralCommandMessage) Schema() int {
 
 // MarshalBinary returns the canonical payload. The error is a *FieldError, ErrTooLong or ErrOutOfMemory.
 func (r *GetStateEphemeralCommandMessage) MarshalBinary() ([]byte, error) {
-	writer := newWriter()
-	r.write(writer, 0)
-	return writer.end(SchemaGetStateEphemeralCommandMessage, 0)
+	return r.appendTo(nil, &place{call: "MarshalBinary", schema: SchemaGetStateEphemeralCommandMessage})
+}
+
+// AppendBinary appends the canonical payload to a slice, as append does. The errors are those of MarshalBinary.
+func (r *GetStateEphemeralCommandMessage) AppendBinary(dst []byte) ([]byte, error) {
+	return r.appendTo(dst, &place{call: "AppendBinary", schema: SchemaGetStateEphemeralCommandMessage})
 }
 
 // UnmarshalBinary reads a payload, in any encoding. Bytes in the record are parts of it, without a copy, or of its
@@ -1179,9 +1312,20 @@ func (r *GetStateEphemeralCommandMessage) UnmarshalBinary(payload []byte) error 
 
 // Frame returns the message as a frame of a version: its header, and its canonical payload. The errors are those of MarshalBinary and Frame.
 func (r *GetStateEphemeralCommandMessage) Frame(version int) ([]byte, error) {
-	writer := newWriter()
-	r.write(writer, 0)
-	return writer.frame(SchemaGetStateEphemeralCommandMessage, version, CodeGetStateEphemeralCommand)
+	to, err := placeOfFrame("Frame", SchemaGetStateEphemeralCommandMessage, version, CodeGetStateEphemeralCommand)
+	if err != nil {
+		return nil, err
+	}
+	return r.appendTo(nil, &to)
+}
+
+// AppendFrame appends the frame that Frame returns to a slice, as append does. The errors are those of Frame.
+func (r *GetStateEphemeralCommandMessage) AppendFrame(dst []byte, version int) ([]byte, error) {
+	to, err := placeOfFrame("AppendFrame", SchemaGetStateEphemeralCommandMessage, version, CodeGetStateEphemeralCommand)
+	if err != nil {
+		return dst, err
+	}
+	return r.appendTo(dst, &to)
 }
 
 func (r *GetStateEphemeralCommandMessage) read(table *fieldTable, level uint64) error {
@@ -1232,9 +1376,12 @@ func (r *GetStateEphemeralNotificationMessage) Schema() int {
 
 // MarshalBinary returns the canonical payload. The error is a *FieldError, ErrTooLong or ErrOutOfMemory.
 func (r *GetStateEphemeralNotificationMessage) MarshalBinary() ([]byte, error) {
-	writer := newWriter()
-	r.write(writer, 0)
-	return writer.end(SchemaGetStateEphemeralNotificationMessage, 0)
+	return r.appendTo(nil, &place{call: "MarshalBinary", schema: SchemaGetStateEphemeralNotificationMessage})
+}
+
+// AppendBinary appends the canonical payload to a slice, as append does. The errors are those of MarshalBinary.
+func (r *GetStateEphemeralNotificationMessage) AppendBinary(dst []byte) ([]byte, error) {
+	return r.appendTo(dst, &place{call: "AppendBinary", schema: SchemaGetStateEphemeralNotificationMessage})
 }
 
 // UnmarshalBinary reads a payload, in any encoding. Bytes in the record are parts of it, without a copy, or of its
@@ -1245,9 +1392,20 @@ func (r *GetStateEphemeralNotificationMessage) UnmarshalBinary(payload []byte) e
 
 // Frame returns the message as a frame of a version: its header, and its canonical payload. The errors are those of MarshalBinary and Frame.
 func (r *GetStateEphemeralNotificationMessage) Frame(version int) ([]byte, error) {
-	writer := newWriter()
-	r.write(writer, 0)
-	return writer.frame(SchemaGetStateEphemeralNotificationMessage, version, CodeGetStateEphemeralNotification)
+	to, err := placeOfFrame("Frame", SchemaGetStateEphemeralNotificationMessage, version, CodeGetStateEphemeralNotification)
+	if err != nil {
+		return nil, err
+	}
+	return r.appendTo(nil, &to)
+}
+
+// AppendFrame appends the frame that Frame returns to a slice, as append does. The errors are those of Frame.
+func (r *GetStateEphemeralNotificationMessage) AppendFrame(dst []byte, version int) ([]byte, error) {
+	to, err := placeOfFrame("AppendFrame", SchemaGetStateEphemeralNotificationMessage, version, CodeGetStateEphemeralNotification)
+	if err != nil {
+		return dst, err
+	}
+	return r.appendTo(dst, &to)
 }
 
 func (r *GetStateEphemeralNotificationMessage) read(table *fieldTable, level uint64) error {
@@ -1311,9 +1469,12 @@ func (r *InputCommandMessage) Schema() int {
 
 // MarshalBinary returns the canonical payload. The error is a *FieldError, ErrTooLong or ErrOutOfMemory.
 func (r *InputCommandMessage) MarshalBinary() ([]byte, error) {
-	writer := newWriter()
-	r.write(writer, 0)
-	return writer.end(SchemaInputCommandMessage, 0)
+	return r.appendTo(nil, &place{call: "MarshalBinary", schema: SchemaInputCommandMessage})
+}
+
+// AppendBinary appends the canonical payload to a slice, as append does. The errors are those of MarshalBinary.
+func (r *InputCommandMessage) AppendBinary(dst []byte) ([]byte, error) {
+	return r.appendTo(dst, &place{call: "AppendBinary", schema: SchemaInputCommandMessage})
 }
 
 // UnmarshalBinary reads a payload, in any encoding. Bytes in the record are parts of it, without a copy, or of its
@@ -1324,9 +1485,20 @@ func (r *InputCommandMessage) UnmarshalBinary(payload []byte) error {
 
 // Frame returns the message as a frame of a version: its header, and its canonical payload. The errors are those of MarshalBinary and Frame.
 func (r *InputCommandMessage) Frame(version int) ([]byte, error) {
-	writer := newWriter()
-	r.write(writer, 0)
-	return writer.frame(SchemaInputCommandMessage, version, CodeInputCommand)
+	to, err := placeOfFrame("Frame", SchemaInputCommandMessage, version, CodeInputCommand)
+	if err != nil {
+		return nil, err
+	}
+	return r.appendTo(nil, &to)
+}
+
+// AppendFrame appends the frame that Frame returns to a slice, as append does. The errors are those of Frame.
+func (r *InputCommandMessage) AppendFrame(dst []byte, version int) ([]byte, error) {
+	to, err := placeOfFrame("AppendFrame", SchemaInputCommandMessage, version, CodeInputCommand)
+	if err != nil {
+		return dst, err
+	}
+	return r.appendTo(dst, &to)
 }
 
 func (r *InputCommandMessage) read(table *fieldTable, level uint64) error {
@@ -1390,9 +1562,12 @@ func (r *OutputCommandMessage) Schema() int {
 
 // MarshalBinary returns the canonical payload. The error is a *FieldError, ErrTooLong or ErrOutOfMemory.
 func (r *OutputCommandMessage) MarshalBinary() ([]byte, error) {
-	writer := newWriter()
-	r.write(writer, 0)
-	return writer.end(SchemaOutputCommandMessage, 0)
+	return r.appendTo(nil, &place{call: "MarshalBinary", schema: SchemaOutputCommandMessage})
+}
+
+// AppendBinary appends the canonical payload to a slice, as append does. The errors are those of MarshalBinary.
+func (r *OutputCommandMessage) AppendBinary(dst []byte) ([]byte, error) {
+	return r.appendTo(dst, &place{call: "AppendBinary", schema: SchemaOutputCommandMessage})
 }
 
 // UnmarshalBinary reads a payload, in any encoding. Bytes in the record are parts of it, without a copy, or of its
@@ -1403,9 +1578,20 @@ func (r *OutputCommandMessage) UnmarshalBinary(payload []byte) error {
 
 // Frame returns the message as a frame of a version: its header, and its canonical payload. The errors are those of MarshalBinary and Frame.
 func (r *OutputCommandMessage) Frame(version int) ([]byte, error) {
-	writer := newWriter()
-	r.write(writer, 0)
-	return writer.frame(SchemaOutputCommandMessage, version, CodeOutputCommand)
+	to, err := placeOfFrame("Frame", SchemaOutputCommandMessage, version, CodeOutputCommand)
+	if err != nil {
+		return nil, err
+	}
+	return r.appendTo(nil, &to)
+}
+
+// AppendFrame appends the frame that Frame returns to a slice, as append does. The errors are those of Frame.
+func (r *OutputCommandMessage) AppendFrame(dst []byte, version int) ([]byte, error) {
+	to, err := placeOfFrame("AppendFrame", SchemaOutputCommandMessage, version, CodeOutputCommand)
+	if err != nil {
+		return dst, err
+	}
+	return r.appendTo(dst, &to)
 }
 
 func (r *OutputCommandMessage) read(table *fieldTable, level uint64) error {
@@ -1469,9 +1655,12 @@ func (r *GetLazyStateCommandMessage) Schema() int {
 
 // MarshalBinary returns the canonical payload. The error is a *FieldError, ErrTooLong or ErrOutOfMemory.
 func (r *GetLazyStateCommandMessage) MarshalBinary() ([]byte, error) {
-	writer := newWriter()
-	r.write(writer, 0)
-	return writer.end(SchemaGetLazyStateCommandMessage, 0)
+	return r.appendTo(nil, &place{call: "MarshalBinary", schema: SchemaGetLazyStateCommandMessage})
+}
+
+// AppendBinary appends the canonical payload to a slice, as append does. The errors are those of MarshalBinary.
+func (r *GetLazyStateCommandMessage) AppendBinary(dst []byte) ([]byte, error) {
+	return r.appendTo(dst, &place{call: "AppendBinary", schema: SchemaGetLazyStateCommandMessage})
 }
 
 // UnmarshalBinary reads a payload, in any encoding. Bytes in the record are parts of it, without a copy, or of its
@@ -1482,9 +1671,20 @@ func (r *GetLazyStateCommandMessage) UnmarshalBinary(payload []byte) error {
 
 // Frame returns the message as a frame of a version: its header, and its canonical payload. The errors are those of MarshalBinary and Frame.
 func (r *GetLazyStateCommandMessage) Frame(version int) ([]byte, error) {
-	writer := newWriter()
-	r.write(writer, 0)
-	return writer.frame(SchemaGetLazyStateCommandMessage, version, CodeGetLazyStateCommand)
+	to, err := placeOfFrame("Frame", SchemaGetLazyStateCommandMessage, version, CodeGetLazyStateCommand)
+	if err != nil {
+		return nil, err
+	}
+	return r.appendTo(nil, &to)
+}
+
+// AppendFrame appends the frame that Frame returns to a slice, as append does. The errors are those of Frame.
+func (r *GetLazyStateCommandMessage) AppendFrame(dst []byte, version int) ([]byte, error) {
+	to, err := placeOfFrame("AppendFrame", SchemaGetLazyStateCommandMessage, version, CodeGetLazyStateCommand)
+	if err != nil {
+		return dst, err
+	}
+	return r.appendTo(dst, &to)
 }
 
 func (r *GetLazyStateCommandMessage) read(table *fieldTable, level uint64) error {
@@ -1534,9 +1734,12 @@ func (r *SetStateCommandMessage) Schema() int {
 
 // MarshalBinary returns the canonical payload. The error is a *FieldError, ErrTooLong or ErrOutOfMemory.
 func (r *SetStateCommandMessage) MarshalBinary() ([]byte, error) {
-	writer := newWriter()
-	r.write(writer, 0)
-	return writer.end(SchemaSetStateCommandMessage, 0)
+	return r.appendTo(nil, &place{call: "MarshalBinary", schema: SchemaSetStateCommandMessage})
+}
+
+// AppendBinary appends the canonical payload to a slice, as append does. The errors are those of MarshalBinary.
+func (r *SetStateCommandMessage) AppendBinary(dst []byte) ([]byte, error) {
+	return r.appendTo(dst, &place{call: "AppendBinary", schema: SchemaSetStateCommandMessage})
 }
 
 // UnmarshalBinary reads a payload, in any encoding. Bytes in the record are parts of it, without a copy, or of its
@@ -1547,9 +1750,20 @@ func (r *SetStateCommandMessage) UnmarshalBinary(payload []byte) error {
 
 // Frame returns the message as a frame of a version: its header, and its canonical payload. The errors are those of MarshalBinary and Frame.
 func (r *SetStateCommandMessage) Frame(version int) ([]byte, error) {
-	writer := newWriter()
-	r.write(writer, 0)
-	return writer.frame(SchemaSetStateCommandMessage, version, CodeSetStateCommand)
+	to, err := placeOfFrame("Frame", SchemaSetStateCommandMessage, version, CodeSetStateCommand)
+	if err != nil {
+		return nil, err
+	}
+	return r.appendTo(nil, &to)
+}
+
+// AppendFrame appends the frame that Frame returns to a slice, as append does. The errors are those of Frame.
+func (r *SetStateCommandMessage) AppendFrame(dst []byte, version int) ([]byte, error) {
+	to, err := placeOfFrame("AppendFrame", SchemaSetStateCommandMessage, version, CodeSetStateCommand)
+	if err != nil {
+		return dst, err
+	}
+	return r.appendTo(dst, &to)
 }
 
 func (r *SetStateCommandMessage) read(table *fieldTable, level uint64) error {
@@ -1601,9 +1815,12 @@ func (r *ClearStateCommandMessage) Schema() int {
 
 // MarshalBinary returns the canonical payload. The error is a *FieldError, ErrTooLong or ErrOutOfMemory.
 func (r *ClearStateCommandMessage) MarshalBinary() ([]byte, error) {
-	writer := newWriter()
-	r.write(writer, 0)
-	return writer.end(SchemaClearStateCommandMessage, 0)
+	return r.appendTo(nil, &place{call: "MarshalBinary", schema: SchemaClearStateCommandMessage})
+}
+
+// AppendBinary appends the canonical payload to a slice, as append does. The errors are those of MarshalBinary.
+func (r *ClearStateCommandMessage) AppendBinary(dst []byte) ([]byte, error) {
+	return r.appendTo(dst, &place{call: "AppendBinary", schema: SchemaClearStateCommandMessage})
 }
 
 // UnmarshalBinary reads a payload, in any encoding. Bytes in the record are parts of it, without a copy, or of its
@@ -1614,9 +1831,20 @@ func (r *ClearStateCommandMessage) UnmarshalBinary(payload []byte) error {
 
 // Frame returns the message as a frame of a version: its header, and its canonical payload. The errors are those of MarshalBinary and Frame.
 func (r *ClearStateCommandMessage) Frame(version int) ([]byte, error) {
-	writer := newWriter()
-	r.write(writer, 0)
-	return writer.frame(SchemaClearStateCommandMessage, version, CodeClearStateCommand)
+	to, err := placeOfFrame("Frame", SchemaClearStateCommandMessage, version, CodeClearStateCommand)
+	if err != nil {
+		return nil, err
+	}
+	return r.appendTo(nil, &to)
+}
+
+// AppendFrame appends the frame that Frame returns to a slice, as append does. The errors are those of Frame.
+func (r *ClearStateCommandMessage) AppendFrame(dst []byte, version int) ([]byte, error) {
+	to, err := placeOfFrame("AppendFrame", SchemaClearStateCommandMessage, version, CodeClearStateCommand)
+	if err != nil {
+		return dst, err
+	}
+	return r.appendTo(dst, &to)
 }
 
 func (r *ClearStateCommandMessage) read(table *fieldTable, level uint64) error {
@@ -1657,9 +1885,12 @@ func (r *ClearAllStateCommandMessage) Schema() int {
 
 // MarshalBinary returns the canonical payload. The error is a *FieldError, ErrTooLong or ErrOutOfMemory.
 func (r *ClearAllStateCommandMessage) MarshalBinary() ([]byte, error) {
-	writer := newWriter()
-	r.write(writer, 0)
-	return writer.end(SchemaClearAllStateCommandMessage, 0)
+	return r.appendTo(nil, &place{call: "MarshalBinary", schema: SchemaClearAllStateCommandMessage})
+}
+
+// AppendBinary appends the canonical payload to a slice, as append does. The errors are those of MarshalBinary.
+func (r *ClearAllStateCommandMessage) AppendBinary(dst []byte) ([]byte, error) {
+	return r.appendTo(dst, &place{call: "AppendBinary", schema: SchemaClearAllStateCommandMessage})
 }
 
 // UnmarshalBinary reads a payload, in any encoding. Bytes in the record are parts of it, without a copy, or of its
@@ -1670,9 +1901,20 @@ func (r *ClearAllStateCommandMessage) UnmarshalBinary(payload []byte) error {
 
 // Frame returns the message as a frame of a version: its header, and its canonical payload. The errors are those of MarshalBinary and Frame.
 func (r *ClearAllStateCommandMessage) Frame(version int) ([]byte, error) {
-	writer := newWriter()
-	r.write(writer, 0)
-	return writer.frame(SchemaClearAllStateCommandMessage, version, CodeClearAllStateCommand)
+	to, err := placeOfFrame("Frame", SchemaClearAllStateCommandMessage, version, CodeClearAllStateCommand)
+	if err != nil {
+		return nil, err
+	}
+	return r.appendTo(nil, &to)
+}
+
+// AppendFrame appends the frame that Frame returns to a slice, as append does. The errors are those of Frame.
+func (r *ClearAllStateCommandMessage) AppendFrame(dst []byte, version int) ([]byte, error) {
+	to, err := placeOfFrame("AppendFrame", SchemaClearAllStateCommandMessage, version, CodeClearAllStateCommand)
+	if err != nil {
+		return dst, err
+	}
+	return r.appendTo(dst, &to)
 }
 
 func (r *ClearAllStateCommandMessage) read(table *fieldTable, level uint64) error {
@@ -1710,9 +1952,12 @@ func (r *GetLazyStateKeysCommandMessage) Schema() int {
 
 // MarshalBinary returns the canonical payload. The error is a *FieldError, ErrTooLong or ErrOutOfMemory.
 func (r *GetLazyStateKeysCommandMessage) MarshalBinary() ([]byte, error) {
-	writer := newWriter()
-	r.write(writer, 0)
-	return writer.end(SchemaGetLazyStateKeysCommandMessage, 0)
+	return r.appendTo(nil, &place{call: "MarshalBinary", schema: SchemaGetLazyStateKeysCommandMessage})
+}
+
+// AppendBinary appends the canonical payload to a slice, as append does. The errors are those of MarshalBinary.
+func (r *GetLazyStateKeysCommandMessage) AppendBinary(dst []byte) ([]byte, error) {
+	return r.appendTo(dst, &place{call: "AppendBinary", schema: SchemaGetLazyStateKeysCommandMessage})
 }
 
 // UnmarshalBinary reads a payload, in any encoding. Bytes in the record are parts of it, without a copy, or of its
@@ -1723,9 +1968,20 @@ func (r *GetLazyStateKeysCommandMessage) UnmarshalBinary(payload []byte) error {
 
 // Frame returns the message as a frame of a version: its header, and its canonical payload. The errors are those of MarshalBinary and Frame.
 func (r *GetLazyStateKeysCommandMessage) Frame(version int) ([]byte, error) {
-	writer := newWriter()
-	r.write(writer, 0)
-	return writer.frame(SchemaGetLazyStateKeysCommandMessage, version, CodeGetLazyStateKeysCommand)
+	to, err := placeOfFrame("Frame", SchemaGetLazyStateKeysCommandMessage, version, CodeGetLazyStateKeysCommand)
+	if err != nil {
+		return nil, err
+	}
+	return r.appendTo(nil, &to)
+}
+
+// AppendFrame appends the frame that Frame returns to a slice, as append does. The errors are those of Frame.
+func (r *GetLazyStateKeysCommandMessage) AppendFrame(dst []byte, version int) ([]byte, error) {
+	to, err := placeOfFrame("AppendFrame", SchemaGetLazyStateKeysCommandMessage, version, CodeGetLazyStateKeysCommand)
+	if err != nil {
+		return dst, err
+	}
+	return r.appendTo(dst, &to)
 }
 
 func (r *GetLazyStateKeysCommandMessage) read(table *fieldTable, level uint64) error {
@@ -1778,9 +2034,12 @@ func (r *GetEagerStateCommandMessage) Schema() int {
 
 // MarshalBinary returns the canonical payload. The error is a *FieldError, ErrTooLong or ErrOutOfMemory.
 func (r *GetEagerStateCommandMessage) MarshalBinary() ([]byte, error) {
-	writer := newWriter()
-	r.write(writer, 0)
-	return writer.end(SchemaGetEagerStateCommandMessage, 0)
+	return r.appendTo(nil, &place{call: "MarshalBinary", schema: SchemaGetEagerStateCommandMessage})
+}
+
+// AppendBinary appends the canonical payload to a slice, as append does. The errors are those of MarshalBinary.
+func (r *GetEagerStateCommandMessage) AppendBinary(dst []byte) ([]byte, error) {
+	return r.appendTo(dst, &place{call: "AppendBinary", schema: SchemaGetEagerStateCommandMessage})
 }
 
 // UnmarshalBinary reads a payload, in any encoding. Bytes in the record are parts of it, without a copy, or of its
@@ -1791,9 +2050,20 @@ func (r *GetEagerStateCommandMessage) UnmarshalBinary(payload []byte) error {
 
 // Frame returns the message as a frame of a version: its header, and its canonical payload. The errors are those of MarshalBinary and Frame.
 func (r *GetEagerStateCommandMessage) Frame(version int) ([]byte, error) {
-	writer := newWriter()
-	r.write(writer, 0)
-	return writer.frame(SchemaGetEagerStateCommandMessage, version, CodeGetEagerStateCommand)
+	to, err := placeOfFrame("Frame", SchemaGetEagerStateCommandMessage, version, CodeGetEagerStateCommand)
+	if err != nil {
+		return nil, err
+	}
+	return r.appendTo(nil, &to)
+}
+
+// AppendFrame appends the frame that Frame returns to a slice, as append does. The errors are those of Frame.
+func (r *GetEagerStateCommandMessage) AppendFrame(dst []byte, version int) ([]byte, error) {
+	to, err := placeOfFrame("AppendFrame", SchemaGetEagerStateCommandMessage, version, CodeGetEagerStateCommand)
+	if err != nil {
+		return dst, err
+	}
+	return r.appendTo(dst, &to)
 }
 
 func (r *GetEagerStateCommandMessage) read(table *fieldTable, level uint64) error {
@@ -1860,9 +2130,12 @@ func (r *GetEagerStateKeysCommandMessage) Schema() int {
 
 // MarshalBinary returns the canonical payload. The error is a *FieldError, ErrTooLong or ErrOutOfMemory.
 func (r *GetEagerStateKeysCommandMessage) MarshalBinary() ([]byte, error) {
-	writer := newWriter()
-	r.write(writer, 0)
-	return writer.end(SchemaGetEagerStateKeysCommandMessage, 0)
+	return r.appendTo(nil, &place{call: "MarshalBinary", schema: SchemaGetEagerStateKeysCommandMessage})
+}
+
+// AppendBinary appends the canonical payload to a slice, as append does. The errors are those of MarshalBinary.
+func (r *GetEagerStateKeysCommandMessage) AppendBinary(dst []byte) ([]byte, error) {
+	return r.appendTo(dst, &place{call: "AppendBinary", schema: SchemaGetEagerStateKeysCommandMessage})
 }
 
 // UnmarshalBinary reads a payload, in any encoding. Bytes in the record are parts of it, without a copy, or of its
@@ -1873,9 +2146,20 @@ func (r *GetEagerStateKeysCommandMessage) UnmarshalBinary(payload []byte) error 
 
 // Frame returns the message as a frame of a version: its header, and its canonical payload. The errors are those of MarshalBinary and Frame.
 func (r *GetEagerStateKeysCommandMessage) Frame(version int) ([]byte, error) {
-	writer := newWriter()
-	r.write(writer, 0)
-	return writer.frame(SchemaGetEagerStateKeysCommandMessage, version, CodeGetEagerStateKeysCommand)
+	to, err := placeOfFrame("Frame", SchemaGetEagerStateKeysCommandMessage, version, CodeGetEagerStateKeysCommand)
+	if err != nil {
+		return nil, err
+	}
+	return r.appendTo(nil, &to)
+}
+
+// AppendFrame appends the frame that Frame returns to a slice, as append does. The errors are those of Frame.
+func (r *GetEagerStateKeysCommandMessage) AppendFrame(dst []byte, version int) ([]byte, error) {
+	to, err := placeOfFrame("AppendFrame", SchemaGetEagerStateKeysCommandMessage, version, CodeGetEagerStateKeysCommand)
+	if err != nil {
+		return dst, err
+	}
+	return r.appendTo(dst, &to)
 }
 
 func (r *GetEagerStateKeysCommandMessage) read(table *fieldTable, level uint64) error {
@@ -1924,9 +2208,12 @@ func (r *GetPromiseCommandMessage) Schema() int {
 
 // MarshalBinary returns the canonical payload. The error is a *FieldError, ErrTooLong or ErrOutOfMemory.
 func (r *GetPromiseCommandMessage) MarshalBinary() ([]byte, error) {
-	writer := newWriter()
-	r.write(writer, 0)
-	return writer.end(SchemaGetPromiseCommandMessage, 0)
+	return r.appendTo(nil, &place{call: "MarshalBinary", schema: SchemaGetPromiseCommandMessage})
+}
+
+// AppendBinary appends the canonical payload to a slice, as append does. The errors are those of MarshalBinary.
+func (r *GetPromiseCommandMessage) AppendBinary(dst []byte) ([]byte, error) {
+	return r.appendTo(dst, &place{call: "AppendBinary", schema: SchemaGetPromiseCommandMessage})
 }
 
 // UnmarshalBinary reads a payload, in any encoding. Bytes in the record are parts of it, without a copy, or of its
@@ -1937,9 +2224,20 @@ func (r *GetPromiseCommandMessage) UnmarshalBinary(payload []byte) error {
 
 // Frame returns the message as a frame of a version: its header, and its canonical payload. The errors are those of MarshalBinary and Frame.
 func (r *GetPromiseCommandMessage) Frame(version int) ([]byte, error) {
-	writer := newWriter()
-	r.write(writer, 0)
-	return writer.frame(SchemaGetPromiseCommandMessage, version, CodeGetPromiseCommand)
+	to, err := placeOfFrame("Frame", SchemaGetPromiseCommandMessage, version, CodeGetPromiseCommand)
+	if err != nil {
+		return nil, err
+	}
+	return r.appendTo(nil, &to)
+}
+
+// AppendFrame appends the frame that Frame returns to a slice, as append does. The errors are those of Frame.
+func (r *GetPromiseCommandMessage) AppendFrame(dst []byte, version int) ([]byte, error) {
+	to, err := placeOfFrame("AppendFrame", SchemaGetPromiseCommandMessage, version, CodeGetPromiseCommand)
+	if err != nil {
+		return dst, err
+	}
+	return r.appendTo(dst, &to)
 }
 
 func (r *GetPromiseCommandMessage) read(table *fieldTable, level uint64) error {
@@ -1989,9 +2287,12 @@ func (r *PeekPromiseCommandMessage) Schema() int {
 
 // MarshalBinary returns the canonical payload. The error is a *FieldError, ErrTooLong or ErrOutOfMemory.
 func (r *PeekPromiseCommandMessage) MarshalBinary() ([]byte, error) {
-	writer := newWriter()
-	r.write(writer, 0)
-	return writer.end(SchemaPeekPromiseCommandMessage, 0)
+	return r.appendTo(nil, &place{call: "MarshalBinary", schema: SchemaPeekPromiseCommandMessage})
+}
+
+// AppendBinary appends the canonical payload to a slice, as append does. The errors are those of MarshalBinary.
+func (r *PeekPromiseCommandMessage) AppendBinary(dst []byte) ([]byte, error) {
+	return r.appendTo(dst, &place{call: "AppendBinary", schema: SchemaPeekPromiseCommandMessage})
 }
 
 // UnmarshalBinary reads a payload, in any encoding. Bytes in the record are parts of it, without a copy, or of its
@@ -2002,9 +2303,20 @@ func (r *PeekPromiseCommandMessage) UnmarshalBinary(payload []byte) error {
 
 // Frame returns the message as a frame of a version: its header, and its canonical payload. The errors are those of MarshalBinary and Frame.
 func (r *PeekPromiseCommandMessage) Frame(version int) ([]byte, error) {
-	writer := newWriter()
-	r.write(writer, 0)
-	return writer.frame(SchemaPeekPromiseCommandMessage, version, CodePeekPromiseCommand)
+	to, err := placeOfFrame("Frame", SchemaPeekPromiseCommandMessage, version, CodePeekPromiseCommand)
+	if err != nil {
+		return nil, err
+	}
+	return r.appendTo(nil, &to)
+}
+
+// AppendFrame appends the frame that Frame returns to a slice, as append does. The errors are those of Frame.
+func (r *PeekPromiseCommandMessage) AppendFrame(dst []byte, version int) ([]byte, error) {
+	to, err := placeOfFrame("AppendFrame", SchemaPeekPromiseCommandMessage, version, CodePeekPromiseCommand)
+	if err != nil {
+		return dst, err
+	}
+	return r.appendTo(dst, &to)
 }
 
 func (r *PeekPromiseCommandMessage) read(table *fieldTable, level uint64) error {
@@ -2064,9 +2376,12 @@ func (r *CompletePromiseCommandMessage) Schema() int {
 
 // MarshalBinary returns the canonical payload. The error is a *FieldError, ErrTooLong or ErrOutOfMemory.
 func (r *CompletePromiseCommandMessage) MarshalBinary() ([]byte, error) {
-	writer := newWriter()
-	r.write(writer, 0)
-	return writer.end(SchemaCompletePromiseCommandMessage, 0)
+	return r.appendTo(nil, &place{call: "MarshalBinary", schema: SchemaCompletePromiseCommandMessage})
+}
+
+// AppendBinary appends the canonical payload to a slice, as append does. The errors are those of MarshalBinary.
+func (r *CompletePromiseCommandMessage) AppendBinary(dst []byte) ([]byte, error) {
+	return r.appendTo(dst, &place{call: "AppendBinary", schema: SchemaCompletePromiseCommandMessage})
 }
 
 // UnmarshalBinary reads a payload, in any encoding. Bytes in the record are parts of it, without a copy, or of its
@@ -2077,9 +2392,20 @@ func (r *CompletePromiseCommandMessage) UnmarshalBinary(payload []byte) error {
 
 // Frame returns the message as a frame of a version: its header, and its canonical payload. The errors are those of MarshalBinary and Frame.
 func (r *CompletePromiseCommandMessage) Frame(version int) ([]byte, error) {
-	writer := newWriter()
-	r.write(writer, 0)
-	return writer.frame(SchemaCompletePromiseCommandMessage, version, CodeCompletePromiseCommand)
+	to, err := placeOfFrame("Frame", SchemaCompletePromiseCommandMessage, version, CodeCompletePromiseCommand)
+	if err != nil {
+		return nil, err
+	}
+	return r.appendTo(nil, &to)
+}
+
+// AppendFrame appends the frame that Frame returns to a slice, as append does. The errors are those of Frame.
+func (r *CompletePromiseCommandMessage) AppendFrame(dst []byte, version int) ([]byte, error) {
+	to, err := placeOfFrame("AppendFrame", SchemaCompletePromiseCommandMessage, version, CodeCompletePromiseCommand)
+	if err != nil {
+		return dst, err
+	}
+	return r.appendTo(dst, &to)
 }
 
 func (r *CompletePromiseCommandMessage) read(table *fieldTable, level uint64) error {
@@ -2153,9 +2479,12 @@ func (r *SleepCommandMessage) Schema() int {
 
 // MarshalBinary returns the canonical payload. The error is a *FieldError, ErrTooLong or ErrOutOfMemory.
 func (r *SleepCommandMessage) MarshalBinary() ([]byte, error) {
-	writer := newWriter()
-	r.write(writer, 0)
-	return writer.end(SchemaSleepCommandMessage, 0)
+	return r.appendTo(nil, &place{call: "MarshalBinary", schema: SchemaSleepCommandMessage})
+}
+
+// AppendBinary appends the canonical payload to a slice, as append does. The errors are those of MarshalBinary.
+func (r *SleepCommandMessage) AppendBinary(dst []byte) ([]byte, error) {
+	return r.appendTo(dst, &place{call: "AppendBinary", schema: SchemaSleepCommandMessage})
 }
 
 // UnmarshalBinary reads a payload, in any encoding. Bytes in the record are parts of it, without a copy, or of its
@@ -2166,9 +2495,20 @@ func (r *SleepCommandMessage) UnmarshalBinary(payload []byte) error {
 
 // Frame returns the message as a frame of a version: its header, and its canonical payload. The errors are those of MarshalBinary and Frame.
 func (r *SleepCommandMessage) Frame(version int) ([]byte, error) {
-	writer := newWriter()
-	r.write(writer, 0)
-	return writer.frame(SchemaSleepCommandMessage, version, CodeSleepCommand)
+	to, err := placeOfFrame("Frame", SchemaSleepCommandMessage, version, CodeSleepCommand)
+	if err != nil {
+		return nil, err
+	}
+	return r.appendTo(nil, &to)
+}
+
+// AppendFrame appends the frame that Frame returns to a slice, as append does. The errors are those of Frame.
+func (r *SleepCommandMessage) AppendFrame(dst []byte, version int) ([]byte, error) {
+	to, err := placeOfFrame("AppendFrame", SchemaSleepCommandMessage, version, CodeSleepCommand)
+	if err != nil {
+		return dst, err
+	}
+	return r.appendTo(dst, &to)
 }
 
 func (r *SleepCommandMessage) read(table *fieldTable, level uint64) error {
@@ -2234,9 +2574,12 @@ func (r *CallCommandMessage) Schema() int {
 
 // MarshalBinary returns the canonical payload. The error is a *FieldError, ErrTooLong or ErrOutOfMemory.
 func (r *CallCommandMessage) MarshalBinary() ([]byte, error) {
-	writer := newWriter()
-	r.write(writer, 0)
-	return writer.end(SchemaCallCommandMessage, 0)
+	return r.appendTo(nil, &place{call: "MarshalBinary", schema: SchemaCallCommandMessage})
+}
+
+// AppendBinary appends the canonical payload to a slice, as append does. The errors are those of MarshalBinary.
+func (r *CallCommandMessage) AppendBinary(dst []byte) ([]byte, error) {
+	return r.appendTo(dst, &place{call: "AppendBinary", schema: SchemaCallCommandMessage})
 }
 
 // UnmarshalBinary reads a payload, in any encoding. Bytes in the record are parts of it, without a copy, or of its
@@ -2247,9 +2590,20 @@ func (r *CallCommandMessage) UnmarshalBinary(payload []byte) error {
 
 // Frame returns the message as a frame of a version: its header, and its canonical payload. The errors are those of MarshalBinary and Frame.
 func (r *CallCommandMessage) Frame(version int) ([]byte, error) {
-	writer := newWriter()
-	r.write(writer, 0)
-	return writer.frame(SchemaCallCommandMessage, version, CodeCallCommand)
+	to, err := placeOfFrame("Frame", SchemaCallCommandMessage, version, CodeCallCommand)
+	if err != nil {
+		return nil, err
+	}
+	return r.appendTo(nil, &to)
+}
+
+// AppendFrame appends the frame that Frame returns to a slice, as append does. The errors are those of Frame.
+func (r *CallCommandMessage) AppendFrame(dst []byte, version int) ([]byte, error) {
+	to, err := placeOfFrame("AppendFrame", SchemaCallCommandMessage, version, CodeCallCommand)
+	if err != nil {
+		return dst, err
+	}
+	return r.appendTo(dst, &to)
 }
 
 func (r *CallCommandMessage) read(table *fieldTable, level uint64) error {
@@ -2362,9 +2716,12 @@ func (r *OneWayCallCommandMessage) Schema() int {
 
 // MarshalBinary returns the canonical payload. The error is a *FieldError, ErrTooLong or ErrOutOfMemory.
 func (r *OneWayCallCommandMessage) MarshalBinary() ([]byte, error) {
-	writer := newWriter()
-	r.write(writer, 0)
-	return writer.end(SchemaOneWayCallCommandMessage, 0)
+	return r.appendTo(nil, &place{call: "MarshalBinary", schema: SchemaOneWayCallCommandMessage})
+}
+
+// AppendBinary appends the canonical payload to a slice, as append does. The errors are those of MarshalBinary.
+func (r *OneWayCallCommandMessage) AppendBinary(dst []byte) ([]byte, error) {
+	return r.appendTo(dst, &place{call: "AppendBinary", schema: SchemaOneWayCallCommandMessage})
 }
 
 // UnmarshalBinary reads a payload, in any encoding. Bytes in the record are parts of it, without a copy, or of its
@@ -2375,9 +2732,20 @@ func (r *OneWayCallCommandMessage) UnmarshalBinary(payload []byte) error {
 
 // Frame returns the message as a frame of a version: its header, and its canonical payload. The errors are those of MarshalBinary and Frame.
 func (r *OneWayCallCommandMessage) Frame(version int) ([]byte, error) {
-	writer := newWriter()
-	r.write(writer, 0)
-	return writer.frame(SchemaOneWayCallCommandMessage, version, CodeOneWayCallCommand)
+	to, err := placeOfFrame("Frame", SchemaOneWayCallCommandMessage, version, CodeOneWayCallCommand)
+	if err != nil {
+		return nil, err
+	}
+	return r.appendTo(nil, &to)
+}
+
+// AppendFrame appends the frame that Frame returns to a slice, as append does. The errors are those of Frame.
+func (r *OneWayCallCommandMessage) AppendFrame(dst []byte, version int) ([]byte, error) {
+	to, err := placeOfFrame("AppendFrame", SchemaOneWayCallCommandMessage, version, CodeOneWayCallCommand)
+	if err != nil {
+		return dst, err
+	}
+	return r.appendTo(dst, &to)
 }
 
 func (r *OneWayCallCommandMessage) read(table *fieldTable, level uint64) error {
@@ -2500,9 +2868,12 @@ func (r *SendSignalCommandMessage) Schema() int {
 
 // MarshalBinary returns the canonical payload. The error is a *FieldError, ErrTooLong or ErrOutOfMemory.
 func (r *SendSignalCommandMessage) MarshalBinary() ([]byte, error) {
-	writer := newWriter()
-	r.write(writer, 0)
-	return writer.end(SchemaSendSignalCommandMessage, 0)
+	return r.appendTo(nil, &place{call: "MarshalBinary", schema: SchemaSendSignalCommandMessage})
+}
+
+// AppendBinary appends the canonical payload to a slice, as append does. The errors are those of MarshalBinary.
+func (r *SendSignalCommandMessage) AppendBinary(dst []byte) ([]byte, error) {
+	return r.appendTo(dst, &place{call: "AppendBinary", schema: SchemaSendSignalCommandMessage})
 }
 
 // UnmarshalBinary reads a payload, in any encoding. Bytes in the record are parts of it, without a copy, or of its
@@ -2513,9 +2884,20 @@ func (r *SendSignalCommandMessage) UnmarshalBinary(payload []byte) error {
 
 // Frame returns the message as a frame of a version: its header, and its canonical payload. The errors are those of MarshalBinary and Frame.
 func (r *SendSignalCommandMessage) Frame(version int) ([]byte, error) {
-	writer := newWriter()
-	r.write(writer, 0)
-	return writer.frame(SchemaSendSignalCommandMessage, version, CodeSendSignalCommand)
+	to, err := placeOfFrame("Frame", SchemaSendSignalCommandMessage, version, CodeSendSignalCommand)
+	if err != nil {
+		return nil, err
+	}
+	return r.appendTo(nil, &to)
+}
+
+// AppendFrame appends the frame that Frame returns to a slice, as append does. The errors are those of Frame.
+func (r *SendSignalCommandMessage) AppendFrame(dst []byte, version int) ([]byte, error) {
+	to, err := placeOfFrame("AppendFrame", SchemaSendSignalCommandMessage, version, CodeSendSignalCommand)
+	if err != nil {
+		return dst, err
+	}
+	return r.appendTo(dst, &to)
 }
 
 func (r *SendSignalCommandMessage) read(table *fieldTable, level uint64) error {
@@ -2603,9 +2985,12 @@ func (r *RunCommandMessage) Schema() int {
 
 // MarshalBinary returns the canonical payload. The error is a *FieldError, ErrTooLong or ErrOutOfMemory.
 func (r *RunCommandMessage) MarshalBinary() ([]byte, error) {
-	writer := newWriter()
-	r.write(writer, 0)
-	return writer.end(SchemaRunCommandMessage, 0)
+	return r.appendTo(nil, &place{call: "MarshalBinary", schema: SchemaRunCommandMessage})
+}
+
+// AppendBinary appends the canonical payload to a slice, as append does. The errors are those of MarshalBinary.
+func (r *RunCommandMessage) AppendBinary(dst []byte) ([]byte, error) {
+	return r.appendTo(dst, &place{call: "AppendBinary", schema: SchemaRunCommandMessage})
 }
 
 // UnmarshalBinary reads a payload, in any encoding. Bytes in the record are parts of it, without a copy, or of its
@@ -2616,9 +3001,20 @@ func (r *RunCommandMessage) UnmarshalBinary(payload []byte) error {
 
 // Frame returns the message as a frame of a version: its header, and its canonical payload. The errors are those of MarshalBinary and Frame.
 func (r *RunCommandMessage) Frame(version int) ([]byte, error) {
-	writer := newWriter()
-	r.write(writer, 0)
-	return writer.frame(SchemaRunCommandMessage, version, CodeRunCommand)
+	to, err := placeOfFrame("Frame", SchemaRunCommandMessage, version, CodeRunCommand)
+	if err != nil {
+		return nil, err
+	}
+	return r.appendTo(nil, &to)
+}
+
+// AppendFrame appends the frame that Frame returns to a slice, as append does. The errors are those of Frame.
+func (r *RunCommandMessage) AppendFrame(dst []byte, version int) ([]byte, error) {
+	to, err := placeOfFrame("AppendFrame", SchemaRunCommandMessage, version, CodeRunCommand)
+	if err != nil {
+		return dst, err
+	}
+	return r.appendTo(dst, &to)
 }
 
 func (r *RunCommandMessage) read(table *fieldTable, level uint64) error {
@@ -2676,9 +3072,12 @@ func (r *AttachInvocationCommandMessage) Schema() int {
 
 // MarshalBinary returns the canonical payload. The error is a *FieldError, ErrTooLong or ErrOutOfMemory.
 func (r *AttachInvocationCommandMessage) MarshalBinary() ([]byte, error) {
-	writer := newWriter()
-	r.write(writer, 0)
-	return writer.end(SchemaAttachInvocationCommandMessage, 0)
+	return r.appendTo(nil, &place{call: "MarshalBinary", schema: SchemaAttachInvocationCommandMessage})
+}
+
+// AppendBinary appends the canonical payload to a slice, as append does. The errors are those of MarshalBinary.
+func (r *AttachInvocationCommandMessage) AppendBinary(dst []byte) ([]byte, error) {
+	return r.appendTo(dst, &place{call: "AppendBinary", schema: SchemaAttachInvocationCommandMessage})
 }
 
 // UnmarshalBinary reads a payload, in any encoding. Bytes in the record are parts of it, without a copy, or of its
@@ -2689,9 +3088,20 @@ func (r *AttachInvocationCommandMessage) UnmarshalBinary(payload []byte) error {
 
 // Frame returns the message as a frame of a version: its header, and its canonical payload. The errors are those of MarshalBinary and Frame.
 func (r *AttachInvocationCommandMessage) Frame(version int) ([]byte, error) {
-	writer := newWriter()
-	r.write(writer, 0)
-	return writer.frame(SchemaAttachInvocationCommandMessage, version, CodeAttachInvocationCommand)
+	to, err := placeOfFrame("Frame", SchemaAttachInvocationCommandMessage, version, CodeAttachInvocationCommand)
+	if err != nil {
+		return nil, err
+	}
+	return r.appendTo(nil, &to)
+}
+
+// AppendFrame appends the frame that Frame returns to a slice, as append does. The errors are those of Frame.
+func (r *AttachInvocationCommandMessage) AppendFrame(dst []byte, version int) ([]byte, error) {
+	to, err := placeOfFrame("AppendFrame", SchemaAttachInvocationCommandMessage, version, CodeAttachInvocationCommand)
+	if err != nil {
+		return dst, err
+	}
+	return r.appendTo(dst, &to)
 }
 
 func (r *AttachInvocationCommandMessage) read(table *fieldTable, level uint64) error {
@@ -2777,9 +3187,12 @@ func (r *GetInvocationOutputCommandMessage) Schema() int {
 
 // MarshalBinary returns the canonical payload. The error is a *FieldError, ErrTooLong or ErrOutOfMemory.
 func (r *GetInvocationOutputCommandMessage) MarshalBinary() ([]byte, error) {
-	writer := newWriter()
-	r.write(writer, 0)
-	return writer.end(SchemaGetInvocationOutputCommandMessage, 0)
+	return r.appendTo(nil, &place{call: "MarshalBinary", schema: SchemaGetInvocationOutputCommandMessage})
+}
+
+// AppendBinary appends the canonical payload to a slice, as append does. The errors are those of MarshalBinary.
+func (r *GetInvocationOutputCommandMessage) AppendBinary(dst []byte) ([]byte, error) {
+	return r.appendTo(dst, &place{call: "AppendBinary", schema: SchemaGetInvocationOutputCommandMessage})
 }
 
 // UnmarshalBinary reads a payload, in any encoding. Bytes in the record are parts of it, without a copy, or of its
@@ -2790,9 +3203,20 @@ func (r *GetInvocationOutputCommandMessage) UnmarshalBinary(payload []byte) erro
 
 // Frame returns the message as a frame of a version: its header, and its canonical payload. The errors are those of MarshalBinary and Frame.
 func (r *GetInvocationOutputCommandMessage) Frame(version int) ([]byte, error) {
-	writer := newWriter()
-	r.write(writer, 0)
-	return writer.frame(SchemaGetInvocationOutputCommandMessage, version, CodeGetInvocationOutputCommand)
+	to, err := placeOfFrame("Frame", SchemaGetInvocationOutputCommandMessage, version, CodeGetInvocationOutputCommand)
+	if err != nil {
+		return nil, err
+	}
+	return r.appendTo(nil, &to)
+}
+
+// AppendFrame appends the frame that Frame returns to a slice, as append does. The errors are those of Frame.
+func (r *GetInvocationOutputCommandMessage) AppendFrame(dst []byte, version int) ([]byte, error) {
+	to, err := placeOfFrame("AppendFrame", SchemaGetInvocationOutputCommandMessage, version, CodeGetInvocationOutputCommand)
+	if err != nil {
+		return dst, err
+	}
+	return r.appendTo(dst, &to)
 }
 
 func (r *GetInvocationOutputCommandMessage) read(table *fieldTable, level uint64) error {
@@ -2873,9 +3297,12 @@ func (r *CompleteAwakeableCommandMessage) Schema() int {
 
 // MarshalBinary returns the canonical payload. The error is a *FieldError, ErrTooLong or ErrOutOfMemory.
 func (r *CompleteAwakeableCommandMessage) MarshalBinary() ([]byte, error) {
-	writer := newWriter()
-	r.write(writer, 0)
-	return writer.end(SchemaCompleteAwakeableCommandMessage, 0)
+	return r.appendTo(nil, &place{call: "MarshalBinary", schema: SchemaCompleteAwakeableCommandMessage})
+}
+
+// AppendBinary appends the canonical payload to a slice, as append does. The errors are those of MarshalBinary.
+func (r *CompleteAwakeableCommandMessage) AppendBinary(dst []byte) ([]byte, error) {
+	return r.appendTo(dst, &place{call: "AppendBinary", schema: SchemaCompleteAwakeableCommandMessage})
 }
 
 // UnmarshalBinary reads a payload, in any encoding. Bytes in the record are parts of it, without a copy, or of its
@@ -2886,9 +3313,20 @@ func (r *CompleteAwakeableCommandMessage) UnmarshalBinary(payload []byte) error 
 
 // Frame returns the message as a frame of a version: its header, and its canonical payload. The errors are those of MarshalBinary and Frame.
 func (r *CompleteAwakeableCommandMessage) Frame(version int) ([]byte, error) {
-	writer := newWriter()
-	r.write(writer, 0)
-	return writer.frame(SchemaCompleteAwakeableCommandMessage, version, CodeCompleteAwakeableCommand)
+	to, err := placeOfFrame("Frame", SchemaCompleteAwakeableCommandMessage, version, CodeCompleteAwakeableCommand)
+	if err != nil {
+		return nil, err
+	}
+	return r.appendTo(nil, &to)
+}
+
+// AppendFrame appends the frame that Frame returns to a slice, as append does. The errors are those of Frame.
+func (r *CompleteAwakeableCommandMessage) AppendFrame(dst []byte, version int) ([]byte, error) {
+	to, err := placeOfFrame("AppendFrame", SchemaCompleteAwakeableCommandMessage, version, CodeCompleteAwakeableCommand)
+	if err != nil {
+		return dst, err
+	}
+	return r.appendTo(dst, &to)
 }
 
 func (r *CompleteAwakeableCommandMessage) read(table *fieldTable, level uint64) error {
@@ -2963,9 +3401,12 @@ func (r *GetLazyStateCompletionNotificationMessage) Schema() int {
 
 // MarshalBinary returns the canonical payload. The error is a *FieldError, ErrTooLong or ErrOutOfMemory.
 func (r *GetLazyStateCompletionNotificationMessage) MarshalBinary() ([]byte, error) {
-	writer := newWriter()
-	r.write(writer, 0)
-	return writer.end(SchemaGetLazyStateCompletionNotificationMessage, 0)
+	return r.appendTo(nil, &place{call: "MarshalBinary", schema: SchemaGetLazyStateCompletionNotificationMessage})
+}
+
+// AppendBinary appends the canonical payload to a slice, as append does. The errors are those of MarshalBinary.
+func (r *GetLazyStateCompletionNotificationMessage) AppendBinary(dst []byte) ([]byte, error) {
+	return r.appendTo(dst, &place{call: "AppendBinary", schema: SchemaGetLazyStateCompletionNotificationMessage})
 }
 
 // UnmarshalBinary reads a payload, in any encoding. Bytes in the record are parts of it, without a copy, or of its
@@ -2976,9 +3417,20 @@ func (r *GetLazyStateCompletionNotificationMessage) UnmarshalBinary(payload []by
 
 // Frame returns the message as a frame of a version: its header, and its canonical payload. The errors are those of MarshalBinary and Frame.
 func (r *GetLazyStateCompletionNotificationMessage) Frame(version int) ([]byte, error) {
-	writer := newWriter()
-	r.write(writer, 0)
-	return writer.frame(SchemaGetLazyStateCompletionNotificationMessage, version, CodeGetLazyStateCompletionNotification)
+	to, err := placeOfFrame("Frame", SchemaGetLazyStateCompletionNotificationMessage, version, CodeGetLazyStateCompletionNotification)
+	if err != nil {
+		return nil, err
+	}
+	return r.appendTo(nil, &to)
+}
+
+// AppendFrame appends the frame that Frame returns to a slice, as append does. The errors are those of Frame.
+func (r *GetLazyStateCompletionNotificationMessage) AppendFrame(dst []byte, version int) ([]byte, error) {
+	to, err := placeOfFrame("AppendFrame", SchemaGetLazyStateCompletionNotificationMessage, version, CodeGetLazyStateCompletionNotification)
+	if err != nil {
+		return dst, err
+	}
+	return r.appendTo(dst, &to)
 }
 
 func (r *GetLazyStateCompletionNotificationMessage) read(table *fieldTable, level uint64) error {
@@ -3049,9 +3501,12 @@ func (r *GetPromiseCompletionNotificationMessage) Schema() int {
 
 // MarshalBinary returns the canonical payload. The error is a *FieldError, ErrTooLong or ErrOutOfMemory.
 func (r *GetPromiseCompletionNotificationMessage) MarshalBinary() ([]byte, error) {
-	writer := newWriter()
-	r.write(writer, 0)
-	return writer.end(SchemaGetPromiseCompletionNotificationMessage, 0)
+	return r.appendTo(nil, &place{call: "MarshalBinary", schema: SchemaGetPromiseCompletionNotificationMessage})
+}
+
+// AppendBinary appends the canonical payload to a slice, as append does. The errors are those of MarshalBinary.
+func (r *GetPromiseCompletionNotificationMessage) AppendBinary(dst []byte) ([]byte, error) {
+	return r.appendTo(dst, &place{call: "AppendBinary", schema: SchemaGetPromiseCompletionNotificationMessage})
 }
 
 // UnmarshalBinary reads a payload, in any encoding. Bytes in the record are parts of it, without a copy, or of its
@@ -3062,9 +3517,20 @@ func (r *GetPromiseCompletionNotificationMessage) UnmarshalBinary(payload []byte
 
 // Frame returns the message as a frame of a version: its header, and its canonical payload. The errors are those of MarshalBinary and Frame.
 func (r *GetPromiseCompletionNotificationMessage) Frame(version int) ([]byte, error) {
-	writer := newWriter()
-	r.write(writer, 0)
-	return writer.frame(SchemaGetPromiseCompletionNotificationMessage, version, CodeGetPromiseCompletionNotification)
+	to, err := placeOfFrame("Frame", SchemaGetPromiseCompletionNotificationMessage, version, CodeGetPromiseCompletionNotification)
+	if err != nil {
+		return nil, err
+	}
+	return r.appendTo(nil, &to)
+}
+
+// AppendFrame appends the frame that Frame returns to a slice, as append does. The errors are those of Frame.
+func (r *GetPromiseCompletionNotificationMessage) AppendFrame(dst []byte, version int) ([]byte, error) {
+	to, err := placeOfFrame("AppendFrame", SchemaGetPromiseCompletionNotificationMessage, version, CodeGetPromiseCompletionNotification)
+	if err != nil {
+		return dst, err
+	}
+	return r.appendTo(dst, &to)
 }
 
 func (r *GetPromiseCompletionNotificationMessage) read(table *fieldTable, level uint64) error {
@@ -3146,9 +3612,12 @@ func (r *PeekPromiseCompletionNotificationMessage) Schema() int {
 
 // MarshalBinary returns the canonical payload. The error is a *FieldError, ErrTooLong or ErrOutOfMemory.
 func (r *PeekPromiseCompletionNotificationMessage) MarshalBinary() ([]byte, error) {
-	writer := newWriter()
-	r.write(writer, 0)
-	return writer.end(SchemaPeekPromiseCompletionNotificationMessage, 0)
+	return r.appendTo(nil, &place{call: "MarshalBinary", schema: SchemaPeekPromiseCompletionNotificationMessage})
+}
+
+// AppendBinary appends the canonical payload to a slice, as append does. The errors are those of MarshalBinary.
+func (r *PeekPromiseCompletionNotificationMessage) AppendBinary(dst []byte) ([]byte, error) {
+	return r.appendTo(dst, &place{call: "AppendBinary", schema: SchemaPeekPromiseCompletionNotificationMessage})
 }
 
 // UnmarshalBinary reads a payload, in any encoding. Bytes in the record are parts of it, without a copy, or of its
@@ -3159,9 +3628,20 @@ func (r *PeekPromiseCompletionNotificationMessage) UnmarshalBinary(payload []byt
 
 // Frame returns the message as a frame of a version: its header, and its canonical payload. The errors are those of MarshalBinary and Frame.
 func (r *PeekPromiseCompletionNotificationMessage) Frame(version int) ([]byte, error) {
-	writer := newWriter()
-	r.write(writer, 0)
-	return writer.frame(SchemaPeekPromiseCompletionNotificationMessage, version, CodePeekPromiseCompletionNotification)
+	to, err := placeOfFrame("Frame", SchemaPeekPromiseCompletionNotificationMessage, version, CodePeekPromiseCompletionNotification)
+	if err != nil {
+		return nil, err
+	}
+	return r.appendTo(nil, &to)
+}
+
+// AppendFrame appends the frame that Frame returns to a slice, as append does. The errors are those of Frame.
+func (r *PeekPromiseCompletionNotificationMessage) AppendFrame(dst []byte, version int) ([]byte, error) {
+	to, err := placeOfFrame("AppendFrame", SchemaPeekPromiseCompletionNotificationMessage, version, CodePeekPromiseCompletionNotification)
+	if err != nil {
+		return dst, err
+	}
+	return r.appendTo(dst, &to)
 }
 
 func (r *PeekPromiseCompletionNotificationMessage) read(table *fieldTable, level uint64) error {
@@ -3243,9 +3723,12 @@ func (r *GetInvocationOutputCompletionNotificationMessage) Schema() int {
 
 // MarshalBinary returns the canonical payload. The error is a *FieldError, ErrTooLong or ErrOutOfMemory.
 func (r *GetInvocationOutputCompletionNotificationMessage) MarshalBinary() ([]byte, error) {
-	writer := newWriter()
-	r.write(writer, 0)
-	return writer.end(SchemaGetInvocationOutputCompletionNotificationMessage, 0)
+	return r.appendTo(nil, &place{call: "MarshalBinary", schema: SchemaGetInvocationOutputCompletionNotificationMessage})
+}
+
+// AppendBinary appends the canonical payload to a slice, as append does. The errors are those of MarshalBinary.
+func (r *GetInvocationOutputCompletionNotificationMessage) AppendBinary(dst []byte) ([]byte, error) {
+	return r.appendTo(dst, &place{call: "AppendBinary", schema: SchemaGetInvocationOutputCompletionNotificationMessage})
 }
 
 // UnmarshalBinary reads a payload, in any encoding. Bytes in the record are parts of it, without a copy, or of its
@@ -3256,9 +3739,20 @@ func (r *GetInvocationOutputCompletionNotificationMessage) UnmarshalBinary(paylo
 
 // Frame returns the message as a frame of a version: its header, and its canonical payload. The errors are those of MarshalBinary and Frame.
 func (r *GetInvocationOutputCompletionNotificationMessage) Frame(version int) ([]byte, error) {
-	writer := newWriter()
-	r.write(writer, 0)
-	return writer.frame(SchemaGetInvocationOutputCompletionNotificationMessage, version, CodeGetInvocationOutputCompletionNotification)
+	to, err := placeOfFrame("Frame", SchemaGetInvocationOutputCompletionNotificationMessage, version, CodeGetInvocationOutputCompletionNotification)
+	if err != nil {
+		return nil, err
+	}
+	return r.appendTo(nil, &to)
+}
+
+// AppendFrame appends the frame that Frame returns to a slice, as append does. The errors are those of Frame.
+func (r *GetInvocationOutputCompletionNotificationMessage) AppendFrame(dst []byte, version int) ([]byte, error) {
+	to, err := placeOfFrame("AppendFrame", SchemaGetInvocationOutputCompletionNotificationMessage, version, CodeGetInvocationOutputCompletionNotification)
+	if err != nil {
+		return dst, err
+	}
+	return r.appendTo(dst, &to)
 }
 
 func (r *GetInvocationOutputCompletionNotificationMessage) read(table *fieldTable, level uint64) error {
@@ -3339,9 +3833,12 @@ func (r *CompletePromiseCompletionNotificationMessage) Schema() int {
 
 // MarshalBinary returns the canonical payload. The error is a *FieldError, ErrTooLong or ErrOutOfMemory.
 func (r *CompletePromiseCompletionNotificationMessage) MarshalBinary() ([]byte, error) {
-	writer := newWriter()
-	r.write(writer, 0)
-	return writer.end(SchemaCompletePromiseCompletionNotificationMessage, 0)
+	return r.appendTo(nil, &place{call: "MarshalBinary", schema: SchemaCompletePromiseCompletionNotificationMessage})
+}
+
+// AppendBinary appends the canonical payload to a slice, as append does. The errors are those of MarshalBinary.
+func (r *CompletePromiseCompletionNotificationMessage) AppendBinary(dst []byte) ([]byte, error) {
+	return r.appendTo(dst, &place{call: "AppendBinary", schema: SchemaCompletePromiseCompletionNotificationMessage})
 }
 
 // UnmarshalBinary reads a payload, in any encoding. Bytes in the record are parts of it, without a copy, or of its
@@ -3352,9 +3849,20 @@ func (r *CompletePromiseCompletionNotificationMessage) UnmarshalBinary(payload [
 
 // Frame returns the message as a frame of a version: its header, and its canonical payload. The errors are those of MarshalBinary and Frame.
 func (r *CompletePromiseCompletionNotificationMessage) Frame(version int) ([]byte, error) {
-	writer := newWriter()
-	r.write(writer, 0)
-	return writer.frame(SchemaCompletePromiseCompletionNotificationMessage, version, CodeCompletePromiseCompletionNotification)
+	to, err := placeOfFrame("Frame", SchemaCompletePromiseCompletionNotificationMessage, version, CodeCompletePromiseCompletionNotification)
+	if err != nil {
+		return nil, err
+	}
+	return r.appendTo(nil, &to)
+}
+
+// AppendFrame appends the frame that Frame returns to a slice, as append does. The errors are those of Frame.
+func (r *CompletePromiseCompletionNotificationMessage) AppendFrame(dst []byte, version int) ([]byte, error) {
+	to, err := placeOfFrame("AppendFrame", SchemaCompletePromiseCompletionNotificationMessage, version, CodeCompletePromiseCompletionNotification)
+	if err != nil {
+		return dst, err
+	}
+	return r.appendTo(dst, &to)
 }
 
 func (r *CompletePromiseCompletionNotificationMessage) read(table *fieldTable, level uint64) error {
@@ -3424,9 +3932,12 @@ func (r *CallCompletionNotificationMessage) Schema() int {
 
 // MarshalBinary returns the canonical payload. The error is a *FieldError, ErrTooLong or ErrOutOfMemory.
 func (r *CallCompletionNotificationMessage) MarshalBinary() ([]byte, error) {
-	writer := newWriter()
-	r.write(writer, 0)
-	return writer.end(SchemaCallCompletionNotificationMessage, 0)
+	return r.appendTo(nil, &place{call: "MarshalBinary", schema: SchemaCallCompletionNotificationMessage})
+}
+
+// AppendBinary appends the canonical payload to a slice, as append does. The errors are those of MarshalBinary.
+func (r *CallCompletionNotificationMessage) AppendBinary(dst []byte) ([]byte, error) {
+	return r.appendTo(dst, &place{call: "AppendBinary", schema: SchemaCallCompletionNotificationMessage})
 }
 
 // UnmarshalBinary reads a payload, in any encoding. Bytes in the record are parts of it, without a copy, or of its
@@ -3437,9 +3948,20 @@ func (r *CallCompletionNotificationMessage) UnmarshalBinary(payload []byte) erro
 
 // Frame returns the message as a frame of a version: its header, and its canonical payload. The errors are those of MarshalBinary and Frame.
 func (r *CallCompletionNotificationMessage) Frame(version int) ([]byte, error) {
-	writer := newWriter()
-	r.write(writer, 0)
-	return writer.frame(SchemaCallCompletionNotificationMessage, version, CodeCallCompletionNotification)
+	to, err := placeOfFrame("Frame", SchemaCallCompletionNotificationMessage, version, CodeCallCompletionNotification)
+	if err != nil {
+		return nil, err
+	}
+	return r.appendTo(nil, &to)
+}
+
+// AppendFrame appends the frame that Frame returns to a slice, as append does. The errors are those of Frame.
+func (r *CallCompletionNotificationMessage) AppendFrame(dst []byte, version int) ([]byte, error) {
+	to, err := placeOfFrame("AppendFrame", SchemaCallCompletionNotificationMessage, version, CodeCallCompletionNotification)
+	if err != nil {
+		return dst, err
+	}
+	return r.appendTo(dst, &to)
 }
 
 func (r *CallCompletionNotificationMessage) read(table *fieldTable, level uint64) error {
@@ -3509,9 +4031,12 @@ func (r *RunCompletionNotificationMessage) Schema() int {
 
 // MarshalBinary returns the canonical payload. The error is a *FieldError, ErrTooLong or ErrOutOfMemory.
 func (r *RunCompletionNotificationMessage) MarshalBinary() ([]byte, error) {
-	writer := newWriter()
-	r.write(writer, 0)
-	return writer.end(SchemaRunCompletionNotificationMessage, 0)
+	return r.appendTo(nil, &place{call: "MarshalBinary", schema: SchemaRunCompletionNotificationMessage})
+}
+
+// AppendBinary appends the canonical payload to a slice, as append does. The errors are those of MarshalBinary.
+func (r *RunCompletionNotificationMessage) AppendBinary(dst []byte) ([]byte, error) {
+	return r.appendTo(dst, &place{call: "AppendBinary", schema: SchemaRunCompletionNotificationMessage})
 }
 
 // UnmarshalBinary reads a payload, in any encoding. Bytes in the record are parts of it, without a copy, or of its
@@ -3522,9 +4047,20 @@ func (r *RunCompletionNotificationMessage) UnmarshalBinary(payload []byte) error
 
 // Frame returns the message as a frame of a version: its header, and its canonical payload. The errors are those of MarshalBinary and Frame.
 func (r *RunCompletionNotificationMessage) Frame(version int) ([]byte, error) {
-	writer := newWriter()
-	r.write(writer, 0)
-	return writer.frame(SchemaRunCompletionNotificationMessage, version, CodeRunCompletionNotification)
+	to, err := placeOfFrame("Frame", SchemaRunCompletionNotificationMessage, version, CodeRunCompletionNotification)
+	if err != nil {
+		return nil, err
+	}
+	return r.appendTo(nil, &to)
+}
+
+// AppendFrame appends the frame that Frame returns to a slice, as append does. The errors are those of Frame.
+func (r *RunCompletionNotificationMessage) AppendFrame(dst []byte, version int) ([]byte, error) {
+	to, err := placeOfFrame("AppendFrame", SchemaRunCompletionNotificationMessage, version, CodeRunCompletionNotification)
+	if err != nil {
+		return dst, err
+	}
+	return r.appendTo(dst, &to)
 }
 
 func (r *RunCompletionNotificationMessage) read(table *fieldTable, level uint64) error {
@@ -3594,9 +4130,12 @@ func (r *AttachInvocationCompletionNotificationMessage) Schema() int {
 
 // MarshalBinary returns the canonical payload. The error is a *FieldError, ErrTooLong or ErrOutOfMemory.
 func (r *AttachInvocationCompletionNotificationMessage) MarshalBinary() ([]byte, error) {
-	writer := newWriter()
-	r.write(writer, 0)
-	return writer.end(SchemaAttachInvocationCompletionNotificationMessage, 0)
+	return r.appendTo(nil, &place{call: "MarshalBinary", schema: SchemaAttachInvocationCompletionNotificationMessage})
+}
+
+// AppendBinary appends the canonical payload to a slice, as append does. The errors are those of MarshalBinary.
+func (r *AttachInvocationCompletionNotificationMessage) AppendBinary(dst []byte) ([]byte, error) {
+	return r.appendTo(dst, &place{call: "AppendBinary", schema: SchemaAttachInvocationCompletionNotificationMessage})
 }
 
 // UnmarshalBinary reads a payload, in any encoding. Bytes in the record are parts of it, without a copy, or of its
@@ -3607,9 +4146,20 @@ func (r *AttachInvocationCompletionNotificationMessage) UnmarshalBinary(payload 
 
 // Frame returns the message as a frame of a version: its header, and its canonical payload. The errors are those of MarshalBinary and Frame.
 func (r *AttachInvocationCompletionNotificationMessage) Frame(version int) ([]byte, error) {
-	writer := newWriter()
-	r.write(writer, 0)
-	return writer.frame(SchemaAttachInvocationCompletionNotificationMessage, version, CodeAttachInvocationCompletionNotification)
+	to, err := placeOfFrame("Frame", SchemaAttachInvocationCompletionNotificationMessage, version, CodeAttachInvocationCompletionNotification)
+	if err != nil {
+		return nil, err
+	}
+	return r.appendTo(nil, &to)
+}
+
+// AppendFrame appends the frame that Frame returns to a slice, as append does. The errors are those of Frame.
+func (r *AttachInvocationCompletionNotificationMessage) AppendFrame(dst []byte, version int) ([]byte, error) {
+	to, err := placeOfFrame("AppendFrame", SchemaAttachInvocationCompletionNotificationMessage, version, CodeAttachInvocationCompletionNotification)
+	if err != nil {
+		return dst, err
+	}
+	return r.appendTo(dst, &to)
 }
 
 func (r *AttachInvocationCompletionNotificationMessage) read(table *fieldTable, level uint64) error {
@@ -3671,9 +4221,12 @@ func (r *SleepCompletionNotificationMessage) Schema() int {
 
 // MarshalBinary returns the canonical payload. The error is a *FieldError, ErrTooLong or ErrOutOfMemory.
 func (r *SleepCompletionNotificationMessage) MarshalBinary() ([]byte, error) {
-	writer := newWriter()
-	r.write(writer, 0)
-	return writer.end(SchemaSleepCompletionNotificationMessage, 0)
+	return r.appendTo(nil, &place{call: "MarshalBinary", schema: SchemaSleepCompletionNotificationMessage})
+}
+
+// AppendBinary appends the canonical payload to a slice, as append does. The errors are those of MarshalBinary.
+func (r *SleepCompletionNotificationMessage) AppendBinary(dst []byte) ([]byte, error) {
+	return r.appendTo(dst, &place{call: "AppendBinary", schema: SchemaSleepCompletionNotificationMessage})
 }
 
 // UnmarshalBinary reads a payload, in any encoding. Bytes in the record are parts of it, without a copy, or of its
@@ -3684,9 +4237,20 @@ func (r *SleepCompletionNotificationMessage) UnmarshalBinary(payload []byte) err
 
 // Frame returns the message as a frame of a version: its header, and its canonical payload. The errors are those of MarshalBinary and Frame.
 func (r *SleepCompletionNotificationMessage) Frame(version int) ([]byte, error) {
-	writer := newWriter()
-	r.write(writer, 0)
-	return writer.frame(SchemaSleepCompletionNotificationMessage, version, CodeSleepCompletionNotification)
+	to, err := placeOfFrame("Frame", SchemaSleepCompletionNotificationMessage, version, CodeSleepCompletionNotification)
+	if err != nil {
+		return nil, err
+	}
+	return r.appendTo(nil, &to)
+}
+
+// AppendFrame appends the frame that Frame returns to a slice, as append does. The errors are those of Frame.
+func (r *SleepCompletionNotificationMessage) AppendFrame(dst []byte, version int) ([]byte, error) {
+	to, err := placeOfFrame("AppendFrame", SchemaSleepCompletionNotificationMessage, version, CodeSleepCompletionNotification)
+	if err != nil {
+		return dst, err
+	}
+	return r.appendTo(dst, &to)
 }
 
 func (r *SleepCompletionNotificationMessage) read(table *fieldTable, level uint64) error {
@@ -3733,9 +4297,12 @@ func (r *GetLazyStateKeysCompletionNotificationMessage) Schema() int {
 
 // MarshalBinary returns the canonical payload. The error is a *FieldError, ErrTooLong or ErrOutOfMemory.
 func (r *GetLazyStateKeysCompletionNotificationMessage) MarshalBinary() ([]byte, error) {
-	writer := newWriter()
-	r.write(writer, 0)
-	return writer.end(SchemaGetLazyStateKeysCompletionNotificationMessage, 0)
+	return r.appendTo(nil, &place{call: "MarshalBinary", schema: SchemaGetLazyStateKeysCompletionNotificationMessage})
+}
+
+// AppendBinary appends the canonical payload to a slice, as append does. The errors are those of MarshalBinary.
+func (r *GetLazyStateKeysCompletionNotificationMessage) AppendBinary(dst []byte) ([]byte, error) {
+	return r.appendTo(dst, &place{call: "AppendBinary", schema: SchemaGetLazyStateKeysCompletionNotificationMessage})
 }
 
 // UnmarshalBinary reads a payload, in any encoding. Bytes in the record are parts of it, without a copy, or of its
@@ -3746,9 +4313,20 @@ func (r *GetLazyStateKeysCompletionNotificationMessage) UnmarshalBinary(payload 
 
 // Frame returns the message as a frame of a version: its header, and its canonical payload. The errors are those of MarshalBinary and Frame.
 func (r *GetLazyStateKeysCompletionNotificationMessage) Frame(version int) ([]byte, error) {
-	writer := newWriter()
-	r.write(writer, 0)
-	return writer.frame(SchemaGetLazyStateKeysCompletionNotificationMessage, version, CodeGetLazyStateKeysCompletionNotification)
+	to, err := placeOfFrame("Frame", SchemaGetLazyStateKeysCompletionNotificationMessage, version, CodeGetLazyStateKeysCompletionNotification)
+	if err != nil {
+		return nil, err
+	}
+	return r.appendTo(nil, &to)
+}
+
+// AppendFrame appends the frame that Frame returns to a slice, as append does. The errors are those of Frame.
+func (r *GetLazyStateKeysCompletionNotificationMessage) AppendFrame(dst []byte, version int) ([]byte, error) {
+	to, err := placeOfFrame("AppendFrame", SchemaGetLazyStateKeysCompletionNotificationMessage, version, CodeGetLazyStateKeysCompletionNotification)
+	if err != nil {
+		return dst, err
+	}
+	return r.appendTo(dst, &to)
 }
 
 func (r *GetLazyStateKeysCompletionNotificationMessage) read(table *fieldTable, level uint64) error {
@@ -3795,9 +4373,12 @@ func (r *CallInvocationIdCompletionNotificationMessage) Schema() int {
 
 // MarshalBinary returns the canonical payload. The error is a *FieldError, ErrTooLong or ErrOutOfMemory.
 func (r *CallInvocationIdCompletionNotificationMessage) MarshalBinary() ([]byte, error) {
-	writer := newWriter()
-	r.write(writer, 0)
-	return writer.end(SchemaCallInvocationIdCompletionNotificationMessage, 0)
+	return r.appendTo(nil, &place{call: "MarshalBinary", schema: SchemaCallInvocationIdCompletionNotificationMessage})
+}
+
+// AppendBinary appends the canonical payload to a slice, as append does. The errors are those of MarshalBinary.
+func (r *CallInvocationIdCompletionNotificationMessage) AppendBinary(dst []byte) ([]byte, error) {
+	return r.appendTo(dst, &place{call: "AppendBinary", schema: SchemaCallInvocationIdCompletionNotificationMessage})
 }
 
 // UnmarshalBinary reads a payload, in any encoding. Bytes in the record are parts of it, without a copy, or of its
@@ -3808,9 +4389,20 @@ func (r *CallInvocationIdCompletionNotificationMessage) UnmarshalBinary(payload 
 
 // Frame returns the message as a frame of a version: its header, and its canonical payload. The errors are those of MarshalBinary and Frame.
 func (r *CallInvocationIdCompletionNotificationMessage) Frame(version int) ([]byte, error) {
-	writer := newWriter()
-	r.write(writer, 0)
-	return writer.frame(SchemaCallInvocationIdCompletionNotificationMessage, version, CodeCallInvocationIdCompletionNotification)
+	to, err := placeOfFrame("Frame", SchemaCallInvocationIdCompletionNotificationMessage, version, CodeCallInvocationIdCompletionNotification)
+	if err != nil {
+		return nil, err
+	}
+	return r.appendTo(nil, &to)
+}
+
+// AppendFrame appends the frame that Frame returns to a slice, as append does. The errors are those of Frame.
+func (r *CallInvocationIdCompletionNotificationMessage) AppendFrame(dst []byte, version int) ([]byte, error) {
+	to, err := placeOfFrame("AppendFrame", SchemaCallInvocationIdCompletionNotificationMessage, version, CodeCallInvocationIdCompletionNotification)
+	if err != nil {
+		return dst, err
+	}
+	return r.appendTo(dst, &to)
 }
 
 func (r *CallInvocationIdCompletionNotificationMessage) read(table *fieldTable, level uint64) error {
@@ -3877,9 +4469,12 @@ func (r *SignalNotificationMessage) Schema() int {
 
 // MarshalBinary returns the canonical payload. The error is a *FieldError, ErrTooLong or ErrOutOfMemory.
 func (r *SignalNotificationMessage) MarshalBinary() ([]byte, error) {
-	writer := newWriter()
-	r.write(writer, 0)
-	return writer.end(SchemaSignalNotificationMessage, 0)
+	return r.appendTo(nil, &place{call: "MarshalBinary", schema: SchemaSignalNotificationMessage})
+}
+
+// AppendBinary appends the canonical payload to a slice, as append does. The errors are those of MarshalBinary.
+func (r *SignalNotificationMessage) AppendBinary(dst []byte) ([]byte, error) {
+	return r.appendTo(dst, &place{call: "AppendBinary", schema: SchemaSignalNotificationMessage})
 }
 
 // UnmarshalBinary reads a payload, in any encoding. Bytes in the record are parts of it, without a copy, or of its
@@ -3890,9 +4485,20 @@ func (r *SignalNotificationMessage) UnmarshalBinary(payload []byte) error {
 
 // Frame returns the message as a frame of a version: its header, and its canonical payload. The errors are those of MarshalBinary and Frame.
 func (r *SignalNotificationMessage) Frame(version int) ([]byte, error) {
-	writer := newWriter()
-	r.write(writer, 0)
-	return writer.frame(SchemaSignalNotificationMessage, version, CodeSignalNotification)
+	to, err := placeOfFrame("Frame", SchemaSignalNotificationMessage, version, CodeSignalNotification)
+	if err != nil {
+		return nil, err
+	}
+	return r.appendTo(nil, &to)
+}
+
+// AppendFrame appends the frame that Frame returns to a slice, as append does. The errors are those of Frame.
+func (r *SignalNotificationMessage) AppendFrame(dst []byte, version int) ([]byte, error) {
+	to, err := placeOfFrame("AppendFrame", SchemaSignalNotificationMessage, version, CodeSignalNotification)
+	if err != nil {
+		return dst, err
+	}
+	return r.appendTo(dst, &to)
 }
 
 func (r *SignalNotificationMessage) read(table *fieldTable, level uint64) error {
@@ -4004,9 +4610,12 @@ func (r *NotificationTemplate) Schema() int {
 
 // MarshalBinary returns the canonical payload. The error is a *FieldError, ErrTooLong or ErrOutOfMemory.
 func (r *NotificationTemplate) MarshalBinary() ([]byte, error) {
-	writer := newWriter()
-	r.write(writer, 0)
-	return writer.end(SchemaNotificationTemplate, 0)
+	return r.appendTo(nil, &place{call: "MarshalBinary", schema: SchemaNotificationTemplate})
+}
+
+// AppendBinary appends the canonical payload to a slice, as append does. The errors are those of MarshalBinary.
+func (r *NotificationTemplate) AppendBinary(dst []byte) ([]byte, error) {
+	return r.appendTo(dst, &place{call: "AppendBinary", schema: SchemaNotificationTemplate})
 }
 
 // UnmarshalBinary reads a payload, in any encoding. Bytes in the record are parts of it, without a copy, or of its

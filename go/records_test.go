@@ -5,8 +5,10 @@ import (
 	"encoding"
 	"errors"
 	"io"
+	"math"
 	"reflect"
 	"strings"
+	"sync"
 	"testing"
 )
 
@@ -121,7 +123,8 @@ func TestMoreFieldsThanTheFirstRoom(t *testing.T) {
 func TestRecordsOfEachLength(t *testing.T) {
 	for _, length := range []int{0, 1, 480, 481, 503, 504, 512, 513, 70000} {
 		for _, name := range []string{"", "input"} {
-			for _, count := range []int{0, 1, 9, 10, 11, 40} {
+			// 64 headers are the most whose texts C has on its stack
+			for _, count := range []int{0, 1, 9, 10, 11, 40, 63, 64, 65, 2000} {
 				input := &InputCommandMessage{Name: name, Value: &Value{}}
 				for len(input.Headers) < count {
 					input.Headers = append(input.Headers, HeaderRecord{Key: "a"})
@@ -141,6 +144,140 @@ func TestRecordsOfEachLength(t *testing.T) {
 			}
 		}
 	}
+}
+
+func TestRecordsAreAppended(t *testing.T) {
+	key := "a"
+	large := bytes.Repeat([]byte("x"), 1<<20)
+	for _, record := range []interface {
+		Record
+		AppendFrame(dst []byte, version int) ([]byte, error)
+	}{
+		&EndMessage{},
+		&ProposeRunCompletionAckMessage{CompletionID: 1},
+		// more than the room that is guessed
+		&ProposeRunCompletionAckMessage{CompletionID: math.MaxUint32},
+		&CallCompletionNotificationMessage{CompletionID: math.MaxUint32, Result: &Failure{Code: math.MaxUint32}},
+		&SetStateCommandMessage{Key: []byte("counter"), Value: &Value{Content: []byte("1")}},
+		&SetStateCommandMessage{Key: []byte("counter"), Value: &Value{Content: large}},
+		&CallCommandMessage{IdempotencyKey: &key, Headers: []HeaderRecord{{Key: "k", Value: "v"}, {}}},
+		&CallCompletionNotificationMessage{Result: &Failure{Metadata: []FailureMetadata{{Value: "v"}}}},
+		&AwaitingOnMessage{AwaitingOn: &Future{WaitingCompletions: []uint32{1, 2}, NestedFutures: make([]Future, 2)}},
+		&SuspensionMessage{AwaitingOn: &Future{WaitingNamedSignals: []string{"a"}}},
+	} {
+		payload, frame := must(record.MarshalBinary())(t), must(record.AppendFrame(nil, 8))(t)
+		for wanted, encode := range map[*[]byte]func(dst []byte) ([]byte, error){
+			&payload: record.AppendBinary,
+			&frame:   func(dst []byte) ([]byte, error) { return record.AppendFrame(dst, 8) },
+		} {
+			for _, room := range []int{0, 1, 7, 8, len(*wanted) / 2, len(*wanted), len(*wanted) + 1, 2 << 20} {
+				dst := make([]byte, 3, 3+room)
+				copy(dst, "abc")
+				found := must(encode(dst))(t)
+				if string(found) != "abc"+string(*wanted) || string(dst) != "abc" {
+					t.Errorf("%T in room for %d: %.100x", record, room, found)
+				}
+				if isThere := &found[0] == &dst[0]; isThere != (room >= len(*wanted)) {
+					t.Errorf("%T in room for %d: where it was: %v", record, room, isThere)
+				}
+			}
+		}
+	}
+}
+
+func TestNothingIsAllocatedWhereThereIsRoom(t *testing.T) {
+	key, room := "a", make([]byte, 0, 512)
+	set := &SetStateCommandMessage{Key: []byte("counter"), Value: &Value{Content: []byte("1")}}
+	call := &CallCommandMessage{IdempotencyKey: &key, Headers: []HeaderRecord{{Key: "k", Value: "v"}}}
+	completion := &CallCompletionNotificationMessage{Result: &Failure{Message: "none"}}
+	for name, encode := range map[string]func() ([]byte, error){
+		"set":              func() ([]byte, error) { return set.AppendBinary(room) },
+		"call":             func() ([]byte, error) { return call.AppendBinary(room) },
+		"completion":       func() ([]byte, error) { return completion.AppendBinary(room) },
+		"set, frame":       func() ([]byte, error) { return set.AppendFrame(room, 8) },
+		"call, frame":      func() ([]byte, error) { return call.AppendFrame(room, 8) },
+		"what holds a set": func() ([]byte, error) { return Record(set).AppendBinary(room) },
+	} {
+		// with the race detector a pool forgets some of what it keeps, so the least counts
+		least := math.Inf(1)
+		for i := 0; i < 100; i++ {
+			least = math.Min(least, testing.AllocsPerRun(1, func() {
+				if _, err := encode(); err != nil {
+					t.Error(err)
+				}
+			}))
+		}
+		if least > 0 {
+			t.Errorf("%s: %v", name, least)
+		}
+	}
+}
+
+func TestErrorsLeaveTheSliceAsItWas(t *testing.T) {
+	dst := make([]byte, 3, 100)
+	set := &SetStateCommandMessage{Name: "\xff"}
+	input := &InputCommandMessage{Headers: []HeaderRecord{{}, {Value: "\xff"}}}
+	future := &SuspensionMessage{AwaitingOn: &Future{WaitingNamedSignals: []string{"\xff"}}}
+	for path, encode := range map[string]func() ([]byte, error){
+		"name":             func() ([]byte, error) { return set.AppendBinary(dst) },
+		"headers[1].value": func() ([]byte, error) { return input.AppendFrame(dst, 8) },
+		"awaiting_on.waiting_named_signals[0]": func() ([]byte, error) {
+			return future.AppendFrame(dst, 8)
+		},
+	} {
+		found, err := encode()
+		var field *FieldError
+		if !errors.As(err, &field) || field.Path != path || field.Reason != "not UTF-8" || len(found) != 3 {
+			t.Errorf("%s: %v, %x", path, err, found)
+		}
+	}
+	for version, text := range map[int]string{
+		4:  "pendratsoa: AppendFrame: version 4: unknown, or not of the kind that the call is for",
+		-1: "pendratsoa: AppendFrame: version -1: unknown, or not of the kind that the call is for",
+	} {
+		found, err := new(SetStateCommandMessage).AppendFrame(dst, version)
+		if len(found) != 3 {
+			t.Errorf("%x", found)
+		}
+		wantError(t, err, ErrUnknown, text)
+	}
+}
+
+func TestMembersThatAreNil(t *testing.T) {
+	for _, record := range []Record{
+		&CallCompletionNotificationMessage{Result: (*Value)(nil)},
+		&CallCompletionNotificationMessage{Result: (*Failure)(nil)},
+		&GetLazyStateCompletionNotificationMessage{Result: (*Void)(nil)},
+	} {
+		payload := must(record.MarshalBinary())(t)
+		if found := newRecord(record.Schema()); found.UnmarshalBinary(payload) != nil || len(payload) != 2 {
+			t.Errorf("%T: %x", record, payload)
+		}
+	}
+}
+
+func TestGoroutinesThatEncode(t *testing.T) {
+	record := &InputCommandMessage{Value: &Value{Content: []byte("input")}}
+	for i := 0; i < 20; i++ {
+		record.Headers = append(record.Headers, HeaderRecord{Key: strings.Repeat("k", i), Value: "v"})
+	}
+	want := must(record.Frame(8))(t)
+	var group sync.WaitGroup
+	for index := 0; index < 8; index++ {
+		group.Add(1)
+		go func() {
+			defer group.Done()
+			var dst []byte
+			for call := 0; call < 500; call++ {
+				var err error
+				if dst, err = record.AppendFrame(dst[:0], 8); err != nil || !bytes.Equal(dst, want) {
+					t.Errorf("%x, %v", dst, err)
+					return
+				}
+			}
+		}()
+	}
+	group.Wait()
 }
 
 func TestTextsAreCopies(t *testing.T) {
@@ -188,8 +325,21 @@ func BenchmarkDecode(b *testing.B) {
 	}
 }
 
+func BenchmarkAppend(b *testing.B) {
+	record := &SetStateCommandMessage{Key: []byte("counter"), Value: &Value{Content: []byte("1")}}
+	b.ReportAllocs()
+	var dst []byte
+	for i := 0; i < b.N; i++ {
+		var err error
+		if dst, err = record.AppendBinary(dst[:0]); err != nil {
+			b.Fatal(err)
+		}
+	}
+}
+
 func BenchmarkEncode(b *testing.B) {
 	record := &SetStateCommandMessage{Key: []byte("counter"), Value: &Value{Content: []byte("1")}}
+	b.ReportAllocs()
 	for i := 0; i < b.N; i++ {
 		if _, err := record.MarshalBinary(); err != nil {
 			b.Fatal(err)

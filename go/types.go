@@ -180,8 +180,8 @@ func written(room int, call func(out []byte) int64) ([]byte, int64) {
 // appended appends what a call writes, or returns the number of its error. The call is made again if it needs more room
 // than the first, which is what is expected.
 func appended(dst []byte, room int, call func(out []byte) int64) ([]byte, int64) {
+	dst = roomFor(dst, room, 0)
 	for {
-		dst = withRoom(dst, room)
 		length := call(dst[len(dst):cap(dst)])
 		switch {
 		case length < 0:
@@ -189,16 +189,24 @@ func appended(dst []byte, room int, call func(out []byte) int64) ([]byte, int64)
 		case length <= int64(cap(dst)-len(dst)):
 			return dst[:len(dst)+int(length)], 0
 		}
-		room = int(length)
+		dst = withRoom(dst, int(length))
 	}
 }
 
-// withRoom returns a slice with room for a number of further bytes.
-func withRoom(slice []byte, room int) []byte {
-	if cap(slice)-len(slice) >= room && slice != nil {
-		return slice
+// roomFor returns the slice with room for at least a number of further bytes, and for about as many more as come beside
+// them if it has not that room: so nothing is allocated where all of them have room.
+func roomFor(dst []byte, least, beside int) []byte {
+	if dst != nil && cap(dst)-len(dst) >= least {
+		return dst
 	}
-	larger := make([]byte, len(slice), len(slice)+room)
-	copy(larger, slice)
-	return larger
+	return withRoom(dst, least+beside)
+}
+
+// withRoom returns the slice with room for a number of further bytes, and for more if there is something in it, so that
+// a slice that grows is seldom copied.
+func withRoom(slice []byte, room int) []byte {
+	if len(slice) == 0 {
+		return make([]byte, 0, room)
+	}
+	return append(slice, make([]byte, room)...)[:len(slice)]
 }

@@ -1,6 +1,8 @@
 """The records as structs of Go."""
+import sys
 import textwrap
 
+from . import passed_go
 from .calls_data import camel
 from .typed_model import TypedOneOf, enumerations, reasons, records
 
@@ -205,12 +207,16 @@ def written(field, value, depth):
 
 def methods(record):
     name = name_of(record.name)
+    payload = f'&place{{call: "CALL", schema: Schema{record.name}}}'
     text = (
         f"\n// Schema returns the number of the schema, Schema{record.name}.\nfunc (r *{name}) Schema() int {{\n"
         f"\treturn Schema{record.name}\n}}\n"
         "\n// MarshalBinary returns the canonical payload. The error is a *FieldError, ErrTooLong or ErrOutOfMemory.\n"
-        f"func (r *{name}) MarshalBinary() ([]byte, error) {{\n\twriter := newWriter()\n\tr.write(writer, 0)\n"
-        f"\treturn writer.end(Schema{record.name}, 0)\n}}\n"
+        f"func (r *{name}) MarshalBinary() ([]byte, error) {{\n"
+        f"\treturn r.appendTo(nil, {payload.replace('CALL', 'MarshalBinary')})\n}}\n"
+        "\n// AppendBinary appends the canonical payload to a slice, as append does. The errors are those of "
+        f"MarshalBinary.\nfunc (r *{name}) AppendBinary(dst []byte) ([]byte, error) {{\n"
+        f"\treturn r.appendTo(dst, {payload.replace('CALL', 'AppendBinary')})\n}}\n"
         "\n// UnmarshalBinary reads a payload, in any encoding. Bytes in the record are parts of it, without a copy, "
         "or of its\n// canonical encoding. The errors are those of Canonical.\n"
         f"func (r *{name}) UnmarshalBinary(payload []byte) error {{\n\treturn unmarshal(r, payload)\n}}\n"
@@ -223,22 +229,25 @@ def methods(record):
             "and Frame"
             + (f", and\n// ErrUnknown from version {before} on.\n" if before else ".\n")
             + f"func (r *{name}) Frame(version int) ([]byte, error) {{\n"
-            + framed(record)
+            + framed(record, "Frame", "nil")
+            + "}\n\n// AppendFrame appends the frame that Frame returns to a slice, as append does. The errors are "
+            f"those of Frame.\nfunc (r *{name}) AppendFrame(dst []byte, version int) ([]byte, error) {{\n"
+            + framed(record, "AppendFrame", "dst")
             + "}\n"
         )
     return text
 
 
-def framed(record):
-    """The statements that return the frame of a record."""
+def framed(record, call, dst):
+    """The statements that append the frame of a record."""
     code = f"Code{record.type_name}"
     if record.before_version:
-        return f"\treturn earlierFrame(r, version, {code})\n"
+        return f'\treturn appendEarlierRecord("{call}", {dst}, version, {code}, r)\n'
     if any(other.before_version and other.type_name == record.type_name for other in records()):
-        return f"\treturn laterFrame(r, version, {code})\n"
+        return f'\treturn appendLaterRecord("{call}", {dst}, version, {code}, r)\n'
     return (
-        "\twriter := newWriter()\n\tr.write(writer, 0)\n"
-        f"\treturn writer.frame(Schema{record.name}, version, {code})\n"
+        f'\tto, err := placeOfFrame("{call}", Schema{record.name}, version, {code})\n'
+        f"\tif err != nil {{\n\t\treturn {dst}, err\n\t}}\n\treturn r.appendTo({dst}, &to)\n"
     )
 
 
@@ -288,5 +297,158 @@ def module():
     return text + table()
 
 
+TAB = "\t"
+
+CALLS_IN_C = """\
+/*
+ * A call for each record: its fields are the parameters, of which the struct is made that the library takes. The texts
+ * and bytes of its lists come one after the other, with the length of each. The payload is written after room for a
+ * header of this many bytes, which there has to be; where it is more than none, the header of a frame is written there.
+ * Returns how many bytes both have. Where that is more than the room, nothing of use is written. The errors are those
+ * of the library.
+ */
+#ifndef PENDRATSOA_GO_PASSED_H
+#define PENDRATSOA_GO_PASSED_H
+
+#include <stdlib.h>
+
+#include <pendratsoa_messages.h>
+
+/* The parameters are read where cgo has them, and are passed on to no other function. */
+#define PASSED inline __attribute__((always_inline))
+
+/* For how many texts of lists there is room on the stack: those of 64 headers. */
+#define FEW_SLICES 128
+
+static inline struct journal_slice slice_of(const uint8_t *at, size_t length) {
+    struct journal_slice slice = {at, length};
+
+    return slice;
+}
+
+/* The slices of lists, where there are few, or else in memory to be given back; NULL where there is none. */
+static inline struct journal_slice *slices_of(struct journal_slice *few, const size_t *lengths, size_t count,
+                                              const uint8_t *bytes) {
+    struct journal_slice *slices = few;
+
+    if (count > FEW_SLICES) {
+        slices = count <= SIZE_MAX / sizeof *slices ? malloc(count * sizeof *slices) : NULL;
+    }
+    for (size_t i = 0; slices != NULL && i < count; i++) {
+        slices[i] = slice_of(bytes, lengths[i]);
+        bytes += lengths[i];
+    }
+    return slices;
+}
+
+static inline void give_back(struct journal_slice *few, struct journal_slice *slices) {
+    if (slices != few) {
+        free(slices);
+    }
+}
+
+/* Writes the header of a frame, if it is one, and there is room for the payload; how long both are, or the error. */
+static inline int64_t framed(int64_t length, size_t header, uint32_t version, uint16_t code, uint8_t *out,
+                             size_t room) {
+    int64_t written;
+
+    if (length < 0 || header == 0) {
+        return length;
+    }
+    if ((uint64_t)length <= room - header) {
+        written = journal_header(version, code, (uint32_t)length, out, header);
+        if (written < 0) {
+            return written;
+        }
+    }
+    return length + (int64_t)header;
+}
+
+FUNCTIONS
+#endif
+"""
+
+APPENDING = HEAD + """\
+// #include "passed.h"
+import "C"
+"""
+
+
+def laid_out(words, between, indent):
+    """Words as lines of Go with this between them, of at most 120 characters."""
+    lines = [words[0]]
+    for word in words[1:]:
+        if len(f"{lines[-1]}{between}{word}{between}") > 120 - 4 * len(indent):
+            lines[-1] += between.rstrip()
+            lines.append(word)
+        else:
+            lines[-1] += between + word
+    return f"\n{indent}".join(lines)
+
+
+def times(each, at):
+    return f"{each}*len({at})" if each > 1 else f"len({at})"
+
+
+def added(terms):
+    """A sum as gofmt has it."""
+    return terms[0].replace("*", " * ") if len(terms) == 1 else laid_out(terms, " + ", 2 * TAB)
+
+
+def given(record):
+    """The words that are passed."""
+    words = [*record.given]
+    if record.has_texts():
+        words += ["lists.lengthsAt()", "C.size_t(lists.count())", "pointer(lists.bytes)"]
+    words += ["C.size_t(to.header)", "C.uint32_t(to.version)", "C.uint16_t(to.code)", "pointer(out)"]
+    words += ["C.size_t(len(out))"]
+    return f"\t\t\t{laid_out(words, ', ', 3 * TAB)},\n"
+
+
+def by_table(indent):
+    lines = ("writer := newWriter()", "r.write(writer, 0)", "return writer.appendTo(dst, to)")
+    return "".join(f"{indent}{line}\n" for line in lines)
+
+
+def appending(record, found):
+    """How a record is appended: by the call that takes its fields, or by way of a table."""
+    name = name_of(record.name)
+    text = f"\nfunc (r *{name}) appendTo(dst []byte, to *place) ([]byte, error) {{\n"
+    if found is None:
+        return text + by_table("\t") + "}\n"
+    lines = list(found.before)
+    if found.has_texts():
+        counts = [times(each, at) for at, each, _ in found.lists if each]
+        lines += [f"lists := newLists({added(counts)})", *found.copied]
+    least = ["to.header", *(f"len({value})" for value in found.slices)]
+    least += ["len(lists.bytes)"] if found.has_texts() else []
+    beside = [str(found.beside)] if found.beside or not found.lists else []
+    beside += [times(each, at) for at, _, each in found.lists]
+    # what the lengths of long texts take, and of messages with them in it
+    beside += ["least/64"] if len(least) > 1 else []
+    lines += [f"least := {added(least)}", f"beside := {added(beside)}"]
+    text += "".join(f"\t{line}\n" for line in lines)
+    text += (
+        "\tvar length int64\n\textended := roomFor(dst, least, beside)\n\tfor {\n"
+        "\t\tout := extended[len(extended):cap(extended)]\n"
+        f"\t\tlength = int64(C.encode_{record.name}(\n{given(found)}\t\t))\n"
+        "\t\tif length <= int64(len(out)) {\n\t\t\tbreak\n\t\t}\n"
+        "\t\textended = withRoom(extended, int(length))\n\t}\n"
+    )
+    if found.has_texts():
+        text += "\tlists.keep()\n"
+    text += "\tif length >= 0 {\n\t\treturn extended[:len(extended)+int(length)], nil\n\t}\n"
+    return text + "\t// a table says which field is rejected, and why\n" + by_table("\t") + "}\n"
+
+
+def all_appended():
+    """The module of Go that gives records to the library, and the functions in C that take them."""
+    passed = {found.record.name: found for found in passed_go.passed(sys.modules[__name__])}
+    text = APPENDING + "".join(appending(record, passed.get(record.name)) for record in records())
+    functions = "\n".join(found.function() for found in passed.values())
+    return text, CALLS_IN_C.replace("FUNCTIONS", functions)
+
+
 def files():
-    return {"go/records.go": module()}
+    appended, passed = all_appended()
+    return {"go/records.go": module(), "go/appending.go": appended, "go/passed.h": passed}
