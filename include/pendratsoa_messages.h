@@ -16,8 +16,8 @@
  * canonical encoding is made in the arena, and they point there. An arena is memory of the caller's: what is repeated
  * is taken from its end, and stays until the caller sets `left` to what it was before. While reading runs it takes 48
  * bytes more for each field that is there, from the front. Writing takes nothing; but for a record with a future in it,
- * and for one that is rejected, whose field is named: these take as much for each field, and room for their slices, from
- * the end, unless all of them are within `source`.
+ * and for one that is rejected, whose field is named: while that runs, these take as much for each field, and room for
+ * their slices.
  *
  * Errors are those of the calls. After an error of reading the record is empty, after any the arena has what it had.
  */
@@ -48,10 +48,6 @@ struct journal_arena {
     /* After JOURNAL_NO_ROOM: with this many bytes more at the same place there is room. A payload that is not canonical
        may have to be read twice before that is so. */
     size_t lacking;
-    /* Bytes that are not copied when a record is written whose slices are all within them. A record that is read sets
-       it to what its slices point into. */
-    const uint8_t *source;
-    size_t source_length;
     /* After JOURNAL_MALFORMED in writing: why, as JOURNAL_ENTRY_NOT_UTF8 or JOURNAL_ENTRY_TOO_DEEP, and the schema of
        the record and the number of the field. */
     uint32_t rejected_kind;
@@ -60,7 +56,7 @@ struct journal_arena {
 };
 
 static inline struct journal_arena journal_arena_of(void *memory, size_t size) {
-    struct journal_arena arena = {(uint8_t *)memory, size, 0, NULL, 0, 0, 0, 0};
+    struct journal_arena arena = {(uint8_t *)memory, size, 0, 0, 0, 0};
 
     return arena;
 }
@@ -1151,7 +1147,6 @@ struct journal_reader_ {
     uint8_t *free;
     size_t left;
     int64_t error;
-    size_t payload_length;
     size_t count;
     size_t given;
     struct journal_arena *arena;
@@ -1271,7 +1266,6 @@ static inline int64_t journal_find_fields_(struct journal_reader_ *reader, uint3
         reader->left = (arena->left - front - count * sizeof *fields) / sizeof(uint64_t) * sizeof(uint64_t);
     }
     reader->payload = payload;
-    reader->payload_length = payload_length;
     reader->count = count;
     reader->given = reader->left;
     reader->arena = arena;
@@ -1326,8 +1320,6 @@ static inline int64_t journal_end_reading_(struct journal_reader_ *reader, struc
     if (reader->left != reader->given) {
         arena->left = (size_t)(reader->free - arena->memory) + reader->left;
     }
-    arena->source = reader->payload;
-    arena->source_length = reader->payload_length;
     return 0;
 }
 
@@ -2783,140 +2775,64 @@ static inline void journal_read_NotificationTemplate_(struct journal_reader_ *re
  * Writing.
  */
 
-/* Where the next entry is written, and how many bytes are left from there on, at whose end slices are copied; where the
-   table begins, and how many bytes there are from there on; how many more are needed; and while all slices are within
-   the source, where that is, and how many bytes have no entry of those that were appended. */
+/* A table that is made in an arena: where it begins, and how many bytes there are from there on; how many entries it
+   has, how many bytes are left between them and their slices, which are copied to the end, and how many more bytes are
+   needed. */
 struct journal_writer_ {
-    struct journal_field *next;
+    struct journal_field *fields;
+    size_t room;
+    size_t count;
     size_t left;
-    uint8_t *table;
-    size_t given;
     size_t lacking;
-    bool is_within;
-    uintptr_t source;
-    size_t source_length;
-    size_t unlisted;
 };
 
-static inline void journal_begin_writing_(struct journal_writer_ *writer, const struct journal_arena *arena) {
+static inline struct journal_writer_ journal_writer_of_(const struct journal_arena *arena) {
+    struct journal_writer_ writer = {NULL, 0, 0, 0, 0};
     size_t unaligned = journal_unaligned_(arena);
 
-    writer->table = NULL;
-    writer->left = 0;
     if (arena->left > unaligned) {
-        writer->table = arena->memory + unaligned;
-        writer->left = arena->left - unaligned;
+        writer.fields = (struct journal_field *)(void *)(arena->memory + unaligned);
+        writer.room = writer.left = arena->left - unaligned;
     }
-    writer->next = (struct journal_field *)(void *)writer->table;
-    writer->given = writer->left;
-    writer->lacking = 0;
-    writer->is_within = arena->source_length > 0;
-    writer->source = (uintptr_t)arena->source;
-    writer->source_length = arena->source_length;
-    writer->unlisted = 0;
+    return writer;
 }
 
-/* Appends an entry, if there is room. */
-JOURNAL_INLINE_ void journal_put_(struct journal_writer_ *writer, uint64_t level, uint64_t number, uint64_t kind,
-                                  uint64_t value) {
-    struct journal_field *field = writer->next;
+/* Appends an entry, and copies its slice, if there is room for both. */
+static inline void journal_put_entry_(struct journal_writer_ *writer, uint64_t level, uint64_t number, uint64_t kind,
+                                      uint64_t value, struct journal_slice slice) {
+    size_t size = sizeof(struct journal_field) + slice.length;
+    struct journal_field *field;
 
-    if (writer->left < sizeof *field) {
-        writer->lacking += sizeof *field;
+    if (size > writer->left) {
+        writer->lacking += size;
         return;
     }
-    writer->next = field + 1;
-    writer->left -= sizeof *field;
+    field = &writer->fields[writer->count];
+    writer->count++;
+    writer->left -= size;
     field->level = level;
     field->number = number;
     field->kind = kind;
     field->value = value;
-    field->offset = 0;
-    field->length = 0;
-}
-
-/* Copies the slices of all entries, which were within the source until now. */
-static inline void journal_leave_source_(struct journal_writer_ *writer) {
-    struct journal_field *field = (struct journal_field *)(void *)writer->table;
-
-    for (; field != writer->next; field++) {
-        size_t length = (size_t)field->length;
-
-        if (length > writer->left) {
-            writer->lacking += length;
-        } else if (length > 0) {
-            const uint8_t *slice = (const uint8_t *)(writer->source + (uintptr_t)field->offset);
-
-            writer->left -= length;
-            field->offset = (size_t)((uint8_t *)writer->next - writer->table) + writer->left;
-            memcpy(writer->table + field->offset, slice, length);
-        }
-    }
-    writer->lacking += writer->unlisted;
-    writer->is_within = false;
-}
-
-/* Appends the entry of a slice within the source; false if it is outside. */
-static inline bool journal_put_within_(struct journal_writer_ *writer, uint64_t level, uint64_t number, uint64_t kind,
-                                       struct journal_slice slice) {
-    uintptr_t offset = slice.length == 0 ? 0 : (uintptr_t)slice.at - writer->source;
-    struct journal_field *field = writer->next;
-
-    if (offset > writer->source_length || slice.length > writer->source_length - (size_t)offset) {
-        return false;
-    }
-    journal_put_(writer, level, number, kind, 0);
-    if (writer->next == field) {
-        writer->unlisted += slice.length;
-    } else {
-        field->offset = offset;
-        field->length = slice.length;
-    }
-    return true;
-}
-
-/* Appends the entry of a slice, and copies it, if there is room for both. */
-JOURNAL_INLINE_ bool journal_put_copied_(struct journal_writer_ *writer, uint64_t level, uint64_t number, uint64_t kind,
-                                         struct journal_slice slice) {
-    struct journal_field *field = writer->next;
-
-    if (writer->left < sizeof *field || slice.length > writer->left - sizeof *field) {
-        return false;
-    }
-    writer->next = field + 1;
-    writer->left -= sizeof *field + slice.length;
-    field->level = level;
-    field->number = number;
-    field->kind = kind;
-    field->value = 0;
-    field->offset = (size_t)((uint8_t *)writer->next - writer->table) + writer->left;
+    field->offset = writer->count * sizeof *field + writer->left;
     field->length = slice.length;
     if (slice.length > 0) {
-        memcpy(writer->table + field->offset, slice.at, slice.length);
-    }
-    return true;
-}
-
-/* Appends the entry of a slice that may be within the source, or for which there may be no room. */
-static inline void journal_put_any_(struct journal_writer_ *writer, uint64_t level, uint64_t number, uint64_t kind,
-                                    struct journal_slice slice) {
-    if (writer->is_within) {
-        if (journal_put_within_(writer, level, number, kind, slice)) {
-            return;
-        }
-        journal_leave_source_(writer);
-    }
-    if (!journal_put_copied_(writer, level, number, kind, slice)) {
-        writer->lacking += sizeof(struct journal_field) + slice.length;
+        memcpy((uint8_t *)writer->fields + field->offset, slice.at, slice.length);
     }
 }
 
-/* Appends the entry of a slice, which is copied unless it is within the source, if there is room. */
-JOURNAL_INLINE_ void journal_put_slice_(struct journal_writer_ *writer, uint64_t level, uint64_t number, uint64_t kind,
-                                        struct journal_slice slice) {
-    if (writer->is_within || !journal_put_copied_(writer, level, number, kind, slice)) {
-        journal_put_any_(writer, level, number, kind, slice);
-    }
+/* Appends the entry of a number or a message. */
+static inline void journal_put_(struct journal_writer_ *writer, uint64_t level, uint64_t number, uint64_t kind,
+                                uint64_t value) {
+    struct journal_slice none = {NULL, 0};
+
+    journal_put_entry_(writer, level, number, kind, value, none);
+}
+
+/* Appends the entry of a text or of bytes. */
+static inline void journal_put_slice_(struct journal_writer_ *writer, uint64_t level, uint64_t number, uint64_t kind,
+                                      struct journal_slice slice) {
+    journal_put_entry_(writer, level, number, kind, 0, slice);
 }
 
 /* Says in the arena which entry may not come, and returns the error. */
@@ -2939,18 +2855,18 @@ static inline int64_t journal_rejected_(const struct journal_field *fields, cons
 /* Writes the payload of a schema whose entries are there. */
 static inline int64_t journal_end_writing_(const struct journal_writer_ *writer, uint32_t schema,
                                            struct journal_arena *arena, uint8_t *out, size_t room) {
-    const struct journal_field *fields = (const struct journal_field *)(const void *)writer->table;
     struct journal_writing writing = {JOURNAL_WRITTEN, 0};
     int64_t result;
 
     if (writer->lacking > 0) {
-        return journal_lacks_(arena, journal_unaligned_(arena) + writer->given - writer->left + writer->lacking);
+        return journal_lacks_(arena, journal_unaligned_(arena) + writer->room - writer->left + writer->lacking);
     }
-    result = journal_payload_of_fields(schema, fields, (size_t)(writer->next - fields),
-                                       writer->is_within ? arena->source : writer->table,
-                                       writer->is_within ? arena->source_length : writer->given, &writing,
-                                       JOURNAL_WRITING_NUMBERS, out, room);
-    return result < 0 || writing.kind == JOURNAL_WRITTEN ? result : journal_rejected_(fields, &writing, schema, arena);
+    result = journal_payload_of_fields(schema, writer->fields, writer->count, (const uint8_t *)writer->fields,
+                                       writer->room, &writing, JOURNAL_WRITING_NUMBERS, out, room);
+    if (result < 0 || writing.kind == JOURNAL_WRITTEN) {
+        return result;
+    }
+    return journal_rejected_(writer->fields, &writing, schema, arena);
 }
 
 /*
@@ -3963,7 +3879,7 @@ static inline int64_t journal_write_Void(const struct journal_Void *record, stru
         return length;
     }
     /* a table says which field is rejected, and why */
-    journal_begin_writing_(&writer, arena);
+    writer = journal_writer_of_(arena);
     (void)record;
     return journal_end_writing_(&writer, JOURNAL_SCHEMA_VOID, arena, out, room);
 }
@@ -3988,7 +3904,7 @@ static inline int64_t journal_write_Value(const struct journal_Value *record, st
         return length;
     }
     /* a table says which field is rejected, and why */
-    journal_begin_writing_(&writer, arena);
+    writer = journal_writer_of_(arena);
     journal_put_Value_(&writer, 0, record);
     return journal_end_writing_(&writer, JOURNAL_SCHEMA_VALUE, arena, out, room);
 }
@@ -4013,7 +3929,7 @@ static inline int64_t journal_write_Failure(const struct journal_Failure *record
         return length;
     }
     /* a table says which field is rejected, and why */
-    journal_begin_writing_(&writer, arena);
+    writer = journal_writer_of_(arena);
     journal_put_Failure_(&writer, 0, record);
     return journal_end_writing_(&writer, JOURNAL_SCHEMA_FAILURE, arena, out, room);
 }
@@ -4039,7 +3955,7 @@ static inline int64_t journal_write_FailureMetadata(const struct journal_Failure
         return length;
     }
     /* a table says which field is rejected, and why */
-    journal_begin_writing_(&writer, arena);
+    writer = journal_writer_of_(arena);
     journal_put_FailureMetadata_(&writer, 0, record);
     return journal_end_writing_(&writer, JOURNAL_SCHEMA_FAILURE_METADATA, arena, out, room);
 }
@@ -4064,7 +3980,7 @@ static inline int64_t journal_write_Header(const struct journal_Header *record, 
         return length;
     }
     /* a table says which field is rejected, and why */
-    journal_begin_writing_(&writer, arena);
+    writer = journal_writer_of_(arena);
     journal_put_Header_(&writer, 0, record);
     return journal_end_writing_(&writer, JOURNAL_SCHEMA_HEADER, arena, out, room);
 }
@@ -4089,7 +4005,7 @@ static inline int64_t journal_write_StateKeys(const struct journal_StateKeys *re
         return length;
     }
     /* a table says which field is rejected, and why */
-    journal_begin_writing_(&writer, arena);
+    writer = journal_writer_of_(arena);
     journal_put_StateKeys_(&writer, 0, record);
     return journal_end_writing_(&writer, JOURNAL_SCHEMA_STATE_KEYS, arena, out, room);
 }
@@ -4114,7 +4030,7 @@ static inline int64_t journal_write_StateEntry(const struct journal_StateEntry *
         return length;
     }
     /* a table says which field is rejected, and why */
-    journal_begin_writing_(&writer, arena);
+    writer = journal_writer_of_(arena);
     journal_put_StateEntry_(&writer, 0, record);
     return journal_end_writing_(&writer, JOURNAL_SCHEMA_STATE_ENTRY, arena, out, room);
 }
@@ -4132,9 +4048,8 @@ static inline int64_t journal_read_Future(const uint8_t *payload, size_t payload
 
 static inline int64_t journal_write_Future(const struct journal_Future *record, struct journal_arena *arena,
                                            uint8_t *out, size_t room) {
-    struct journal_writer_ writer;
+    struct journal_writer_ writer = journal_writer_of_(arena);
 
-    journal_begin_writing_(&writer, arena);
     journal_put_Future_(&writer, 0, record);
     return journal_end_writing_(&writer, JOURNAL_SCHEMA_FUTURE, arena, out, room);
 }
@@ -4159,7 +4074,7 @@ static inline int64_t journal_write_WorkflowTarget(const struct journal_Workflow
         return length;
     }
     /* a table says which field is rejected, and why */
-    journal_begin_writing_(&writer, arena);
+    writer = journal_writer_of_(arena);
     journal_put_WorkflowTarget_(&writer, 0, record);
     return journal_end_writing_(&writer, JOURNAL_SCHEMA_WORKFLOW_TARGET, arena, out, room);
 }
@@ -4186,7 +4101,7 @@ static inline int64_t journal_write_IdempotentRequestTarget(const struct journal
         return length;
     }
     /* a table says which field is rejected, and why */
-    journal_begin_writing_(&writer, arena);
+    writer = journal_writer_of_(arena);
     journal_put_IdempotentRequestTarget_(&writer, 0, record);
     return journal_end_writing_(&writer, JOURNAL_SCHEMA_IDEMPOTENT_REQUEST_TARGET, arena, out, room);
 }
@@ -4211,7 +4126,7 @@ static inline int64_t journal_write_StartMessage(const struct journal_StartMessa
         return length;
     }
     /* a table says which field is rejected, and why */
-    journal_begin_writing_(&writer, arena);
+    writer = journal_writer_of_(arena);
     journal_put_StartMessage_(&writer, 0, record);
     return journal_end_writing_(&writer, JOURNAL_SCHEMA_START, arena, out, room);
 }
@@ -4230,9 +4145,8 @@ static inline int64_t journal_read_SuspensionMessage(const uint8_t *payload, siz
 
 static inline int64_t journal_write_SuspensionMessage(const struct journal_SuspensionMessage *record,
                                                       struct journal_arena *arena, uint8_t *out, size_t room) {
-    struct journal_writer_ writer;
+    struct journal_writer_ writer = journal_writer_of_(arena);
 
-    journal_begin_writing_(&writer, arena);
     journal_put_SuspensionMessage_(&writer, 0, record);
     return journal_end_writing_(&writer, JOURNAL_SCHEMA_SUSPENSION, arena, out, room);
 }
@@ -4258,7 +4172,7 @@ static inline int64_t journal_write_SuspensionMessageV6(const struct journal_Sus
         return length;
     }
     /* a table says which field is rejected, and why */
-    journal_begin_writing_(&writer, arena);
+    writer = journal_writer_of_(arena);
     journal_put_SuspensionMessageV6_(&writer, 0, record);
     return journal_end_writing_(&writer, JOURNAL_SCHEMA_SUSPENSION_V6, arena, out, room);
 }
@@ -4283,7 +4197,7 @@ static inline int64_t journal_write_ErrorMessage(const struct journal_ErrorMessa
         return length;
     }
     /* a table says which field is rejected, and why */
-    journal_begin_writing_(&writer, arena);
+    writer = journal_writer_of_(arena);
     journal_put_ErrorMessage_(&writer, 0, record);
     return journal_end_writing_(&writer, JOURNAL_SCHEMA_ERROR, arena, out, room);
 }
@@ -4308,7 +4222,7 @@ static inline int64_t journal_write_EndMessage(const struct journal_EndMessage *
         return length;
     }
     /* a table says which field is rejected, and why */
-    journal_begin_writing_(&writer, arena);
+    writer = journal_writer_of_(arena);
     (void)record;
     return journal_end_writing_(&writer, JOURNAL_SCHEMA_END, arena, out, room);
 }
@@ -4334,7 +4248,7 @@ static inline int64_t journal_write_ProposeRunCompletionMessage(
         return length;
     }
     /* a table says which field is rejected, and why */
-    journal_begin_writing_(&writer, arena);
+    writer = journal_writer_of_(arena);
     journal_put_ProposeRunCompletionMessage_(&writer, 0, record);
     return journal_end_writing_(&writer, JOURNAL_SCHEMA_PROPOSE_RUN_COMPLETION, arena, out, room);
 }
@@ -4353,9 +4267,8 @@ static inline int64_t journal_read_AwaitingOnMessage(const uint8_t *payload, siz
 
 static inline int64_t journal_write_AwaitingOnMessage(const struct journal_AwaitingOnMessage *record,
                                                       struct journal_arena *arena, uint8_t *out, size_t room) {
-    struct journal_writer_ writer;
+    struct journal_writer_ writer = journal_writer_of_(arena);
 
-    journal_begin_writing_(&writer, arena);
     journal_put_AwaitingOnMessage_(&writer, 0, record);
     return journal_end_writing_(&writer, JOURNAL_SCHEMA_AWAITING_ON, arena, out, room);
 }
@@ -4383,7 +4296,7 @@ static inline int64_t journal_write_ProposeRunCompletionAckMessage(
         return length;
     }
     /* a table says which field is rejected, and why */
-    journal_begin_writing_(&writer, arena);
+    writer = journal_writer_of_(arena);
     journal_put_ProposeRunCompletionAckMessage_(&writer, 0, record);
     return journal_end_writing_(&writer, JOURNAL_SCHEMA_PROPOSE_RUN_COMPLETION_ACK, arena, out, room);
 }
@@ -4411,7 +4324,7 @@ static inline int64_t journal_write_GetStateEphemeralCommandMessage(
         return length;
     }
     /* a table says which field is rejected, and why */
-    journal_begin_writing_(&writer, arena);
+    writer = journal_writer_of_(arena);
     journal_put_GetStateEphemeralCommandMessage_(&writer, 0, record);
     return journal_end_writing_(&writer, JOURNAL_SCHEMA_GET_STATE_EPHEMERAL_COMMAND, arena, out, room);
 }
@@ -4439,7 +4352,7 @@ static inline int64_t journal_write_GetStateEphemeralNotificationMessage(
         return length;
     }
     /* a table says which field is rejected, and why */
-    journal_begin_writing_(&writer, arena);
+    writer = journal_writer_of_(arena);
     journal_put_GetStateEphemeralNotificationMessage_(&writer, 0, record);
     return journal_end_writing_(&writer, JOURNAL_SCHEMA_GET_STATE_EPHEMERAL_NOTIFICATION, arena, out, room);
 }
@@ -4465,7 +4378,7 @@ static inline int64_t journal_write_InputCommandMessage(const struct journal_Inp
         return length;
     }
     /* a table says which field is rejected, and why */
-    journal_begin_writing_(&writer, arena);
+    writer = journal_writer_of_(arena);
     journal_put_InputCommandMessage_(&writer, 0, record);
     return journal_end_writing_(&writer, JOURNAL_SCHEMA_INPUT_COMMAND, arena, out, room);
 }
@@ -4491,7 +4404,7 @@ static inline int64_t journal_write_OutputCommandMessage(const struct journal_Ou
         return length;
     }
     /* a table says which field is rejected, and why */
-    journal_begin_writing_(&writer, arena);
+    writer = journal_writer_of_(arena);
     journal_put_OutputCommandMessage_(&writer, 0, record);
     return journal_end_writing_(&writer, JOURNAL_SCHEMA_OUTPUT_COMMAND, arena, out, room);
 }
@@ -4517,7 +4430,7 @@ static inline int64_t journal_write_GetLazyStateCommandMessage(const struct jour
         return length;
     }
     /* a table says which field is rejected, and why */
-    journal_begin_writing_(&writer, arena);
+    writer = journal_writer_of_(arena);
     journal_put_GetLazyStateCommandMessage_(&writer, 0, record);
     return journal_end_writing_(&writer, JOURNAL_SCHEMA_GET_LAZY_STATE_COMMAND, arena, out, room);
 }
@@ -4543,7 +4456,7 @@ static inline int64_t journal_write_SetStateCommandMessage(const struct journal_
         return length;
     }
     /* a table says which field is rejected, and why */
-    journal_begin_writing_(&writer, arena);
+    writer = journal_writer_of_(arena);
     journal_put_SetStateCommandMessage_(&writer, 0, record);
     return journal_end_writing_(&writer, JOURNAL_SCHEMA_SET_STATE_COMMAND, arena, out, room);
 }
@@ -4569,7 +4482,7 @@ static inline int64_t journal_write_ClearStateCommandMessage(const struct journa
         return length;
     }
     /* a table says which field is rejected, and why */
-    journal_begin_writing_(&writer, arena);
+    writer = journal_writer_of_(arena);
     journal_put_ClearStateCommandMessage_(&writer, 0, record);
     return journal_end_writing_(&writer, JOURNAL_SCHEMA_CLEAR_STATE_COMMAND, arena, out, room);
 }
@@ -4596,7 +4509,7 @@ static inline int64_t journal_write_ClearAllStateCommandMessage(
         return length;
     }
     /* a table says which field is rejected, and why */
-    journal_begin_writing_(&writer, arena);
+    writer = journal_writer_of_(arena);
     journal_put_ClearAllStateCommandMessage_(&writer, 0, record);
     return journal_end_writing_(&writer, JOURNAL_SCHEMA_CLEAR_ALL_STATE_COMMAND, arena, out, room);
 }
@@ -4624,7 +4537,7 @@ static inline int64_t journal_write_GetLazyStateKeysCommandMessage(
         return length;
     }
     /* a table says which field is rejected, and why */
-    journal_begin_writing_(&writer, arena);
+    writer = journal_writer_of_(arena);
     journal_put_GetLazyStateKeysCommandMessage_(&writer, 0, record);
     return journal_end_writing_(&writer, JOURNAL_SCHEMA_GET_LAZY_STATE_KEYS_COMMAND, arena, out, room);
 }
@@ -4651,7 +4564,7 @@ static inline int64_t journal_write_GetEagerStateCommandMessage(
         return length;
     }
     /* a table says which field is rejected, and why */
-    journal_begin_writing_(&writer, arena);
+    writer = journal_writer_of_(arena);
     journal_put_GetEagerStateCommandMessage_(&writer, 0, record);
     return journal_end_writing_(&writer, JOURNAL_SCHEMA_GET_EAGER_STATE_COMMAND, arena, out, room);
 }
@@ -4679,7 +4592,7 @@ static inline int64_t journal_write_GetEagerStateKeysCommandMessage(
         return length;
     }
     /* a table says which field is rejected, and why */
-    journal_begin_writing_(&writer, arena);
+    writer = journal_writer_of_(arena);
     journal_put_GetEagerStateKeysCommandMessage_(&writer, 0, record);
     return journal_end_writing_(&writer, JOURNAL_SCHEMA_GET_EAGER_STATE_KEYS_COMMAND, arena, out, room);
 }
@@ -4705,7 +4618,7 @@ static inline int64_t journal_write_GetPromiseCommandMessage(const struct journa
         return length;
     }
     /* a table says which field is rejected, and why */
-    journal_begin_writing_(&writer, arena);
+    writer = journal_writer_of_(arena);
     journal_put_GetPromiseCommandMessage_(&writer, 0, record);
     return journal_end_writing_(&writer, JOURNAL_SCHEMA_GET_PROMISE_COMMAND, arena, out, room);
 }
@@ -4731,7 +4644,7 @@ static inline int64_t journal_write_PeekPromiseCommandMessage(const struct journ
         return length;
     }
     /* a table says which field is rejected, and why */
-    journal_begin_writing_(&writer, arena);
+    writer = journal_writer_of_(arena);
     journal_put_PeekPromiseCommandMessage_(&writer, 0, record);
     return journal_end_writing_(&writer, JOURNAL_SCHEMA_PEEK_PROMISE_COMMAND, arena, out, room);
 }
@@ -4759,7 +4672,7 @@ static inline int64_t journal_write_CompletePromiseCommandMessage(
         return length;
     }
     /* a table says which field is rejected, and why */
-    journal_begin_writing_(&writer, arena);
+    writer = journal_writer_of_(arena);
     journal_put_CompletePromiseCommandMessage_(&writer, 0, record);
     return journal_end_writing_(&writer, JOURNAL_SCHEMA_COMPLETE_PROMISE_COMMAND, arena, out, room);
 }
@@ -4785,7 +4698,7 @@ static inline int64_t journal_write_SleepCommandMessage(const struct journal_Sle
         return length;
     }
     /* a table says which field is rejected, and why */
-    journal_begin_writing_(&writer, arena);
+    writer = journal_writer_of_(arena);
     journal_put_SleepCommandMessage_(&writer, 0, record);
     return journal_end_writing_(&writer, JOURNAL_SCHEMA_SLEEP_COMMAND, arena, out, room);
 }
@@ -4811,7 +4724,7 @@ static inline int64_t journal_write_CallCommandMessage(const struct journal_Call
         return length;
     }
     /* a table says which field is rejected, and why */
-    journal_begin_writing_(&writer, arena);
+    writer = journal_writer_of_(arena);
     journal_put_CallCommandMessage_(&writer, 0, record);
     return journal_end_writing_(&writer, JOURNAL_SCHEMA_CALL_COMMAND, arena, out, room);
 }
@@ -4837,7 +4750,7 @@ static inline int64_t journal_write_OneWayCallCommandMessage(const struct journa
         return length;
     }
     /* a table says which field is rejected, and why */
-    journal_begin_writing_(&writer, arena);
+    writer = journal_writer_of_(arena);
     journal_put_OneWayCallCommandMessage_(&writer, 0, record);
     return journal_end_writing_(&writer, JOURNAL_SCHEMA_ONE_WAY_CALL_COMMAND, arena, out, room);
 }
@@ -4863,7 +4776,7 @@ static inline int64_t journal_write_SendSignalCommandMessage(const struct journa
         return length;
     }
     /* a table says which field is rejected, and why */
-    journal_begin_writing_(&writer, arena);
+    writer = journal_writer_of_(arena);
     journal_put_SendSignalCommandMessage_(&writer, 0, record);
     return journal_end_writing_(&writer, JOURNAL_SCHEMA_SEND_SIGNAL_COMMAND, arena, out, room);
 }
@@ -4889,7 +4802,7 @@ static inline int64_t journal_write_RunCommandMessage(const struct journal_RunCo
         return length;
     }
     /* a table says which field is rejected, and why */
-    journal_begin_writing_(&writer, arena);
+    writer = journal_writer_of_(arena);
     journal_put_RunCommandMessage_(&writer, 0, record);
     return journal_end_writing_(&writer, JOURNAL_SCHEMA_RUN_COMMAND, arena, out, room);
 }
@@ -4917,7 +4830,7 @@ static inline int64_t journal_write_AttachInvocationCommandMessage(
         return length;
     }
     /* a table says which field is rejected, and why */
-    journal_begin_writing_(&writer, arena);
+    writer = journal_writer_of_(arena);
     journal_put_AttachInvocationCommandMessage_(&writer, 0, record);
     return journal_end_writing_(&writer, JOURNAL_SCHEMA_ATTACH_INVOCATION_COMMAND, arena, out, room);
 }
@@ -4945,7 +4858,7 @@ static inline int64_t journal_write_GetInvocationOutputCommandMessage(
         return length;
     }
     /* a table says which field is rejected, and why */
-    journal_begin_writing_(&writer, arena);
+    writer = journal_writer_of_(arena);
     journal_put_GetInvocationOutputCommandMessage_(&writer, 0, record);
     return journal_end_writing_(&writer, JOURNAL_SCHEMA_GET_INVOCATION_OUTPUT_COMMAND, arena, out, room);
 }
@@ -4973,7 +4886,7 @@ static inline int64_t journal_write_CompleteAwakeableCommandMessage(
         return length;
     }
     /* a table says which field is rejected, and why */
-    journal_begin_writing_(&writer, arena);
+    writer = journal_writer_of_(arena);
     journal_put_CompleteAwakeableCommandMessage_(&writer, 0, record);
     return journal_end_writing_(&writer, JOURNAL_SCHEMA_COMPLETE_AWAKEABLE_COMMAND, arena, out, room);
 }
@@ -5001,7 +4914,7 @@ static inline int64_t journal_write_GetLazyStateCompletionNotificationMessage(
         return length;
     }
     /* a table says which field is rejected, and why */
-    journal_begin_writing_(&writer, arena);
+    writer = journal_writer_of_(arena);
     journal_put_GetLazyStateCompletionNotificationMessage_(&writer, 0, record);
     return journal_end_writing_(&writer, JOURNAL_SCHEMA_GET_LAZY_STATE_COMPLETION_NOTIFICATION, arena, out, room);
 }
@@ -5029,7 +4942,7 @@ static inline int64_t journal_write_GetPromiseCompletionNotificationMessage(
         return length;
     }
     /* a table says which field is rejected, and why */
-    journal_begin_writing_(&writer, arena);
+    writer = journal_writer_of_(arena);
     journal_put_GetPromiseCompletionNotificationMessage_(&writer, 0, record);
     return journal_end_writing_(&writer, JOURNAL_SCHEMA_GET_PROMISE_COMPLETION_NOTIFICATION, arena, out, room);
 }
@@ -5057,7 +4970,7 @@ static inline int64_t journal_write_PeekPromiseCompletionNotificationMessage(
         return length;
     }
     /* a table says which field is rejected, and why */
-    journal_begin_writing_(&writer, arena);
+    writer = journal_writer_of_(arena);
     journal_put_PeekPromiseCompletionNotificationMessage_(&writer, 0, record);
     return journal_end_writing_(&writer, JOURNAL_SCHEMA_PEEK_PROMISE_COMPLETION_NOTIFICATION, arena, out, room);
 }
@@ -5085,7 +4998,7 @@ static inline int64_t journal_write_GetInvocationOutputCompletionNotificationMes
         return length;
     }
     /* a table says which field is rejected, and why */
-    journal_begin_writing_(&writer, arena);
+    writer = journal_writer_of_(arena);
     journal_put_GetInvocationOutputCompletionNotificationMessage_(&writer, 0, record);
     return journal_end_writing_(&writer, JOURNAL_SCHEMA_GET_INVOCATION_OUTPUT_COMPLETION_NOTIFICATION, arena, out,
                                 room);
@@ -5114,7 +5027,7 @@ static inline int64_t journal_write_CompletePromiseCompletionNotificationMessage
         return length;
     }
     /* a table says which field is rejected, and why */
-    journal_begin_writing_(&writer, arena);
+    writer = journal_writer_of_(arena);
     journal_put_CompletePromiseCompletionNotificationMessage_(&writer, 0, record);
     return journal_end_writing_(&writer, JOURNAL_SCHEMA_COMPLETE_PROMISE_COMPLETION_NOTIFICATION, arena, out, room);
 }
@@ -5142,7 +5055,7 @@ static inline int64_t journal_write_CallCompletionNotificationMessage(
         return length;
     }
     /* a table says which field is rejected, and why */
-    journal_begin_writing_(&writer, arena);
+    writer = journal_writer_of_(arena);
     journal_put_CallCompletionNotificationMessage_(&writer, 0, record);
     return journal_end_writing_(&writer, JOURNAL_SCHEMA_CALL_COMPLETION_NOTIFICATION, arena, out, room);
 }
@@ -5170,7 +5083,7 @@ static inline int64_t journal_write_RunCompletionNotificationMessage(
         return length;
     }
     /* a table says which field is rejected, and why */
-    journal_begin_writing_(&writer, arena);
+    writer = journal_writer_of_(arena);
     journal_put_RunCompletionNotificationMessage_(&writer, 0, record);
     return journal_end_writing_(&writer, JOURNAL_SCHEMA_RUN_COMPLETION_NOTIFICATION, arena, out, room);
 }
@@ -5198,7 +5111,7 @@ static inline int64_t journal_write_AttachInvocationCompletionNotificationMessag
         return length;
     }
     /* a table says which field is rejected, and why */
-    journal_begin_writing_(&writer, arena);
+    writer = journal_writer_of_(arena);
     journal_put_AttachInvocationCompletionNotificationMessage_(&writer, 0, record);
     return journal_end_writing_(&writer, JOURNAL_SCHEMA_ATTACH_INVOCATION_COMPLETION_NOTIFICATION, arena, out, room);
 }
@@ -5226,7 +5139,7 @@ static inline int64_t journal_write_SleepCompletionNotificationMessage(
         return length;
     }
     /* a table says which field is rejected, and why */
-    journal_begin_writing_(&writer, arena);
+    writer = journal_writer_of_(arena);
     journal_put_SleepCompletionNotificationMessage_(&writer, 0, record);
     return journal_end_writing_(&writer, JOURNAL_SCHEMA_SLEEP_COMPLETION_NOTIFICATION, arena, out, room);
 }
@@ -5254,7 +5167,7 @@ static inline int64_t journal_write_GetLazyStateKeysCompletionNotificationMessag
         return length;
     }
     /* a table says which field is rejected, and why */
-    journal_begin_writing_(&writer, arena);
+    writer = journal_writer_of_(arena);
     journal_put_GetLazyStateKeysCompletionNotificationMessage_(&writer, 0, record);
     return journal_end_writing_(&writer, JOURNAL_SCHEMA_GET_LAZY_STATE_KEYS_COMPLETION_NOTIFICATION, arena, out, room);
 }
@@ -5282,7 +5195,7 @@ static inline int64_t journal_write_CallInvocationIdCompletionNotificationMessag
         return length;
     }
     /* a table says which field is rejected, and why */
-    journal_begin_writing_(&writer, arena);
+    writer = journal_writer_of_(arena);
     journal_put_CallInvocationIdCompletionNotificationMessage_(&writer, 0, record);
     return journal_end_writing_(&writer, JOURNAL_SCHEMA_CALL_INVOCATION_ID_COMPLETION_NOTIFICATION, arena, out, room);
 }
@@ -5308,7 +5221,7 @@ static inline int64_t journal_write_SignalNotificationMessage(const struct journ
         return length;
     }
     /* a table says which field is rejected, and why */
-    journal_begin_writing_(&writer, arena);
+    writer = journal_writer_of_(arena);
     journal_put_SignalNotificationMessage_(&writer, 0, record);
     return journal_end_writing_(&writer, JOURNAL_SCHEMA_SIGNAL_NOTIFICATION, arena, out, room);
 }
@@ -5334,7 +5247,7 @@ static inline int64_t journal_write_NotificationTemplate(const struct journal_No
         return length;
     }
     /* a table says which field is rejected, and why */
-    journal_begin_writing_(&writer, arena);
+    writer = journal_writer_of_(arena);
     journal_put_NotificationTemplate_(&writer, 0, record);
     return journal_end_writing_(&writer, JOURNAL_SCHEMA_NOTIFICATION_TEMPLATE, arena, out, room);
 }

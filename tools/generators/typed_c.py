@@ -340,14 +340,14 @@ def functions():
         text += f"        journal_read_{record.name}_(&reader, 0{', record' if has_rows else ''});\n    }}\n"
         text += "    return journal_end_reading_(&reader, arena, record, sizeof *record);\n}\n\n"
         text += declared(f"static inline int64_t journal_write_{record.name}(", writing, ") {")
-        text += "    struct journal_writer_ writer;\n"
-        if is_borrowed(record):
+        if not is_borrowed(record):
+            text += "    struct journal_writer_ writer = journal_writer_of_(arena);\n\n"
+        else:
+            text += "    struct journal_writer_ writer;\n"
             text += f"    const int64_t length = journal_encode_{record.name}(record, out, room);\n\n"
             text += "    if (length != JOURNAL_MALFORMED) {\n        return length;\n    }\n"
             text += "    /* a table says which field is rejected, and why */\n"
-        else:
-            text += "\n"
-        text += "    journal_begin_writing_(&writer, arena);\n"
+            text += "    writer = journal_writer_of_(arena);\n"
         text += f"    journal_put_{record.name}_(&writer, 0, record);\n" if has_rows else "    (void)record;\n"
         text += filled("    return journal_end_writing_(", ["&writer", schema, "arena", "out", "room"], ");") + "}\n\n"
     return text
