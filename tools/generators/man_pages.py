@@ -11,10 +11,11 @@ ABOUT = "The man pages of the programs and of the library for C."
 SOURCE = "proto/programs.toml, docs/PROGRAMS.md, docs/C.md and include/pendratsoa.h"
 
 # The day on which the text of the pages last changed.
-DATE = "2026-11-26"
+DATE = "2026-11-27"
 
 # What docs/C.md says that belongs into the page of the library: the heading there, and the section's name here.
 LIBRARY_SECTIONS = (
+    ("Structs of messages", "STRUCTS OF MESSAGES"),
     ("Memory and threads", "MEMORY AND THREADS"),
     ("Errors", "ERRORS"),
     ("What may change, and when", "COMPATIBILITY"),
@@ -22,6 +23,8 @@ LIBRARY_SECTIONS = (
 )
 
 HEADER = "include/pendratsoa.h"
+
+INCLUDED = "#include <pendratsoa.h>\n#include <pendratsoa_messages.h>"
 
 # What roff reads as more than the character itself.
 ESCAPED = {"\\": "\\e", "-": "\\-", "'": "\\(aq", "`": "\\(ga", "^": "\\(ha", "~": "\\(ti"}
@@ -231,7 +234,7 @@ def library_page():
         "pendratsoa",
         3,
         ("NAME", title("pendratsoa", about)),
-        ("SYNOPSIS", as_it_is("#include <pendratsoa.h>\n\ncc ... $(pkg-config --cflags --libs pendratsoa)")),
+        ("SYNOPSIS", as_it_is(f"{INCLUDED}\n\ncc ... $(pkg-config --cflags --libs pendratsoa)")),
         (
             "DESCRIPTION",
             "The calls are\n" + "".join(f".BR {name} (){',' if name != names[-1] else '.'}\n" for name in names),
