@@ -18,7 +18,7 @@
 # What is installed is proved. Without --from, what is not up to date is proved first: every crate below the programs
 # and the library, which takes more than an hour of processor time the first time, and no time where nothing has
 # changed. The variable DESTDIR is a folder in which PREFIX is made, for a package, and CC the C compiler. Both
-# libraries export the calls of include/pendratsoa.h and nothing else, and need the C library alone.
+# libraries export the calls of the two headers and nothing else, and need the C library alone.
 set -eu
 
 usage() {
