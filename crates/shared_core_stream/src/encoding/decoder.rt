@@ -119,7 +119,7 @@ fn take_item(
 
 impl Decoder {
     ghost use Rattle.std.specs.Prelude.{◌≡◌, ◌+◌, ◌≤◌, ◌++◌, [], length, OnOk, OnErr, IfOk, IfErr, IsOk, MatchOption};
-    ghost use Rattle.std.specs.Prelude.{None, Ok, false, IsErr, ◌^◌};
+    ghost use Rattle.std.specs.Prelude.{false, IsErr, ◌^◌};
     ghost use Rattle.shared_core_base.specs.Version.{version_number};
     ghost use Rattle.shared_core_stream.specs.Items.{NoItemBegins, PayloadIsNext, PushFails};
     ghost use Rattle.shared_core_stream.specs.Limits.{ReturnsNext};
@@ -233,11 +233,30 @@ impl Decoder {
             IfSome found (λ item. length self.new.bytes + 8 ≤ length self.old.bytes)) }
         ensures version { self.new.version ≡ self.old.version }
     {
-        match self.next_within(u32::MAX, 0) {
-            Ok(Some((_, item))) => Ok(Some(item)),
-            Ok(None) => Ok(None),
-            Err(LimitedError::OutOfMemory) => Err(AllocError),
-            Err(LimitedError::MessageTooLong(_)) => unreachable!(),
+        let Some(front) = hold_head(&mut self.head, &mut self.pending) else {
+            return Ok(None);
+        };
+        // not by `next_within`, whose result is larger: each item would be moved twice more
+        match Announced::by(self.version, u64::from_be_bytes(front)) {
+            Announced::Message(header) => {
+                let length = header.message_length() as usize;
+                let taken = take_payload(&mut self.head, &mut self.pending, length)?;
+                let Some(payload) = taken else {
+                    return Ok(None);
+                };
+                Ok(Some(Item::Message(RawMessage::new(header, payload))))
+            }
+            Announced::Skipped(unknown, length) => {
+                let skipped = take_payload(&mut self.head, &mut self.pending, length as usize)?;
+                let Some(payload) = skipped else {
+                    return Ok(None);
+                };
+                Ok(Some(Item::Skipped(unknown.code(), payload)))
+            }
+            Announced::Unknown(unknown) => {
+                self.head = None;
+                Ok(Some(Item::Unknown(unknown.code())))
+            }
         }
     }
 

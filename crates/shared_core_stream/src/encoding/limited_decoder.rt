@@ -1,7 +1,5 @@
 //! The decoder of a stream whose messages have a greatest length.
 
-ghost use Rattle.std.specs.Prelude.{◌≡◌};
-
 use crate::encoding::{
     Decoder, Item, LimitedError, LimitedItems, LimitedPushError, MessageTooLong,
 };
