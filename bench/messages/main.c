@@ -25,7 +25,7 @@ struct workload {
     size_t bytes;
 };
 
-static const struct side *const sides[] = {&ours, &ours_within, &protobuf_c, &libprotobuf, &libprotobuf_reused};
+static const struct side *const sides[] = {&ours, &protobuf_c, &libprotobuf, &libprotobuf_reused};
 #define SIDES (sizeof sides / sizeof *sides)
 
 static struct workload workloads[MOST_WORKLOADS];
@@ -164,7 +164,7 @@ static void measure(const struct workload *workload, int encodes) {
     for (size_t i = 0; i < SIDES; i++) {
         printf(" %.0f |", least[i]);
     }
-    for (size_t i = 2; i < SIDES; i++) {
+    for (size_t i = 1; i < SIDES; i++) {
         printf(" %.2f |", least[i] / least[0]);
     }
     printf("\n");
@@ -193,9 +193,8 @@ int main(int count, char **words) {
     for (size_t i = 0; i < workload_count; i++) {
         leave_out(&workloads[i]);
     }
-    printf("| Messages | Work | pendratsoa, ns | within the payload | protobuf-c | libprotobuf | reused | ratios: "
-           "protobuf-c |"
-           " libprotobuf | reused |\n|---|---|---|---|---|---|---|---|---|---|\n");
+    printf("| Messages | Work | pendratsoa, ns | protobuf-c | libprotobuf | reused | ratios: protobuf-c | libprotobuf |"
+           " reused |\n|---|---|---|---|---|---|---|---|---|\n");
     for (size_t i = 0; i < workload_count; i++) {
         compare(&workloads[i]);
         measure(&workloads[i], 0);

@@ -107,15 +107,12 @@ static void keep(const struct message *messages, size_t count) {
     }
 }
 
-static size_t encoded(uint8_t *out, size_t room, bool is_within) {
+static size_t encode(uint8_t *out, size_t room) {
     size_t length = 0;
 
     for (size_t i = 0; i < kept_count; i++) {
-        int64_t written;
+        int64_t written = journal_write_record(given[i].schema, &kept[i], &kept_arena, out + length, room - length);
 
-        kept_arena.source = is_within ? given[i].payload : NULL;
-        kept_arena.source_length = is_within ? given[i].length : 0;
-        written = journal_write_record(given[i].schema, &kept[i], &kept_arena, out + length, room - length);
         if (written < 0) {
             failed("a record cannot be written", written);
         }
@@ -124,11 +121,4 @@ static size_t encoded(uint8_t *out, size_t room, bool is_within) {
     return length;
 }
 
-/* Records whose slices are anywhere, which are copied to beside the table. */
-static size_t encode(uint8_t *out, size_t room) { return encoded(out, room, false); }
-
-/* Records whose slices are within the payload that they were read from. */
-static size_t encode_within(uint8_t *out, size_t room) { return encoded(out, room, true); }
-
 const struct side ours = {"pendratsoa", decode, keep, encode};
-const struct side ours_within = {"pendratsoa, within", decode, keep, encode_within};

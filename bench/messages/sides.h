@@ -28,7 +28,7 @@ struct side {
     size_t (*encode)(uint8_t *out, size_t room);
 };
 
-extern const struct side ours, ours_within, protobuf_c, libprotobuf, libprotobuf_reused;
+extern const struct side ours, protobuf_c, libprotobuf, libprotobuf_reused;
 
 #ifdef __cplusplus
 }
