@@ -23,6 +23,7 @@ impl<'a> Iterator for Items<'a> {
 
     ghost remaining = { λ items. at_most (results_left items) };
 
+    #[inline(always)]
     fn next(&mut self) -> Option<Result<Item, AllocError>> {
         if self.has_failed {
             return None;

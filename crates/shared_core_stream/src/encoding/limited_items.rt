@@ -23,6 +23,7 @@ impl<'a> Iterator for LimitedItems<'a> {
 
     ghost remaining = { λ items. at_most (limited_results_left items) };
 
+    #[inline(always)]
     fn next(&mut self) -> Option<Result<Item, LimitedError>> {
         if self.has_failed {
             return None;
