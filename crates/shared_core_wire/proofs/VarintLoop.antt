@@ -93,3 +93,12 @@ first_last b bs h = rw (lt-ltb b 128 h) refl
 
 pub varint_one : (b : ℕ) (bs : List ℕ) → b < 128 → varint_at (b ∷ bs) ≡ Some (b, bs)
 varint_one b bs h = read_fits (b ∷ bs) bs b (first_last b bs h) (omega arith)
+
+second_last : (b c : ℕ) (bs : List ℕ) → 128 ≤ b → c < 128 → varint_within 10 (b ∷ c ∷ bs) ≡ Some
+    (b % 128 + 128 * c, bs)
+unfolding varint_within
+second_last b c bs more h = rw (le-ltb b 128 more, lt-ltb c 128 h) refl
+
+pub varint_two : (b c : ℕ) (bs : List ℕ) → 128 ≤ b → c < 128 → varint_at (b ∷ c ∷ bs) ≡ Some (b % 128 + 128 * c, bs)
+varint_two b c bs more h =
+    read_fits (b ∷ c ∷ bs) bs (b % 128 + 128 * c) (second_last b c bs more h) (omega (arith, h))

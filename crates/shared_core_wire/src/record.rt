@@ -1,6 +1,6 @@
 //! One record (proto3): a key, which is a field number and a wire type, and a value.
 
-ghost use Rattle.std.specs.Prelude.{◌-◌, ◌+◌};
+ghost use Rattle.std.specs.Prelude.{◌+◌};
 ghost use Rattle.shared_core_wire.specs.Reader.{Gives, key_at, bytes_at, value_at, group_content_at, record_at};
 ghost use Rattle.shared_core_wire.specs.View.{value_of};
 

@@ -3,7 +3,7 @@
 //! An iterator is specified by the list of what it will still yield: one relation says all of it (`AreRecordsFrom`),
 //! and a computed form beside it serves proofs about loops.
 
-ghost use Rattle.std.specs.Prelude.{◌≡◌, ◌≤◌, ◌-◌, ◌+◌, ◌*◌, ◌↔◌, List, length, map, Ok};
+ghost use Rattle.std.specs.Prelude.{◌≡◌, ◌≤◌, ◌+◌, ◌*◌, ◌↔◌, List, length, map, Ok};
 
 use crate::error::WireError;
 use crate::record::{WireValue, read_record};

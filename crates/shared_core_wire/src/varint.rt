@@ -1,19 +1,24 @@
 //! Varints (proto3): a number of 64 bits in one to ten bytes of seven bits each, the least significant first.
 
-ghost use Rattle.std.specs.Prelude.{◌≡◌, ◌≤◌, ◌<◌, ◌+◌, ◌*◌, ◌%◌, length};
+ghost use Rattle.std.specs.Prelude.{◌≡◌, ◌≤◌, ◌%◌, length};
 ghost use Rattle.shared_core_wire.specs.Reader.{Gives, varint_at};
 ghost use Rattle.shared_core_wire.specs.Encoding.{shortest_varint};
 
 /// Reads a varint. Returns its number and the bytes after it, or `None` if the bytes do not begin with a varint.
 #[inline(always)]
-#[tactic(auto, using(crate::proofs::VarintLoop::varint_one))]
+#[tactic(auto, using(crate::proofs::VarintLoop::varint_one, crate::proofs::VarintLoop::varint_two))]
 pub fn read_varint(bytes: &[u8]) -> Option<(u64, &[u8])>
     ensures { Gives (λ x. (x.0, x.1.now)) result (varint_at bytes.now) }
 {
     let (first, rest) = bytes.split_first()?;
-    // most varints are keys, lengths and small numbers of one byte
+    // most varints are keys, lengths and small numbers of one byte, and most others have two
     if *first < 128 {
         return Some((*first as u64, rest));
+    }
+    if let Some((second, rest)) = rest.split_first()
+        && *second < 128
+    {
+        return Some(((*first % 128) as u64 + 128 * *second as u64, rest));
     }
     read_long_varint(bytes)
 }
