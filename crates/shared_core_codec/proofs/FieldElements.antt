@@ -1,10 +1,8 @@
 -- Fields, by their kinds.
-use Rattle.std.proofs.Common.{◌≡◌, ℕ, ◌%◌, List, [], ◌∷◌, ◌++◌, map, Bool, true, false, Option, Some, None, Result, Ok}
+use Rattle.std.proofs.Common.{◌≡◌, ℕ, ◌%◌, List, [], ◌∷◌, ◌++◌, map, true, false, Option, Some, None, Result, Ok}
 use Rattle.std.proofs.Common.{Err, refl, sym, ap, ◌∙◌, append-nil}
-use Rattle.std.specs.Prelude.{OnOk, IsUtf8, is_some}
-use Rattle.std.specs.Str.{is_utf8}
+use Rattle.std.specs.Prelude.{OnOk, is_some}
 use Rattle.std.specs.Result.{IsErrOf}
-use Rattle.std.proofs.lemmas.Str.{IsUtf8-from_is_utf8}
 use Rattle.shared_core_wire.specs.declared.error.WireError.{WireError}
 use Rattle.shared_core_wire.specs.declared.error.WireError.TheVariants.{Malformed, OutOfMemory}
 use Rattle.shared_core_codec.specs.Computed.{IsComputed, packed_onto}
@@ -21,13 +19,6 @@ use Rattle.shared_core_wire.specs.Overlay.{all_elements}
 use Rattle.shared_core_codec.specs.Table.{table}
 use Rattle.shared_core_wire.specs.Reader.{packed_numbers, ◌>>=◌}
 use Rattle.shared_core_wire.specs.Value.{Part, Parts, Absent, Number, Nested, cons, nil, one_part, empty_value, ◌+++◌}
-
-pub not_utf8 : (bytes : List ℕ) → ¬ (IsUtf8 bytes) → is_utf8 bytes ≡ false
-not_utf8 bytes h = by_test (is_utf8 bytes) refl
-  where
-    by_test : (b : Bool) → is_utf8 bytes ≡ b → b ≡ false
-    by_test true e = absurd (h (IsUtf8-from_is_utf8 bytes e))
-    by_test false e = refl
 
 -- ---- elements
 

@@ -18,3 +18,4 @@ pub mod NextFields
 pub mod Positions
 pub mod Copying
 pub mod Ascii
+pub mod Texts

@@ -1,5 +1,5 @@
 -- The laws of payloads, at the protocol's messages.
-use Rattle.std.proofs.Common.{◌≡◌, ℕ, ◌^◌, ◌<◌, List, length, Bool, ap, sym, arith}
+use Rattle.std.proofs.Common.{ℕ, Bool, ap}
 use Rattle.shared_core_wire.specs.Value.{Parts}
 use Rattle.shared_core_wire.specs.Canonical.{canonical_payload}
 use Rattle.shared_core_wire.specs.Fitting.{Fits}
@@ -7,17 +7,11 @@ use Rattle.shared_core_wire.proofs.Merging.{accepts_payload-append, overlay_byte
 use Rattle.shared_core_wire.proofs.ReadBackLevels.{canonical_back, canonical_one}
 use Rattle.shared_core_codec.specs.Table.{table}
 use Rattle.shared_core_codec.specs.Equality.{DecidesEquality}
-use Rattle.shared_core_codec.specs.Payloads.{IsReadBack, IsReadBackLaw, JoinedPayloadsLaw, HasOneEncoding}
+use Rattle.shared_core_codec.specs.Payloads.{IsReadBackLaw, JoinedPayloadsLaw, HasOneEncoding}
 use Rattle.shared_core_codec.proofs.Tables.{are_schemas}
 
 pub canonical_is_read_back : (s : ℕ) (v : Parts) → Fits table v (table s) → IsReadBackLaw s v
 canonical_is_read_back s v f z l = canonical_back table are_schemas 100 s v f l z
-
-pub reads_back : (s : ℕ) (v : Parts) (bytes : List ℕ) → Fits table v (table s) → bytes ≡ canonical_payload table s v →
-    length bytes < 2 ^ 32 → IsReadBack s v bytes
-reads_back s v bytes f e z l =
-    rw e (canonical_back table are_schemas 100 s v f l (let k : length (canonical_payload table s v) ≡ length bytes = ap
-    length (sym e) in omega (arith, k, z)))
 
 pub joined_payloads : (s : ℕ) → JoinedPayloadsLaw s
 joined_payloads s v a b g h = (accepts_payload-append table 100 s a b g h, overlay_bytes-append table 100 s v a b g h)

@@ -11,7 +11,7 @@ ghost use Rattle.shared_core_wire.specs.declared.error.WireError.TheVariants as 
 use crate::kind::{Element, FieldKind, Scalar};
 use crate::occurrence::Occurrence;
 use crate::size::Size;
-use crate::utf8::is_text;
+use crate::utf8::as_text;
 use crate::write::write_length_record;
 use shared_core_wire::error::WireError;
 use shared_core_wire::record::WireValue;
@@ -83,9 +83,5 @@ fn text_of<'a>(field: &Occurrence<'a>) -> Result<&'a str, WireError>
     let WireValue::Length(content) = field.value else {
         return Err(WireError::Malformed);
     };
-    if !is_text(content) {
-        return Err(WireError::Malformed);
-    }
-    // it was just seen that it is UTF-8
-    Ok(unsafe { std::str::from_utf8_unchecked(content) })
+    as_text(content).ok_or(WireError::Malformed)
 }

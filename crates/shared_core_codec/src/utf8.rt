@@ -1,9 +1,22 @@
 //! Whether bytes are a text: most texts are short and ASCII, which is seen in two steps whatever their length.
 
-ghost use Rattle.std.specs.Prelude.{◌≡◌, ◌+◌, ◌<◌, ◌≤◌, ℕ, IsTrue, true, get_or, length};
+ghost use Rattle.std.specs.Prelude.{◌≡◌, ◌+◌, ◌<◌, ◌≤◌, ℕ, IsTrue, true, false, get_or, length, MatchOption};
 ghost use Rattle.std.specs.Str.{is_utf8};
 
 use std::simd::Simd;
+
+/// Returns bytes as a text, not copied, or `None` if they are not UTF-8.
+#[inline(always)]
+pub fn as_text(bytes: &[u8]) -> Option<&str>
+    ensures { MatchOption result (is_utf8 bytes.now ≡ false)
+        (λ text. (text.now ≡ bytes.now) × (is_utf8 bytes.now ≡ true)) }
+{
+    if !is_text(bytes) {
+        return None;
+    }
+    // it was just seen that they are UTF-8
+    Some(unsafe { std::str::from_utf8_unchecked(bytes) })
+}
 
 /// Whether bytes are UTF-8.
 #[inline(always)]
@@ -69,13 +82,11 @@ fn is_ascii_from<const N: usize>(bytes: &[u8], at: usize) -> bool
     chunk.simd_ge(Simd::splat(128)).to_bitmask() == 0
 }
 
-/// Whether bytes are UTF-8, however long and whatever they hold.
+/// Whether bytes are UTF-8, however long and whatever they hold. It has no branch for a character, since one that is
+/// guessed wrong costs more than the check of a short text.
 #[inline(never)]
 fn is_any_text(bytes: &[u8]) -> bool
     ensures { result ≡ is_utf8 bytes.now }
 {
-    match std::str::from_utf8(bytes) {
-        Ok(_text) => true,
-        Err(_) => false,
-    }
+    simdutf8::is_utf8(bytes)
 }

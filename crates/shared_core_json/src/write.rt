@@ -31,6 +31,7 @@ use shared_core_codec::canonical::{
 };
 use shared_core_codec::rows::{Kind, rows_of};
 use shared_core_codec::size::Size;
+use shared_core_codec::utf8::as_text;
 use shared_core_wire::record::WireValue;
 use shared_core_wire::records::{LEVELS, Record, Records};
 use shared_core_wire::varint::{low_32, read_varint};
@@ -311,13 +312,11 @@ fn write_text(out: &mut Writer, bytes: &[u8]) -> Result<bool, AllocError>
         → out.new.tokens ≡ out.old.tokens ++ token.string bytes.now ∷ []) }
     ensures before { out.new.before ≡ out.old.before }
 {
-    match std::str::from_utf8(bytes) {
-        Ok(text) => {
-            out.string(text)?;
-            Ok(true)
-        }
-        Err(_) => Ok(false),
-    }
+    let Some(text) = as_text(bytes) else {
+        return Ok(false);
+    };
+    out.string(text)?;
+    Ok(true)
 }
 
 /// Writes bytes of any kind: in base64, using the buffer `base64`; if texts are wanted, those that are UTF-8 as the
@@ -334,9 +333,9 @@ pub fn write_byte_string(
     if !texts {
         return write_base64(out, base64, bytes);
     }
-    match std::str::from_utf8(bytes) {
-        Ok(text) => write_marked(out, text),
-        Err(_) => write_base64(out, base64, bytes),
+    match as_text(bytes) {
+        Some(text) => write_marked(out, text),
+        None => write_base64(out, base64, bytes),
     }
 }
 

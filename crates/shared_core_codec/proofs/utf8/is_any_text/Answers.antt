@@ -1,10 +1,5 @@
-use Rattle.std.proofs.Common.{sym}
-use Rattle.std.proofs.lemmas.Str.{is_utf8-from_IsUtf8}
-use Rattle.shared_core_codec.proofs.FieldElements.{not_utf8}
+use Rattle.shared_core_codec.proofs.Texts.{utf8_or_not}
 use Rattle.shared_core_codec.proofs.utf8.is_any_text.Goals as goal
 
-pub returns-in-Ok : goal.returns-in-Ok
-returns-in-Ok c = sym (is_utf8-from_IsUtf8 c.args.bytes.now c.in-Ok.ensures.cases.1)
-
-pub returns-in-Err : goal.returns-in-Err
-returns-in-Err c = sym (not_utf8 c.args.bytes.now c.in-Err.ensures.cases.0)
+pub returns : goal.returns
+returns c = utf8_or_not c.is_utf8.result c.args.bytes.now c.is_utf8.ensures
