@@ -251,10 +251,6 @@ and_true : (b : Bool) → b && true ≡ b
 and_true true = refl
 and_true false = refl
 
-and_false : (b : Bool) → b && false ≡ false
-and_false true = refl
-and_false false = refl
-
 pub not_nested : (nested : NestedAcceptance) (plain : Bool) (k : Kind) (s : ℕ) (repeated : Bool) (bytes : List ℕ) → k ≡
     Message s → nested s bytes ≡ false → false ≡ is_written_field nested plain (k, repeated) (Length bytes)
 not_nested nested plain k s true bytes e h =

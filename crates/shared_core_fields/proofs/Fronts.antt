@@ -21,7 +21,6 @@ use Rattle.shared_core_fields.specs.Coming.{is_nested, is_short, is_typed, are_c
 use Rattle.shared_core_fields.specs.KnownValues.{front_at, is_known, typed_parts, value_after}
 use Rattle.shared_core_fields.specs.Fields.{record_part}
 use Rattle.shared_core_fields.specs.Views.{content_offset}
-use Rattle.shared_core_fields.proofs.SingleBytes.{byte_varint}
 
 -- ---- varints
 
@@ -29,15 +28,6 @@ pub varint_there : (bytes : List ℕ) → is_some (varint_at bytes) ≡ true →
 unfolding varint_at varint_within
 varint_there [] h = absurd cc
 varint_there (b ∷ bs) h = omega arith
-
-pub varint_byte : (bytes rest : List ℕ) (b : ℕ) → 0 < length bytes → b ≡ get_or bytes 0 0 → b < 128 → rest ≡ take
-    (length bytes - 1) (drop 1 bytes) → varint_at bytes ≡ Some (b, rest)
-varint_byte [] rest b some e h r = absurd (omega (arith, some))
-varint_byte (c ∷ bs) rest b some e h r =
-    let one : length (c ∷ bs) - 1 ≡ length bs = omega arith in
-    let last : rest ≡ bs = r ∙ ap (λ (n : ℕ). take n bs) one ∙ take_all (length bs) bs (omega arith) in
-    varint_again (c ∷ []) bs c (byte_varint c (omega (arith, e, h))) ∙ ap (λ (x : ℕ). Some (x, bs)) (sym e)
-    ∙ ap (λ (x : List ℕ). Some (b, x)) (sym last)
 
 -- ---- keys
 

@@ -51,7 +51,7 @@ byte_key_size b wire high w =
     let whole : 8 * (b / 8) + wire ≡ b = omega (arith, w) in
     ap (λ (n : ℕ). length (shortest_varint n)) whole ∙ ap length (shortest_small b high)
 
-pub read_content : (bytes tail more content rest : List ℕ) (b m n : ℕ) → bytes ≡ b ∷ tail → tail ≡ m ∷ more → more ≡
+read_content : (bytes tail more content rest : List ℕ) (b m n : ℕ) → bytes ≡ b ∷ tail → tail ≡ m ∷ more → more ≡
     content ++ rest → length content ≡ m → 8 ≤ b → b < 128 → b % 8 ≡ 2 → m < 128 → n ≡ b / 8 → record_at 0 bytes ≡ Some
     (numbered n (Length content), rest)
 read_content bytes tail more content rest b m n first second third size low high w h number =
@@ -65,7 +65,7 @@ read_content bytes tail more content rest b m n first second third size low high
     })
     ∙ ap (λ (x : ℕ). Some (numbered x (Length content), rest)) (sym number)
 
-pub count_content : (bytes tail more content rest : List ℕ) (b m n : ℕ) → length tail + 1 ≡ length bytes → length more +
+count_content : (bytes tail more content rest : List ℕ) (b m n : ℕ) → length tail + 1 ≡ length bytes → length more +
     1 ≡ length tail → length rest + m ≡ length more → length content ≡ m → b < 128 → b % 8 ≡ 2 → m < 128 → n ≡ b / 8 →
     written_size (numbered n (Length content)) + length rest ≡ length bytes
 count_content bytes tail more content rest b m n first second third size high w h number =

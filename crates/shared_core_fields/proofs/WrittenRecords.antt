@@ -1,26 +1,27 @@
 -- Records as they are written: each has as few bytes as can be, and where one has more, the payload is not canonical.
-use Rattle.std.proofs.Common.{take, drop, ◌/◌, ◌%◌}
+use Rattle.std.proofs.Common.{take, drop, get_or, ◌/◌, ◌%◌}
 use Rattle.std.proofs.Common.{◌≡◌, ℕ, zero, suc, ◌+◌, ◌-◌, ◌*◌, ◌<◌, ◌≤◌, inl, inr, List, [], ◌∷◌, ◌++◌, length}
 use Rattle.std.proofs.Common.{Bool, true, false, cond, Option, Some, None, Result, Ok, refl, sym, ap, ◌∙◌, subst}
-use Rattle.std.proofs.Common.{arith, eqb, eq-eqb, ne_eqb, ltb}
+use Rattle.std.proofs.Common.{arith, append_assoc, eqb, eq-eqb, ne_eqb, ltb}
 use Rattle.std.specs.Prelude.{option_map}
 use Rattle.std.proofs.lemmas.Bool.{cases_lt, le-ltb, eqb-true, eqb-false}
-use Rattle.std.proofs.lemmas.List.{length-append, length-take, take-append-drop}
+use Rattle.std.proofs.lemmas.List.{get_or_append_left, length-append, length-take, take-append-drop}
 use Rattle.shared_core_wire.specs.Grammar.{RecordValue, Varint, Fixed64, Length, Group, Fixed32, FieldRecord, IsKey}
-use Rattle.shared_core_wire.specs.Grammar.{IsGroupContent, IsRecordBody, wire_type, content}
+use Rattle.shared_core_wire.specs.Grammar.{IsBase128, IsVarint, IsGroupContent, IsRecordBody, wire_type, content}
 use Rattle.shared_core_wire.specs.Encoding.{shortest_varint, key_bytes}
-use Rattle.shared_core_wire.specs.Reader.{◌>>=◌, record_at}
+use Rattle.shared_core_wire.specs.Reader.{◌>>=◌, varint_at, record_at}
 use Rattle.shared_core_wire.specs.ReadRecords.{PlacedRecord, records_past}
 use Rattle.shared_core_wire.specs.Schema.{Row}
 use Rattle.shared_core_wire.specs.Acceptance.{NestedAcceptance}
 use Rattle.shared_core_wire.specs.declared.error.WireError.{WireError}
-use Rattle.shared_core_wire.proofs.Readers.{bind_some, not_stopped, passed, some_is}
+use Rattle.shared_core_wire.proofs.Readers.{bind_some, not_stopped, passed, some_is, varint_pos, varint_reads}
 use Rattle.shared_core_wire.proofs.ReadRecords.{cases_option, place, step, read_nil, read_stop, read_encoded}
 use Rattle.shared_core_wire.proofs.ReadRecords.{read_again}
-use Rattle.shared_core_wire.proofs.Shortest.{fewest, shortest_small}
+use Rattle.shared_core_wire.proofs.Shortest.{fewest, shortest_large, shortest_small}
+use Rattle.shared_core_wire.proofs.VarintLoop.{varint_one}
+use Rattle.shared_core_fields.proofs.SingleBytes.{byte_key, byte_key_size}
 use Rattle.shared_core_codec.specs.Canonicity.{Coming, coming_after, rows_after, all_come_read, written_size}
-use Rattle.shared_core_fields.specs.WrittenRecords.{written_record_at}
-use Rattle.shared_core_fields.proofs.SingleBytes.{byte_varint, byte_key, byte_key_size, read_content, count_content}
+use Rattle.shared_core_fields.specs.WrittenRecords.{IsWrittenVarint, written_record_at}
 use Rattle.shared_core_fields.proofs.Checked.{with_room, number_size, content_size}
 
 abbrev pub numbered : ℕ → RecordValue → FieldRecord
@@ -98,41 +99,122 @@ written_is bytes r rest e size =
     ap (λ (o : Option (FieldRecord × List ℕ)). o >>= λ x. cond (is_tight bytes x) (Some x) None) e
     ∙ ap (λ (b : Bool). cond b (Some x) None) (eq-eqb _ _ size)
 
-pub short_number : (bytes tail rest : List ℕ) (b m n v : ℕ) → bytes ≡ b ∷ tail → tail ≡ m ∷ rest → 8 ≤ b → b < 128 →
-    b % 8 ≡ 0 → m < 128 → n ≡ b / 8 → v ≡ m → written_record_at bytes ≡ Some (numbered n (Varint v), rest)
-short_number bytes tail rest b m n v first second low high w h number is =
-    let whole : bytes ≡ b ∷ m ∷ rest = first ∙ ap (λ (t : List ℕ). b ∷ t) second in
-    let read : record_at 0 bytes ≡ Some (numbered (b / 8) (Varint m), rest) = ap (record_at 0) whole
-    ∙ read_again 0 (numbered (b / 8) (Varint m)) (b ∷ m ∷ []) rest (record {
+pub one_written : (bytes rest : List ℕ) (b n : ℕ) → bytes ≡ b ∷ rest → b < 128 → n ≡ b → IsWrittenVarint bytes n rest
+one_written bytes rest b n first small is = record {
+  read = ap varint_at first ∙ varint_one b rest small ∙ ap (λ (x : ℕ). Some (x, rest)) (sym is);
+  size = omega (arith, ap length first, ap length (shortest_small n (omega (arith, small, is))));
+}
+
+-- The last byte of a varint is that of the bytes after its first one.
+last_later : (b c : ℕ) (bs : List ℕ) → get_or (b ∷ c ∷ bs) (length (b ∷ c ∷ bs) - 1) 0 ≡ get_or (c ∷ bs)
+    (length (c ∷ bs) - 1) 0
+last_later b c bs =
+    let last : length (b ∷ c ∷ bs) - 1 ≡ suc (length (c ∷ bs) - 1) = omega arith in
+    ap (λ (i : ℕ). get_or (b ∷ c ∷ bs) i 0) last
+
+some_number : (text : List ℕ) (n : ℕ) → IsBase128 text n → 0 < get_or text (length text - 1) 0 → 0 < n
+some_number [] n h some = absurd h
+some_number (b ∷ []) n h some = omega (arith, h.1, some)
+some_number (b ∷ c ∷ bs) n h some =
+    omega (arith, h.2, some_number (c ∷ bs) h.1 h.3 (omega (arith, some, last_later b c bs)))
+
+-- No byte could be left out, unless the last one is 0.
+none_over : (text : List ℕ) (n : ℕ) → IsBase128 text n → 0 < get_or text (length text - 1) 0 → length
+    (shortest_varint n) ≡ length text
+none_over [] n h some = absurd h
+none_over (b ∷ []) n h some = ap length (shortest_small n (omega (arith, h.0, h.1)))
+none_over (b ∷ c ∷ bs) n h some =
+    let last : 0 < get_or (c ∷ bs) (length (c ∷ bs) - 1) 0 = omega (arith, some, last_later b c bs) in
+    let big : 128 ≤ n = omega (arith, h.2, some_number (c ∷ bs) h.1 h.3 last) in
+    let high : n / 128 ≡ h.1 = omega (arith, h.2) in
+    omega (
+      arith,
+      ap length (shortest_large n big),
+      ap (λ (x : ℕ). length (shortest_varint x)) high,
+      none_over (c ∷ bs) h.1 h.3 last,
+    )
+
+pub varint_shorter : (bytes rest : List ℕ) (n : ℕ) → varint_at bytes ≡ Some (n, rest) → length rest < length bytes
+varint_shorter bytes rest n read =
+    let t = varint_reads bytes (n, rest) read in
+    omega (arith, ap length t.parts, length-append t.text rest, varint_pos t.text n t.is)
+
+pub last_written : (bytes rest : List ℕ) (n : ℕ) → varint_at bytes ≡ Some (n, rest) → 0 < get_or bytes
+    (length bytes - length rest - 1) 0 → IsWrittenVarint bytes n rest
+last_written bytes rest n read some =
+    let t = varint_reads bytes (n, rest) read in
+    let long : length bytes ≡ length t.text + length rest = ap length t.parts ∙ length-append t.text rest in
+    let last : length bytes - length rest - 1 ≡ length t.text - 1 = omega (arith, long) in
+    let within : length t.text - 1 < length t.text = omega (arith, varint_pos t.text n t.is) in
+    let same : get_or bytes (length bytes - length rest - 1) 0 ≡ get_or t.text (length t.text - 1) 0 = ap
+    (λ (i : ℕ). get_or bytes i 0) last ∙ ap (λ (bs : List ℕ). get_or bs (length t.text - 1) 0) t.parts
+    ∙ get_or_append_left t.text rest 0 (length t.text - 1) within in
+    record {
+      read = read;
+      size = omega (arith, long, none_over t.text n t.is.encoding (omega (arith, some, same)));
+    }
+
+-- A record whose key is one byte, and the varint after it.
+key_first : (bytes tail text rest : List ℕ) (b : ℕ) → bytes ≡ b ∷ tail → tail ≡ text ++ rest → bytes ≡ b ∷ (text ++
+    rest)
+key_first bytes tail text rest b first parts = first ∙ ap (λ (t : List ℕ). b ∷ t) parts
+
+pub short_number : (bytes tail rest : List ℕ) (b m n v : ℕ) → bytes ≡ b ∷ tail → IsWrittenVarint tail m rest → 8 ≤ b →
+    b < 128 → b % 8 ≡ 0 → n ≡ b / 8 → v ≡ m → written_record_at bytes ≡ Some (numbered n (Varint v), rest)
+short_number bytes tail rest b m n v first h low high w number is =
+    let t = varint_reads tail (m, rest) h.read in
+    let read : record_at 0 bytes ≡ Some (numbered (b / 8) (Varint m), rest) = ap (record_at 0)
+    (key_first bytes tail t.text rest b first t.parts)
+    ∙ read_again 0 (numbered (b / 8) (Varint m)) (b ∷ t.text) rest (record {
       key = b ∷ [];
-      body = m ∷ [];
+      body = t.text;
       parts = refl;
       keyed = byte_key b 0 low high w;
-      valued = byte_varint m h;
+      valued = t.is;
     }) in
     let size : written_size (numbered (b / 8) (Varint m)) + length rest ≡ length bytes = omega (
       arith,
-      ap length whole,
+      ap length first,
+      h.size,
       length-append (key_bytes (b / 8) 0) (shortest_varint m),
       byte_key_size b 0 high w,
-      ap length (shortest_small m h),
     ) in
     written_is bytes (numbered (b / 8) (Varint m)) rest read size
     ∙ ap (λ (x : ℕ). Some (numbered x (Varint m), rest)) (sym number)
     ∙ ap (λ (x : ℕ). Some (numbered n (Varint x), rest)) (sym is)
 
-pub short_content : (bytes tail more content rest : List ℕ) (b m n len : ℕ) → bytes ≡ b ∷ tail → tail ≡ m ∷ more → 8 ≤ b
-    → b < 128 → b % 8 ≡ 2 → m < 128 → n ≡ b / 8 → len ≡ m → len ≤ length more → content ≡ take len more → rest ≡ drop
+pub short_content : (bytes tail more content rest : List ℕ) (b m n len : ℕ) → bytes ≡ b ∷ tail → IsWrittenVarint tail m
+    more → 8 ≤ b → b < 128 → b % 8 ≡ 2 → n ≡ b / 8 → len ≡ m → len ≤ length more → content ≡ take len more → rest ≡ drop
     len more → written_record_at bytes ≡ Some (numbered n (Length content), rest)
-short_content bytes tail more content rest b m n len first second low high w h number is long front back =
+short_content bytes tail more content rest b m n len first h low high w number is long front back =
+    let t = varint_reads tail (m, more) h.read in
     let parts : more ≡ content ++ rest = sym (take-append-drop len more) ∙ ap (λ (t : List ℕ). t ++ drop len more)
     (sym front) ∙ ap (λ (t : List ℕ). content ++ t) (sym back) in
     let size : length content ≡ m = omega (arith, ap length front, length-take len more, long, is) in
     let all : length more ≡ length content + length rest = ap length parts ∙ length-append content rest in
-    written_is bytes (numbered n (Length content)) rest
-    (read_content bytes tail more content rest b m n first second parts size low high w h number)
-    (count_content bytes tail more content rest b m n (omega (arith, ap length first)) (omega (arith, ap length second))
-    (omega (arith, all, size)) size high w h number)
+    let whole : bytes ≡ b ∷ ((t.text ++ content) ++ rest) = key_first bytes tail t.text more b first t.parts
+    ∙ ap (λ (x : List ℕ). b ∷ (t.text ++ x)) parts
+    ∙ ap (λ (x : List ℕ). b ∷ x) (sym (append_assoc t.text content rest)) in
+    let read : record_at 0 bytes ≡ Some (numbered (b / 8) (Length content), rest) = ap (record_at 0) whole
+    ∙ read_again 0 (numbered (b / 8) (Length content)) (b ∷ (t.text ++ content)) rest (record {
+      key = b ∷ [];
+      body = t.text ++ content;
+      parts = refl;
+      keyed = byte_key b 2 low high w;
+      valued = (t.text, subst (IsVarint t.text) (sym size) t.is, refl);
+    }) in
+    let least : written_size (numbered (b / 8) (Length content)) + length rest ≡ length bytes = omega (
+      arith,
+      ap length first,
+      h.size,
+      all,
+      length-append (key_bytes (b / 8) 2) (shortest_varint (length content) ++ content),
+      length-append (shortest_varint (length content)) content,
+      byte_key_size b 2 high w,
+      ap (λ (x : ℕ). length (shortest_varint x)) size,
+    ) in
+    written_is bytes (numbered (b / 8) (Length content)) rest read least
+    ∙ ap (λ (x : ℕ). Some (numbered x (Length content), rest)) (sym number)
 
 pub content_within : (bytes : List ℕ) (n : ℕ) (w : RecordValue) (rest : List ℕ) → IsWritten bytes (numbered n w) rest →
     1 + length (content w) + length rest ≤ length bytes

@@ -1,11 +1,17 @@
 -- Records as they are written.
-use Rattle.std.specs.Prelude.{ℕ, Bool, true, false, ◌+◌, ◌==◌, List, length, Option, Some, None, option_map}
+use Rattle.std.specs.Prelude.{◌≡◌, ℕ, Bool, true, false, ◌+◌, ◌==◌, List, length, Option, Some, None, option_map}
 use Rattle.std.specs.Prelude.{if◌then◌else◌}
 use Rattle.shared_core_wire.specs.Grammar.{FieldRecord}
-use Rattle.shared_core_wire.specs.Reader.{◌>>=◌, record_at}
+use Rattle.shared_core_wire.specs.Encoding.{shortest_varint}
+use Rattle.shared_core_wire.specs.Reader.{◌>>=◌, varint_at, record_at}
 use Rattle.shared_core_wire.specs.Schema.{Kind, Row, U32}
 use Rattle.shared_core_wire.specs.Acceptance.{NestedAcceptance}
 use Rattle.shared_core_codec.specs.Canonicity.{is_written_run, rows_after, written_size}
+
+-- The bytes begin with the varint of a number, in as few bytes as can be, and then these come.
+pub record IsWrittenVarint (bytes : List ℕ) (n : ℕ) (rest : List ℕ) : Type 0 where
+  pub read : varint_at bytes ≡ Some (n, rest)
+  pub size : length (shortest_varint n) + length rest ≡ length bytes
 
 -- The record that the bytes begin with, and the bytes after it, if it has as few bytes as when it is written.
 unfoldable pub written_record_at : List ℕ → Option (FieldRecord × List ℕ)

@@ -8,15 +8,10 @@ use shared_core_wire::varint::{low_32, read_varint};
 
 /// Reads the varint that the bytes begin with. Returns its number and the bytes after it.
 #[inline(always)]
-#[tactic(auto, using(crate::proofs::Fronts::varint_there, crate::proofs::Fronts::varint_byte))]
 pub(crate) fn known_varint(bytes: &[u8]) -> (u64, &[u8])
     requires { is_some (varint_at bytes.now) ≡ true }
     ensures { varint_at bytes.now ≡ Some (result.0, result.1.now) }
 {
-    // most are keys, lengths and small numbers of one byte
-    if bytes[0] < 128 {
-        return (u64::from(bytes[0]), &bytes[1..]);
-    }
     let Some(found) = read_varint(bytes) else {
         unreachable!();
     };
