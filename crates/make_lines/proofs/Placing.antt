@@ -4,11 +4,11 @@ use Rattle.std.proofs.Common.{drop, replicate, slice_set}
 use Rattle.std.proofs.Common.{Bool, true, false, cond, Option, Some, None}
 use Rattle.std.proofs.Common.{refl, sym, ap, ◌∙◌, inl, inr, arith, ltb, ◌||◌}
 use Rattle.std.proofs.lemmas.Bool.{cases_eq, ltb-true, ne_eqb}
-use Rattle.std.proofs.lemmas.List.{length-set, length-drop, length-map, get_or-set_same, get_or-set_other, get_or-drop}
+use Rattle.std.proofs.lemmas.List.{length-set, length-map, get_or-set_same, get_or-set_other}
 use Rattle.std.proofs.lemmas.List.{drop_more, get_or-replicate}
 use Rattle.std.proofs.lemmas.Slice.Eq.{bytes_eq-Decides}
 use Rattle.std.specs.Borrow.{Bor}
-use Rattle.std.specs.Prelude.{is_some}
+use Rattle.std.specs.Prelude.{is_some, IfSome}
 use Rattle.std.specs.Str.{bytes_eq}
 use Rattle.json.specs.Json.{Json, Members, member}
 use Rattle.json.specs.Find.{get_member, later_or}
@@ -153,20 +153,20 @@ name_here xs i d e h = sym (mapped xs i h) ∙ ap (λ (ns : List (List ℕ)). ge
 many_names : (xs : List (Bor (List ℕ))) → map (λ s. s.now) xs ≡ names → length xs ≡ place_count
 many_names xs e = sym (length-map xs (λ s. s.now)) ∙ ap length e
 
-pub at_place : (xs : List (Bor (List ℕ))) (i from : ℕ) (d : Bor (List ℕ)) (key : List ℕ) → map (λ s. s.now) xs ≡ names →
-    i < length xs → index_in (drop i names) i key ≡ index_in (drop from names) from key → bytes_eq key
-    (get_or xs i d).now ≡ true → Some i ≡ index_in (drop from names) from key
-at_place xs i from d key e h so_far is =
+pub at_place : (xs : List (Bor (List ℕ))) (i : ℕ) (d : Bor (List ℕ)) (key : List ℕ) → map (λ s. s.now) xs ≡ names → i <
+    length xs → index_in (drop i names) i key ≡ place_of key → bytes_eq key (get_or xs i d).now ≡ true → Some i ≡
+    place_of key
+at_place xs i d key e h so_far is =
     let here : bytes_eq key (name_at i) ≡ true = ap (bytes_eq key) (sym (name_here xs i d e h)) ∙ is in
     let within : i < length names = omega (arith, h, many_names xs e) in
     let found : index_in (drop i names) i key ≡ Some i = ap (λ ns. index_in ns i key) (drop_more names i [] within) ∙ rw
     here refl in
     sym found ∙ so_far
 
-pub past_place : (xs : List (Bor (List ℕ))) (i from : ℕ) (d : Bor (List ℕ)) (key : List ℕ) → map (λ s. s.now) xs ≡ names
-    → i < length xs → index_in (drop i names) i key ≡ index_in (drop from names) from key → bytes_eq key (get_or xs i
-    d).now ≡ false → index_in (drop (i + 1) names) (i + 1) key ≡ index_in (drop from names) from key
-past_place xs i from d key e h so_far is =
+pub past_place : (xs : List (Bor (List ℕ))) (i : ℕ) (d : Bor (List ℕ)) (key : List ℕ) → map (λ s. s.now) xs ≡ names → i
+    < length xs → index_in (drop i names) i key ≡ place_of key → bytes_eq key (get_or xs i d).now ≡ false → index_in
+    (drop (i + 1) names) (i + 1) key ≡ place_of key
+past_place xs i d key e h so_far is =
     let here : bytes_eq key (name_at i) ≡ false = ap (bytes_eq key) (sym (name_here xs i d e h)) ∙ is in
     let within : i < length names = omega (arith, h, many_names xs e) in
     let next : suc i ≡ i + 1 = omega arith in
@@ -174,18 +174,18 @@ past_place xs i from d key e h so_far is =
     (drop_more names i [] within) ∙ rw here refl in
     ap (λ n. index_in (drop (i + 1) names) n key) (sym next) ∙ sym past ∙ so_far
 
-pub from_found : (from : ℕ) (key : List ℕ) (i : ℕ) → index_in (drop from names) from key ≡ Some i → (i < place_count) ×
-    (place_of key ≡ Some i)
-from_found from key i e =
-    let found = index_found (drop from names) from key i e in
-    let within : i < place_count = omega (arith, found.0, found.1, length-drop from names) in
-    let sum : from + (i - from) ≡ i = omega (arith, found.0) in
-    let is : bytes_eq key (name_at i) ≡ true = ap (λ n. bytes_eq key (get_or names n [])) (sym sum) ∙ ap (bytes_eq key)
-    (sym (get_or-drop from names (i - from) [])) ∙ found.2 in
-    (within, named_place key i within is)
+-- A key that is the name of a place has this place.
+pub place_here : (xs : List (Bor (List ℕ))) (i : ℕ) (d : Bor (List ℕ)) (key : List ℕ) → map (λ s. s.now) xs ≡ names → i
+    < length xs → bytes_eq key (get_or xs i d).now ≡ true → (i < place_count) × (place_of key ≡ Some i)
+place_here xs i d key e h is =
+    let within : i < place_count = omega (arith, h, many_names xs e) in
+    (within, named_place key i within (ap (bytes_eq key) (sym (name_here xs i d e h)) ∙ is))
 
-pub known_if : (o : Option ℕ) (key : List ℕ) → o ≡ index_in (drop 0 names) 0 key → is_some o ≡ is_known key
-unfolding place_of
+pub within_places : (o : Option ℕ) (key : List ℕ) → o ≡ place_of key → IfSome o (λ place. place < place_count)
+within_places None key e = tt
+within_places (Some i) key e = (found_place key i (sym e)).0
+
+pub known_if : (o : Option ℕ) (key : List ℕ) → o ≡ place_of key → is_some o ≡ is_known key
 known_if None key e = sym (unknown_place key (sym e))
 known_if (Some i) key e = sym (known_place key i (sym e))
 

@@ -2,7 +2,7 @@
 //!
 //! A line is gone over once: each name has a place (`Line`), and only a line with a fault is gone over again.
 
-ghost use Rattle.std.specs.Prelude.{◌≡◌, ◌≢◌, ◌<◌, None, map, drop, replicate, IfSome, IsTrue, MatchBool};
+ghost use Rattle.std.specs.Prelude.{◌≡◌, ◌≢◌, ◌<◌, None, map, replicate, IfSome, IsTrue, MatchBool};
 ghost use Rattle.std.specs.Prelude.{option_map, option_and_then};
 ghost use Rattle.json.specs.Json.{object};
 ghost use Rattle.json_table.specs.Tails.{last_members, IsTail};
@@ -10,7 +10,7 @@ ghost use Rattle.shared_core_json_reader.specs.Reading.{present};
 ghost use Rattle.make_lines.specs.Appending.{said_of, HasFault};
 ghost use Rattle.make_lines.specs.Members.{is_known, has_key, members_fault, pairs_fault};
 ghost use Rattle.make_lines.specs.Members.{given, given_either, gives_both};
-ghost use Rattle.make_lines.specs.Places.{names, index_in, place_of, name_at, place_count, first_value, ArePlaces};
+ghost use Rattle.make_lines.specs.Places.{names, place_of, name_at, place_count, first_value, ArePlaces};
 
 use crate::error::{LineError, LineReason};
 use crate::reject::{Fault, reject};
@@ -105,13 +105,13 @@ pub fn name_at(place: u8) -> &'static str
     }
 }
 
-/// The place of the first of the names, from a place on, that is a key.
-#[inline(always)]
-fn place_from(from: usize, key: &str) -> Option<usize>
-    ensures { result ≡ index_in (drop from names) from key.now }
+/// The place of a key, if it is a name.
+#[inline(never)]
+fn place_of(key: &str) -> Option<usize>
+    ensures { result ≡ place_of key.now }
 {
     let names = names();
-    let mut place = from;
+    let mut place = 0;
     while place < names.len() {
         if key == names[place] {
             return Some(place);
@@ -121,20 +121,31 @@ fn place_from(from: usize, key: &str) -> Option<usize>
     None
 }
 
-/// The place of a key, if it is a name. The names from `next` on are tried first, and `next` is set after the key's:
-/// most lines have their members in the order of a dump.
+/// The first place, from one on, whose name has this many bytes; the number of places if there is none.
+#[inline(always)]
+fn place_as_long(from: usize, len: usize) -> usize {
+    let names = names();
+    let mut place = from;
+    while place < names.len() && names[place].len() != len {
+        place += 1;
+    }
+    place
+}
+
+/// The place of a key, if it is a name. That from `next` on which is as long is tried first, and `next` is set after
+/// it: most lines have their members in the order of a dump.
 #[inline(always)]
 fn next_place(next: &mut usize, key: &str) -> Option<usize>
     ensures value { result ≡ place_of key.now }
     ensures within { IfSome result (λ place. place < place_count) }
 {
-    match place_from(*next, key) {
-        Some(place) => {
-            *next = place + 1;
-            Some(place)
-        }
-        None => place_from(0, key),
+    let names = names();
+    let place = place_as_long(*next, key.len());
+    if place < names.len() && key == names[place] {
+        *next = place + 1;
+        return Some(place);
     }
+    place_of(key)
 }
 
 /// Whether a line may have a member with this key.
@@ -142,7 +153,7 @@ fn next_place(next: &mut usize, key: &str) -> Option<usize>
 fn is_known(key: &str) -> bool
     ensures { result ≡ is_known key.now }
 {
-    place_from(0, key).is_some()
+    place_of(key).is_some()
 }
 
 /// Whether a member has this key.

@@ -1,12 +1,10 @@
 -- A message at each level, and one more element of a list.
 use Rattle.std.proofs.Common.{◌≡◌, ℕ, zero, suc, ◌+◌, ◌-◌, ◌<◌, ◌≤◌, List, [], ◌∷◌, ◌++◌, drop, map, Bool, true, false}
 use Rattle.std.proofs.Common.{Option, Some, None, option_and_then, refl, sym, ap, ◌∙◌, append_assoc}
-use Rattle.std.proofs.Common.{append-nil, option_map, arith}
+use Rattle.std.proofs.Common.{append-nil, arith}
 use Rattle.json.specs.Token.{Token}
 use Rattle.json.specs.Json.{Json, Items, no_items, item, Members, if_last, value}
 use Rattle.json_table.specs.Counts.{items_count}
-use Rattle.shared_core_wire.specs.Encoding.{shortest_varint}
-use Rattle.shared_core_json_reader.specs.Scalars.{unsigned_read}
 use Rattle.shared_core_wire.specs.Schema.{Row}
 use Rattle.shared_core_codec.specs.Table.{table}
 use Rattle.shared_core_codec.specs.declared.rows.Field.{Field}
@@ -52,14 +50,6 @@ pub items_turn : (nested : ℕ → Json → Option (List ℕ)) (f : NamedField) 
 items_turn nested f js rest j old new all is e h =
     sym (after_both old new (field_bytes nested false f j) (items_bytes nested f rest) e)
     ∙ sym (ap (λ (ks : Items). after old (items_bytes nested f ks)) is) ∙ h
-
-pub run_turn : (js rest : Items) (j : Json) (m : ℕ) (old new : List ℕ) (all : Option (List ℕ)) → js ≡ item j rest →
-    unsigned_read 4294967296 j ≡ Some m → new ≡ old ++ shortest_varint m → after old (run_bytes js) ≡ all → after new
-    (run_bytes rest) ≡ all
-run_turn js rest j m old new all is number e h =
-    sym (after_both old new (option_map shortest_varint (unsigned_read 4294967296 j)) (run_bytes rest)
-    (ap (λ (o : Option ℕ). after old (option_map shortest_varint o)) number ∙ ap (λ (xs : List ℕ). Some xs) (sym e)))
-    ∙ sym (ap (λ (ks : Items). after old (run_bytes ks)) is) ∙ h
 
 pub run_end : (js : Items) (old : List ℕ) (all : Option (List ℕ)) → js ≡ no_items → after old (run_bytes js) ≡ all → all
     ≡ Some old

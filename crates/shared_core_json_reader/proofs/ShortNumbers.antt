@@ -19,9 +19,6 @@ pub record Writes (text : List ℕ) (i n : ℕ) : Type 0 where
   pub digits : AllDigits 10 (take i text)
   pub value : n ≡ digits_value 10 (take i text)
 
-pub none_yet : (text : List ℕ) → Writes text 0 0
-none_yet text = record { digits = tt; value = refl }
-
 -- few digits write a number that is far from 2 ^ 64
 pub below : (text : List ℕ) (i n : ℕ) → Writes text i n → i < length text → length text ≤ 19 → n < 10 ^ 18
 below text i n w h few =

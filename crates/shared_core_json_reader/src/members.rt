@@ -125,23 +125,24 @@ fn number_of(schema: u32, key: &str) -> Option<u32>
     }
 }
 
-/// The index of the first of some names, from an index on, that is a key.
+/// The index of the first of some names, from an index on, that is as long as a key, if it is the key.
 #[inline(always)]
 fn index_from(names: &[Name], from: usize, key: &str) -> Option<usize>
     ensures { IfSome result (λ index. IsNameAt (map name_view names.now) index key.now) }
 {
     let mut index = from;
-    while index < names.len() {
-        if key == names[index].1 {
-            return Some(index);
-        }
+    while index < names.len() && names[index].1.len() != key.len() {
         index += 1;
     }
-    None
+    if index < names.len() && key == names[index].1 {
+        Some(index)
+    } else {
+        None
+    }
 }
 
-/// The number of the field of a schema of which a key is a name. The names from `next` on are tried first, and `next`
-/// is set after the key's: most objects have their members in the order of the names.
+/// The number of the field of a schema of which a key is a name. That from `next` on which is as long is tried first,
+/// and `next` is set after it: most objects have their members in the order of the names.
 #[inline(always)]
 fn next_number(schema: u32, next: &mut usize, key: &str) -> Option<u32>
     ensures { result ≡ number_of schema key.now }

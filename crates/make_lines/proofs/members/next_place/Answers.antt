@@ -1,21 +1,16 @@
-use Rattle.std.proofs.Common.{sym, ◌∙◌, arith}
-use Rattle.make_lines.specs.Places.{place_of}
-use Rattle.make_lines.proofs.Placing.{from_found}
+use Rattle.std.proofs.Common.{sym, ◌∙◌}
+use Rattle.make_lines.proofs.Placing.{place_here, within_places}
 use Rattle.make_lines.proofs.members.next_place.Goals as goal
 
-pub overflow_add-next : goal.overflow_add-next
-overflow_add-next c =
-    let found = sym c.place_from.ensures ∙ c.in-Some.is in
-    omega (arith, (from_found c.args.next.now c.args.key.now c.in-Some.place found).0)
+pub returns-then-eq-clause-value : goal.returns-then-eq-clause-value
+returns-then-eq-clause-value c =
+    sym (place_here c.names-names.result.now c.place_as_long-place.result _ c.args.key.now c.names-names.ensures
+    c.if-place-names.true (sym c.eq.ensures ∙ c.if-eq.true)).1
 
-pub returns-in-Some-clause-value : goal.returns-in-Some-clause-value
-returns-in-Some-clause-value c =
-    sym (from_found c.args.next.now c.args.key.now c.in-Some.place (sym c.place_from.ensures ∙ c.in-Some.is)).1
+pub returns-then-eq-clause-within : goal.returns-then-eq-clause-within
+returns-then-eq-clause-within c =
+    (place_here c.names-names.result.now c.place_as_long-place.result _ c.args.key.now c.names-names.ensures
+    c.if-place-names.true (sym c.eq.ensures ∙ c.if-eq.true)).0
 
-pub returns-in-Some-clause-within : goal.returns-in-Some-clause-within
-returns-in-Some-clause-within c =
-    (from_found c.args.next.now c.args.key.now c.in-Some.place (sym c.place_from.ensures ∙ c.in-Some.is)).0
-
-pub returns-in-None-clause-value : goal.returns-in-None-clause-value
-unfolding place_of
-returns-in-None-clause-value c = c.place_from-in-None.ensures
+pub returns-clause-within : goal.returns-clause-within
+returns-clause-within c = within_places c.place_of.result c.args.key.now c.place_of.ensures

@@ -1,7 +1,7 @@
 use Rattle.std.proofs.Common.{length, ap, ◌∙◌, arith}
 use Rattle.std.proofs.lemmas.Str.{is_utf8-from_IsUtf8}
 use Rattle.json.specs.Lex.{tokens}
-use Rattle.shared_core_codec.proofs.FieldElements.{not_utf8}
+use Rattle.shared_core_codec.proofs.Texts.{not_utf8}
 use Rattle.shared_core_json_reader.proofs.FirstErrors.{not_json_at}
 use Rattle.shared_core_json_reader.proofs.Whole.{IsText, not_a_text, of_tokens}
 use Rattle.shared_core_json_reader.proofs.read.table_of_text.Goals as goal
