@@ -9,6 +9,7 @@ pub mod LineMembers
 pub mod ItemsBack
 pub mod LineTexts
 pub mod LineSplits
+mod ItemFaults
 pub mod ItemLines
 pub mod WholeDumps
 pub mod KeptDumps

@@ -5,13 +5,17 @@ use Rattle.std.specs.Prelude.{codes, option_and_then}
 use Rattle.json.specs.Json.{Json}
 use Rattle.json.specs.Find.{as_str}
 use Rattle.shared_core_base.specs.declared.version.Version.{Version}
+use Rattle.shared_core_json_reader.specs.declared.error.Reason.{Reason}
 use Rattle.shared_core_json_reader.specs.Reading.{json_of_text}
-use Rattle.shared_core_json_reader.specs.FirstError.{IsPlace}
+use Rattle.shared_core_json_reader.specs.FirstError.{IsPlace, value_error}
 use Rattle.make_lines.specs.declared.error.LineError.{LineError}
 use Rattle.make_lines.specs.declared.error.LineReason.{LineReason}
 use Rattle.make_lines.specs.declared.error.LineReason.TheVariants.{CutOff, UnknownType}
+use Rattle.make_lines.specs.declared.error.LineReason.TheVariants.{Json as Wrong}
 use Rattle.make_lines.specs.declared.reject.Fault.{Fault}
-use Rattle.make_lines.specs.Errors.{LineFault, lack, fault_of, at, not_json}
+use Rattle.make_lines.specs.declared.reject.ItemFault.{ItemFault}
+use Rattle.make_lines.specs.declared.reject.ItemFault.TheVariants.{Line, Message}
+use Rattle.make_lines.specs.Errors.{LineFault, lack, fault_of, at, inside, not_json}
 use Rattle.make_lines.specs.Members.{given}
 use Rattle.make_lines.specs.Places.{name_at}
 use Rattle.make_lines.specs.Lines.{is_space, line_said, line_made}
@@ -30,10 +34,6 @@ abbrev pub said_of : Json → Fault → LineFault
 said_of j fault =
     record { reason = fault.reason; offset = None; path = name_at fault.place; name = untyped fault.reason j }
 
--- Unless an allocation failed, what is read has the fault that an error says.
-abbrev pub Fails : {A : Type 0} → Result A LineFault → LineError → Type 0
-Fails read error = error.reason ≢ lack → read ≡ Err (fault_of error)
-
 -- Unless an allocation failed, what is read of a line has this fault.
 abbrev pub Rejects : {A : Type 0} → Json → Result A LineFault → Fault → Type 0
 Rejects j read fault = fault.reason ≢ lack → read ≡ Err (said_of j fault)
@@ -41,6 +41,25 @@ Rejects j read fault = fault.reason ≢ lack → read ≡ Err (said_of j fault)
 -- The same, whichever the line is.
 abbrev pub RejectsAnywhere : {A : Type 0} → Result A LineFault → Fault → Type 0
 RejectsAnywhere read fault = (j : Json) → Rejects j read fault
+
+-- The first error of the message of a line, as one of the schema s.
+abbrev pub message_error : ℕ → Json → Option (Reason × List ℕ)
+message_error s j = option_and_then (value_error s) (given (codes "message") j)
+
+-- The reason of the fault of an item.
+abbrev pub reason_of : ItemFault → LineReason
+reason_of (Line fault) = fault.reason
+reason_of (Message s reason) = Wrong reason
+
+-- The fault of an item says this of a line: of a value inside the message with the path to it.
+abbrev pub IsSaid : Json → ItemFault → LineFault → Type 0
+IsSaid j (Line fault) said = said ≡ said_of j fault
+IsSaid j (Message s reason) said =
+    (path : List ℕ) × (message_error s j ≡ Some (reason, path)) × (said ≡ inside (codes "message") reason path)
+
+-- Unless an allocation failed, what is read of a line has the fault that this fault of its item says.
+abbrev pub RejectsItem : {A : Type 0} → Json → Result A LineFault → ItemFault → Type 0
+RejectsItem j read fault = reason_of fault ≢ lack → (said : LineFault) × (read ≡ Err said) × IsSaid j fault said
 
 -- A call appends these bytes, if they are read; otherwise it fails with their fault, and nothing is appended. It may
 -- also fail because an allocation fails.
@@ -56,6 +75,12 @@ AppendsOf j r read old new = MatchResult r (λ _. (bytes : List ℕ) × (read �
 -- The same, whichever the line is.
 abbrev pub AppendsAnywhere : {T : Type 0} → Result T Fault → Result (List ℕ) LineFault → List ℕ → List ℕ → Type 0
 AppendsAnywhere r read old new = (j : Json) → AppendsOf j r read old new
+
+-- The same, for the fault of an item.
+abbrev pub AppendsItem : {T : Type 0} → Json → Result T ItemFault → Result (List ℕ) LineFault → List ℕ → List ℕ →
+    Type 0
+AppendsItem j r read old new = MatchResult r (λ _. (bytes : List ℕ) × (read ≡ Ok bytes) × (new ≡ old ++ bytes))
+    (λ fault. reason_of fault ≢ lack → ((said : LineFault) × (read ≡ Err said) × IsSaid j fault said) × (new ≡ old))
 
 -- Whether a line begins an object.
 abbrev pub begins_object : List ℕ → Bool

@@ -1,35 +1,39 @@
 //! The bytes that a line means: the header and the payload of an item, or the bytes after the last one.
 
-ghost use Rattle.std.specs.Prelude.{◌≡◌, ◌++◌, codes, length, Some, None, option_and_then, Ok, IfOk, IfErr, OnOk};
-ghost use Rattle.std.specs.Prelude.{MatchResult};
+ghost use Rattle.std.specs.Prelude.{◌≡◌, ◌≢◌, ◌++◌, ℕ, List, [], codes, length, Some, None, Ok, IfOk, IfErr, OnOk};
+ghost use Rattle.std.specs.Prelude.{MatchResult, option_and_then};
 ghost use Rattle.json.specs.Json.{Json};
 ghost use Rattle.shared_core_base.specs.MessageType.{type_of};
 ghost use Rattle.shared_core_message.specs.Schemas.{schema_at};
-ghost use Rattle.make_lines.specs.Errors.{lack};
+ghost use Rattle.make_lines.specs.Errors.{LineFault, lack, fault_of, inside};
+ghost use Rattle.make_lines.specs.declared.error.LineReason.TheVariants as variant;
 ghost use Rattle.make_lines.specs.Lines.{then_read, code_read, name_read, code_named, is_name_of, code_if};
 ghost use Rattle.make_lines.specs.Lines.{line_code};
 ghost use Rattle.make_lines.specs.Lines.{bytes_said, bytes_name, message_said, nothing_said, line_payload};
 ghost use Rattle.make_lines.specs.Lines.{has_flag, ack_name, line_flag, word, is_alone, line_header, framed};
 ghost use Rattle.make_lines.specs.Lines.{agrees_in_flag, word_fault, alone_given, with_size, header_given};
-ghost use Rattle.make_lines.specs.Lines.{item_said, says_no_item, rest_said, said, line_said};
-ghost use Rattle.make_lines.specs.Members.{given};
+ghost use Rattle.make_lines.specs.Lines.{item_said, says_no_item, rest_said, line_said};
+ghost use Rattle.make_lines.specs.Members.{given, pairs_fault, shape_fault};
 ghost use Rattle.make_lines.specs.Places.{name_at};
-ghost use Rattle.make_lines.specs.Appending.{said_of, Fails, Rejects, RejectsAnywhere};
-ghost use Rattle.make_lines.specs.Appending.{Appends, AppendsOf, AppendsAnywhere, AppendsLine};
+ghost use Rattle.make_lines.specs.Appending.{said_of, Rejects, RejectsAnywhere, RejectsItem};
+ghost use Rattle.make_lines.specs.Appending.{message_error, reason_of, IsSaid};
+ghost use Rattle.make_lines.specs.Appending.{Appends, AppendsOf, AppendsAnywhere, AppendsItem, AppendsLine};
 
 use crate::error::{LineError, LineReason};
 use crate::members::{
     ACK, BYTES, CODE, HEADER, LINE, Line, MESSAGE, PAYLOAD, PLACES, REQUESTED_ACK, REST, TYPE,
     UNKNOWN, find_places, first_fault,
 };
-use crate::reject::{Fault, error_of, out_of_memory, reject, reject_inside, reject_text};
+use crate::reject::{
+    Fault, ItemFault, error_of, out_of_memory, reject, reject_inside, reject_text,
+};
 use crate::text::is_blank;
 use json::Scratch;
 use json_table::{Node, Shape};
 use shared_core_base::header::MessageType;
 use shared_core_base::version::Version;
 use shared_core_json_reader::{
-    Reason, payload_in_buffer, read_bytes, read_u32, read_u64, table_of_text,
+    Reason, payload_into, payload_of_node, read_bytes, read_u32, read_u64, table_of_text,
 };
 use shared_core_message::schemas::schema_at;
 use std::alloc::{AllocError, Global};
@@ -91,36 +95,76 @@ fn is_name_of(alloc: Global, ty: MessageType, name: &str) -> Result<bool, AllocE
     }
 }
 
-/// A code, if its type has this name.
-fn code_if(alloc: Global, code: u16, name: &str) -> Result<u16, Fault>
-    ensures { MatchResult result (λ said. code_if code name.now ≡ Ok said)
-        (RejectsAnywhere (code_if code name.now)) }
-{
-    let Ok(ty) = MessageType::try_from(code) else {
-        return Err(Fault::at(TYPE, LineReason::OtherType));
-    };
-    match is_name_of(alloc, ty, name) {
-        Ok(true) => Ok(code),
-        Ok(false) => Err(Fault::at(TYPE, LineReason::OtherType)),
-        Err(_) => Err(Fault::out_of_memory()),
+/// The code of an item, and the type that has it, if there is one.
+#[derive(Clone, Copy, Drop)]
+struct Coded {
+    code: u16,
+    ty: Option<MessageType>,
+    ghost typed: { ty ≡ type_of code },
+}
+
+impl Coded {
+    /// A code with its type.
+    fn new(code: u16) -> Coded
+        ensures { result.code ≡ code }
+    {
+        match MessageType::try_from(code) {
+            Ok(ty) => Coded { code, ty: Some(ty) },
+            Err(_) => Coded { code, ty: None },
+        }
+    }
+
+    /// The same, if its type has this name.
+    fn if_named(self, alloc: Global, name: &str) -> Result<Coded, Fault>
+        ensures { MatchResult result (λ coded. code_if self.code name.now ≡ Ok coded.code)
+            (RejectsAnywhere (code_if self.code name.now)) }
+    {
+        let Some(ty) = self.ty else {
+            return Err(Fault::at(TYPE, LineReason::OtherType));
+        };
+        match is_name_of(alloc, ty, name) {
+            Ok(true) => Ok(self),
+            Ok(false) => Err(Fault::at(TYPE, LineReason::OtherType)),
+            Err(_) => Err(Fault::out_of_memory()),
+        }
+    }
+
+    /// The schema of the messages that have the code.
+    fn schema(self, version: Version) -> Option<u32>
+        ensures { result ≡ option_and_then (schema_at version) (type_of self.code) }
+    {
+        match self.ty {
+            Some(ty) => schema_at(version, ty),
+            None => None,
+        }
+    }
+
+    /// Whether headers of the type can request an acknowledgement.
+    fn has_flag(self) -> bool
+        ensures { result ≡ has_flag (type_of self.code) }
+    {
+        match self.ty {
+            Some(ty) => ty.allows_ack(),
+            None => false,
+        }
     }
 }
 
 /// The code of a line, by its type and its code.
-fn code_of(alloc: Global, line: &Line<'_, '_>) -> Result<u16, Fault>
-    ensures { MatchResult result (λ code. line_code line.now ≡ Ok code)
+fn code_of(alloc: Global, line: &Line<'_, '_>) -> Result<Coded, Fault>
+    ensures { MatchResult result (λ coded. line_code line.now ≡ Ok coded.code)
         (Rejects line.now (line_code line.now)) }
 {
     match (line.given(TYPE), line.given(CODE)) {
         (None, None) => Err(Fault::at(LINE, LineReason::NoType)),
         (Some(ty), None) => match code_named(read_name(&ty)?.as_bytes()) {
-            Some(code) => Ok(code),
+            Some(code) => Ok(Coded::new(code)),
             None => Err(Fault::at(TYPE, LineReason::UnknownType)),
         },
-        (None, Some(code)) => read_code(&code),
+        (None, Some(code)) => Ok(Coded::new(read_code(&code)?)),
         (Some(ty), Some(code)) => {
-            let code = read_code(&code)?;
-            code_if(alloc, code, read_name(&ty)?)
+            let coded = Coded::new(read_code(&code)?);
+            coded.if_named(alloc, read_name(&ty)?)
         }
     }
 }
@@ -148,87 +192,73 @@ fn bytes_place(line: &Line<'_, '_>) -> u8
     }
 }
 
-/// The schema of the messages that have a code.
-fn schema_of(version: Version, code: u16) -> Option<u32>
-    ensures { result ≡ option_and_then (schema_at version) (type_of code) }
-{
-    match MessageType::try_from(code) {
-        Ok(ty) => schema_at(version, ty),
-        Err(_) => None,
-    }
-}
-
-/// The payload of a message, in a buffer, which is emptied first.
+/// Puts the payload of the message of a line into a buffer.
 fn message_of(
     alloc: Global,
     version: Version,
-    code: u16,
+    coded: Coded,
+    line: &Line<'_, '_>,
     message: &Node<'_, '_>,
-    buffer: Vec<u8>,
-) -> Result<Vec<u8>, LineError>
-    ensures { MatchResult result (λ bytes. message_said version code message.now ≡ Ok bytes.items)
-        (Fails (message_said version code message.now)) }
+    payload: &mut Vec<u8>,
+) -> Result<(), ItemFault>
+    requires { given (codes "message") line.now ≡ Some message.now }
+    ensures { MatchResult result (λ _. message_said version coded.code message.now ≡ Ok payload.new.items)
+        (RejectsItem line.now (message_said version coded.code message.now)) }
 {
-    let Some(schema) = schema_of(version, code) else {
-        return Err(reject(alloc, LineReason::NoSchema, "message"));
+    let Some(schema) = coded.schema(version) else {
+        return Err(ItemFault::Line(Fault::at(MESSAGE, LineReason::NoSchema)));
     };
-    match payload_in_buffer(alloc, schema, message, buffer) {
-        Ok(payload) => Ok(payload),
-        Err(error) => Err(reject_inside(alloc, &error, "message")),
+    match payload_into(alloc, schema, message, payload) {
+        Ok(()) => Ok(()),
+        Err(reason) => Err(ItemFault::Message(schema, reason)),
     }
 }
 
-/// The payload of an item that is a header alone.
-fn nothing_of(alloc: Global, code: u16, value: &Node<'_, '_>) -> Result<Vec<u8>, LineError>
-    ensures { MatchResult result (λ bytes. nothing_said code value.now ≡ Ok bytes.items)
-        (Fails (nothing_said code value.now)) }
+/// Checks that an item may be a header alone: that its member says so, and that its code is no type's.
+fn check_alone(coded: Coded, value: &Node<'_, '_>) -> Result<(), Fault>
+    ensures { MatchResult result (λ _. nothing_said coded.code value.now ≡ Ok [])
+        (RejectsAnywhere (nothing_said coded.code value.now)) }
 {
     let Some(true) = value.as_bool() else {
-        return Err(reject(alloc, LineReason::Json(Reason::WrongKind), "unknown"));
+        return Err(Fault::at(UNKNOWN, LineReason::Json(Reason::WrongKind)));
     };
-    match MessageType::try_from(code) {
-        Ok(_) => Err(reject(alloc, LineReason::CodeOfType, "unknown")),
-        Err(_) => Ok(Vec::new(alloc)),
+    match coded.ty {
+        Some(_) => Err(Fault::at(UNKNOWN, LineReason::CodeOfType)),
+        None => Ok(()),
     }
 }
 
-/// The payload of a line. That of a message is in a buffer, which is emptied first.
+/// Puts the payload of a line into a buffer, in place of what is there.
 fn payload_of(
     alloc: Global,
     version: Version,
-    code: u16,
+    coded: Coded,
     line: &Line<'_, '_>,
-    buffer: Vec<u8>,
-) -> Result<Vec<u8>, LineError>
-    ensures { MatchResult result (λ payload. line_payload version code line.now ≡ Ok payload.items)
-        (Fails (line_payload version code line.now)) }
+    payload: &mut Vec<u8>,
+) -> Result<(), ItemFault>
+    ensures { MatchResult result (λ _. line_payload version coded.code line.now ≡ Ok payload.new.items)
+        (RejectsItem line.now (line_payload version coded.code line.now)) }
 {
     let message = line.given(MESSAGE);
     let bytes = line.given_either(BYTES, PAYLOAD);
     let unknown = line.given(UNKNOWN);
     match (message, bytes, unknown) {
-        (Some(message), None, None) => message_of(alloc, version, code, &message, buffer),
-        (None, Some(bytes), None) => match bytes_of(alloc, &bytes, bytes_place(line)) {
-            Ok(bytes) => Ok(bytes),
-            Err(fault) => Err(error_of(alloc, line, fault)),
-        },
-        (None, None, Some(unknown)) => nothing_of(alloc, code, &unknown),
-        (None, None, None) => Err(reject(alloc, LineReason::NoPayload, "")),
-        _ => Err(reject(alloc, LineReason::SeveralPayloads, "")),
+        (Some(message), None, None) => message_of(alloc, version, coded, line, &message, payload),
+        (None, Some(bytes), None) => {
+            *payload = bytes_of(alloc, &bytes, bytes_place(line))?;
+            Ok(())
+        }
+        (None, None, Some(unknown)) => {
+            check_alone(coded, &unknown)?;
+            payload.clear();
+            Ok(())
+        }
+        (None, None, None) => Err(ItemFault::Line(Fault::at(LINE, LineReason::NoPayload))),
+        _ => Err(ItemFault::Line(Fault::at(LINE, LineReason::SeveralPayloads))),
     }
 }
 
 // ---- the header
-
-/// Whether the headers of a code's type can request an acknowledgement.
-fn has_flag(code: u16) -> bool
-    ensures { result ≡ has_flag (type_of code) }
-{
-    match MessageType::try_from(code) {
-        Ok(ty) => ty.allows_ack(),
-        Err(_) => false,
-    }
-}
 
 /// The place of the member that says whether an acknowledgement is requested.
 fn ack_place(line: &Line<'_, '_>) -> u8
@@ -241,14 +271,14 @@ fn ack_place(line: &Line<'_, '_>) -> u8
 }
 
 /// Whether a line requests an acknowledgement.
-fn flag_of(code: u16, line: &Line<'_, '_>) -> Result<bool, Fault>
-    ensures { MatchResult result (λ flag. line_flag code line.now ≡ Ok flag)
-        (Rejects line.now (line_flag code line.now)) }
+fn flag_of(coded: Coded, line: &Line<'_, '_>) -> Result<bool, Fault>
+    ensures { MatchResult result (λ flag. line_flag coded.code line.now ≡ Ok flag)
+        (Rejects line.now (line_flag coded.code line.now)) }
 {
     let Some(value) = line.given_either(REQUESTED_ACK, ACK) else {
         return Ok(false);
     };
-    if !has_flag(code) {
+    if !coded.has_flag() {
         return Err(Fault::at(ack_place(line), LineReason::NoFlag));
     }
     match value.as_bool() {
@@ -273,30 +303,30 @@ fn is_alone(line: &Line<'_, '_>) -> bool
 }
 
 /// Whether the word of a header has this flag, which only some types have.
-fn agrees_in_flag(code: u16, flag: bool, word: u64) -> bool
-    ensures { result ≡ agrees_in_flag code flag word }
+fn agrees_in_flag(coded: Coded, flag: bool, word: u64) -> bool
+    ensures { result ≡ agrees_in_flag coded.code flag word }
 {
     let bit = if flag { 1 } else { 0 };
-    !has_flag(code) || word / FLAG % 2 == bit
+    !coded.has_flag() || word / FLAG % 2 == bit
 }
 
 /// What a line says of the header of its item, but for the length.
 #[derive(Clone, Copy, Drop)]
 struct Head {
     version: Version,
-    code: u16,
+    coded: Coded,
     flag: bool,
 }
 
 /// Checks that the word of a header has this code and this flag.
 fn check_word(head: &Head, word: u64) -> Result<(), Fault>
-    ensures { MatchResult result (λ _. word_fault head.now.code head.now.flag word ≡ None)
-        (λ fault. (line : Json) → word_fault head.now.code head.now.flag word ≡ Some (said_of line fault)) }
+    ensures { MatchResult result (λ _. word_fault head.now.coded.code head.now.flag word ≡ None)
+        (λ fault. (line : Json) → word_fault head.now.coded.code head.now.flag word ≡ Some (said_of line fault)) }
 {
-    if word / CODE_UNIT != u64::from(head.code) {
+    if word / CODE_UNIT != u64::from(head.coded.code) {
         return Err(Fault::at(HEADER, LineReason::OtherCode));
     }
-    if !agrees_in_flag(head.code, head.flag, word) {
+    if !agrees_in_flag(head.coded, head.flag, word) {
         return Err(Fault::at(HEADER, LineReason::OtherFlag));
     }
     Ok(())
@@ -333,7 +363,8 @@ fn append_given(
     header: &[u8],
     out: &mut Vec<u8>,
 ) -> Result<(), Fault>
-    ensures { AppendsAnywhere result (header_given head.now.version head.now.code head.now.flag size alone header.now)
+    ensures { AppendsAnywhere result
+        (header_given head.now.version head.now.coded.code head.now.flag size alone header.now)
         out.old.items out.new.items }
 {
     let Ok(bytes) = <[u8; 8]>::try_from(header) else {
@@ -356,7 +387,7 @@ fn append_header(
     line: &Line<'_, '_>,
     out: &mut Vec<u8>,
 ) -> Result<(), Fault>
-    ensures { AppendsOf line.now result (line_header head.now.version head.now.code head.now.flag size line.now)
+    ensures { AppendsOf line.now result (line_header head.now.version head.now.coded.code head.now.flag size line.now)
         out.old.items out.new.items }
 {
     if let Some(header) = line.given(HEADER) {
@@ -366,7 +397,7 @@ fn append_header(
     let Ok(size) = u32::try_from(size) else {
         return Err(Fault::at(LINE, LineReason::TooLong));
     };
-    append(&word(head.code, head.flag, size).to_be_bytes(), out)
+    append(&word(head.coded.code, head.flag, size).to_be_bytes(), out)
 }
 
 // ---- lines
@@ -390,7 +421,7 @@ fn append_framed(
     line: &Line<'_, '_>,
     out: &mut Vec<u8>,
 ) -> Result<(), Fault>
-    ensures { AppendsOf line.now result (framed head.now.version head.now.code head.now.flag line.now payload.now)
+    ensures { AppendsOf line.now result (framed head.now.version head.now.coded.code head.now.flag line.now payload.now)
         out.old.items out.new.items }
 {
     append_header(alloc, head, payload.len(), line, out)?;
@@ -399,43 +430,34 @@ fn append_framed(
 
 /// What a line says of the header of its item.
 fn head_of(alloc: Global, version: Version, line: &Line<'_, '_>) -> Result<Head, Fault>
-    ensures ok { IfOk result (λ head. (head.version ≡ version) × (line_code line.now ≡ Ok head.code)
-        × (line_flag head.code line.now ≡ Ok head.flag)) }
+    ensures ok { IfOk result (λ head. (head.version ≡ version) × (line_code line.now ≡ Ok head.coded.code)
+        × (line_flag head.coded.code line.now ≡ Ok head.flag)) }
     ensures err { IfErr result (Rejects line.now (then_read (λ code. line_flag code line.now) (line_code line.now))) }
 {
-    let code = code_of(alloc, line)?;
-    let flag = flag_of(code, line)?;
+    let coded = code_of(alloc, line)?;
+    let flag = flag_of(coded, line)?;
     Ok(Head {
         version,
-        code,
+        coded,
         flag,
     })
 }
 
-/// Appends the bytes of an item. The buffer is kept for the next payload.
+/// Appends the bytes of an item. Its payload is in a buffer before.
 #[tactic(auto, unfolding(crate::specs::Lines::item_said))]
 fn append_item(
     alloc: Global,
     version: Version,
     line: &Line<'_, '_>,
-    buffer: &mut Vec<u8>,
+    payload: &mut Vec<u8>,
     out: &mut Vec<u8>,
-) -> Result<(), LineError>
-    ensures { Appends result (item_said version line.now) out.old.items out.new.items }
+) -> Result<(), ItemFault>
+    ensures { AppendsItem line.now result (item_said version line.now) out.old.items out.new.items }
 {
-    let head = match head_of(alloc, version, line) {
-        Ok(head) => head,
-        Err(fault) => return Err(error_of(alloc, line, fault)),
-    };
-    let kept = std::mem::replace(buffer, Vec::new(alloc));
-    let payload = payload_of(alloc, version, head.code, line, kept)?;
-    match append_framed(alloc, &head, payload.as_slice(), line, out) {
-        Ok(()) => {
-            *buffer = payload;
-            Ok(())
-        }
-        Err(fault) => Err(error_of(alloc, line, fault)),
-    }
+    let head = head_of(alloc, version, line)?;
+    payload_of(alloc, version, head.coded, line, payload)?;
+    append_framed(alloc, &head, payload.as_slice(), line, out)?;
+    Ok(())
 }
 
 /// Whether a line has none of the members that say what an item is.
@@ -482,22 +504,61 @@ fn append_rest(
     append(bytes.as_slice(), out)
 }
 
-/// Appends the bytes of a line that has no fault in its members.
-fn append_whole(
+/// Appends the bytes of a line that has no other members than a line may have.
+#[tactic(auto, unfolding(crate::specs::Lines::line_said, crate::specs::Members::shape_fault))]
+fn append_members(
     alloc: Global,
     version: Version,
     line: &Line<'_, '_>,
-    buffer: &mut Vec<u8>,
+    payload: &mut Vec<u8>,
     out: &mut Vec<u8>,
-) -> Result<(), LineError>
-    ensures { Appends result (said version (given (codes "rest") line.now) line.now) out.old.items out.new.items }
+) -> Result<(), ItemFault>
+    requires { shape_fault line.now ≡ pairs_fault line.now }
+    ensures { AppendsItem line.now result (line_said version line.now) out.old.items out.new.items }
 {
+    if let Some(fault) = line.pairs_fault() {
+        return Err(ItemFault::Line(fault));
+    }
     let Some(rest) = line.given(REST) else {
-        return append_item(alloc, version, line, buffer, out);
+        return append_item(alloc, version, line, payload, out);
     };
-    match append_rest(alloc, &rest, line, out) {
-        Ok(()) => Ok(()),
-        Err(fault) => Err(error_of(alloc, line, fault)),
+    append_rest(alloc, &rest, line, out)?;
+    Ok(())
+}
+
+/// The error for a rejected value inside the message of a line, which is of a schema. The message is read again for the
+/// path to the value: of a stream that is one message at most.
+#[cold]
+fn message_error(alloc: Global, schema: u32, line: &Line<'_, '_>, reason: Reason) -> LineError
+    requires { reason ≢ Reason.OutOfMemory
+        → (path : List ℕ) × (message_error schema line.now ≡ Some (reason, path)) }
+    ensures reason { result.reason ≢ lack → result.reason ≡ variant.Json reason }
+    ensures fault { result.reason ≢ lack
+        → (path : List ℕ) × (message_error schema line.now ≡ Some (reason, path))
+        × (fault_of result ≡ inside (codes "message") reason path) }
+{
+    if reason == Reason::OutOfMemory {
+        return out_of_memory(alloc);
+    }
+    let Some(message) = line.given(MESSAGE) else {
+        unreachable!();
+    };
+    match payload_of_node(alloc, schema, &message) {
+        Ok(_) => unreachable!(),
+        Err(error) => reject_inside(alloc, &error, "message"),
+    }
+}
+
+/// The error that the fault of an item is.
+#[cold]
+fn item_error(alloc: Global, line: &Line<'_, '_>, fault: ItemFault) -> LineError
+    requires { reason_of fault ≢ lack → (said : LineFault) × IsSaid line.now fault said }
+    ensures reason { result.reason ≢ lack → result.reason ≡ reason_of fault }
+    ensures fault { result.reason ≢ lack → IsSaid line.now fault (fault_of result) }
+{
+    match fault {
+        ItemFault::Line(fault) => error_of(alloc, line, fault),
+        ItemFault::Message(schema, reason) => message_error(alloc, schema, line, reason),
     }
 }
 
@@ -507,7 +568,7 @@ fn append_said(
     alloc: Global,
     version: Version,
     value: &Node<'_, '_>,
-    buffer: &mut Vec<u8>,
+    payload: &mut Vec<u8>,
     out: &mut Vec<u8>,
 ) -> Result<(), LineError>
     ensures { Appends result (line_said version value.now) out.old.items out.new.items }
@@ -520,9 +581,9 @@ fn append_said(
         return Err(first_fault(alloc, &members));
     }
     let line = Line::new(members, &places);
-    match line.pairs_fault() {
-        Some(fault) => Err(error_of(alloc, &line, fault)),
-        None => append_whole(alloc, version, &line, buffer, out),
+    match append_members(alloc, version, &line, payload, out) {
+        Ok(()) => Ok(()),
+        Err(fault) => Err(item_error(alloc, &line, fault)),
     }
 }
 

@@ -41,6 +41,25 @@ impl Fault {
     }
 }
 
+/// Why the item of a line is rejected. The path to a value inside its message is found where the error is made.
+#[derive(Clone, Copy, Drop)]
+pub enum ItemFault {
+    Line(Fault),
+    /// For a value inside its message, which is of this schema, by its index.
+    Message(u32, Reason),
+}
+
+impl From<Fault> for ItemFault {
+    ghost use Rattle.std.specs.Prelude.{◌≡◌};
+    ghost use Rattle.make_lines.specs.declared.reject.ItemFault.TheVariants.{Line};
+
+    ghost from_gives = { λ fault item. item ≡ Line fault };
+
+    fn from(fault: Fault) -> ItemFault {
+        ItemFault::Line(fault)
+    }
+}
+
 /// The error of a failed allocation.
 pub fn out_of_memory(alloc: Global) -> LineError
     ensures { result.reason ≡ lack }

@@ -1,6 +1,6 @@
 //! The call that makes a stream of lines, from any reader to any writer.
 
-ghost use Rattle.std.specs.Prelude.{◌≡◌, ◌++◌, ℕ, List, [], false};
+ghost use Rattle.std.specs.Prelude.{◌≡◌, ◌++◌, ℕ, List, [], false, IfOk};
 ghost use Rattle.std.specs.Io.KnownBytes.{Appends, Consumes};
 ghost use Rattle.make_lines.specs.Lines.{line_made};
 ghost use Rattle.make_lines.specs.Appending.{IsRejected, AppendsLine};
@@ -39,7 +39,20 @@ pub struct Rejected {
     pub error: LineError,
 }
 
-/// Appends what the line means that the pending bytes and then these are. A line that came in one piece is not copied.
+/// The line that the pending bytes and then these are. One that came in one piece is not copied.
+#[inline(always)]
+fn whole_line<'a>(pending: &'a mut Vec<u8>, end: &'a [u8]) -> Result<&'a [u8], AllocError>
+    ensures { IfOk result (λ line. line.now ≡ pending.old.items ++ end.now) }
+{
+    if pending.is_empty() {
+        return Ok(end);
+    }
+    pending.extend_from_slice(end)?;
+    Ok(pending.as_slice())
+}
+
+/// Appends what the line means that the pending bytes and then these are.
+#[inline(always)]
 fn append_ended(
     alloc: Global,
     version: Version,
@@ -51,22 +64,14 @@ fn append_ended(
         lines.old.made.items lines.new.made.items }
     ensures taken { lines.new.taken ≡ lines.old.taken }
 {
-    if lines.pending.is_empty() {
-        return append_line(alloc, version, end, buffers, &mut lines.made);
-    }
-    match lines.pending.extend_from_slice(end) {
-        Ok(()) => append_line(
-            alloc,
-            version,
-            lines.pending.as_slice(),
-            buffers,
-            &mut lines.made,
-        ),
+    match whole_line(&mut lines.pending, end) {
+        Ok(line) => append_line(alloc, version, line, buffers, &mut lines.made),
         Err(_) => Err(out_of_memory(alloc)),
     }
 }
 
 /// Takes the pending bytes, and then these, as a line.
+#[inline(always)]
 fn take_line(
     alloc: Global,
     version: Version,

@@ -13,6 +13,8 @@ use Rattle.shared_core_codec.proofs.PayloadLaws.{canonical_is_read_back}
 use Rattle.shared_core_json_reader.specs.Reading.{only_value, json_of_text, message_read, value_payload}
 use Rattle.shared_core_json_reader.specs.Reading.{text_payload}
 use Rattle.shared_core_json_reader.specs.Appended.{message_bytes, after}
+use Rattle.shared_core_json_reader.specs.FirstError.{Step, PathError, message_error, path_text, value_error}
+use Rattle.shared_core_json_reader.specs.declared.error.Reason.{Reason}
 use Rattle.shared_core_json_reader.proofs.Agreeing.{message_agrees}
 use Rattle.shared_core_json_reader.proofs.Fitting.{some_map, message_fits}
 
@@ -56,6 +58,12 @@ payload_means s j out e z =
     (omega (arith, f.1)) in
     subst (λ (bs : List ℕ). IsAccepted s bs × (message_read 101 s j ≡ Some (payload_meaning s bs))) x.2
     (back.0, x.1 ∙ ap (λ (v : Parts). Some v) (sym back.1))
+
+-- the first error of a value is that of its message, with the path as text
+pub error_of_value : (s : ℕ) (j : Json) (reason : Reason) (path : List Step) →
+    message_error 101 s j ≡ Some (reason, path) → (text : List ℕ) × (value_error s j ≡ Some (reason, text))
+error_of_value s j reason path e =
+    (path_text true path, ap (λ (o : Option PathError). option_map (λ (r : PathError). (r.0, path_text true r.1)) o) e)
 
 -- ---- the payload of a text
 

@@ -12,7 +12,7 @@ ghost use Rattle.std.specs.Str.{bytes_eq};
 ghost use Rattle.json.specs.Json.{no_members};
 ghost use Rattle.json_table.specs.Tails.{last_members, IsTail};
 ghost use Rattle.shared_core_codec.specs.ProgramRows as codec;
-ghost use Rattle.shared_core_json.specs.Fields.{name_view};
+ghost use Rattle.shared_core_json.specs.Fields.{name_view, names_of};
 ghost use Rattle.shared_core_json_reader.specs.Rows.{in_schema, named_rows};
 ghost use Rattle.shared_core_json_reader.specs.Original.{after_byte, after_original};
 ghost use Rattle.shared_core_json_reader.specs.Reading.{original_name, is_named, are_known, given, present};
@@ -141,13 +141,14 @@ fn index_from(names: &[Name], from: usize, key: &str) -> Option<usize>
     }
 }
 
-/// The number of the field of a schema of which a key is a name. That from `next` on which is as long is tried first,
-/// and `next` is set after it: most objects have their members in the order of the names.
+/// The number of the field of a schema, of which these are the names, of which a key is a name. That from `next` on
+/// which is as long is tried first, and `next` is set after it: most objects have their members in the order of the
+/// names.
 #[inline(always)]
-fn next_number(schema: u32, next: &mut usize, key: &str) -> Option<u32>
+fn next_number(schema: u32, names: &[Name], next: &mut usize, key: &str) -> Option<u32>
+    requires { map name_view names.now ≡ names_of schema }
     ensures { result ≡ number_of schema key.now }
 {
-    let names = names_of(schema);
     match index_from(names, *next, key) {
         Some(index) => {
             *next = index + 1;
@@ -184,6 +185,7 @@ pub fn find_places<'t, 'a>(
         (λ _. first_unknown (named_rows schema) members.now ≡ None)
         (λ key. first_unknown (named_rows schema) members.now ≡ Some key.now) }
 {
+    let names = names_of(schema);
     let mut rest = members.copy();
     let mut next = 0;
     loop {
@@ -191,7 +193,7 @@ pub fn find_places<'t, 'a>(
         let Some((key, _)) = rest.next() else {
             return Ok(());
         };
-        let Some(number) = next_number(schema, &mut next, key) else {
+        let Some(number) = next_number(schema, names, &mut next, key) else {
             return Err(key);
         };
         let number = number as usize;

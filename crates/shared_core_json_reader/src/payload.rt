@@ -33,6 +33,7 @@ use shared_core_json::names::name_of;
 use shared_core_record_writer::{
     append_content, append_number, append_prefix, append_varint, put_length,
 };
+use std::alloc::Global;
 
 /// A step of the path to a value: a member by its name, or an element by its index.
 #[derive(Clone, Copy, Drop)]
@@ -49,6 +50,16 @@ pub struct Walk<'a> {
 }
 
 impl<'a> Walk<'a> {
+    /// A walk that is to begin.
+    pub fn new(alloc: Global) -> Walk<'a>
+        ensures { result.trail.items ≡ [] }
+    {
+        Walk {
+            trail: Vec::new(alloc),
+            lengths: Lengths::new(alloc),
+        }
+    }
+
     /// Notes that an error is one step further in, and returns its reason.
     #[cold]
     fn note(&mut self, step: Step<'a>, reason: Reason) -> Reason

@@ -1,16 +1,16 @@
 //! Reading a text: its JSON value is read into a table, and the payload is appended by the table. Each step is a call
 //! of its own, for a text of which a message is a part.
 
-ghost use Rattle.std.specs.Prelude.{◌≡◌, ◌≢◌, ◌++◌, [], true, Some, None, IfOk, IfErr, OnOk, MatchOption, MatchResult};
+ghost use Rattle.std.specs.Prelude.{◌≡◌, ◌≢◌, ◌++◌, ℕ, List, [], true, Some, None, IfOk, IfErr, OnOk, MatchOption};
+ghost use Rattle.std.specs.Prelude.{MatchResult};
 ghost use Rattle.std.specs.String.{string_bytes};
 ghost use Rattle.shared_core_codec.specs.Payloads.{IsAccepted, payload_meaning};
 ghost use Rattle.shared_core_json_reader.specs.Reading.{only_value, json_of_text, message_read};
 ghost use Rattle.shared_core_json_reader.specs.Reading.{value_payload, text_meaning, text_payload};
 ghost use Rattle.shared_core_json_reader.specs.FirstError.{offset_of, step_text, path_text, step_view, trail_view};
-ghost use Rattle.shared_core_json_reader.specs.FirstError.{value_error, SaysError, IsNotJson};
+ghost use Rattle.shared_core_json_reader.specs.FirstError.{message_error, value_error, HasError, SaysError, IsNotJson};
 
 use crate::error::{JsonReadError, Reason};
-use crate::measure::Lengths;
 use crate::payload::{Step, Walk, append_message};
 use json::{Reader, Scratch};
 use json_table::{Node, Table};
@@ -134,6 +134,51 @@ pub fn table_of_text<'a>(
     }
 }
 
+/// Puts the canonical payload of what a value means for a schema into a buffer, in place of what is there.
+fn write_payload<'a>(
+    walk: &mut Walk<'a>,
+    schema: u32,
+    node: &Node<'_, 'a>,
+    payload: &mut Vec<u8>,
+) -> Result<(), Reason>
+    requires { walk.old.trail.items ≡ [] }
+    ensures ok { OnOk result (value_payload schema node.now ≡ Some payload.new.items) }
+    ensures means { OnOk result (IsAccepted schema payload.new.items
+        × (message_read 101 schema node.now ≡ Some (payload_meaning schema payload.new.items))) }
+    ensures rejected { IfErr result (λ reason. reason ≢ Reason.OutOfMemory
+        → value_payload schema node.now ≡ None) }
+    ensures error { HasError result (message_error 101 schema node.now) walk.new.trail.items }
+{
+    payload.clear();
+    append_message(walk, payload, schema, node, LEVELS + 1)?;
+    Ok(())
+}
+
+/// Puts the canonical payload of what a JSON value means for a schema, by its index, into a buffer, which is emptied
+/// first and grows where it has too little room. The error is the reason of that of `payload_of_node`, without the
+/// path; part of the payload may be in the buffer then.
+pub fn payload_into(
+    alloc: Global,
+    schema: u32,
+    node: &Node<'_, '_>,
+    payload: &mut Vec<u8>,
+) -> Result<(), Reason>
+    ensures ok { OnOk result (value_payload schema node.now ≡ Some payload.new.items) }
+    // the payload is accepted, and means what the value means
+    ensures means { OnOk result (IsAccepted schema payload.new.items
+        × (message_read 101 schema node.now ≡ Some (payload_meaning schema payload.new.items))) }
+    ensures rejected { IfErr result (λ reason. reason ≢ Reason.OutOfMemory
+        → value_payload schema node.now ≡ None) }
+    // the reason of the first error of the value
+    ensures error { MatchResult result (λ _. value_error schema node.now ≡ None)
+        (λ reason. reason ≢ Reason.OutOfMemory
+        → (path : List ℕ) × (value_error schema node.now ≡ Some (reason, path))) }
+{
+    let mut walk = Walk::new(alloc);
+    write_payload(&mut walk, schema, node, payload)?;
+    Ok(())
+}
+
 /// Returns the canonical payload of what a JSON value means for a schema, by its index, as `payload_of` does for a
 /// text. Its errors are those of `Reason` but for `NotJson`, with a path that begins in the value.
 pub fn payload_of_node(
@@ -152,37 +197,11 @@ pub fn payload_of_node(
         (λ error. error.reason ≢ Reason.OutOfMemory
         → SaysError error (value_error schema node.now)) }
 {
-    let Ok(buffer) = Vec::with_capacity(alloc, ROOM) else {
+    let Ok(mut payload) = Vec::with_capacity(alloc, ROOM) else {
         return Err(error_at(alloc, Reason::OutOfMemory, 0));
     };
-    payload_in_buffer(alloc, schema, node, buffer)
-}
-
-/// Returns what `payload_of_node` does, in a buffer, which is emptied first and grows where it has too little room.
-pub fn payload_in_buffer(
-    alloc: Global,
-    schema: u32,
-    node: &Node<'_, '_>,
-    buffer: Vec<u8>,
-) -> Result<Vec<u8>, JsonReadError>
-    ensures ok { IfOk result (λ payload. value_payload schema node.now ≡ Some payload.items) }
-    // the payload is accepted, and means what the value means
-    ensures means { IfOk result (λ payload. IsAccepted schema payload.items
-        × (message_read 101 schema node.now ≡ Some (payload_meaning schema payload.items))) }
-    ensures rejected { IfErr result (λ error. error.reason ≢ Reason.OutOfMemory
-        → value_payload schema node.now ≡ None) }
-    // the first error of the value, and the path to the rejected value
-    ensures error { MatchResult result (λ _. value_error schema node.now ≡ None)
-        (λ error. error.reason ≢ Reason.OutOfMemory
-        → SaysError error (value_error schema node.now)) }
-{
-    let mut walk = Walk {
-        trail: Vec::new(alloc),
-        lengths: Lengths::new(alloc),
-    };
-    let mut payload = buffer;
-    payload.clear();
-    match append_message(&mut walk, &mut payload, schema, node, LEVELS + 1) {
+    let mut walk = Walk::new(alloc);
+    match write_payload(&mut walk, schema, node, &mut payload) {
         Ok(()) => Ok(payload),
         Err(reason) => Err(error_on(alloc, reason, &mut walk.trail)),
     }

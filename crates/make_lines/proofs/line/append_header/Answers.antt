@@ -12,8 +12,8 @@ returns-in-Some c =
     let bytes = c.in_ok-header.header.items in
     let is : given (codes "header") line ≡ Some c.in-Some.header = sym c.given.ensures ∙ c.in-Some.is in
     let read : bytes_said (codes "header") c.in-Some.header ≡ Ok bytes = c.in_ok-header.ensures in
-    let said : line_header head.version head.code head.flag c.args.size line ≡ header_given head.version head.code
-    head.flag c.args.size c.is_alone.result c.as_slice.result.now =
+    let said : line_header head.version head.coded.code head.flag c.args.size line ≡ header_given head.version
+    head.coded.code head.flag c.args.size c.is_alone.result c.as_slice.result.now =
     rw (is, read, c.is_alone.ensures, c.as_slice.ensures.value) refl in
     subst (λ (r : Result (List ℕ) LineFault). AppendsOf line c.append_given.result r c.args.out.now.items
     c.append_given.new.out.items) (sym said) (c.append_given.ensures line)

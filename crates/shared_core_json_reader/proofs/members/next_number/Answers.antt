@@ -6,9 +6,9 @@ use Rattle.shared_core_json_reader.proofs.members.next_number.Goals as goal
 pub returns-in-Some : goal.returns-in-Some
 returns-in-Some c =
     let i = c.in-Some.index in
-    let at = subst (λ (names : List (ℕ × List ℕ)). IsNameAt names i c.args.key.now) c.names_of-names.ensures
+    let at = subst (λ (names : List (ℕ × List ℕ)). IsNameAt names i c.args.key.now) c.requires
     c.in-Some.ensures in
     sym (named_at c.args.schema i c.args.key.now at
     ∙ ap (λ (n : ℕ). Some n) (ap (λ (names : List (ℕ × List ℕ)). (get_or names i (0, [])).0)
-    (sym c.names_of-names.ensures)
-    ∙ number_at c.names_of-names.result.now i _ c.in-Some.ensures.within))
+    (sym c.requires)
+    ∙ number_at c.args.names.now i _ c.in-Some.ensures.within))
