@@ -35,10 +35,12 @@ are_coming rows (Ok r ∷ items) = elim (next_field rows r.field_record.number) 
 ]
 are_coming rows (Err e ∷ items) = false
 
--- The row of a field that is not repeated, which is plain or optional.
-abbrev pub single_row : Bool → ℕ × Kind → Row
-single_row true f = Plain f.0 f.1
-single_row false f = Optional f.0 f.1
+-- This is the field of the row, which is one field that is not repeated.
+abbrev pub IsSingleRow : Row → ℕ × Kind → Type 0
+IsSingleRow (Plain n k) f = f ≡ (n, k)
+IsSingleRow (Optional n k) f = f ≡ (n, k)
+IsSingleRow (Repeated n k) f = ⊥
+IsSingleRow (OneOf members) f = ⊥
 
 -- Whether a row is a repeated field.
 abbrev pub is_repeated : Row → Bool

@@ -6,9 +6,9 @@ ghost use Rattle.shared_core_codec.specs.Canonicity.{is_plain, next_field, next_
 ghost use Rattle.shared_core_codec.specs.ProgramRows.{field_in_row, field_view, kind_view, member_numbered, row_view};
 ghost use Rattle.shared_core_codec.specs.RowEncoding.{unpacked};
 ghost use Rattle.shared_core_codec.specs.declared.rows.Field.{Field};
-ghost use Rattle.shared_core_fields.specs.Coming.{IsRowField, found_next, is_repeated, of_row, single_row};
+ghost use Rattle.shared_core_fields.specs.Coming.{IsRowField, found_next, is_repeated, of_row, IsSingleRow};
 
-use shared_core_codec::canonical::{NextField, next_field};
+use shared_core_codec::canonical::NextField;
 use shared_core_codec::rows::{Field, Found, Kind, Row};
 
 /// A field of which a record may come next: the row that it is of, the field, and the rows of which records may come
@@ -42,6 +42,21 @@ impl<'a> FoundField<'a> {
             _ => false,
         }
     }
+
+    /// The same as `next_field` returns it.
+    #[inline(always)]
+    fn as_next(self) -> NextField<'a>
+        ensures { next_view result ≡ found_next self.entry }
+    {
+        NextField {
+            field: Found {
+                kind: self.field.1,
+                is_repeated: self.is_repeated(),
+            },
+            is_plain: self.is_plain(),
+            rows: self.rows,
+        }
+    }
 }
 
 /// The field of the first row, if that is one field which is not repeated and has the number, as most often. `None`
@@ -51,7 +66,7 @@ pub(crate) fn first_field<'a>(rows: &'a [Row], number: u32) -> Option<FoundField
     ensures { IfSome result (λ f. Some (found_next f) ≡ next_field (map row_view rows.now) number) }
 {
     let (row, rows) = rows.split_first()?;
-    let (field, _is_plain) = single_field(row)?;
+    let field = single_field(row)?;
     if field.0 == number {
         Some(FoundField { row, field, rows })
     } else {
@@ -79,14 +94,13 @@ pub(crate) fn find_field<'a>(rows: &'a [Row], number: u32) -> Option<FoundField<
     None
 }
 
-/// The field of a row that is one field which is not repeated, and whether it is plain.
+/// The field of a row that is one field which is not repeated.
 #[inline(always)]
-fn single_field(row: &Row) -> Option<(&Field, bool)>
-    ensures { IfSome result (λ x. row_view row.now ≡ single_row x.1 (field_view x.0.now)) }
+fn single_field(row: &Row) -> Option<&Field>
+    ensures { IfSome result (λ field. IsSingleRow (row_view row.now) (field_view field.now)) }
 {
     match row {
-        Row::Plain(field) => Some((field, true)),
-        Row::Optional(field) => Some((field, false)),
+        Row::Plain(field) | Row::Optional(field) => Some(field),
         _ => None,
     }
 }
@@ -110,9 +124,7 @@ fn row_field(row: &Row) -> Option<&Field>
     ensures { IsRowField (row_view row.now) (option_map (λ (f : Bor Field). field_view f.now) result) }
 {
     match row {
-        Row::Plain(field) => Some(field),
-        Row::Optional(field) => Some(field),
-        Row::Repeated(field) => Some(field),
+        Row::Plain(field) | Row::Optional(field) | Row::Repeated(field) => Some(field),
         Row::OneOf(_) => None,
     }
 }
@@ -158,20 +170,10 @@ fn is_u32(kind: Kind) -> bool
 pub(crate) fn find_next<'a>(rows: &'a [Row], number: u32) -> Option<NextField<'a>>
     ensures { option_map next_view result ≡ next_field (map row_view rows.now) number }
 {
-    if let Some((Row::Plain(field), after)) = rows.split_first() {
-        if field.0 == number {
-            let field = Found {
-                kind: field.1,
-                is_repeated: false,
-            };
-            return Some(NextField {
-                field,
-                is_plain: true,
-                rows: after,
-            });
-        }
+    if let Some(found) = first_field(rows, number) {
+        return Some(found.as_next());
     }
-    next_field(rows, number)
+    Some(find_field(rows, number)?.as_next())
 }
 
 /// The same where there is such a field.
@@ -180,20 +182,7 @@ pub(crate) fn known_next<'a>(rows: &'a [Row], number: u32) -> NextField<'a>
     requires { is_some (next_field (map row_view rows.now) number) ≡ true }
     ensures { Some (next_view result) ≡ next_field (map row_view rows.now) number }
 {
-    if let Some((field, is_plain)) = single_field(&rows[0]) {
-        if field.0 == number {
-            let field = Found {
-                kind: field.1,
-                is_repeated: false,
-            };
-            return NextField {
-                field,
-                is_plain,
-                rows: &rows[1..],
-            };
-        }
-    }
-    let Some(next) = next_field(rows, number) else {
+    let Some(next) = find_next(rows, number) else {
         unreachable!();
     };
     next
