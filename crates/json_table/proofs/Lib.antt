@@ -1,7 +1,7 @@
-mod Shapes
+pub mod Spelled
+mod Lengths
+mod Linked
 mod Seen
-mod Split
-mod Next
 mod Turns
 mod Closing
 pub mod Tails

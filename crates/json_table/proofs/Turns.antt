@@ -1,8 +1,12 @@
 -- Items and members that are read one by one.
-use Rattle.std.proofs.Common.{◌≡◌, ℕ, List, ◌∷◌, ◌++◌, Option, Some, None, append_assoc, append-nil, refl, sym, ap, ◌∙◌}
+use Rattle.std.proofs.Common.{◌≡◌, ℕ, suc, ◌+◌, List, [], ◌∷◌, ◌++◌, length, Option, Some, None, append_assoc}
+use Rattle.std.proofs.Common.{append-nil}
+use Rattle.std.proofs.Common.{refl, sym, ap, ◌∙◌, arith, length-append}
 use Rattle.json.specs.Token.{Token}
 use Rattle.json.specs.Json.{Json, Items, no_items, item, Members, no_members, member, parse_map}
-use Rattle.json_table.specs.Entries.{key, value_entries, items_entries, members_entries}
+use Rattle.json_table.specs.Entries.{Entry, key, end_array, end_object, value_len}
+use Rattle.json_table.specs.Entries.{value_entries, items_entries, members_entries}
+use Rattle.json_table.proofs.Lengths.{length-value_entries}
 
 -- The items that were read, and then these.
 abbrev pub and_items : Items → Items → Items
@@ -51,17 +55,55 @@ pub more_members : (ms : Members) (k : List ℕ) (j : Json) (r : Option (Members
 more_members ms k j None = refl
 more_members ms k j (Some p) = ap (λ is. Some (is, p.1)) (and_member ms k j p.0)
 
-pub entries-and_item : (js : Items) (j : Json) → items_entries (and_items js (item j no_items)) ≡ items_entries js ++
-    value_entries j
-unfolding items_entries
-entries-and_item no_items j = append-nil (value_entries j)
-entries-and_item (item i js) j = ap (λ es. value_entries i ++ es) (entries-and_item js j)
-    ∙ sym (append_assoc (value_entries i) (items_entries js) (value_entries j))
+-- The entries of items without the closing bracket.
+abbrev pub items_front : ℕ → Items → List Entry
+items_front at no_items = []
+items_front at (item j js) = value_entries at j ++ items_front (at + value_len j) js
 
-pub entries-and_member : (ms : Members) (k : List ℕ) (j : Json) → members_entries (and_members ms (member k j
-    no_members)) ≡ members_entries ms ++ key k ∷ value_entries j
+-- The entries of members without the closing bracket.
+abbrev pub members_front : ℕ → Members → List Entry
+members_front at no_members = []
+members_front at (member k j ms) = key k ∷ (value_entries (suc at) j ++ members_front (suc at + value_len j) ms)
+
+pub items_closed : (at : ℕ) (js : Items) → items_front at js ++ end_array ∷ [] ≡ items_entries at js
+unfolding items_entries
+items_closed at no_items = refl
+items_closed at (item j js) =
+    append_assoc (value_entries at j) (items_front (at + value_len j) js) (end_array ∷ [])
+    ∙ ap (λ es. value_entries at j ++ es) (items_closed (at + value_len j) js)
+
+pub members_closed : (at : ℕ) (ms : Members) → members_front at ms ++ end_object ∷ [] ≡ members_entries at ms
 unfolding members_entries
-entries-and_member no_members k j = ap (λ es. key k ∷ es) (append-nil (value_entries j))
-entries-and_member (member l i ms) k j =
-    ap (λ es. key l ∷ (value_entries i ++ es)) (entries-and_member ms k j) ∙ ap (λ es. key l ∷ es) (sym (append_assoc
-    (value_entries i) (members_entries ms) (key k ∷ value_entries j)))
+members_closed at no_members = refl
+members_closed at (member k j ms) =
+    let next = suc at + value_len j in
+    ap (λ es. key k ∷ es) (append_assoc (value_entries (suc at) j) (members_front next ms) (end_object ∷ [])
+    ∙ ap (λ es. value_entries (suc at) j ++ es) (members_closed next ms))
+
+pub items_front-and_item : (at : ℕ) (js : Items) (j : Json) → items_front at (and_items js (item j no_items)) ≡
+    items_front at js ++ value_entries (at + length (items_front at js)) j
+items_front-and_item at no_items j =
+    let place : at ≡ at + 0 = omega arith in append-nil (value_entries at j) ∙ ap (λ n. value_entries n j) place
+items_front-and_item at (item i js) j =
+    let front = value_entries at i in
+    let next = at + value_len i in
+    let place : next + length (items_front next js) ≡ at + length (front ++ items_front next js) =
+    omega (arith, length-append front (items_front next js), length-value_entries at i) in
+    ap (λ es. front ++ es) (items_front-and_item next js j ∙ ap (λ n. items_front next js ++ value_entries n j) place)
+    ∙ sym (append_assoc front (items_front next js) (value_entries (at + length (front ++ items_front next js)) j))
+
+pub members_front-and_member : (at : ℕ) (ms : Members) (k : List ℕ) (j : Json) → members_front at (and_members ms
+    (member k j no_members)) ≡ members_front at ms ++ key k ∷ value_entries (suc (at + length (members_front at ms))) j
+members_front-and_member at no_members k j =
+    let place : suc at ≡ suc (at + 0) = omega arith in
+    ap (λ es. key k ∷ es) (append-nil (value_entries (suc at) j) ∙ ap (λ n. value_entries n j) place)
+members_front-and_member at (member l i ms) k j =
+    let front = value_entries (suc at) i in
+    let next = suc at + value_len i in
+    let tail = members_front next ms in
+    let place : suc (next + length tail) ≡ suc (at + length (key l ∷ (front ++ tail))) =
+    omega (arith, length-append front tail, length-value_entries (suc at) i) in
+    ap (λ es. key l ∷ (front ++ es)) (members_front-and_member next ms k j
+    ∙ ap (λ n. tail ++ key k ∷ value_entries n j) place)
+    ∙ ap (λ es. key l ∷ es) (sym (append_assoc front tail (key k ∷ value_entries (suc (at + length (key l ∷ (front ++
+    tail)))) j)))

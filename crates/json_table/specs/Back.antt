@@ -1,132 +1,90 @@
 -- A value has its entries alone: they give it back.
-use Rattle.std.proofs.Common.{◌≡◌, ℕ, zero, suc, ◌≤◌, ◌<◌, ◌*◌, List, [], ◌∷◌, ◌++◌, length, take, drop, refl, sym, ap}
-use Rattle.std.proofs.Common.{ap₂, ◌∙◌, arith, length-append}
+use Rattle.std.proofs.Common.{◌≡◌, ℕ, suc, ◌≤◌, List, ◌∷◌, ◌++◌, length, map, refl, ap, ap₂}
+use Rattle.std.proofs.Common.{◌∙◌, arith, length-append}
+use Rattle.std.proofs.lemmas.List.{map-append}
+use Rattle.json.specs.Token.{Token}
 use Rattle.json.specs.Json as json
-use Rattle.json.specs.Json.{Json, Items, no_items, item, Members, no_members, member}
-use Rattle.json_table.specs.Entries.{Entry, null, boolean, number, string, array, object, key, within}
-use Rattle.json_table.specs.Entries.{value_entries, items_entries, members_entries, value_of, items_of, members_of}
-use Rattle.json_table.specs.Entries.{value_within, items_within, members_within}
+use Rattle.json.specs.Json.{Json, Items, no_items, item, Members, no_members, member, value}
+use Rattle.json.specs.Tree.{json_tokens, items_tokens, members_tokens, depth, items_depth, members_depth}
+use Rattle.json.proofs.Printed.Trees.{value-json_tokens}
+use Rattle.json_table.specs.Entries.{Entry, token_of, value_entries, items_entries, members_entries}
+use Rattle.json_table.specs.Entries.{value_or_null, first_value, items_of_array, members_of_object}
+use Rattle.json_table.specs.Entries.{value_of, items_of, members_of}
 
-module _ (A : Type 0) where
-  pub take_front : (xs ys : List A) → take (length xs) (xs ++ ys) ≡ xs
-  take_front [] ys = refl
-  take_front (x ∷ xs) ys = ap (λ zs. x ∷ zs) (take_front xs ys)
-
-  pub drop_front : (xs ys : List A) → drop (length xs) (xs ++ ys) ≡ ys
-  drop_front [] ys = refl
-  drop_front (x ∷ xs) ys = drop_front xs ys
-
--- The entry of a value itself.
-pub own : Json → Entry
-own json.null = null
-own (json.boolean b) = boolean b
-own (json.number s) = number s
-own (json.string s) = string s
-own (json.array js) = array (length (items_entries js))
-own (json.object ms) = object (length (members_entries ms))
-
--- The entries within that of a value.
-pub inner : Json → List Entry
-inner json.null = []
-inner (json.boolean b) = []
-inner (json.number s) = []
-inner (json.string s) = []
-inner (json.array js) = items_entries js
-inner (json.object ms) = members_entries ms
-
-pub own_inner : (j : Json) → value_entries j ≡ own j ∷ inner j
-unfolding value_entries own inner
-own_inner json.null = refl
-own_inner (json.boolean b) = refl
-own_inner (json.number s) = refl
-own_inner (json.string s) = refl
-own_inner (json.array js) = refl
-own_inner (json.object ms) = refl
-
-pub within_own : (j : Json) → within (own j) ≡ length (inner j)
-unfolding own inner
-within_own json.null = refl
-within_own (json.boolean b) = refl
-within_own (json.number s) = refl
-within_own (json.string s) = refl
-within_own (json.array js) = refl
-within_own (json.object ms) = refl
-
--- The first of them is the value's own entry, and the rest those within it.
-item_turn : (n : ℕ) (j : Json) (es : List Entry) → items_within (suc n) (value_entries j ++ es) ≡ item (value_within n
-    (value_entries j)) (items_within n es)
-unfolding items_within
-item_turn n j es =
-    let front : take (within (own j)) (inner j ++ es) ≡ inner j = ap (λ k. take k (inner j ++ es)) (within_own j)
-    ∙ take_front Entry (inner j) es in
-    let back : drop (within (own j)) (inner j ++ es) ≡ es = ap (λ k. drop k (inner j ++ es)) (within_own j)
-    ∙ drop_front Entry (inner j) es in
-    ap (λ xs. items_within (suc n) (xs ++ es)) (own_inner j) ∙ ap₂ (λ xs ys. item (value_within n (own j ∷ xs))
-    (items_within n ys)) front back
-    ∙ ap (λ xs. item (value_within n xs) (items_within n es)) (sym (own_inner j))
-
-member_turn : (n : ℕ) (k : List ℕ) (j : Json) (es : List Entry) → members_within (suc n) (key k ∷ (value_entries j ++
-    es)) ≡ member k (value_within n (value_entries j)) (members_within n es)
-unfolding members_within
-member_turn n k j es =
-    let front : take (within (own j)) (inner j ++ es) ≡ inner j = ap (λ m. take m (inner j ++ es)) (within_own j)
-    ∙ take_front Entry (inner j) es in
-    let back : drop (within (own j)) (inner j ++ es) ≡ es = ap (λ m. drop m (inner j ++ es)) (within_own j)
-    ∙ drop_front Entry (inner j) es in
-    ap (λ xs. members_within (suc n) (key k ∷ (xs ++ es))) (own_inner j) ∙ ap₂ (λ xs ys. member k (value_within n (own j
-    ∷ xs)) (members_within n ys)) front back
-    ∙ ap (λ xs. member k (value_within n xs) (members_within n es)) (sym (own_inner j))
-
+-- A value is nested less deep than it has tokens.
 mutual
-  unfolding value_entries value_within
+  deep_value : (j : Json) → depth j ≤ length (json_tokens j)
+  deep_value json.null = omega arith
+  deep_value (json.boolean b) = omega arith
+  deep_value (json.number s) = omega arith
+  deep_value (json.string s) = omega arith
+  deep_value (json.array js) = omega (arith, deep_items js)
+  deep_value (json.object ms) = omega (arith, deep_members ms)
 
-  value_back : (n : ℕ) (j : Json) → 2 * length (value_entries j) ≤ n → value_within n (value_entries j) ≡ j
-  value_back zero json.null h = absurd (omega arith)
-  value_back (suc n) json.null h = refl
-  value_back zero (json.boolean b) h = absurd (omega arith)
-  value_back (suc n) (json.boolean b) h = refl
-  value_back zero (json.number s) h = absurd (omega arith)
-  value_back (suc n) (json.number s) h = refl
-  value_back zero (json.string s) h = absurd (omega arith)
-  value_back (suc n) (json.string s) h = refl
-  value_back zero (json.array js) h = absurd (omega arith)
-  value_back (suc n) (json.array js) h = ap json.array (items_back n js (omega arith))
-  value_back zero (json.object ms) h = absurd (omega arith)
-  value_back (suc n) (json.object ms) h = ap json.object (members_back n ms (omega arith))
+  deep_items : (js : Items) → items_depth js ≤ length (items_tokens js)
+  deep_items no_items = omega arith
+  deep_items (item j js) = omega (arith, deep_value j, deep_items js, length-append (json_tokens j) (items_tokens js))
 
-  items_back : (n : ℕ) (js : Items) → 2 * length (items_entries js) < n → items_within n (items_entries js) ≡ js
-  items_back zero no_items h = absurd (omega arith)
-  items_back (suc n) no_items h = refl
-  items_back zero (item j js) h = absurd (omega (
+  deep_members : (ms : Members) → members_depth ms ≤ length (members_tokens ms)
+  deep_members no_members = omega arith
+  deep_members (member k j ms) = omega (
     arith,
-    length-append (value_entries j) (items_entries js),
-    ap length
-        (own_inner j),
-  ))
-  items_back (suc n) (item j js) h =
-      let l = length-append (value_entries j) (items_entries js) in
-      let o = ap length (own_inner j) in
-      item_turn n j (items_entries js) ∙ ap₂ item (value_back n j (omega arith)) (items_back n js (omega arith))
+    deep_value j,
+    deep_members ms,
+    length-append (json_tokens j)
+        (members_tokens ms),
+  )
 
-  members_back : (n : ℕ) (ms : Members) → 2 * length (members_entries ms) < n → members_within n (members_entries ms) ≡
-      ms
-  members_back zero no_members h = absurd (omega arith)
-  members_back (suc n) no_members h = refl
-  members_back zero (member k j ms) h = absurd (omega arith)
-  members_back (suc n) (member k j ms) h =
-      let l = length-append (value_entries j) (members_entries ms) in
-      let o = ap length (own_inner j) in
-      member_turn n k j (members_entries ms) ∙ ap₂ (member k) (value_back n j (omega arith)) (members_back n ms (omega
-      arith))
+-- The tokens of a value begin with it.
+pub first_value-json_tokens : (j : Json) (rest : List Token) → first_value (json_tokens j ++ rest) ≡ j
+first_value-json_tokens j rest =
+    ap value_or_null (value-json_tokens j (length (json_tokens j ++ rest)) rest (omega (
+      arith,
+      deep_value j,
+      length-append (json_tokens j) rest,
+    )))
 
-pub value_of-value_entries : (j : Json) → value_of (value_entries j) ≡ j
+-- The entries of a value are of its tokens.
+mutual
+  unfolding value_entries
+
+  pub value_entries-tokens : (at : ℕ) (j : Json) → map token_of (value_entries at j) ≡ json_tokens j
+  value_entries-tokens at json.null = refl
+  value_entries-tokens at (json.boolean b) = refl
+  value_entries-tokens at (json.number s) = refl
+  value_entries-tokens at (json.string s) = refl
+  value_entries-tokens at (json.array js) = ap (λ ts. Token.begin_array ∷ ts) (items_entries-tokens (suc at) js)
+  value_entries-tokens at (json.object ms) = ap (λ ts. Token.begin_object ∷ ts) (members_entries-tokens (suc at) ms)
+
+  pub items_entries-tokens : (at : ℕ) (js : Items) → map token_of (items_entries at js) ≡ items_tokens js
+  items_entries-tokens at no_items = refl
+  items_entries-tokens at (item j js) =
+      map-append token_of (value_entries at j) (items_entries _ js)
+      ∙ ap₂ (λ xs ys. xs ++ ys) (value_entries-tokens at j) (items_entries-tokens _ js)
+
+  pub members_entries-tokens : (at : ℕ) (ms : Members) → map token_of (members_entries at ms) ≡ members_tokens ms
+  members_entries-tokens at no_members = refl
+  members_entries-tokens at (member k j ms) =
+      ap (λ ts. Token.key k ∷ ts) (map-append token_of (value_entries (suc at) j) (members_entries _ ms)
+      ∙ ap₂ (λ xs ys. xs ++ ys) (value_entries-tokens (suc at) j) (members_entries-tokens _ ms))
+
+pub value_of-value_entries : (at : ℕ) (j : Json) (rest : List Entry) → value_of (value_entries at j ++ rest) ≡ j
 unfolding value_of
-value_of-value_entries j = value_back (2 * length (value_entries j)) j (omega arith)
+value_of-value_entries at j rest =
+    ap first_value (map-append token_of (value_entries at j) rest
+    ∙ ap (λ ts. ts ++ map token_of rest) (value_entries-tokens at j)) ∙ first_value-json_tokens j (map token_of rest)
 
-pub items_of-items_entries : (js : Items) → items_of (items_entries js) ≡ js
+pub items_of-items_entries : (at : ℕ) (js : Items) (rest : List Entry) → items_of (items_entries at js ++ rest) ≡ js
 unfolding items_of
-items_of-items_entries js = items_back (suc (2 * length (items_entries js))) js (omega arith)
+items_of-items_entries at js rest =
+    ap (λ ts. items_of_array (first_value (Token.begin_array ∷ ts))) (map-append token_of (items_entries at js) rest
+    ∙ ap (λ ts. ts ++ map token_of rest) (items_entries-tokens at js))
+    ∙ ap items_of_array (first_value-json_tokens (json.array js) (map token_of rest))
 
-pub members_of-members_entries : (ms : Members) → members_of (members_entries ms) ≡ ms
+pub members_of-members_entries : (at : ℕ) (ms : Members) (rest : List Entry) → members_of (members_entries at ms ++
+    rest) ≡ ms
 unfolding members_of
-members_of-members_entries ms = members_back (suc (2 * length (members_entries ms))) ms (omega arith)
+members_of-members_entries at ms rest =
+    ap (λ ts. members_of_object (first_value (Token.begin_object ∷ ts))) (map-append token_of (members_entries at ms)
+    rest ∙ ap (λ ts. ts ++ map token_of rest) (members_entries-tokens at ms))
+    ∙ ap members_of_object (first_value-json_tokens (json.object ms) (map token_of rest))

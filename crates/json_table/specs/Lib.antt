@@ -4,6 +4,6 @@ pub mod Codes
 pub mod Counts
 pub mod Views
 pub mod Shapes
-pub mod Splits
 pub mod Tails
 pub mod Reads
+pub mod Tables

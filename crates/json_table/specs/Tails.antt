@@ -1,11 +1,7 @@
 -- The members at the end of an object.
-use Rattle.std.specs.Prelude.{◌≡◌, ℕ, ◌==◌, length, if◌then◌else◌}
+use Rattle.std.specs.Prelude.{◌≡◌, ℕ, ◌==◌, if◌then◌else◌}
 use Rattle.json.specs.Json.{Members, no_members, member}
-use Rattle.json_table.specs.Entries.{members_entries}
-
--- How many entries members have.
-unfoldable pub members_len : Members → ℕ
-members_len ms = length (members_entries ms)
+use Rattle.json_table.specs.Entries.{members_len}
 
 -- Those of these members, at the end, that have this many entries; none if there are no such members.
 abbrev pub last_members : ℕ → Members → Members

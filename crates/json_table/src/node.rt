@@ -1,22 +1,22 @@
 //! Values, items and members in a table.
 
-ghost use Rattle.std.specs.Prelude.{◌≡◌, ◌≢◌, ◌≤◌, option_map, MatchOption, MatchBool};
-ghost use Rattle.json.specs.Json.{no_items, item, no_members, member};
+ghost use Rattle.std.specs.Prelude.{◌≡◌, ◌≢◌, ◌≤◌, ◌+◌, option_map, MatchOption, MatchBool};
+ghost use Rattle.json.specs.Json.{Json, no_items, item, no_members, member};
 ghost use Rattle.json.specs.Find.{is_null, as_bool, as_number, as_str};
 ghost use Rattle.json_table.specs.Counts.{items_count};
-ghost use Rattle.json_table.specs.Entries.{value_of};
-ghost use Rattle.json_table.specs.Tails.{members_len, last_members, IsTail};
-ghost use Rattle.json_table.specs.Views.{entries_view, AreValue};
-ghost use Rattle.json_table.specs.Splits.{BeginWithValue, SplitsValue, SplitsKey};
+ghost use Rattle.json_table.specs.Entries.{value_len, members_len, value_of};
+ghost use Rattle.json_table.specs.Tails.{last_members, IsTail};
+ghost use Rattle.json_table.specs.Views.{entries_from, AreValue, BeginsValue};
 ghost use Rattle.json_table.specs.Shapes.{shape_view};
 
-use crate::entry::Entry;
+use json::Node as Entry;
 use std::marker::Model;
 
-/// A value in a table: exactly its entries. A contract sees the value.
+/// A value in a table: the entries from a place on begin with its own. A contract sees the value.
 #[derive(Drop)]
 pub struct Node<'t, 'a> {
     entries: &'t [Entry<'a>],
+    at: usize,
 }
 
 impl<'t, 'a> Model for Node<'t, 'a> {
@@ -28,17 +28,18 @@ impl<'t, 'a> Model for Node<'t, 'a> {
     ghost coded = { value_code };
 
     ghost use Rattle.json_table.specs.Entries.{value_of};
-    ghost use Rattle.json_table.specs.Views.{entries_view, AreValue};
+    ghost use Rattle.json_table.specs.Views.{entries_from, AreValue};
 
-    ghost view = { λ a. value_of (entries_view a.entries.now) };
+    ghost view = { λ a. value_of (entries_from a.at a.entries.now) };
 
-    ghost invariant = { λ a. AreValue a.entries.now };
+    ghost invariant = { λ a. AreValue a.entries.now a.at };
 }
 
-/// The items of an array that are left. A contract sees these items.
+/// The items of an array that are left: the entries from a place on begin with theirs. A contract sees these items.
 #[derive(Drop)]
 pub struct Items<'t, 'a> {
     entries: &'t [Entry<'a>],
+    at: usize,
 }
 
 impl<'t, 'a> Model for Items<'t, 'a> {
@@ -50,17 +51,21 @@ impl<'t, 'a> Model for Items<'t, 'a> {
     ghost coded = { items_code };
 
     ghost use Rattle.json_table.specs.Entries.{items_of};
-    ghost use Rattle.json_table.specs.Views.{entries_view, AreItems};
+    ghost use Rattle.json_table.specs.Views.{entries_from, AreItems};
 
-    ghost view = { λ a. items_of (entries_view a.entries.now) };
+    ghost view = { λ a. items_of (entries_from a.at a.entries.now) };
 
-    ghost invariant = { λ a. AreItems a.entries.now };
+    ghost invariant = { λ a. AreItems a.entries.now a.at };
 }
 
-/// The members of an object that are left. A contract sees these members.
+/// The members of an object that are left: the entries from a place on, up to the end, are theirs. A contract sees
+/// these members.
 #[derive(Drop)]
 pub struct Members<'t, 'a> {
     entries: &'t [Entry<'a>],
+    at: usize,
+    /// The place after the closing bracket.
+    end: usize,
 }
 
 impl<'t, 'a> Model for Members<'t, 'a> {
@@ -72,11 +77,11 @@ impl<'t, 'a> Model for Members<'t, 'a> {
     ghost coded = { members_code };
 
     ghost use Rattle.json_table.specs.Entries.{members_of};
-    ghost use Rattle.json_table.specs.Views.{entries_view, AreMembers};
+    ghost use Rattle.json_table.specs.Views.{entries_from, AreMembers};
 
-    ghost view = { λ a. members_of (entries_view a.entries.now) };
+    ghost view = { λ a. members_of (entries_from a.at a.entries.now) };
 
-    ghost invariant = { λ a. AreMembers a.entries.now };
+    ghost invariant = { λ a. AreMembers a.entries.now a.at a.end };
 }
 
 /// What a value is: a scalar, or what is in it.
@@ -92,34 +97,27 @@ pub enum Shape<'t, 'a> {
     Object(Members<'t, 'a>),
 }
 
-/// Splits entries after those of the value with which they begin.
+/// The place after the value whose first entry has a place.
 #[inline(always)]
-fn split_value<'t, 'a>(entries: &'t [Entry<'a>]) -> (&'t [Entry<'a>], &'t [Entry<'a>])
-    requires { BeginWithValue entries.now }
-    ensures { SplitsValue entries.now result.0.now result.1.now }
+fn place_after(entries: &[Entry<'_>], at: usize) -> usize
+    requires { AreValue entries.now at }
+    ensures { (j : Json) → BeginsValue entries.now at j → result ≡ at + value_len j }
 {
-    entries.split_at(entries[0].within() + 1)
-}
-
-/// Splits entries after the key with which they begin, if they do.
-#[inline(always)]
-fn split_key<'t, 'a>(entries: &'t [Entry<'a>]) -> Option<(&'a str, &'t [Entry<'a>])>
-    ensures { SplitsKey entries.now result }
-{
-    let [Entry::Key(key), rest @ ..] = entries else {
-        return None;
-    };
-    Some((*key, rest))
+    let first = entries[at];
+    match first {
+        Entry::Array(end) | Entry::Object(end) => end,
+        _ => at + 1,
+    }
 }
 
 impl<'t, 'a> Node<'t, 'a> {
-    /// The value that these entries are.
+    /// The value with which these entries begin.
     #[inline(always)]
     pub(crate) fn of_entries(entries: &'t [Entry<'a>]) -> Node<'t, 'a>
-        requires { AreValue entries.now }
-        ensures { result ≡ value_of (entries_view entries.now) }
+        requires { AreValue entries.now 0 }
+        ensures { result ≡ value_of (entries_from 0 entries.now) }
     {
-        Node { entries }
+        Node { entries, at: 0 }
     }
 
     /// Returns the same value once more.
@@ -129,6 +127,7 @@ impl<'t, 'a> Node<'t, 'a> {
     {
         Node {
             entries: self.entries,
+            at: self.at,
         }
     }
 
@@ -137,16 +136,23 @@ impl<'t, 'a> Node<'t, 'a> {
     pub fn shape(&self) -> Shape<'t, 'a>
         ensures { shape_view result ≡ self.now }
     {
-        let [first, within @ ..] = self.entries else {
-            return Shape::Null;
-        };
+        let (entries, at) = (self.entries, self.at);
+        let first = entries[at];
         match first {
-            Entry::Null | Entry::Key(_) => Shape::Null,
-            Entry::Boolean(b) => Shape::Boolean(*b),
+            Entry::Bool(b) => Shape::Boolean(b),
             Entry::Number(text) => Shape::Number(text),
             Entry::String(text) => Shape::String(text),
-            Entry::Array(_) => Shape::Array(Items { entries: within }),
-            Entry::Object(_) => Shape::Object(Members { entries: within }),
+            Entry::Array(_) => Shape::Array(Items {
+                entries,
+                at: at + 1,
+            }),
+            Entry::Object(end) => Shape::Object(Members {
+                entries,
+                at: at + 1,
+                end,
+            }),
+            // no value begins with one of the others
+            Entry::Null | Entry::Key(_) | Entry::EndArray | Entry::EndObject => Shape::Null,
         }
     }
 
@@ -200,6 +206,7 @@ impl<'t, 'a> Items<'t, 'a> {
     {
         Items {
             entries: self.entries,
+            at: self.at,
         }
     }
 
@@ -208,15 +215,16 @@ impl<'t, 'a> Items<'t, 'a> {
     pub fn is_empty(&self) -> bool
         ensures { MatchBool result (self.now ≡ no_items) (self.now ≢ no_items) }
     {
-        self.entries.is_empty()
+        let first = self.entries[self.at];
+        matches!(first, Entry::EndArray)
     }
 
-    /// Returns a number that is not below that of the items: how many entries they are.
+    /// Returns a number that is not below that of the items: how many entries are left in the table.
     #[inline(always)]
     pub fn at_most(&self) -> usize
         ensures { items_count self.now ≤ result }
     {
-        self.entries.len()
+        self.entries.len() - self.at
     }
 
     /// Takes the next item.
@@ -225,12 +233,15 @@ impl<'t, 'a> Items<'t, 'a> {
         ensures { MatchOption result ((self.old ≡ no_items) × (self.new ≡ no_items))
             (λ node. self.old ≡ item node self.new) }
     {
-        if self.entries.is_empty() {
+        if self.is_empty() {
             return None;
         }
-        let (value, rest) = split_value(self.entries);
-        *self = Items { entries: rest };
-        Some(Node { entries: value })
+        let (entries, at) = (self.entries, self.at);
+        *self = Items {
+            entries,
+            at: place_after(entries, at),
+        };
+        Some(Node { entries, at })
     }
 }
 
@@ -242,6 +253,8 @@ impl<'t, 'a> Members<'t, 'a> {
     {
         Members {
             entries: self.entries,
+            at: self.at,
+            end: self.end,
         }
     }
 
@@ -250,15 +263,16 @@ impl<'t, 'a> Members<'t, 'a> {
     pub fn is_empty(&self) -> bool
         ensures { MatchBool result (self.now ≡ no_members) (self.now ≢ no_members) }
     {
-        self.entries.is_empty()
+        let first = self.entries[self.at];
+        matches!(first, Entry::EndObject)
     }
 
-    /// Returns how many entries are left.
+    /// Returns how many entries are left, with the closing bracket.
     #[inline(always)]
     pub fn left(&self) -> usize
         ensures { result ≡ members_len self.now }
     {
-        self.entries.len()
+        self.end - self.at
     }
 
     /// Returns those of the members, at the end, that have this many entries.
@@ -267,9 +281,11 @@ impl<'t, 'a> Members<'t, 'a> {
         requires { IsTail left self.now }
         ensures { result ≡ last_members left self.now }
     {
-        let entries = self.entries;
-        let (_, last) = entries.split_at(entries.len() - left);
-        Members { entries: last }
+        Members {
+            entries: self.entries,
+            at: self.end - left,
+            end: self.end,
+        }
     }
 
     /// Takes the next member: its key and its value.
@@ -278,11 +294,17 @@ impl<'t, 'a> Members<'t, 'a> {
         ensures { MatchOption result ((self.old ≡ no_members) × (self.new ≡ no_members))
             (λ found. self.old ≡ member found.0.now found.1 self.new) }
     {
-        let Some((key, entries)) = split_key(self.entries) else {
+        let (entries, end) = (self.entries, self.end);
+        let first = entries[self.at];
+        let Entry::Key(key) = first else {
             return None;
         };
-        let (value, rest) = split_value(entries);
-        *self = Members { entries: rest };
-        Some((key, Node { entries: value }))
+        let at = self.at + 1;
+        *self = Members {
+            entries,
+            at: place_after(entries, at),
+            end,
+        };
+        Some((key, Node { entries, at }))
     }
 }

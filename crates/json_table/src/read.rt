@@ -5,8 +5,7 @@ ghost use Rattle.std.specs.Prelude.{◌≡◌, ◌≢◌, ◌∷◌, ◌++◌, [
 ghost use Rattle.json.specs.Json.{value, items, members};
 ghost use Rattle.json_table.specs.Reads.{ReadsValue, ReadsItems, ReadsMembers};
 
-use crate::entry::Entry;
-use json::{Error, Reader, Token};
+use json::{Error, Node as Entry, Reader, Token};
 
 /// Appends an entry.
 #[inline(always)]
@@ -41,7 +40,7 @@ pub fn read_value<'a>(
     match token {
         Token::String(text) => push(entries, Entry::String(text)),
         Token::Number(text) => push(entries, Entry::Number(text)),
-        Token::Bool(b) => push(entries, Entry::Boolean(b)),
+        Token::Bool(b) => push(entries, Entry::Bool(b)),
         Token::Null => push(entries, Entry::Null),
         Token::BeginArray => {
             if depth == 0 {
@@ -77,8 +76,9 @@ fn read_array<'a>(
     while !reader.take_end_array() {
         read_value(reader, depth, entries)?;
     }
-    let within = entries.len() - at - 1;
-    entries[at] = Entry::Array(within);
+    push(entries, Entry::EndArray)?;
+    let end = entries.len();
+    entries[at] = Entry::Array(end);
     Ok(())
 }
 
@@ -101,7 +101,8 @@ fn read_object<'a>(
         push(entries, Entry::Key(key))?;
         read_value(reader, depth, entries)?;
     }
-    let within = entries.len() - at - 1;
-    entries[at] = Entry::Object(within);
+    push(entries, Entry::EndObject)?;
+    let end = entries.len();
+    entries[at] = Entry::Object(end);
     Ok(())
 }

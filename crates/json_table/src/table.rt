@@ -1,19 +1,27 @@
 //! The table of a value.
 
 ghost use Rattle.std.specs.Prelude.{◌≡◌, ◌≢◌, ◌<◌, length, Some, None, Err, IfOk, OnOk};
-ghost use Rattle.json.specs.Json.{value};
+ghost use Rattle.json.specs.Json.{value, document};
 
-use crate::entry::Entry;
 use crate::node::Node;
 use crate::read::read_value;
-use json::{Error, Reader};
+use json::{Error, Node as Entry, Reader, Scratch, Tape};
 use std::alloc::Global;
 use std::marker::Model;
+
+/// What holds the entries of a table.
+#[derive(Drop)]
+enum Storage<'a> {
+    /// Those that the crate `json` made of a whole text.
+    Tape(Tape<'a>),
+    /// Those that were read one by one.
+    List(Vec<Entry<'a>>),
+}
 
 /// A value of JSON as a flat list of entries. A contract sees the value.
 #[derive(Drop)]
 pub struct Table<'a> {
-    entries: Vec<Entry<'a>>,
+    storage: Storage<'a>,
 }
 
 impl<'a> Model for Table<'a> {
@@ -24,15 +32,30 @@ impl<'a> Model for Table<'a> {
 
     ghost coded = { value_code };
 
-    ghost use Rattle.json_table.specs.Entries.{value_of};
-    ghost use Rattle.json_table.specs.Views.{entries_view, AreValue};
+    ghost use Rattle.json_table.specs.Tables.{stored_value, HasValue};
 
-    ghost view = { λ a. value_of (entries_view a.entries.items) };
+    ghost view = { λ a. stored_value a.storage };
 
-    ghost invariant = { λ a. AreValue a.entries.items };
+    ghost invariant = { λ a. HasValue a.storage };
 }
 
 impl<'a> Table<'a> {
+    /// Returns the value that a text is, whose arrays and objects may be nested 128 deep. The table borrows from the
+    /// text and from the buffers, which grow to five bytes for each byte of the text.
+    ///
+    /// `Invalid` if the text is no such value, `TooLong` if it has more than 4,294,967,040 bytes, and `OutOfMemory`.
+    pub fn parse(alloc: Global, text: &'a str, scratch: &'a mut Scratch) -> Result<Table<'a>, Error>
+        ensures ok { IfOk result (λ table. document text.now ≡ Some table) }
+        ensures invalid { result ≡ Err Error.Invalid → document text.now ≡ None }
+        ensures too_long { result ≡ Err Error.TooLong → 4294967040 < length text.now }
+        ensures never_duplicate { result ≢ Err Error.DuplicateKey }
+    {
+        let tape = Tape::parse(text, scratch, Vec::new(alloc))?;
+        Ok(Table {
+            storage: Storage::Tape(tape),
+        })
+    }
+
     /// Returns the next value of a reader, whose arrays and objects may be nested `depth` deep. Room for this many
     /// entries is made before; a table with more of them grows.
     ///
@@ -51,7 +74,9 @@ impl<'a> Table<'a> {
     {
         let mut entries = Vec::with_capacity(alloc, room)?;
         read_value(reader, depth, &mut entries)?;
-        Ok(Table { entries })
+        Ok(Table {
+            storage: Storage::List(entries),
+        })
     }
 
     /// Returns the value.
@@ -59,6 +84,9 @@ impl<'a> Table<'a> {
     pub fn root(&self) -> Node<'_, 'a>
         ensures { result ≡ self.now }
     {
-        Node::of_entries(&self.entries)
+        match &self.storage {
+            Storage::Tape(tape) => Node::of_entries(tape.nodes()),
+            Storage::List(entries) => Node::of_entries(entries),
+        }
     }
 }

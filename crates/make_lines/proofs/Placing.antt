@@ -12,8 +12,8 @@ use Rattle.std.specs.Prelude.{is_some, IfSome}
 use Rattle.std.specs.Str.{bytes_eq}
 use Rattle.json.specs.Json.{Json, Members, member}
 use Rattle.json.specs.Find.{get_member, later_or}
-use Rattle.json_table.specs.Entries.{members_entries}
-use Rattle.json_table.specs.Tails.{members_len, last_members, IsTail}
+use Rattle.json_table.specs.Entries.{members_len}
+use Rattle.json_table.specs.Tails.{last_members, IsTail}
 use Rattle.json_table.proofs.Tails.{last_whole, last_next}
 use Rattle.shared_core_json_reader.specs.declared.error.Reason.TheVariants.{UnknownMember, RepeatedMember}
 use Rattle.make_lines.specs.declared.error.LineReason.TheVariants.{Json as Wrong}
@@ -208,7 +208,7 @@ none_at i h = get_or-replicate place_count i 0 0 h
 
 -- A member has entries.
 pub some_left : (k : List ℕ) (j : Json) (rest : Members) → members_len (member k j rest) ≢ 0
-unfolding members_len members_entries
+unfolding members_len
 some_left k j rest e = absurd (omega (arith, e))
 
 -- The value at a place that is taken.

@@ -1,7 +1,7 @@
 //! The bytes that a line means: the header and the payload of an item, or the bytes after the last one.
 
 ghost use Rattle.std.specs.Prelude.{◌≡◌, ◌≢◌, ◌++◌, ℕ, List, [], codes, length, Some, None, Ok, IfOk, IfErr, OnOk};
-ghost use Rattle.std.specs.Prelude.{MatchResult, option_and_then};
+ghost use Rattle.std.specs.Prelude.{MatchResult, option_and_then, false};
 ghost use Rattle.json.specs.Json.{Json};
 ghost use Rattle.shared_core_base.specs.MessageType.{type_of};
 ghost use Rattle.shared_core_message.specs.Schemas.{schema_at};
@@ -12,7 +12,7 @@ ghost use Rattle.make_lines.specs.Lines.{line_code};
 ghost use Rattle.make_lines.specs.Lines.{bytes_said, bytes_name, message_said, nothing_said, line_payload};
 ghost use Rattle.make_lines.specs.Lines.{has_flag, ack_name, line_flag, word, is_alone, line_header, framed};
 ghost use Rattle.make_lines.specs.Lines.{agrees_in_flag, word_fault, alone_given, with_size, header_given};
-ghost use Rattle.make_lines.specs.Lines.{item_said, says_no_item, rest_said, line_said};
+ghost use Rattle.make_lines.specs.Lines.{item_said, says_no_item, rest_said, line_said, is_blank};
 ghost use Rattle.make_lines.specs.Members.{given, pairs_fault, shape_fault};
 ghost use Rattle.make_lines.specs.Places.{name_at};
 ghost use Rattle.make_lines.specs.Appending.{said_of, Rejects, RejectsAnywhere, RejectsItem};
@@ -33,7 +33,8 @@ use json_table::{Node, Shape};
 use shared_core_base::header::MessageType;
 use shared_core_base::version::Version;
 use shared_core_json_reader::{
-    Reason, payload_into, payload_of_node, read_bytes, read_u32, read_u64, table_of_text,
+    Reason, payload_into, payload_of_node, read_bytes, read_u32, read_u64, short_table,
+    table_of_text,
 };
 use shared_core_message::schemas::schema_at;
 use std::alloc::{AllocError, Global};
@@ -604,6 +605,31 @@ impl Buffers {
     }
 }
 
+/// Appends the bytes that a line means that is not blank, which may be long or nested deep.
+#[inline(never)]
+#[tactic(auto, unfolding(crate::specs::Lines::line_made))]
+fn append_long(
+    alloc: Global,
+    version: Version,
+    line: &[u8],
+    buffers: &mut Buffers,
+    out: &mut Vec<u8>,
+) -> Result<(), LineError>
+    requires { is_blank line.now ≡ false }
+    ensures { AppendsLine version line.now result out.old.items out.new.items }
+{
+    let error = match table_of_text(alloc, line, &mut buffers.scratch) {
+        Ok(table) => {
+            return append_said(alloc, version, &table.root(), &mut buffers.payload, out);
+        }
+        Err(error) => error,
+    };
+    match (error.reason, error.offset) {
+        (Reason::NotJson, Some(offset)) => Err(reject_text(alloc, line, offset)),
+        _ => Err(out_of_memory(alloc)),
+    }
+}
+
 /// Appends the bytes that a line means, without its newline; none for a blank one. After an error nothing is appended,
 /// unless an allocation failed.
 #[tactic(auto, unfolding(crate::specs::Lines::line_made))]
@@ -619,14 +645,8 @@ pub fn append_line(
     if is_blank(line) {
         return Ok(());
     }
-    let error = match table_of_text(alloc, line, &mut buffers.scratch) {
-        Ok(table) => {
-            return append_said(alloc, version, &table.root(), &mut buffers.payload, out);
-        }
-        Err(error) => error,
-    };
-    match (error.reason, error.offset) {
-        (Reason::NotJson, Some(offset)) => Err(reject_text(alloc, line, offset)),
-        _ => Err(out_of_memory(alloc)),
+    if let Some(table) = short_table(alloc, line, &mut buffers.scratch) {
+        return append_said(alloc, version, &table.root(), &mut buffers.payload, out);
     }
+    append_long(alloc, version, line, buffers, out)
 }

@@ -13,7 +13,8 @@ use Rattle.shared_core_json_reader.specs.declared.error.Reason.TheVariants.{OutO
 use Rattle.shared_core_json_reader.specs.declared.payload.Step.{Step as ProgramStep}
 use Rattle.shared_core_json_reader.specs.Appended.{both, row_bytes, rows_bytes, after, Appends}
 use Rattle.json.specs.Json.{Json, Members, no_members, member}
-use Rattle.json_table.specs.Tails.{members_len, last_members, IsTail}
+use Rattle.json_table.specs.Entries.{members_len}
+use Rattle.json_table.specs.Tails.{last_members, IsTail}
 use Rattle.json_table.proofs.Tails.{last_whole, last_next}
 use Rattle.shared_core_wire.specs.Schema as schema
 use Rattle.shared_core_wire.specs.Schema.{Kind, Row, OneOf, includes, numbers, all_numbers}

@@ -4,14 +4,15 @@ use Rattle.std.proofs.Common.{option_map, option_and_then, refl, sym, ap, subst,
 use Rattle.std.specs.Str.{is_utf8}
 use Rattle.json.specs.Token.{Token}
 use Rattle.json.specs.Lex.{tokens}
-use Rattle.json.specs.Json.{Json}
+use Rattle.json.specs.Json.{Json, if_last, document}
+use Rattle.json_table.proofs.Spelled.{document_deeper}
 use Rattle.shared_core_wire.specs.Canonical.{canonical_payload}
 use Rattle.shared_core_wire.specs.Value.{Parts}
 use Rattle.shared_core_codec.specs.Table.{table}
 use Rattle.shared_core_codec.specs.Payloads.{IsAccepted, payload_meaning}
 use Rattle.shared_core_codec.proofs.PayloadLaws.{canonical_is_read_back}
 use Rattle.shared_core_json_reader.specs.Reading.{only_value, json_of_text, message_read, value_payload}
-use Rattle.shared_core_json_reader.specs.Reading.{text_payload}
+use Rattle.shared_core_json_reader.specs.Reading.{max_depth, text_payload}
 use Rattle.shared_core_json_reader.specs.Appended.{message_bytes, after}
 use Rattle.shared_core_json_reader.specs.FirstError.{Step, PathError, message_error, path_text, value_error}
 use Rattle.shared_core_json_reader.specs.declared.error.Reason.{Reason}
@@ -32,6 +33,15 @@ pub of_tokens : (text : List ℕ) (ts : List Token) (o : Option Json) → IsText
     text ≡ o
 of_tokens text ts o t e = ap (λ (b : Bool). cond b (only_value (tokens text)) None) t.utf8 ∙ ap
     (λ (us : List Token). only_value us) (sym t.lexed) ∙ e
+
+-- a text that is not nested deep is the same value where texts may be nested deeper
+pub of_document : (text : List ℕ) (j : Json) → is_utf8 text ≡ true → document text ≡ Some j → json_of_text text ≡
+    Some j
+unfolding only_value
+of_document text j utf8 e =
+    of_tokens text (tokens text) (Some j) (record { utf8 = utf8; lexed = refl })
+    (ap (λ (r : Option (Json × List Token)).
+    option_and_then (λ p. if_last p.0 p.1) r) (document_deeper text j max_depth (omega arith) e))
 
 -- ---- the payload of a value
 

@@ -18,5 +18,5 @@ mod scalars;
 
 pub use bytes::read_bytes;
 pub use error::{JsonReadError, Reason};
-pub use read::{payload_into, payload_of, payload_of_node, table_of_text};
+pub use read::{payload_into, payload_of, payload_of_node, short_table, table_of_text};
 pub use scalars::{read_u32, read_u64};

@@ -141,9 +141,9 @@ fn index_from(names: &[Name], from: usize, key: &str) -> Option<usize>
     }
 }
 
-/// The number of the field of a schema, of which these are the names, of which a key is a name. That from `next` on
-/// which is as long is tried first, and `next` is set after it: most objects have their members in the order of the
-/// names.
+/// The number of the field that has a key as a name, of a schema of which these are the names. The first name from
+/// `next` on that is as long is tried first, and `next` is set after it: most objects have their members in the order
+/// of the names.
 #[inline(always)]
 fn next_number(schema: u32, names: &[Name], next: &mut usize, key: &str) -> Option<u32>
     requires { map name_view names.now ≡ names_of schema }

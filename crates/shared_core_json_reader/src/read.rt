@@ -1,8 +1,8 @@
 //! Reading a text: its JSON value is read into a table, and the payload is appended by the table. Each step is a call
 //! of its own, for a text of which a message is a part.
 
-ghost use Rattle.std.specs.Prelude.{◌≡◌, ◌≢◌, ◌++◌, ℕ, List, [], true, Some, None, IfOk, IfErr, OnOk, MatchOption};
-ghost use Rattle.std.specs.Prelude.{MatchResult};
+ghost use Rattle.std.specs.Prelude.{◌≡◌, ◌≢◌, ◌++◌, ℕ, List, [], true, Some, None, IfOk, IfErr, IfSome, OnOk};
+ghost use Rattle.std.specs.Prelude.{MatchOption, MatchResult};
 ghost use Rattle.std.specs.String.{string_bytes};
 ghost use Rattle.shared_core_codec.specs.Payloads.{IsAccepted, payload_meaning};
 ghost use Rattle.shared_core_json_reader.specs.Reading.{only_value, json_of_text, message_read};
@@ -19,6 +19,9 @@ use std::alloc::{AllocError, Global};
 
 /// How deep arrays and objects may be nested in a text; a message one hundred levels deep needs 202 at most.
 const MAX_DEPTH: usize = 1000;
+
+/// How many bytes a text has at most that is parsed at once, for which the buffers grow to five bytes for each.
+const SHORT: usize = 65536;
 
 /// How many bytes of a payload there is room for before it grows: most have fewer.
 const ROOM: usize = 256;
@@ -104,6 +107,22 @@ fn error_on(alloc: Global, reason: Reason, trail: &mut Vec<Step<'_>>) -> JsonRea
         },
         Err(_) => error_at(alloc, Reason::OutOfMemory, 0),
     }
+}
+
+/// Returns the table of the JSON value that a text is, if the text has at most 65,536 bytes, and its arrays and objects
+/// are nested at most 128 deep. The table borrows from the text and from the buffers. `None` says nothing;
+/// `table_of_text`, which takes longer, takes any text.
+#[inline]
+pub fn short_table<'a>(alloc: Global, text: &'a [u8], scratch: &'a mut Scratch) -> Option<Table<'a>>
+    ensures { IfSome result (λ table. json_of_text text.now ≡ Some table) }
+{
+    if text.len() > SHORT {
+        return None;
+    }
+    let Ok(text) = simdutf8::compat::from_utf8(text) else {
+        return None;
+    };
+    Table::parse(alloc, text, scratch).ok()
 }
 
 /// Returns the table of the JSON value that a text is, which borrows from the text and from the buffers. The only
@@ -225,6 +244,9 @@ pub fn payload_of(alloc: Global, schema: u32, text: &[u8]) -> Result<Vec<u8>, Js
         (λ value. SaysError error (value_error schema value))) }
 {
     let mut scratch = Scratch::new(alloc);
+    if let Some(table) = short_table(alloc, text, &mut scratch) {
+        return payload_of_node(alloc, schema, &table.root());
+    }
     let table = match table_of_text(alloc, text, &mut scratch) {
         Ok(table) => table,
         Err(error) => return Err(error),

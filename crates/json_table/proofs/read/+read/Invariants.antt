@@ -1,8 +1,8 @@
-use Rattle.std.proofs.Common.{◌≡◌, ℕ, ◌+◌, ◌*◌, ◌≤◌, ◌∷◌, ◌++◌, length}
+use Rattle.std.proofs.Common.{◌≡◌, ℕ, suc, ◌+◌, ◌*◌, ◌≤◌, ◌∷◌, ◌++◌, length, map}
 use Rattle.json.specs.Json.{Items, Members, items, members, value, parse_map}
-use Rattle.json_table.specs.Entries.{array, object, items_entries, members_entries}
-use Rattle.json_table.specs.Views.{entries_view}
-use Rattle.json_table.proofs.Turns.{and_items, and_members}
+use Rattle.json_table.specs.Entries.{array, object}
+use Rattle.json_table.specs.Views.{entry_view}
+use Rattle.json_table.proofs.Turns.{and_items, and_members, items_front, members_front}
 use Rattle.json_table.proofs.read.+read.Given as goal
 
 abbrev pub decreases-read_value : goal.decreases-read_value
@@ -19,7 +19,8 @@ invariant-read_array-loop-reader l =
     (n : ℕ) × (js : Items) × (length l.reader ≤ n) × (items (value l.depth) (length l.initial.reader) l.initial.reader ≡
     parse_map (and_items js) (items (value l.depth) n l.reader))
     × (length l.reader ≤ length l.initial.reader) × (l.at ≡ length l.fn.entries.items)
-    × (entries_view l.entries.items ≡ entries_view l.fn.entries.items ++ array 0 ∷ items_entries js)
+    × (map entry_view l.entries.items ≡ map entry_view l.fn.entries.items ++ array 0 ∷ items_front (suc (length
+    l.fn.entries.items)) js)
 
 abbrev pub decreases-read_array-loop-reader : goal.decreases-read_array-loop-reader
 decreases-read_array-loop-reader l = length l.reader
@@ -29,7 +30,8 @@ invariant-read_object-loop-key l =
     (n : ℕ) × (ms : Members) × (length l.reader ≤ n) × (members (value l.depth) (length l.initial.reader)
     l.initial.reader ≡ parse_map (and_members ms) (members (value l.depth) n l.reader))
     × (length l.reader ≤ length l.initial.reader) × (l.at ≡ length l.fn.entries.items)
-    × (entries_view l.entries.items ≡ entries_view l.fn.entries.items ++ object 0 ∷ members_entries ms)
+    × (map entry_view l.entries.items ≡ map entry_view l.fn.entries.items ++ object 0 ∷ members_front (suc (length
+    l.fn.entries.items)) ms)
 
 abbrev pub decreases-read_object-loop-key : goal.decreases-read_object-loop-key
 decreases-read_object-loop-key l = length l.reader

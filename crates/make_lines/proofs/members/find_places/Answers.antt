@@ -1,6 +1,6 @@
 use Rattle.std.proofs.Common.{◌≡◌, ℕ, Some, None, slice_set, sym, ap, subst, ◌∙◌}
 use Rattle.json.specs.Json.{Members, member}
-use Rattle.json_table.specs.Tails.{members_len}
+use Rattle.json_table.specs.Entries.{members_len}
 use Rattle.make_lines.specs.Places.{place_of}
 use Rattle.make_lines.proofs.Placing.{ArePlacesSoFar, AreWellSoFar, no_places, no_keys, placed, taken, some_left}
 use Rattle.make_lines.proofs.Placing.{no_place_fault, taken_fault}

@@ -1,6 +1,6 @@
 use Rattle.std.proofs.Common.{◌≡◌, ◌∙◌, subst, sym, ap, refl, None, Some}
 use Rattle.json.specs.Json.{Members}
-use Rattle.json_table.specs.Tails.{members_len}
+use Rattle.json_table.specs.Entries.{members_len}
 use Rattle.shared_core_json_reader.specs.Rows.{named_rows}
 use Rattle.shared_core_json_reader.specs.Places.{number_of}
 use Rattle.shared_core_json_reader.specs.FirstError.{first_unknown}

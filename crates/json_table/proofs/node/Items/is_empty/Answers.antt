@@ -1,11 +1,22 @@
-use Rattle.std.proofs.Common.{◌≡◌, ◌≢◌, ◌==◌, MatchBool, length, subst}
-use Rattle.json.specs.Json as json
-use Rattle.json.specs.Json.{no_items}
-use Rattle.json_table.proofs.Seen.{are_items_left}
+use Rattle.std.proofs.Common.{◌∙◌, sym, arith}
+use Rattle.json_table.proofs.Seen.{items_inside, end_of_items, some_items, seen_items}
 use Rattle.json_table.proofs.node.Items.is_empty.Goals as goal
 
-pub returns : goal.returns
-returns c =
-    let left = subst (λ (js : json.Items). MatchBool (length c.self.inside.entries.now == 0) (js ≡ no_items) (js ≢
-    no_items)) c.self.view_is (are_items_left c.self.inside.entries.now c.self.invariant) in
-    rw c.is_empty.ensures left
+pub offset_bounds-self-inside-self-inside : goal.offset_bounds-self-inside-self-inside
+offset_bounds-self-inside-self-inside c =
+    omega (arith, c.self.told, items_inside c.self.inside.entries.now c.self.inside.at _ c.self.invariant.1)
+
+pub bounds-self-inside-self-inside : goal.bounds-self-inside-self-inside
+bounds-self-inside-self-inside c = items_inside c.self.inside.entries.now c.self.inside.at _ c.self.invariant.1
+
+pub returns-in-EndArray : goal.returns-in-EndArray
+returns-in-EndArray c =
+    let seen = seen_items c.self.inside.entries.now c.self.inside.at _ c.self.invariant.1 in
+    sym c.self.view_is ∙ seen
+    ∙ end_of_items c.self.inside.entries.now c.self.inside.at _ c.self.invariant.1 c.in-EndArray.is
+
+pub returns-in_default : goal.returns-in_default
+returns-in_default c none =
+    let seen = seen_items c.self.inside.entries.now c.self.inside.at _ c.self.invariant.1 in
+    some_items c.self.inside.entries.now c.self.inside.at _ c.self.invariant.1 (sym seen ∙ c.self.view_is ∙ none)
+    c.in_default.not-EndArray

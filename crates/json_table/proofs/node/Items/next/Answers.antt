@@ -1,33 +1,39 @@
-use Rattle.std.proofs.Common.{sym, ap₂, ◌∙◌}
+use Rattle.std.proofs.Common.{◌∙◌, sym, ap₂, subst}
 use Rattle.json.specs.Json.{item}
-use Rattle.json_table.specs.Entries.{items_entries}
-use Rattle.json_table.proofs.Next.{seen_value, are_value, seen_items, are_items, first_item, no_item}
+use Rattle.json_table.specs.Views.{BeginsItems}
+use Rattle.json_table.proofs.Seen.{seen_value, seen_items, first_item}
 use Rattle.json_table.proofs.node.Items.next.Goals as goal
 
-pub returns-then-is_empty : goal.returns-then-is_empty
-returns-then-is_empty c =
-    let none = sym c.self.view_is ∙ no_item c.self.inside.entries.now c.self.invariant (sym c.is_empty.ensures
-    ∙ c.if-is_empty.true) in
-    (none, none)
-
-pub split_value-requires : goal.split_value-requires
-split_value-requires c =
-    let first = first_item c.self.inside.entries.now c.self.invariant (sym c.is_empty.ensures ∙ c.if-is_empty.false) in
-    (first.0, items_entries first.1, first.2)
+pub place_after-requires : goal.place_after-requires
+place_after-requires c =
+    let seen = seen_items c.self.inside.entries.now c.self.inside.at _ c.self.invariant.1 in
+    let first = first_item c.self.inside.entries.now c.self.inside.at _ c.self.invariant.1 (λ none.
+    c.if-is_empty.ensures (sym c.self.view_is ∙ seen ∙ none)) in
+    (first.0, first.3)
 
 pub invariant_of-result : goal.invariant_of-result
 invariant_of-result c =
-    let first = first_item c.self.inside.entries.now c.self.invariant (sym c.is_empty.ensures ∙ c.if-is_empty.false) in
-    are_value _ first.0 (c.split_value.ensures first.0 (items_entries first.1) first.2).0
+    let seen = seen_items c.self.inside.entries.now c.self.inside.at _ c.self.invariant.1 in
+    let first = first_item c.self.inside.entries.now c.self.inside.at _ c.self.invariant.1 (λ none.
+    c.if-is_empty.ensures (sym c.self.view_is ∙ seen ∙ none)) in
+    (first.0, first.3)
 
 pub invariant_of-self : goal.invariant_of-self
 invariant_of-self c =
-    let first = first_item c.self.inside.entries.now c.self.invariant (sym c.is_empty.ensures ∙ c.if-is_empty.false) in
-    are_items _ first.1 (c.split_value.ensures first.0 (items_entries first.1) first.2).1
+    let seen = seen_items c.self.inside.entries.now c.self.inside.at _ c.self.invariant.1 in
+    let first = first_item c.self.inside.entries.now c.self.inside.at _ c.self.invariant.1 (λ none.
+    c.if-is_empty.ensures (sym c.self.view_is ∙ seen ∙ none)) in (
+      first.1,
+      subst (λ n. BeginsItems c.self.inside.entries.now n first.1) (sym (c.place_after.ensures first.0 first.3))
+          first.4,
+    )
 
 pub returns : goal.returns
 returns c =
-    let first = first_item c.self.inside.entries.now c.self.invariant (sym c.is_empty.ensures ∙ c.if-is_empty.false) in
-    let parts = c.split_value.ensures first.0 (items_entries first.1) first.2 in
-    sym c.self.view_is ∙ first.3 ∙ ap₂ item (sym (seen_value c.split_value.result.0.now first.0 parts.0)) (sym
-    (seen_items c.split_value.result.1.now first.1 parts.1))
+    let seen = seen_items c.self.inside.entries.now c.self.inside.at _ c.self.invariant.1 in
+    let first = first_item c.self.inside.entries.now c.self.inside.at _ c.self.invariant.1 (λ none.
+    c.if-is_empty.ensures (sym c.self.view_is ∙ seen ∙ none)) in
+    let left = subst (λ n. BeginsItems c.self.inside.entries.now n first.1) (sym (c.place_after.ensures first.0
+    first.3)) first.4 in
+    sym c.self.view_is ∙ seen ∙ first.2 ∙ ap₂ item (sym (seen_value c.self.inside.entries.now _ first.0 first.3))
+    (sym (seen_items c.self.inside.entries.now _ first.1 left))

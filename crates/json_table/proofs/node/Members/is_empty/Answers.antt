@@ -1,11 +1,22 @@
-use Rattle.std.proofs.Common.{◌≡◌, ◌≢◌, ◌==◌, MatchBool, length, subst}
-use Rattle.json.specs.Json as json
-use Rattle.json.specs.Json.{no_members}
-use Rattle.json_table.proofs.Seen.{are_members_left}
+use Rattle.std.proofs.Common.{◌∙◌, sym, arith}
+use Rattle.json_table.proofs.Seen.{members_inside, end_of_members, some_members, seen_members}
 use Rattle.json_table.proofs.node.Members.is_empty.Goals as goal
 
-pub returns : goal.returns
-returns c =
-    let left = subst (λ (js : json.Members). MatchBool (length c.self.inside.entries.now == 0) (js ≡ no_members) (js ≢
-    no_members)) c.self.view_is (are_members_left c.self.inside.entries.now c.self.invariant) in
-    rw c.is_empty.ensures left
+pub offset_bounds-self-inside-self-inside : goal.offset_bounds-self-inside-self-inside
+offset_bounds-self-inside-self-inside c =
+    omega (arith, c.self.told, members_inside c.self.inside.entries.now c.self.inside.at _ _ c.self.invariant.1)
+
+pub bounds-self-inside-self-inside : goal.bounds-self-inside-self-inside
+bounds-self-inside-self-inside c = members_inside c.self.inside.entries.now c.self.inside.at _ _ c.self.invariant.1
+
+pub returns-in-EndObject : goal.returns-in-EndObject
+returns-in-EndObject c =
+    let seen = seen_members c.self.inside.entries.now c.self.inside.at _ _ c.self.invariant.1 in
+    sym c.self.view_is ∙ seen
+    ∙ end_of_members c.self.inside.entries.now c.self.inside.at _ _ c.self.invariant.1 c.in-EndObject.is
+
+pub returns-in_default : goal.returns-in_default
+returns-in_default c none =
+    let seen = seen_members c.self.inside.entries.now c.self.inside.at _ _ c.self.invariant.1 in
+    some_members c.self.inside.entries.now c.self.inside.at _ _ c.self.invariant.1 (sym seen ∙ c.self.view_is ∙ none)
+    c.in_default.not-EndObject
