@@ -57,9 +57,13 @@ IsSaid j (Line fault) said = said ≡ said_of j fault
 IsSaid j (Message s reason) said =
     (path : List ℕ) × (message_error s j ≡ Some (reason, path)) × (said ≡ inside (codes "message") reason path)
 
--- Unless an allocation failed, what is read of a line has the fault that this fault of its item says.
+-- What is read of a line has the fault that this fault of its item says.
+abbrev pub HasItemFault : {A : Type 0} → Json → Result A LineFault → ItemFault → Type 0
+HasItemFault j read fault = (said : LineFault) × (read ≡ Err said) × IsSaid j fault said
+
+-- The same, unless an allocation failed.
 abbrev pub RejectsItem : {A : Type 0} → Json → Result A LineFault → ItemFault → Type 0
-RejectsItem j read fault = reason_of fault ≢ lack → (said : LineFault) × (read ≡ Err said) × IsSaid j fault said
+RejectsItem j read fault = reason_of fault ≢ lack → HasItemFault j read fault
 
 -- A call appends these bytes, if they are read; otherwise it fails with their fault, and nothing is appended. It may
 -- also fail because an allocation fails.
@@ -80,7 +84,7 @@ AppendsAnywhere r read old new = (j : Json) → AppendsOf j r read old new
 abbrev pub AppendsItem : {T : Type 0} → Json → Result T ItemFault → Result (List ℕ) LineFault → List ℕ → List ℕ →
     Type 0
 AppendsItem j r read old new = MatchResult r (λ _. (bytes : List ℕ) × (read ≡ Ok bytes) × (new ≡ old ++ bytes))
-    (λ fault. reason_of fault ≢ lack → ((said : LineFault) × (read ≡ Err said) × IsSaid j fault said) × (new ≡ old))
+    (λ fault. reason_of fault ≢ lack → HasItemFault j read fault × (new ≡ old))
 
 -- Whether a line begins an object.
 abbrev pub begins_object : List ℕ → Bool

@@ -3,17 +3,17 @@
 //! What reads the members of a line hands back a `Fault`, which is a few bytes and copied at each step; the error, with
 //! its texts, is made of it once.
 
-ghost use Rattle.std.specs.Prelude.{◌≡◌, ◌≢◌, [], None, option_map, IfOk};
+ghost use Rattle.std.specs.Prelude.{◌≡◌, ◌≢◌, ℕ, List, [], codes, Some, None, option_map, IfOk};
 ghost use Rattle.std.specs.String.{string_bytes};
-ghost use Rattle.make_lines.specs.Errors.{lack, fault_of, at, inside as fault_inside, path_inside};
+ghost use Rattle.make_lines.specs.Errors.{LineFault, lack, fault_of, at, inside as fault_inside, path_inside};
 ghost use Rattle.make_lines.specs.declared.error.LineReason.TheVariants as variant;
 ghost use Rattle.make_lines.specs.Places.{name_at};
-ghost use Rattle.make_lines.specs.Appending.{said_of, untyped, text_fault};
+ghost use Rattle.make_lines.specs.Appending.{said_of, untyped, text_fault, message_error, reason_of, IsSaid};
 
 use crate::error::{LineError, LineReason};
-use crate::members::{LINE, Line, TYPE, name_at};
+use crate::members::{LINE, Line, MESSAGE, TYPE, name_at};
 use crate::text::is_cut_off;
-use shared_core_json_reader::{JsonReadError, Reason};
+use shared_core_json_reader::{JsonReadError, Reason, payload_of_node};
 use std::alloc::{AllocError, Global};
 
 /// Why a line is rejected: for the value of the member of a place, or for itself if the place is `LINE`. If no type has
@@ -182,4 +182,40 @@ pub fn reject_text(alloc: Global, line: &[u8], offset: usize) -> LineError
         return without_path(alloc, LineReason::CutOff, None);
     }
     without_path(alloc, LineReason::Json(Reason::NotJson), Some(offset))
+}
+
+/// The error for a rejected value inside the message of a line, which is of a schema. The message is read again for the
+/// path to the value: of a stream that is one message at most.
+#[cold]
+fn message_error(alloc: Global, schema: u32, line: &Line<'_, '_>, reason: Reason) -> LineError
+    requires { reason ≢ Reason.OutOfMemory
+        → (path : List ℕ) × (message_error schema line.now ≡ Some (reason, path)) }
+    ensures reason { result.reason ≢ lack → result.reason ≡ variant.Json reason }
+    ensures fault { result.reason ≢ lack
+        → (path : List ℕ) × (message_error schema line.now ≡ Some (reason, path))
+        × (fault_of result ≡ fault_inside (codes "message") reason path) }
+{
+    if reason == Reason::OutOfMemory {
+        return out_of_memory(alloc);
+    }
+    let Some(message) = line.given(MESSAGE) else {
+        unreachable!();
+    };
+    match payload_of_node(alloc, schema, &message) {
+        Ok(_) => unreachable!(),
+        Err(error) => reject_inside(alloc, &error, "message"),
+    }
+}
+
+/// The error that the fault of an item is.
+#[cold]
+pub fn item_error(alloc: Global, line: &Line<'_, '_>, fault: ItemFault) -> LineError
+    requires { reason_of fault ≢ lack → (said : LineFault) × IsSaid line.now fault said }
+    ensures reason { result.reason ≢ lack → result.reason ≡ reason_of fault }
+    ensures fault { result.reason ≢ lack → IsSaid line.now fault (fault_of result) }
+{
+    match fault {
+        ItemFault::Line(fault) => error_of(alloc, line, fault),
+        ItemFault::Message(schema, reason) => message_error(alloc, schema, line, reason),
+    }
 }

@@ -4,7 +4,7 @@ use Rattle.shared_core_json_reader.specs.declared.error.Reason.{Reason}
 use Rattle.make_lines.specs.Appending.{message_error}
 use Rattle.make_lines.specs.Members.{given}
 use Rattle.make_lines.proofs.ItemFaults.{same_error}
-use Rattle.make_lines.proofs.line.message_error.Goals as goal
+use Rattle.make_lines.proofs.reject.message_error.Goals as goal
 
 pub returns-clause-fault : goal.returns-clause-fault
 returns-clause-fault c some =

@@ -3,7 +3,7 @@ use Rattle.make_lines.specs.Appending.{AppendsOf}
 use Rattle.make_lines.specs.Errors.{LineFault}
 use Rattle.make_lines.specs.Lines.{bytes_said, line_header, header_given}
 use Rattle.make_lines.specs.Members.{given}
-use Rattle.make_lines.proofs.line.append_header.Goals as goal
+use Rattle.make_lines.proofs.header.append_header.Goals as goal
 
 pub returns-in-Some : goal.returns-in-Some
 returns-in-Some c =

@@ -2,7 +2,7 @@ use Rattle.std.proofs.Common.{◌∙◌, sym, refl}
 use Rattle.std.proofs.lemmas.Result.{err_from_is_err_and}
 use Rattle.make_lines.specs.Appending.{said_of}
 use Rattle.make_lines.proofs.ItemFaults.{bytes_rejected, alone_rejected}
-use Rattle.make_lines.proofs.line.payload_of.Goals as goal
+use Rattle.make_lines.proofs.payload.payload_of.Goals as goal
 
 pub returns-in_err-payload-in-None-Some-None : goal.returns-in_err-payload-in-None-Some-None
 returns-in_err-payload-in-None-Some-None c =

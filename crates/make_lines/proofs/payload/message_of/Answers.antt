@@ -2,7 +2,7 @@ use Rattle.std.proofs.Common.{◌≡◌, ◌∙◌, sym, ap}
 use Rattle.shared_core_json_reader.specs.declared.error.Reason.{Reason}
 use Rattle.make_lines.specs.declared.error.LineReason.TheVariants as variant
 use Rattle.make_lines.proofs.ItemFaults.{message_rejected}
-use Rattle.make_lines.proofs.line.message_of.Goals as goal
+use Rattle.make_lines.proofs.payload.message_of.Goals as goal
 
 pub returns-in-Err : goal.returns-in-Err
 returns-in-Err c some =
