@@ -7,7 +7,7 @@ use Rattle.shared_core_json_reader.specs.Reading.{json_of_text}
 use Rattle.shared_core_json_reader.proofs.Whole.{of_document}
 use Rattle.shared_core_json_reader.proofs.read.short_table.Goals as goal
 
--- What holds of an `Ok` holds of what `ok` makes of it.
+-- A property of the value of an `Ok` carries over to the option that `Result::ok` returns.
 kept : {T E : Type 0} (P Q : T → Type 0) (r : Result T E) → ((x : T) → P x → Q x) → IfOk r P → IfSome (result_ok r) Q
 kept P Q (Ok x) more h = more x h
 kept P Q (Err e) more h = tt
