@@ -1,16 +1,16 @@
 """What pages repeat of proto/journal.proto: how many schemas, types and commands there are, wherever a page or the
-header for C says so, the kinds of types in docs/FORMAT.md, and the list of schemas in docs/C.md; and of the description
-of the programs: how each is used in docs/PROGRAMS.md, and what its arguments do. All else of these files is written by
-hand.
+header for C says so, the kinds of types in docs/FORMAT.md, and the list of schemas in docs/C.md; of the description of
+the programs: how each is used in docs/PROGRAMS.md, and what its arguments do; and of docs/PERFORMANCE.md: the table of
+speed in README.md. All else of these files is written by hand.
 """
 import re
 import textwrap
 
-from . import ROOT, missing, programs  # noqa: F401
+from . import ROOT, Refused, missing, programs  # noqa: F401
 from .proto import schemas, typed
 
-ABOUT = "The numbers of schemas, types and commands on pages, the list of schemas, and the arguments of the programs."
-SOURCE = "proto/journal.proto and proto/programs.toml"
+ABOUT = "Pages: the numbers of schemas, types and commands, the programs' arguments, the table of speed in README.md."
+SOURCE = "proto/journal.proto, proto/programs.toml and docs/PERFORMANCE.md"
 
 PAGES = ("README.md", "CHANGELOG.md", "bench/README.md", "conformance/README.md", "docs/*.md", "crates/*/README.md")
 
@@ -36,6 +36,23 @@ LIST_MARK = "\n<!-- Written by tools/generate.py pages from here on. -->\n\n"
 PROGRAMS = "docs/PROGRAMS.md"
 USED = "(## {name}: .*\n\n)(?:    .*\n)+"
 ARGUMENTS = re.compile(r"(<!-- Written by tools/generate\.py pages\. -->\n\n)(?:(?:- |  ).*\n)+")
+
+# The first page: its table of speed, whose rows are those of the page of measurements that begin with these cells.
+FRONT = "README.md"
+SPEED = re.compile(r"(<!-- Written by tools/generate\.py pages of docs/PERFORMANCE\.md\. -->\n\n)(?:\|.*\n)+")
+MEASUREMENTS = "docs/PERFORMANCE.md"
+SPEED_ROWS = (
+    ("items of a replay, out of one chunk", "Items of a stream", ("replay", "`items`", "whole")),
+    ("items of a replay, borrowed from a slice", "Items of a stream", ("replay", "`item_refs`", "a slice")),
+    ("its messages, each decoded to its record", "Typed messages", ("replay", "`messages`", "whole")),
+    ("its frames, into a `Vec` that is used again", "Frames written", ("replay", "`encode_into`")),
+    ("its frames, into a `BytesMut` that is used again", "Frames written", ("replay", "`encode_spare`")),
+    ("frames of all types, each into a `Vec` of its own", "Frames written", ("mixed", "`encode_to_vec`")),
+    ("frames of all types, each into `Bytes` of its own", "Frames written", ("mixed", "`encode`")),
+    ("frames of a mebibyte, into a `Vec` that is used again", "Frames written", ("large", "`encode_into`")),
+    ("pairs of commands, compared with their payloads", "Comparing commands", ("compare", "`payloads`")),
+)
+UNITS = {"M": "million", "k": "thousand"}
 
 
 def counted():
@@ -100,6 +117,37 @@ def programs_page(text):
     return "".join(sections)
 
 
+def rows_of(section):
+    """The rows of a section's tables, each its cells by their headings."""
+    heads = None
+    for line in section.splitlines():
+        cells = [cell.strip() for cell in line.strip("|").split("|")]
+        if not line.startswith("|"):
+            heads = None
+        elif heads is None:
+            heads = cells
+        elif set(line) - set("|-"):
+            yield dict(zip(heads, cells, strict=True))
+
+
+def speed_row(sections, about, heading, beginning):
+    """A row of the table of speed, of the row of a section that begins with these cells."""
+    section = sections.get(heading, "")
+    found = [row for row in rows_of(section) if tuple(row.values())[:len(beginning)] == beginning]
+    rate = re.fullmatch(r"([\d.]+) ([Mk])", found[0]["ours a second"]) if len(found) == 1 else None
+    if rate is None:
+        raise Refused([f"{MEASUREMENTS}: {heading} has no row {' | '.join(beginning)} with a rate"])
+    return f"| {about} | {rate[1]} {UNITS[rate[2]]} | {found[0]['ratio'].partition(' ')[0]} |\n"
+
+
+def front_page(text):
+    """The first page."""
+    measured = re.split(r"^## (.*)\n", (ROOT / MEASUREMENTS).read_text(encoding="utf-8"), flags=re.M)
+    sections = dict(zip(measured[1::2], measured[2::2], strict=True))
+    head = "| Work | a second | ratio |\n|---|---|---|\n"
+    return SPEED.sub(lambda match: match[1] + head + "".join(speed_row(sections, *row) for row in SPEED_ROWS), text)
+
+
 def paths():
     found = {str(file.relative_to(ROOT)) for pattern in PAGES for file in ROOT.glob(pattern)}
     return sorted(found - set(MEASURED))
@@ -111,6 +159,8 @@ def files():
     for path in paths():
         text = (ROOT / path).read_text(encoding="utf-8")
         text = numbered(text, counts)
+        if path == FRONT:
+            text = front_page(text)
         if path == FORMAT:
             text = format_page(text)
         if path == PROGRAMS:
