@@ -1,7 +1,8 @@
 #!/bin/sh
 # The page of journal_view: its maker, and the page in a headless Chromium, by mouse and keys, of adversarial payloads.
 #
-# It takes the proved journal. The browser is driven over a pipe, without a network.
+# It takes the proved journal. The browser is driven over a pipe, without a network. docs/journal_view.png has to be a
+# picture of the page as it is now.
 set -u
 cd "$(dirname "$0")/../.." || exit 1
 . scripts/checks/lib.sh
@@ -20,6 +21,7 @@ elif ! timeout 120 chromium --headless --no-sandbox --disable-gpu --user-data-di
 else
   counted 'the page in a browser' timeout 900 python3 view/tests/test_page.py
   counted 'what moved, in a browser' timeout 900 python3 view/tests/test_moved.py
+  counted 'the picture of the page' timeout 300 python3 view/picture.py --check
 fi
 
 finish
