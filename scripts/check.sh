@@ -8,7 +8,7 @@ set -u
 cd "$(dirname "$0")/.." || exit 1
 
 all='layout table calls pages words generated description tests'
-all="$all run list streams diff dump make failures journal terminal waiting sweep view"
+all="$all run list streams diff dump make shown failures journal terminal waiting sweep view"
 all="$all conformance install package release c soak json arm64 python node rust go ruby refusals prost"
 
 # file_of NAME: the file of a check, which is Python, or shell that finds what its Python beside it takes
