@@ -6,11 +6,12 @@
     CRATE  journal_ffi or bench_ffi, whose library is crates/CRATE/out/libCRATE.a; for arm64 also journal or
            journal_list. What is for arm64 is in a folder of its own, out/TARGET.
 
-The toolchain builds nothing that it has not proved. Over what rt ci has proved journal_ffi takes half a minute, and
-bench_ffi four, since all of its functions are proved again; over what rt check keeps either takes some ten seconds, and
-from nothing every crate below is proved first. For arm64 only what depends on the processor is proved again of a
-library, and the functions of a program's own crate. It prints the line of the verdict. Where there is no rt, or no
-compiler for arm64, it has status 2.
+The toolchain builds nothing that it has not proved, and rt ci keeps no library that C can link. So over what rt ci has
+proved the functions of the crate itself are proved once more: journal_ffi takes some two minutes of CPU time, and
+bench_ffi four. Over what rt check keeps either takes some ten seconds, and from nothing every crate below is proved
+first. For arm64 only what depends on the processor is proved again of a library, and the functions of a program's own
+crate. On the standard error it says what it builds, and how long that takes; on the output it prints the line of the
+verdict. Where there is no rt, or no compiler for arm64, it has status 2.
 """
 from __future__ import annotations
 
@@ -31,6 +32,11 @@ PROGRAMS = ("journal", "journal_list")
 NATIVE, ARM = MACHINES
 
 
+# How long a build over proved libraries takes, where nothing is kept of it.
+TAKES = {"journal_ffi": "some two minutes", "bench_ffi": "some four minutes"}
+TAKES_PROGRAM = "some four minutes"
+
+
 class NotBuilt(Exception):
     """Why nothing is built: what is missing here."""
 
@@ -45,6 +51,11 @@ def run(words: list[str | pathlib.Path], folder: pathlib.Path = ROOT) -> str:
     if ended.returncode != 0:
         raise Failed(ended.stdout)
     return ended.stdout
+
+
+def tell(text: str) -> None:
+    """Says what begins, and takes long."""
+    print(f"build.py: {text}", file=sys.stderr, flush=True)
 
 
 def rlib(name: str) -> pathlib.Path:
@@ -107,11 +118,13 @@ def build(crate: str, machine: Machine) -> str:
     is_of_rt = any((rlib(name) / "stamp").exists() for name in libraries)
     said = ""
     if not are_built(libraries) or (machine is NATIVE and is_of_rt):
-        print("build.py: proving what is not proved yet, from nothing more than an hour of processor time",
-              file=sys.stderr, flush=True)
+        tell("proving what is not proved yet, from nothing in more than an hour of CPU time")
         said = run(["rt", "lib"] if crate in LIBRARIES else ["rt", "check"], ROOT / "crates" / crate)
     if machine is not NATIVE or not said:
         target = place(crate, machine)
+        takes = TAKES.get(crate, TAKES_PROGRAM)
+        tell(f"building {crate} for {machine.name} over the proved libraries: its own functions are proved once more, "
+             f"in {takes} of CPU time the first time")
         if crate in LIBRARIES:
             said = built(crate, machine, kit, target)
         else:

@@ -3,13 +3,15 @@
 
     FOLDER             where the files are made; it is made too, and has nothing in it
     --gate FILE        what sh scripts/test.sh has printed over this commit: PROVED has its last line
+    --systems FILE     likewise, what sh scripts/check.sh before_release has printed
     --machine NAME     for this processor alone, x86_64 or aarch64
     --only KIND        files of this kind alone, which may be given several times; --list lists the kinds
     --draft            also of changes that are not committed, which PROVED then says
 
 The files are listed by --list. Beside them are PROVED, which says what is proved and what is trusted, a list of what is
 within (SPDX) and SHA256SUMS. The same commit has the same bytes in any folder and on any day, made by the same tools.
-What is not proved yet is proved first, in more than an hour; docs/RELEASING.md has what is run before a release.
+What is not proved yet is proved first, in more than an hour; docs/RELEASING.md has what is run before a release. On the
+standard error is a line for each stage, before it begins.
 """
 from __future__ import annotations
 
@@ -63,6 +65,7 @@ PROVED = """\
 | Commit | {commit} |
 | Toolchain | {toolchain} |
 | The gate, `sh scripts/test.sh` | {gate} |
+| Other systems, `sh scripts/check.sh before_release` | {systems} |
 
 Each program and each call of the library is proved to do what its contract says; docs/PROOFS.md of that commit names
 the clause of each promise, and the programs and `journal_ffi` are proved for either processor. The packages for
@@ -71,18 +74,23 @@ Python, Ruby, Node, Rust and Go make those calls, and are tested.
 ## Needs
 
 {needs}
-## What the gate did not run
+## What was not run of these
 
 {not_run}
 ## What is trusted
 """
 
 
+def tell(text: str) -> None:
+    """Says which stage begins."""
+    print(f"release.sh: {text}", file=sys.stderr, flush=True)
+
+
 class Release:
     """What all files of a release are made of, in a folder of its own."""
 
     def __init__(self, work: pathlib.Path, options: argparse.Namespace):
-        said = {"commit": commit(options.draft), **gate(options)}
+        said = {"commit": commit(options.draft), **results(options)}
         self.work = work
         self.out = pathlib.Path(options.folder).resolve()
         self.date = int(package.seconds())
@@ -94,6 +102,7 @@ class Release:
 
     def installed(self, machine: Machine) -> pathlib.Path:
         """A folder below which the library, and the programs, for a machine are installed."""
+        tell(f"the programs and the library for {machine.name}: built where they are not up to date, and installed")
         prefix = self.work / machine.name
         package.installed(machine, str(prefix))
         package.strip(prefix, machine)
@@ -256,16 +265,23 @@ FOR_EACH = (wheel, gem, npm, deb, tarball)
 FOR_ALL = (rust, go)
 
 
-def gate(options: argparse.Namespace) -> dict[str, str]:
-    """What the gate's output says at its end, in which no case has failed, and what it did not run."""
-    if not options.gate:
-        return {"gate": "its result was not given", "not_run": "- not known\n"}
-    lines = pathlib.Path(options.gate).read_text(errors="replace").splitlines()
-    last = lines[-1] if lines else ""
-    if not re.fullmatch(r"\d+ passed, 0 failed", last):
-        raise NotMade(f"the last line of {options.gate} is '{last}', and not 'N passed, 0 failed'")
-    not_run = sorted({f"- {line}\n" for line in lines if "not run, since" in line}) or ["- nothing\n"]
-    return {"gate": last, "not_run": "".join(not_run)}
+def results(options: argparse.Namespace) -> dict[str, str]:
+    """What the outputs of the gate and of the checks on other systems say at their ends, in which no case has failed,
+    and what they did not run."""
+    found: dict[str, str] = {}
+    not_run: set[str] = set()
+    for name, file in (("gate", options.gate), ("systems", options.systems)):
+        if not file:
+            found[name] = "its result was not given"
+            not_run.add(f"- {name}: not known\n")
+            continue
+        lines = pathlib.Path(file).read_text(errors="replace").splitlines()
+        last = lines[-1] if lines else ""
+        if not re.fullmatch(r"\d+ passed, 0 failed", last):
+            raise NotMade(f"the last line of {file} is '{last}', and not 'N passed, 0 failed'")
+        found[name] = last
+        not_run |= {f"- {line}\n" for line in lines if "not run, since" in line}
+    return {**found, "not_run": "".join(sorted(not_run)) or "- nothing\n"}
 
 
 def trusted() -> str:
@@ -344,10 +360,13 @@ def make(options: argparse.Namespace, work: pathlib.Path) -> list[pathlib.Path]:
     for make_for in FOR_EACH:
         for machine in release.machines:
             if wanted(make_for, options):
+                tell(f"{make_for.__name__} for {machine.name}")
                 make_for(release, machine)
     for make_all in FOR_ALL:
         if wanted(make_all, options):
+            tell(f"{make_all.__name__} for {', '.join(machine.name for machine in release.machines)}")
             make_all(release)
+    tell("what is within, and the checksums")
     files = sorted(release.out.iterdir())
     package.write(release.out / "PROVED", release.proved)
     package.write(release.out / f"pendratsoa-{version()}.spdx.json", contents(release, files))
@@ -366,6 +385,7 @@ def arguments(words: list[str]) -> argparse.Namespace:
     parser = argparse.ArgumentParser(prog="release.sh", usage="release.sh [OPTION..] FOLDER", add_help=False)
     parser.add_argument("folder", metavar="FOLDER")
     parser.add_argument("--gate")
+    parser.add_argument("--systems")
     parser.add_argument("--machine", choices=[machine.name for machine in MACHINES])
     parser.add_argument("--only", action="append", choices=kinds)
     parser.add_argument("--draft", action="store_true")
@@ -382,8 +402,8 @@ def main(words: list[str]) -> int:
         return 0
     options = arguments(words)
     options.folder = os.path.abspath(options.folder)
-    if options.gate:
-        options.gate = os.path.abspath(options.gate)
+    options.gate = options.gate and os.path.abspath(options.gate)
+    options.systems = options.systems and os.path.abspath(options.systems)
     os.umask(0o022)
     os.chdir(ROOT)
     try:
