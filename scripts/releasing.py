@@ -41,7 +41,8 @@ class Stage:
 
 STAGES = (
     Stage("mutants", "scripts/mutants.sh", "the prover rejects every planted bug", of="HEAD:crates"),
-    Stage("gate", "scripts/test.sh", "every proof, test and check, on both processors, in bare systems too"),
+    Stage("gate", "scripts/test.sh", "every proof, test and check of the gate"),
+    Stage("systems", "scripts/check.sh before_release", "on arm64, and the files of a release in bare systems"),
     Stage("agree", "scripts/bench.sh agree 1 200000", "the library and prost agree on 200,000 random cases"),
     Stage("speed", "scripts/bench.sh speed", "the tables of the library", is_measure=True),
     Stage("programs", "scripts/bench.sh programs", "those of the programs", is_measure=True),
@@ -136,7 +137,8 @@ def run(folder: pathlib.Path, options: argparse.Namespace) -> None:
             f"this commit is measured on {', '.join(measured)} alone, and has to be on {PROCESSORS} processors: run it "
             "with --measure on another one, and copy its speed folder here"
         )
-    command = ["sh", "scripts/release.sh", "--gate", str(folder / "gate.log"), str(folder / "files")]
+    logs = ["--gate", str(folder / "gate.log"), "--systems", str(folder / "systems.log")]
+    command = ["sh", "scripts/release.sh", *logs, str(folder / "files")]
     if subprocess.run(command).returncode != 0:
         raise Stopped("scripts/release.sh has failed")
 

@@ -1,10 +1,9 @@
 #!/bin/sh
-# The programs and the library for C on arm64, under qemu: what the programs print of the examples, the library's
-# constants, an example, the test vectors and adversarial calls.
+# On arm64, under qemu: what the programs print; the library for C, by its constants, test vectors, adversarial calls.
 #
-# scripts/install.sh --target builds them over the libraries that rt ci or rt lib has proved, and proves the crates of
-# the programs for that processor, in some eight processor minutes; of the proof of journal_ffi it takes what
-# scripts/build.py has kept for x86-64.
+# It is run before a release, and not by the gate. scripts/install.sh --target builds them over the libraries that rt ci
+# or rt lib has proved, and proves the crates of the programs for that processor, in some eight minutes of CPU time; of
+# the proof of journal_ffi it takes what scripts/build.py has kept for x86-64.
 set -u
 cd "$(dirname "$0")/../.." || exit 1
 . scripts/checks/lib.sh

@@ -1,6 +1,7 @@
 #!/usr/bin/env python3
 """A release: its files are the same from another folder, and are installed, used and removed in a bare system.
 
+It is run before a release, and not by the gate, in which files.py makes the files for one processor.
 scripts/release.sh makes the files of what is proved, and once more those that have the library and the programs, in a
 clone of another name with another day, language and mask. The bare systems are roots of Debian's base packages and the
 interpreters, which mmdebstrap makes from the source of packages that apt is set up with, one for x86-64 and one for
@@ -467,8 +468,9 @@ def rejected(check: checks.Check) -> None:
     check.case("releasing.sh with a folder of the repository", is_right, ended)
 
 
-def made(check: checks.Check, machine: str | None) -> pathlib.Path:
-    """The files of a release, whose checksums are right; where a tool for them is absent the check ends."""
+def made(check: checks.Check, machine: str | None) -> tuple[pathlib.Path, str]:
+    """The files of a release, whose checksums are right, and what was said of the stages; where a tool for them is
+    absent the check ends."""
     release = check.work / "release"
     words = ["sh", "scripts/release.sh", "--draft", *(["--machine", machine] if machine else []), release]
     ended = checks.run(words)
@@ -480,7 +482,7 @@ def made(check: checks.Check, machine: str | None) -> pathlib.Path:
     check.case("release.sh", ended.status == 0, ended)
     check.stop_if_failed()
     check.command("sha256sum -c", ["sha256sum", "--check", "--strict", "--quiet", "SHA256SUMS"], cwd=release)
-    return release
+    return release, ended.err.decode()
 
 
 def again(check: checks.Check, release: pathlib.Path) -> None:
@@ -525,12 +527,11 @@ def main(check: checks.Check) -> None:
     for name in checks.PROGRAMS:
         check.program(name)
     check.static_library()
-    rejected(check)
     arm = machines.MACHINES[1]
     has_arm = shutil.which(f"{arm.tools}gcc") and pathlib.Path("/usr/aarch64-linux-gnu/include/stdlib.h").exists()
     if not has_arm:
         check.without("what is for arm64", f"{arm.tools}gcc with its C library")
-    release = made(check, None if has_arm else "x86_64")
+    release, _ = made(check, None if has_arm else "x86_64")
     again(check, release)
     if os.geteuid() != 0:
         check.left_out("the bare systems", "only root may make them")
