@@ -1,10 +1,10 @@
 #!/usr/bin/env python3
-"""Links, paths, worked lines and the names in tables of promises exist; the README shows what runs.
+"""Links, paths, worked lines and the names in tables of promises exist; the README shows what is there.
 
 Each link, anchor and path of this repository in `code`, the length of lines, the rows of tables, the form of
-decisions, each worked line of conformance, the test vectors of each rule, the README's page of code and the dump that
-it shows, each name in a table of promises, in the crates of its section, and each `unsafe` block, which the page on
-what is proved names. What is missing is shown before the last line.
+decisions, each worked line of conformance, the test vectors of each rule, the code and the dump that the README shows,
+the table of compatibility, each name in a table of promises, in the crates of its section, and each `unsafe` block,
+which the page on what is proved names. What is missing is shown before the last line.
 """
 from __future__ import annotations
 
@@ -29,6 +29,9 @@ FOLDERS = (
     "bench", "conformance", "crates", "docs", "examples", "go", "include", "node", "proto", "python", "ruby", "rust",
     "scripts", "share", "tests", "tools", "view",
 )
+
+# The folders of the packages.
+LANGUAGES = ("python", "rust", "go", "ruby", "node")
 
 # What a build leaves, which is not there before it.
 BUILT = ("out", "target")
@@ -192,13 +195,6 @@ def rules() -> Found:
         yield page, f"{seen[each]} headings in {each[0]} begin: {each[2]}", seen[each] == 1
 
 
-def page_of_code() -> Found:
-    """The page of code of the README is part of the program that the gate proves and runs."""
-    program = "crates/readme_example/src/main.rt"
-    shown = "".join(f"{line}\n" for line, fence in fences("README.md") if fence == "rust")
-    yield "README.md", f"its page of code is not part of {program}", bool(shown) and shown in text(program)
-
-
 def quoted_code() -> Found:
     """What the page of a crate quotes of code is there, line by line."""
     code = {line.lstrip(" ") for file in files("crates", ".rt") for line in lines(file)}
@@ -248,12 +244,45 @@ def promised_names() -> Found:
             yield page, f"{name} is not in crates/{crate}", name in known or bool(words_of(name))
 
 
-def guarantees() -> Found:
-    """Each name among the guarantees of the README is a word of some crate."""
+def front_names() -> Found:
+    """Each name that the README says is proved is a word of some crate, and each code of its tables is on the page of
+    its row."""
     known = set().union(*map(words_of, crates.uses()))
-    section = text("README.md").partition("\n## Guarantees\n")[2].partition("\n## ")[0]
+    section = text("README.md").partition("\n## What is proved\n")[2].partition("\n|")[0]
     for name in sorted({word for code in section.split("`")[1::2] for word in re.findall(r"\w+", code)}):
         yield "README.md", f"{name} is in no crate", name in known
+    for row in re.findall(r"^\| .* \|$", text("README.md").partition("\n## Use it\n")[2].partition("\n## ")[0], re.M):
+        pages_of_row = "".join(text(path) for path in re.findall(r"\]\(([^)]+)\)", row))
+        for code in row.split("`")[1::2]:
+            yield "README.md", f"its page has no {code}", code in pages_of_row
+
+
+# The row of the table of compatibility, the file that says what is needed, and where.
+NEEDED = (
+    ("Python", "python/pyproject.toml", r'^requires-python = ">=([\d.]+)"'),
+    ("Go", "go/go.mod", r"^go ([\d.]+)"),
+    ("Ruby", "ruby/pendratsoa.gemspec", r'required_ruby_version = ">= ([\d.]+)"'),
+    ("Rust", "rust/Cargo.toml", r'^rust-version = "([\d.]+)"'),
+    ("Node", "node/package.json", r'"node": ">=([\d.]+)"'),
+)
+COMPATIBILITY = "docs/COMPATIBILITY.md"
+
+
+def compatibility() -> Found:
+    """The table of compatibility has the versions that the packages and the check of a release have, and the pages of
+    those who install lead to it."""
+    rows = {line.split("|")[1].strip(): line for line in lines(COMPATIBILITY) if line.startswith("| ")}
+    for name, file, pattern in NEEDED:
+        needed = re.search(pattern, text(file), re.MULTILINE)
+        wanted = f"| {name} | {needed[1]} or later" if needed else "its row"
+        yield COMPATIBILITY, f"{file} has another version than {wanted}", wanted in rows.get(name, "")
+    for what, name in (("the library", "LIBRARY_GLIBC"), ("the programs", "PROGRAMS_GLIBC")):
+        found = re.search(rf"^{name} = \((\d+), (\d+)\)", text("scripts/checks/release.py"), re.MULTILINE)
+        wanted = f"{found[1]}.{found[2]} or later for {what}" if found else name
+        for page in (COMPATIBILITY, "README.md"):
+            yield page, f"it lacks {wanted}", wanted in " ".join(text(page).split())
+    for page in ("README.md", "docs/C.md", *(f"{language}/README.md" for language in LANGUAGES)):
+        yield page, "no link leads to the table of compatibility", "COMPATIBILITY.md)" in text(page)
 
 
 def unsafe_blocks() -> Found:
@@ -267,8 +296,8 @@ def unsafe_blocks() -> Found:
 
 
 PARTS = (
-    links_and_paths, anchors, long_lines, tables, decisions, worked_lines, rules, page_of_code, quoted_code, shown_dump,
-    promised_names, guarantees, unsafe_blocks,
+    links_and_paths, anchors, long_lines, tables, decisions, worked_lines, rules, quoted_code, shown_dump,
+    promised_names, front_names, compatibility, unsafe_blocks,
 )
 
 

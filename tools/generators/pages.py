@@ -43,14 +43,11 @@ SPEED = re.compile(r"(<!-- Written by tools/generate\.py pages of docs/PERFORMAN
 MEASUREMENTS = "docs/PERFORMANCE.md"
 SPEED_ROWS = (
     ("items of a replay, out of one chunk", "Items of a stream", ("replay", "`items`", "whole")),
-    ("items of a replay, borrowed from a slice", "Items of a stream", ("replay", "`item_refs`", "a slice")),
+    ("the same, borrowed from a slice", "Items of a stream", ("replay", "`item_refs`", "a slice")),
     ("its messages, each decoded to its record", "Typed messages", ("replay", "`messages`", "whole")),
     ("its frames, into a `Vec` that is used again", "Frames written", ("replay", "`encode_into`")),
-    ("its frames, into a `BytesMut` that is used again", "Frames written", ("replay", "`encode_spare`")),
-    ("frames of all types, each into a `Vec` of its own", "Frames written", ("mixed", "`encode_to_vec`")),
     ("frames of all types, each into `Bytes` of its own", "Frames written", ("mixed", "`encode`")),
     ("frames of a mebibyte, into a `Vec` that is used again", "Frames written", ("large", "`encode_into`")),
-    ("pairs of commands, compared with their payloads", "Comparing commands", ("compare", "`payloads`")),
 )
 UNITS = {"M": "million", "k": "thousand"}
 
