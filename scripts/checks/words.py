@@ -1,8 +1,10 @@
 #!/usr/bin/env python3
-"""Comments and pages use the field's words, and not the dialect of earlier versions.
+"""Comments and pages use the field's words, and not the dialect of earlier versions; pages have short sentences.
 
 Each phrase below is searched in pages, comments and docstrings, code in backquotes left out, also where it goes over
-the end of a line. A word with honest other uses is here only in the wrong phrase.
+the end of a line. A word with honest other uses is here only in the wrong phrase. A page is plain if it has none of the
+phrases of DIALECT either, and of a hundred sentences fewer than five with more than 30 words. Each page has to be,
+except those of EARLIER, which are reported with their numbers.
 """
 from __future__ import annotations
 
@@ -79,6 +81,63 @@ PHRASES = (
 PATTERNS = [(re.compile(pattern), better) for pattern, better in PHRASES]
 CODE = re.compile("`[^`]*`")
 
+# Phrases of pages, each with the field's term.
+DIALECT = (
+    (r"bytes (that are )?in no item", "trailing bytes, or incomplete data"),
+    (r"code (that is no type's|of no type)|codes of no type", "unassigned code"),
+    (r"as (it|they) came\b|\bthat came\b|\b(has|have) come\b", "as received, verbatim, received"),
+    (r"\b[Bb]eside\b", "compared with, next to, in addition to"),
+    (r"\balone\b", "only"),
+    (r", of which |[.:;] Of (the|its|an?|all|these|those|two|both) ", "split the sentence; name the subject first"),
+    (r"\b(is|are) no (?!longer\b|more\b|less\b|such\b)[a-z]+", "is not a"),
+    (r"\bsays (how|what|which|whether|why)\b", "documents, reports, specifies"),
+    (r"\b[Ww]hoever\b", "Audience:, anyone who"),
+    (r"\b[Tt]he kit\b", "Rattle's standard library, or the toolchain"),
+    (r"\b[Tt]he peer\b", "the baseline, or prost"),
+    (r"\bprocessor (time|minutes?|seconds?)", "CPU time"),
+    (r"\bof the caller's\b|\bof yours\b|\bone's own\b", "caller-provided, your own"),
+    (r"\bbut for\b", "except"),
+    (r"\b(Wanted|Elsewhere)\b", "Target, Other machines"),
+    (r"\ba line (each|for each)\b", "one per line"),
+    (r"the first that is true comes", "errors, in order of precedence"),
+    (r"in place of each after", "may replace any later error"),
+    (r"\bcalls? for C\b|\b([Rr]ecords?|structs?) of C\b|\brecords? of Go\b", "the C API, C structs, Go records"),
+    (r"\btrouble\b", "error"),
+    (r"\bletters\b", "characters"),
+    (r"\bdear\b", "expensive"),
+    (r"\blent\b", "borrowed"),
+    (r"\bgo(es)? over\b", "iterates over"),
+)
+DIALECT_PATTERNS = [(re.compile(pattern), better) for pattern, better in DIALECT]
+
+# How many words a sentence may have, and how many of a hundred may have more.
+WORDS, LONG = 30, 5
+
+# The pages that are not plain yet. One that becomes so is taken off.
+EARLIER = (
+    "CHANGELOG.md",
+    "bench/README.md",
+    "conformance/README.md",
+    "crates/README.md",
+    "crates/shared_core/README.md",
+    "docs/ARCHITECTURE.md",
+    "docs/C.md",
+    "docs/CHANGING.md",
+    "docs/DECISIONS.md",
+    "docs/DIFFERENCES.md",
+    "docs/FORMAT.md",
+    "docs/LANGUAGES.md",
+    "docs/PAYLOADS.md",
+    "docs/PERFORMANCE.md",
+    "docs/PROGRAMS.md",
+    "docs/PROOFS.md",
+    "go/README.md",
+    "node/README.md",
+    "python/README.md",
+    "ruby/README.md",
+    "rust/README.md",
+)
+
 # What a comment begins with, by the end of a file's name; a page is text from its first line.
 SLASHES, DASHES, HASHES, STARS = "//[/!]?", "--+", "#+", r"(?:/\*+|\*|//)"
 MARKS = {
@@ -129,7 +188,9 @@ def comment_lines(lines: list[str], marks: str, is_python: bool) -> collections.
         in_docstring ^= quotes % 2 == 1
 
 
-def found(lines: collections.abc.Iterable[Line]) -> list[tuple[int, str, str]]:
+def found(
+    lines: collections.abc.Iterable[Line], patterns: list[tuple[re.Pattern[str], str]]
+) -> list[tuple[int, str, str]]:
     """The phrases in lines, each with the number of the line in which it ends, and the better words."""
     # all lines as one text, in which no phrase goes over the end of a paragraph, and the offset at which each ends
     parts = [" "]
@@ -141,8 +202,40 @@ def found(lines: collections.abc.Iterable[Line]) -> list[tuple[int, str, str]]:
         ends.append(ends[-1] + len(parts[-1]))
         numbers.append(number)
     joined = "".join(parts)
-    phrases = [(phrase, better) for pattern, better in PATTERNS for phrase in pattern.finditer(joined)]
+    phrases = [(phrase, better) for pattern, better in patterns for phrase in pattern.finditer(joined)]
     return sorted((numbers[bisect.bisect_left(ends, phrase.end())], phrase[0], better) for phrase, better in phrases)
+
+
+def sentences(lines: collections.abc.Iterable[Line]) -> list[str]:
+    """The sentences of a page: those of its paragraphs and items, and the cells of its tables, without headings."""
+    blocks = [""]
+    for _, line in lines:
+        text = CODE.sub("Code", line or "").strip()
+        if text.startswith("|"):
+            blocks += [*text.strip("|").split("|"), ""]
+        elif not text or re.match(r"(#|!\[|<!--|[|-]*$)", text):
+            blocks.append("")
+        elif re.match(r"([-*]|\d+\.) ", text):
+            blocks.append(text)
+        else:
+            blocks[-1] = f"{blocks[-1]} {text}"
+    found = [part for block in blocks for part in re.split(r"(?<=[.!?])[)*\"]* +(?=[A-Z`\"(*\[])", block)]
+    return [part for part in found if len(part.split()) > 2]
+
+
+def plain(check: checks.Check, page: str, lines: list[Line]) -> None:
+    """Counts a case: a page is plain, or one of those that are not yet, which is reported."""
+    all_of_page = sentences(lines)
+    long = [sentence for sentence in all_of_page if len(sentence.split()) > WORDS]
+    phrases = found(lines, DIALECT_PATTERNS)
+    is_plain = not phrases and 100 * len(long) < LONG * max(len(all_of_page), 20)
+    said = f"{page}: {len(long)} of {len(all_of_page)} sentences have more than {WORDS} words, {len(phrases)} phrases"
+    if page in EARLIER:
+        print(f"words: {said}{'; it is plain, and no longer one of EARLIER' if is_plain else ''}")
+        return
+    shown = [f"\n  {number}: {phrase.strip()} (better: {better})" for number, phrase, better in phrases]
+    shown += [f"\n  {sentence.strip()}" for sentence in long]
+    check.case(said, is_plain, "".join(shown))
 
 
 def main(check: checks.Check) -> None:
@@ -155,8 +248,10 @@ def main(check: checks.Check) -> None:
             continue
         lines = [] if file == SELF else pathlib.Path(file).read_text(encoding="utf-8").split("\n")
         lines = [line if "@generated" not in line else "" for line in lines]
-        texts = page_lines(lines) if ending == PAGE else comment_lines(lines, MARKS[ending], ending == ".py")
-        phrases = [f"{file}:{number}: {phrase} (better: {better})" for number, phrase, better in found(texts)]
+        texts = list(page_lines(lines) if ending == PAGE else comment_lines(lines, MARKS[ending], ending == ".py"))
+        phrases = [f"{file}:{number}: {phrase} (better: {better})" for number, phrase, better in found(texts, PATTERNS)]
+        if ending == PAGE:
+            plain(check, file, texts)
         for phrase in phrases:
             check.case(phrase, False)
         if not phrases:
