@@ -128,7 +128,6 @@ EARLIER = (
     "docs/FORMAT.md",
     "docs/LANGUAGES.md",
     "docs/PAYLOADS.md",
-    "docs/PERFORMANCE.md",
     "docs/PROGRAMS.md",
     "docs/PROOFS.md",
     "go/README.md",
