@@ -115,7 +115,6 @@ WORDS, LONG = 30, 5
 
 # The pages that are not plain yet. One that becomes so is taken off.
 EARLIER = (
-    "bench/README.md",
     "conformance/README.md",
     "crates/README.md",
     "crates/shared_core/README.md",
