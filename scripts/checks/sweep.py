@@ -8,6 +8,7 @@ installed or in PYTHONPATH. Contracts allow a call to report a failed allocation
 all that says up to which sizes none does. SWEEP_DIVISOR divides all sizes, for programs that are slow.
 """
 import base64
+import binascii
 import contextlib
 import fcntl
 import functools
@@ -90,9 +91,13 @@ def other(content):
 BLOCK = 5_000
 
 
-def command_parts(number):
-    """The key of a command and its content, 27 times the nine bytes of another number."""
-    return b"%09d" % number, b"%09d" % (number * 7_919 % 1_000_000_000) * 27
+# How often a command's content has the nine bytes of its number.
+TIMES = 27
+
+
+def command_numbers(number):
+    """The key of a command, and the nine bytes of which its content is TIMES."""
+    return b"%09d" % number, b"%09d" % (number * 7_919 % 1_000_000_000)
 
 
 def blocks(line_of, count):
@@ -101,18 +106,34 @@ def blocks(line_of, count):
         yield b"".join(map(line_of, range(begin, min(begin + BLOCK, count))))
 
 
+def around():
+    """What is before the key of each command, and between key and content: the lengths of both are always the same."""
+    key, content = b"k" * 9, b"c" * 9 * TIMES
+    head, _, rest = frame(SET_STATE, set_state(key, content)).partition(key)
+    return head, rest.removesuffix(content)
+
+
+HEAD, BETWEEN = around()
+
+
 def command(number):
     """The frame of a command."""
-    return frame(SET_STATE, set_state(*command_parts(number)))
+    key, content = command_numbers(number)
+    return b"%b%b%b%b" % (HEAD, key, BETWEEN, content * TIMES)
 
 
 FRAME = len(command(0))
 
+# The line of a command's frame in a dump, without its offset, its key and its content in base64.
+DUMP_LINE = b'{"offset":%%d,"type":"SetStateCommand","code":1027,"length":%d,"message":' % (FRAME - 8)
+DUMP_LINE += b'{"key":"%b","value":{"content":"%b"}}}\n'
+
 
 def dump_line(number):
     """The line of the command's frame in a dump."""
-    head = b'{"offset":%d,"type":"SetStateCommand","code":1027,"length":%d,"message":' % (FRAME * number, FRAME - 8)
-    return b"".join([head, set_state_json(*command_parts(number)), b"}\n"])
+    # nine bytes are twelve characters, so that of each repetition of them is the same text
+    key, content = map(binascii.b2a_base64, command_numbers(number))
+    return DUMP_LINE % (FRAME * number, key[:-1], content[:-1] * TIMES)
 
 
 def journal(count=COMMANDS):
