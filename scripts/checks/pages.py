@@ -3,8 +3,8 @@
 
 Each link, anchor and path of this repository in `code`, the length of lines, the rows of tables, the form of
 decisions, each worked line of conformance, the test vectors of each rule, the code and the dump that the README shows,
-the table of compatibility, each name in a table of promises, in the crates of its section, and each `unsafe` block,
-which the page on what is proved names. What is missing is shown before the last line.
+the table of compatibility, the checks on the page of the gate, each name in a table of promises, in the crates of its
+section, and each `unsafe` block, which the page on what is proved names. What is missing is shown before the last line.
 """
 from __future__ import annotations
 
@@ -285,6 +285,17 @@ def compatibility() -> Found:
         yield page, "no link leads to the table of compatibility", "COMPATIBILITY.md)" in text(page)
 
 
+def stages() -> Found:
+    """The page on the gate has a row for each check, and for nothing else."""
+    page = "docs/GATE.md"
+    lists = re.findall(r"""^(?:all|before_release)=['"](?:\$all )?([^'"]*)""", text("scripts/check.sh"), re.MULTILINE)
+    names = {name for names in lists for name in names.split()}
+    section = text(page).partition("\n## The stages\n")[2].partition("\n## ")[0]
+    rows = set(re.findall(r"^\| `(\w+)` \|", section, re.MULTILINE))
+    for name in sorted(names | rows):
+        yield page, f"{name} is a check without a row, or a row without a check", name in names & rows
+
+
 def unsafe_blocks() -> Found:
     """The page on what is proved names the function of each `unsafe` block."""
     page = "docs/PROOFS.md"
@@ -297,7 +308,7 @@ def unsafe_blocks() -> Found:
 
 PARTS = (
     links_and_paths, anchors, long_lines, tables, decisions, worked_lines, rules, quoted_code, shown_dump,
-    promised_names, front_names, compatibility, unsafe_blocks,
+    promised_names, front_names, compatibility, stages, unsafe_blocks,
 )
 
 
