@@ -18,8 +18,8 @@ import checks
 PAGES = ("README.md", "SECURITY.md", "docs/*.md", "conformance/README.md", "examples/*.md")
 PROMPT = "    $ "
 
-# Commands whose status may be 1: a pipe that head closes, and two journals that differ.
-MAY_FAIL = re.compile(r"\| head\b|\bjournal diff\b")
+# Commands whose status may be 1: a pipe that head closes, two journals that differ, and an error that is shown.
+MAY_FAIL = re.compile(r"\| head\b|\bjournal diff\b|2>&1")
 
 
 @dataclasses.dataclass
