@@ -166,7 +166,7 @@ def writes(record):
                     # a pointer that is nil is an empty record, as it is where a field holds it
                     text += f"\t\tif value != nil {{\n{written(field, inner, 3)}\t\t}}\n"
                 else:
-                    text += f"\tcase {member}:\n{written(field, f'{TYPES[field.kind]}(value)', 2)}"
+                    text += f"\tcase {member}:\n{written(field, f'{element(field)}(value)', 2)}"
             text += "\t}\n"
         elif row.shape == "repeated":
             text += f"\tfor i := range {target} {{\n{written(row, f'{target}[i]', 2)}\t}}\n"
