@@ -2,10 +2,10 @@
 """Descriptions are rejected with what is wrong with them, and another .proto is taken as its table says.
 
 Each of the descriptions is the one of proto/journal.proto with an edit, and tools/generators has to reject it with
-these words, and with a line. tests/adopt/other.proto is what a runtime may have: scripts/adopt.sh says of it what
-tests/adopt/other.txt has, and each message that protoc makes with that file has, by the description that comes of it,
-the fields that it was made of. The hand-written test vectors get its numbers, and then those of before again. Nothing
-is generated or built. It needs protoc.
+these words, and with a line. The files of tests/adopt are what a runtime may have: scripts/adopt.sh says of each what
+the .txt beside it has, and each message that protoc makes with that file has, by the description that comes of it,
+the fields that it was made of; adoptions.py has smaller ones. The hand-written test vectors get its numbers, and then
+those of before again. Nothing is generated or built. It needs protoc.
 """
 from __future__ import annotations
 
@@ -16,6 +16,7 @@ import sys
 
 sys.dont_write_bytecode = True
 
+import adoptions
 from checks import ROOT, Check, NotRun, perform
 
 # What is wrong; a text of the description, and what is there in its place; and what is said, after the line. The
@@ -422,25 +423,23 @@ def fields(shown: object) -> list[str]:
     return []
 
 
-def adopted(check: Check) -> None:
-    """What comes of tests/adopt/other.proto."""
-    import adopt
-    from generators import descriptors, proto, renumbered
+def of_file(check: Check, file: str) -> tuple:
+    """The description that comes of a file of tests/adopt, which reads each message that protoc makes with that."""
+    from adoption import sample
+    from adoption.adoption import Adoption
+    from generators import descriptors, proto
     from generators.model import json_name
 
-    path = ROOT / "tests" / "adopt" / "other.proto"
+    path = ROOT / "tests" / "adopt" / file
     theirs = descriptors.read(path, with_imports=True)
-    adoption = adopt.Adoption(proto.description(), theirs, {})
+    adoption = Adoption(proto.description(), theirs)
     adoption.match()
     text = adoption.checked()
-    check.same(
-        "the table of other.proto",
-        (ROOT / "tests" / "adopt" / "other.txt").read_text(encoding="utf-8"),
-        adoption.report(True) + "\n",
-    )
+    table = path.with_suffix(".txt").read_text(encoding="utf-8")
+    check.same(f"the table of {file}", table, adoption.report(True) + "\n")
     (check.work / "journal.proto").write_text(text, encoding="utf-8")
     described = descriptors.read(check.work / "journal.proto", [ROOT / "proto"])
-    stream, expected = adopt.stream_of(adoption, theirs, path, described)
+    stream, expected = sample.stream_of(adoption, theirs, path, described)
     at = 0
     for name, shown in expected:
         length = int.from_bytes(stream[at + 4 : at + 8], "big")
@@ -448,8 +447,17 @@ def adopted(check: Check) -> None:
         at += 8 + length
         # protoc shows a field that the description lacks by its number
         named = [json_name(field) for field in re.findall(r"^ *([a-z]\w*)(?::| \{)", said, re.M)]
-        check.case(f"{name} of other.proto", sorted(named) == fields(shown), f"{said} is not {shown}")
-    check.case("the whole stream", at == len(stream) and bool(expected))
+        check.case(f"{name} of {file}", sorted(named) == fields(shown), f"{said} is not {shown}")
+    check.case(f"the whole stream of {file}", at == len(stream) and bool(expected))
+    return text, described
+
+
+def adopted(check: Check) -> None:
+    """What comes of the files of tests/adopt."""
+    from generators import proto, renumbered
+
+    of_file(check, "awkward.proto")
+    text, described = of_file(check, "other.proto")
     # Future has its fields in another order there
     for messages in (proto.messages(), proto.of_text(text)):
         order_of_futures(check, messages)
@@ -495,7 +503,8 @@ def order_of_futures(check: Check, described: list[object]) -> None:
 
 def summed(check: Check) -> None:
     """What a comment adds to a code is decimal, but where a letter or the codes of here say that it is hexadecimal."""
-    import adopt
+    from adoption.adoption import Adoption
+    from adoption.codes import code_of
     from generators import descriptors, proto
 
     for ending, added, code in (("letter", "A", 0x040A), ("codes", "14", 0x0414), ("decimal", "20", 0x0414)):
@@ -505,15 +514,17 @@ def summed(check: Check) -> None:
             f"message {'PeekPromise' if added == 'A' else 'CompleteAwakeable'}CommandMessage {{ string name = 12; }}\n",
             encoding="utf-8",
         )
-        adoption = adopt.Adoption(proto.description(), descriptors.read(path), {})
-        found = [adopt.code_of(other, adoption.base) for other in adoption.theirs.values()]
+        adoption = Adoption(proto.description(), descriptors.read(path))
+        adoption.match()
+        found = [code_of(other, adoption.codes.base) for other in adoption.pairs.theirs.values()]
         check.same(f"the code of a sum with {added}", [code], found)
-        check.case(f"what is said of a sum with {added}", bool(adoption.decide) == (added != "20"), adoption.decide)
+        said = [point for point in adoption.said.points("decide") if "hexadecimal" in point]
+        check.case(f"what is said of a sum with {added}", bool(said) == (added != "20"), said)
 
 
 def earlier(check: Check) -> None:
     """A stream of theirs is dumped as of a version before 7, if their suspension has the three lists alone."""
-    import adopt
+    from adoption.adoption import Adoption
     from generators import descriptors, proto
 
     lists = "repeated uint32 waiting_completions = 4; repeated string waiting_named_signals = 6;"
@@ -521,11 +532,13 @@ def earlier(check: Check) -> None:
         path = check.work / f"{ending}.proto"
         head = 'syntax = "proto3";\npackage theirs;\nmessage Future {}\n'
         path.write_text(f"{head}message SuspensionMessage {{ {lists}{further} }}\n", encoding="utf-8")
-        adoption = adopt.Adoption(proto.description(), descriptors.read(path), {})
+        adoption = Adoption(proto.description(), descriptors.read(path))
         adoption.match()
-        said = any("--protocol 5 or 6" in point for point in adoption.decide)
+        points = adoption.said.points("otherwise")
+        said = any("--protocol 5 or 6" in point for point in points)
         is_version = adoption.version() == version and said == (version == 6)
-        check.case(f"the version of streams with a suspension of {ending}", is_version, adoption.decide)
+        check.case(f"the version of streams with a suspension of {ending}", is_version, points)
+        check.case(f"the description with a suspension of {ending}", bool(adoption.checked()))
 
 
 def imported(check: Check) -> None:
@@ -557,6 +570,7 @@ def body(check: Check) -> None:
         raise NotRun(lacks)
     descriptions(check)
     adopted(check)
+    adoptions.perform_all(check)
     ended = subprocess.run(["sh", "scripts/adopt.sh", "--table", "proto/types.txt"], capture_output=True, text=True)
     check.case("a file that is no .proto", ended.returncode == 2 and "Traceback" not in ended.stderr, ended.stderr)
 

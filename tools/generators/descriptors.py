@@ -4,8 +4,10 @@ protoc writes a descriptor set, which is decoded here, since Python's protobuf n
 rejects is rejected with its own words.
 """
 import dataclasses
+import itertools
 import json
 import pathlib
+import re
 import subprocess
 import tempfile
 
@@ -27,6 +29,10 @@ FIELD_OPTIONS = {2: "packed"}
 ENUM_OPTIONS = {2: "allow_alias"}
 MAP_ENTRY = 7
 
+# The forms of values in which a group begins and ends, and those that have a fixed length.
+GROUP, END = 3, 4
+FIXED = {1: 8, 5: 4}
+
 # Where what has a place is in its descriptor: the steps of the path of a location.
 MESSAGES, ENUMS, SERVICES = 4, 5, 6
 FIELDS, NESTED, NESTED_ENUMS, ONEOFS = 2, 3, 4, 8
@@ -44,6 +50,22 @@ def varint(data, at):
             return number, at
 
 
+def length_of(data, form, at):
+    """The length of a value that is written in a form which does not say it: of a group, with the end of it."""
+    if form != GROUP:
+        return FIXED[form]
+    start = at
+    while True:
+        key, at = varint(data, at)
+        if key % 8 == END:
+            return at - start
+        if key % 8 == 0:
+            _, at = varint(data, at)
+        else:
+            length, at = varint(data, at) if key % 8 == 2 else (length_of(data, key % 8, at), at)
+            at += length
+
+
 class Record:
     """A message that is encoded: the values of its fields by their numbers, as they come."""
 
@@ -55,7 +77,7 @@ class Record:
             if key % 8 == 0:
                 value, at = varint(data, at)
             else:
-                length, at = varint(data, at) if key % 8 == 2 else ({1: 8, 5: 4}[key % 8], at)
+                length, at = varint(data, at) if key % 8 == 2 else (length_of(data, key % 8, at), at)
                 value, at = data[at:at + length], at + length
             self.fields.setdefault(key // 8, []).append(value)
 
@@ -68,7 +90,7 @@ class Record:
         return number - (1 << 64) if number >= 1 << 63 else number
 
     def text(self, field):
-        return self.fields.get(field, [b""])[-1].decode()
+        return self.fields.get(field, [b""])[-1].decode(errors="replace")
 
     def record(self, field):
         return Record(b"".join(self.fields.get(field, [])))
@@ -122,13 +144,16 @@ class Enum(Named):
 
 @dataclasses.dataclass
 class Message(Named):
-    """A message: its fields and its oneofs in the order of the file, the message in which it is, and its package where
-    that is another one than the file's, which imports it."""
+    """A message: its fields and its oneofs in the order of the file, the message in which it is, its package where that
+    is another one than the file's, which imports it, its path in that package where it is not its name, and the comment
+    after its opening brace where there is one before it."""
 
     fields: list = dataclasses.field(default_factory=list)
     oneofs: list = dataclasses.field(default_factory=list)
     within: str = ""
     package: str = ""
+    path: str = ""
+    after: str = ""
 
 
 @dataclasses.dataclass
@@ -142,6 +167,11 @@ class Description:
     services: list = dataclasses.field(default_factory=list)
 
 
+def prefix_of(file):
+    """How the full names of what a file declares begin."""
+    return f".{file.text(2)}" if file.text(2) else ""
+
+
 class Reader:
     """Reads the last file of a descriptor set; the others are those that it imports, whose messages and enums are read
     too if that is asked for."""
@@ -152,22 +182,38 @@ class Reader:
             file for file in files if file is files[-1] or with_imports and file.text(1) != OPTIONS_OF_PROTOBUF
         ]
         self.file = files[-1]
-        self.known = {}
+        # the messages and the enums of all files by their full names, and what each is called without these
+        self.known, self.names, self.taken = {}, {}, set()
         self.extensions = {}
-        for file in files:
-            prefix = "." + file.text(2) if file.text(2) else ""
-            for message in file.records(MESSAGES):
-                self.know(prefix, message)
+        for file in reversed(files):
+            self.know(prefix_of(file), file.records(MESSAGES), file.records(ENUMS), "")
             for extension in file.records(7):
                 self.extensions[extension.text(2), extension.number(3)] = extension
         self.found = Description(self.file.text(12) or "proto2", self.file.text(2))
 
-    def know(self, prefix, message):
-        """Takes note of a message and of those within it, by their full names."""
-        name = f"{prefix}.{message.text(1)}"
-        self.known[name] = message
-        for nested in message.records(NESTED):
-            self.know(name, nested)
+    def know(self, prefix, messages, enums, within):
+        """Takes note of messages and enums that are beside each other, and then of those within the messages."""
+        for one in (*messages, *enums):
+            full = f"{prefix}.{one.text(1)}"
+            self.known[full] = one
+            self.names[full] = self.free_name(prefix, one.text(1), within)
+        for message in messages:
+            full = f"{prefix}.{message.text(1)}"
+            nested = [one for one in message.records(NESTED) if not one.record(7).number(MAP_ENTRY)]
+            self.know(full, nested, message.records(NESTED_ENUMS), self.names[full])
+            self.known.update(
+                (f"{full}.{one.text(1)}", one) for one in message.records(NESTED) if one.record(7).number(MAP_ENTRY)
+            )
+
+    def free_name(self, prefix, name, within):
+        """The name of a message or an enum, which begins with what it is in, or else with its package, if another one
+        is called so."""
+        package = "".join(word[:1].upper() + word[1:] for word in re.split(r"[._]", prefix))
+        longer = [f"{within or package}{name}", f"{package}{name}"]
+        numbered = (f"{name}{at}" for at in itertools.count(2))
+        free = next(one for one in itertools.chain([name], longer, numbered) if one not in self.taken)
+        self.taken.add(free)
+        return free
 
     def described(self):
         for file in reversed(self.files):
@@ -178,10 +224,11 @@ class Reader:
 
     def describe(self):
         """Reads one file."""
+        prefix = prefix_of(self.file)
         for at, message in enumerate(self.file.records(MESSAGES)):
-            self.message((MESSAGES, at), message, "")
+            self.message((MESSAGES, at), message, f"{prefix}.{message.text(1)}", "")
         for at, enum in enumerate(self.file.records(ENUMS)):
-            self.enum((ENUMS, at), enum, "")
+            self.enum((ENUMS, at), enum, f"{prefix}.{enum.text(1)}", "")
         for at, one in enumerate(self.file.records(SERVICES)):
             self.found.services.append(self.named(Named, (SERVICES, at), one))
 
@@ -193,10 +240,15 @@ class Reader:
         end = (span[0] if len(span) == 3 else span[2]) + 1 if span else 0
         return kind(record.text(1), span[0] + 1 if span else 0, end, comment, **parts)
 
-    def message(self, path, message, within):
-        """A message, and those within it."""
+    def message(self, path, message, full, within):
+        """A message of a full name, and those within it."""
         found = self.named(Message, path, message, within=within)
+        found.name = self.names[full]
         found.package = self.file.text(2) if self.file.text(2) != self.found.package else ""
+        own = full.removeprefix(f"{prefix_of(self.file)}.")
+        found.path = own if own != found.name else ""
+        place = self.places.get(path, Record(b""))
+        found.after = " ".join(place.text(4).split()) if place.text(3) else ""
         found.options = self.options(message.record(7), "MessageOptions", {})
         self.found.messages.append(found)
         # each optional field is in a oneof of its own, which the file does not have
@@ -211,24 +263,29 @@ class Reader:
             found.fields.append(self.field((*path, FIELDS, at), field, names[field.number(9)] if is_member else ""))
         for at, nested in enumerate(message.records(NESTED)):
             if not nested.record(7).number(MAP_ENTRY):
-                self.message((*path, NESTED, at), nested, found.name)
+                self.message((*path, NESTED, at), nested, f"{full}.{nested.text(1)}", found.name)
         for at, enum in enumerate(message.records(NESTED_ENUMS)):
-            self.enum((*path, NESTED_ENUMS, at), enum, found.name)
+            self.enum((*path, NESTED_ENUMS, at), enum, f"{full}.{enum.text(1)}", found.name)
 
     def field(self, path, field, oneof):
         found = self.named(Field, path, field, number=field.number(3), oneof=oneof, json_name=field.text(10))
         found.kind = KINDS[field.number(5)]
-        found.type_name = field.text(6).rpartition(".")[2]
+        found.type_name = self.type_name(field)
         found.label = "repeated" if field.number(4) == REPEATED else "optional" if field.number(17) else ""
         entry = self.known.get(field.text(6))
         if entry is not None and entry.record(7).number(MAP_ENTRY):
-            parts = [one.text(6).rpartition(".")[2] or KINDS[one.number(5)] for one in entry.records(FIELDS)]
+            parts = [self.type_name(one) or KINDS[one.number(5)] for one in entry.records(FIELDS)]
             found.kind, found.label, found.type_name = "map", "", f"map<{', '.join(parts)}>"
         found.options = self.options(field.record(8), "FieldOptions", FIELD_OPTIONS)
         return found
 
-    def enum(self, path, enum, within):
+    def type_name(self, field):
+        """What the message or the enum of a field is called."""
+        return self.names.get(field.text(6), field.text(6).rpartition(".")[2])
+
+    def enum(self, path, enum, full, within):
         found = self.named(Enum, path, enum, within=within)
+        found.name = self.names[full]
         found.options = self.options(enum.record(3), "EnumOptions", ENUM_OPTIONS)
         for at, value in enumerate(enum.records(VALUES)):
             place = self.named(Named, (*path, VALUES, at), value)
@@ -268,7 +325,8 @@ def read(path, folders=(), with_imports=False):
         ]
         ended = subprocess.run([*words, path.name], capture_output=True, text=True)
         if ended.returncode != 0:
-            raise Refused([f"protoc: {line}" for line in ended.stderr.strip().splitlines()])
+            told = [line for line in ended.stderr.strip().splitlines() if not line.startswith("[libprotobuf WARNING")]
+            raise Refused([f"protoc: {line}" for line in told])
         return Reader(pathlib.Path(written.name).read_bytes(), with_imports).described()
 
 
