@@ -145,11 +145,11 @@ FILES = [
     ),
     (
         "a type without an end that says what it is, and one whose code is not said",
-        f"{HEAD}message Value {{ bytes content = 9; }}\n// Type 0x0500\n"
-        "message Commit { string key = 1; string name = 12; }\nmessage LaterCommandMessage { string name = 12; }\n",
-        [("", "called CommitCommandMessage here"),
+        HEAD + COMMAND.format(1, "Output", "") + "// Type 0x0500\n"
+        "message Settle { string key = 1; string name = 12; }\nmessage LaterCommandMessage { string name = 12; }\n",
+        [("", "called SettleCommandMessage here"),
          ("lost", "LaterCommandMessage is only there, and is left out: no comment there says a code of it")],
-        ["Commit is only there, and is left out"],
+        ["Settle is only there, and is left out"],
     ),
     (
         "two types of one code",

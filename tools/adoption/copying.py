@@ -42,9 +42,9 @@ WHOSE = {
         "**The field numbers are this project's own** ([proto/journal.proto](proto/journal.proto)), until one command "
         "takes\nyours: `sh scripts/adopt.sh THEIR.proto OUT` makes a copy that speaks the numbers of a runtime's own "
         ".proto\n([CHANGING](docs/CHANGING.md#numbers-of-ones-own)).",
-        "**The field numbers are those of `{theirs}`**, where that has a field ([proto/journal.proto]"
-        "(proto/journal.proto)):\n`scripts/adopt.sh` has taken them "
-        "([CHANGING](docs/CHANGING.md#numbers-of-ones-own)).",
+        "**The field numbers are those of `{theirs}`**, where that has a field\n([proto/journal.proto]"
+        "(proto/journal.proto)): `scripts/adopt.sh` has taken them\n([CHANGING]"
+        "(docs/CHANGING.md#numbers-of-ones-own)).",
     ),
     "docs/DIFFERENCES.md": (
         "| this project's own (`proto/journal.proto`), but those of `SuspensionMessageV6` |",
@@ -59,8 +59,8 @@ WHOSE = {
         "- Agreement with a Restate server: the field numbers are those of `{theirs}`, where that has a field.",
     ),
     "docs/CHANGING.md": (
-        "The field numbers of `proto/journal.proto` are this project's own.",
-        "The field numbers of `proto/journal.proto` are those of `{theirs}`, where that has a field.",
+        "The field numbers of `proto/journal.proto` are this project's own. ",
+        "The field numbers of `proto/journal.proto` are those of `{theirs}`, where that has a field.\n",
     ),
 }
 
