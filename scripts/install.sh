@@ -6,8 +6,8 @@
 #   scripts/install.sh --from RELEASE.tar.gz [--uninstall] [PREFIX]
 #
 #   PREFIX       a folder, as /usr/local; it gets the programs in bin, the header in include, the static and the shared
-#                library and files for pkg-config and CMake in lib, and man pages and completion for bash and zsh in
-#                share
+#                library and files for pkg-config and CMake in lib, and man pages, completion for bash and zsh, and the
+#                dissector for Wireshark in share
 #   --library    the library alone, its man pages with it: no program is proved or built for that
 #   --target     for aarch64-unknown-linux-gnu, by Debian's gcc-aarch64-linux-gnu
 #   --libdir     where the libraries are, below PREFIX, instead of lib
@@ -110,6 +110,7 @@ program_files() {
   for program in $programs $links; do
     echo "share/man/man1/$program.1"
   done
+  [ -z "$programs" ] || echo share/wireshark/pendratsoa.lua
 }
 
 if [ "$action" = uninstall ]; then

@@ -26,7 +26,7 @@ COMMENTS = {
     **dict.fromkeys((".rt", ".in", ".rs", ".go", ".ts", ".js"), "//"),
     **dict.fromkeys((".txt", ".py", ".rb", ".rbs", ".bash", ".gitattributes"), "#"),
     **dict.fromkeys((".1", ".3"), '.\\"'),
-    ".antt": "--",
+    **dict.fromkeys((".antt", ".lua"), "--"),
 }
 
 # How a file says it in a language whose comments have an end.

@@ -53,7 +53,7 @@ COMPLETE = """. "$1/$2.bash" && shift && COMP_WORDS=("$@") && COMP_CWORD=$(($# -
 ZSH = 'fpath=("$1" $fpath) && autoload -Uz compinit && compinit -D -u && print -r -- "$_comps[$2]"'
 
 # What the library alone has not, by a part of its path.
-OF_PROGRAMS = re.compile("^bin/|/man1/|completion|/zsh/")
+OF_PROGRAMS = re.compile("^bin/|/man1/|completion|/zsh/|/wireshark/")
 
 
 class Installation:

@@ -58,6 +58,7 @@ NAMES = (
     "man_pages",
     "completions",
     "versions",
+    "wireshark",
     "attributes",
 )
 
