@@ -39,12 +39,13 @@ WHOSE = {
         "// The field numbers are those of {theirs}, where that has a field; tools/adopt.py has taken them.\n",
     ),
     "README.md": (
-        "**The field numbers are this project's own** ([proto/journal.proto](proto/journal.proto)), until one command "
-        "takes\nyours: `sh scripts/adopt.sh THEIR.proto OUT` makes a copy that speaks the numbers of a runtime's own "
-        ".proto\n([CHANGING](docs/CHANGING.md#numbers-of-ones-own)).",
-        "**The field numbers are those of `{theirs}`**, where that has a field\n([proto/journal.proto]"
-        "(proto/journal.proto)): `scripts/adopt.sh` has taken them\n([CHANGING]"
-        "(docs/CHANGING.md#numbers-of-ones-own)).",
+        "- **The field numbers are this project's own** ([journal.proto](proto/journal.proto)). Agreement with a "
+        "Restate server\n  is not claimed and was not tested. `sh scripts/adopt.sh THEIR.proto OUT` makes a copy with "
+        "the numbers of a runtime's\n  .proto ([CHANGING](docs/CHANGING.md#numbers-of-ones-own)).",
+        "- **The field numbers are those of `{theirs}`**, where that has a field\n"
+        "  ([journal.proto](proto/journal.proto)): `scripts/adopt.sh` has taken them\n"
+        "  ([CHANGING](docs/CHANGING.md#numbers-of-ones-own)). Agreement with a Restate server is not claimed and was "
+        "not tested.",
     ),
     "docs/DIFFERENCES.md": (
         "| this project's own (`proto/journal.proto`), but those of `SuspensionMessageV6` |",
