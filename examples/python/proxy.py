@@ -9,18 +9,17 @@ import socket
 import sys
 from typing import List, Optional
 
-from pendratsoa import Incomplete, Item, Message, Stream
+from pendratsoa import Incomplete, Item, Stream
 from pendratsoa.messages import SetStateCommandMessage, Value
 
 
 def passed_on(item: Item) -> bytes:
     """What takes the place of an item."""
-    if isinstance(item, Message) and item.type == "SetStateCommand":
-        command = item.message
-        if isinstance(command, SetStateCommandMessage) and command.value is not None:
-            value = Value(b"%d" % (int(command.value.content) + 1))
-            return dataclasses.replace(command, value=value).frame(item.version)
-    return item.bytes
+    command = item.record(SetStateCommandMessage)
+    if command is None or command.value is None:
+        return item.bytes
+    value = Value(b"%d" % (int(command.value.content) + 1))
+    return dataclasses.replace(command, value=value).frame(item.version)
 
 
 def main(words: List[str]) -> Optional[str]:

@@ -4,14 +4,14 @@
     with open("journal", "rb") as file:
         for item in stream.read(file):
             if isinstance(item, Message):
-                print(item.type, item.json())
+                print(item.type, item.message)
 
 What a call rejects is an exception below `JournalError`, whose text names the argument and its value. A payload's
 schema is given by its number or by the name of its record, as "SleepCommandMessage". All may be called from any thread.
 
-The library is the file that PENDRATSOA_LIBRARY names, or else that which is installed with this package, or else what
-the system finds as libpendratsoa.so.0. COMPILED says whether the compiled module reads and writes records; it is not
-used where PENDRATSOA_PURE is set.
+The first call loads the library: the file that PENDRATSOA_LIBRARY names, or else that which is installed with this
+package, or else what the system finds as libpendratsoa.so.0. Where there is none, the call is an ImportError. COMPILED
+says whether the compiled module reads and writes records; it is not used where PENDRATSOA_PURE is set.
 """
 
 from ._calls import (
@@ -22,13 +22,13 @@ from ._calls import (
     compare_journals,
     difference,
     frame,
+    from_json,
     header,
     header_eq,
     is_well_formed,
     library_version,
     merge,
     notification,
-    payload,
     schema,
     to_json,
     type_code,
@@ -93,13 +93,13 @@ __all__ = [
     "compare_journals",
     "difference",
     "frame",
+    "from_json",
     "header",
     "header_eq",
     "is_well_formed",
     "library_version",
     "merge",
     "notification",
-    "payload",
     "schema",
     "to_json",
     "type_code",

@@ -3,9 +3,10 @@
 from __future__ import annotations
 
 from dataclasses import dataclass
-from typing import Type, TypeVar, Union
+from typing import Type, Union
 
 from ._declared import IdKind, JsonReason, ResultKind, VerdictKind
+from ._kinds import K
 from ._library import library
 from ._request import BytesLike, NotificationNumbers, ReadNumbers, Request, Schema, VerdictNumbers
 
@@ -133,12 +134,12 @@ def to_json(schema: Schema, payload: BytesLike) -> str:
     return request.written(library.journal_json, request.schema(), *request.data("payload")).decode()
 
 
-def payload(schema: Schema, json: Union[str, BytesLike]) -> bytes:
+def from_json(schema: Schema, json: Union[str, BytesLike]) -> bytes:
     """The canonical payload of what a JSON text means, which is in protobuf's own form: a text, or its UTF-8 in bytes.
 
     `JsonError` if it means no value of the schema; `Unknown` if there is no such schema; `TooLong`, `OutOfMemory`.
     """
-    request = Request("payload", schema=schema, json=json)
+    request = Request("from_json", schema=schema, json=json)
     numbers = ReadNumbers()
     parameters = request.schema(), *request.json("json"), numbers, len(numbers)
     found = request.written(library.journal_payload_of_json, *parameters)
@@ -188,7 +189,8 @@ def difference(code: int, first: BytesLike, second: BytesLike) -> str:
 def compare_journals(version: int, recorded: BytesLike, replayed: BytesLike, ignore_payloads: bool = False) -> Verdict:
     """Compares a recorded journal with a replayed one, both streams of a version, command by command.
 
-    Other items, and bytes after the last whole item, are skipped. `Unknown` if there is no such version; `OutOfMemory`.
+    Other items, custom entries among them, and bytes after the last whole item are skipped. `Unknown` if there is no
+    such version; `OutOfMemory`.
     """
     request = Request("compare_journals", version=version, recorded=recorded, replayed=replayed)
     numbers = VerdictNumbers()
@@ -198,12 +200,9 @@ def compare_journals(version: int, recorded: BytesLike, replayed: BytesLike, ign
     return Verdict(_kind_of(request, VerdictKind, kind, "a verdict"), index, text)
 
 
-Kind = TypeVar("Kind", JsonReason, IdKind, ResultKind, VerdictKind)
-
-
-def _kind_of(request: Request, kinds: Type[Kind], number: int, what: str) -> Kind:
+def _kind_of(request: Request, kinds: Type[K], number: int, what: str) -> K:
     """The kind of a number. A later library may have further ones."""
-    try:
-        return kinds(number)
-    except ValueError:
-        raise request.unexpected(f"{what} of the kind {number}") from None
+    kind = kinds.of(number)
+    if kind is None:
+        raise request.unexpected(f"{what} of the kind {number}")
+    return kind

@@ -24,8 +24,26 @@ class JournalError(Exception):
         self.value = value
 
 
-class Malformed(JournalError, ValueError):
-    """A payload is not well-formed for its schema."""
+class _PayloadError(JournalError, ValueError):
+    """An error of a payload. If it is that of a message, `code` is the code of its type, and `offset` where the message
+    begins in its stream, in bytes; each is None if it is not known."""
+
+    def __init__(
+        self,
+        *texts: str,
+        call: Optional[str] = None,
+        argument: Optional[str] = None,
+        value: object = None,
+        code: Optional[int] = None,
+        offset: Optional[int] = None,
+    ) -> None:
+        super().__init__(*texts, call=call, argument=argument, value=value)
+        self.code = code
+        self.offset = offset
+
+
+class Malformed(_PayloadError):
+    """A payload is not well-formed for its schema. `code` and `offset` say of which message, if they are not None."""
 
 
 class OutOfMemory(JournalError, MemoryError):
@@ -37,19 +55,41 @@ class NoRoom(JournalError):
 
 
 class TooLong(JournalError, OverflowError):
-    """A payload has, or would have, more than 4,294,967,295 bytes, which no header can say."""
+    """A payload has, or would have, more than 4,294,967,295 bytes, which no header can say; or a message that came has
+    more than the limit of its stream.
+
+    Then `code` is that of its type, `length` the length of its payload and `limit` the limit, and `offset` is where the
+    message begins in the stream, all in bytes. Otherwise they are None.
+    """
+
+    def __init__(
+        self,
+        *texts: str,
+        call: Optional[str] = None,
+        argument: Optional[str] = None,
+        value: object = None,
+        code: Optional[int] = None,
+        length: Optional[int] = None,
+        limit: Optional[int] = None,
+        offset: Optional[int] = None,
+    ) -> None:
+        super().__init__(*texts, call=call, argument=argument, value=value)
+        self.code = code
+        self.length = length
+        self.limit = limit
+        self.offset = offset
 
 
 class Unknown(JournalError, LookupError):
     """A version, a schema, a code or a name does not exist, or is not of the kind that the call is for."""
 
 
-class NoId(JournalError, ValueError):
-    """A notification has no id."""
+class NoId(_PayloadError):
+    """A notification has no id. `code` and `offset` say of which message, if they are not None."""
 
 
-class NoResult(JournalError, ValueError):
-    """A notification has an id, and no result."""
+class NoResult(_PayloadError):
+    """A notification has an id, and no result. `code` and `offset` say of which message, if they are not None."""
 
 
 class NotCanonical(JournalError, ValueError):
@@ -80,17 +120,24 @@ class JsonError(JournalError, ValueError):
 
 
 class Incomplete(JournalError, EOFError):
-    """A stream ended within an item; `rest` is the number of bytes of it that came."""
+    """A stream ended within an item; `rest` is the number of bytes of it that came, and `offset` where it begins."""
 
-    def __init__(self, *texts: str, call: Optional[str] = None, rest: int = 0) -> None:
+    def __init__(self, *texts: str, call: Optional[str] = None, rest: int = 0, offset: int = 0) -> None:
         super().__init__(*texts, call=call)
         self.rest = rest
+        self.offset = offset
 
 
 class FieldError(JournalError, ValueError):
     """A field of a record cannot be encoded. `reason` says why, and `path` leads to it, as "headers[2].key"."""
 
-    def __init__(self, *texts: str, call: Optional[str] = None, reason: FieldReason, path: str = "") -> None:
+    def __init__(
+        self,
+        *texts: str,
+        call: Optional[str] = None,
+        reason: FieldReason = FieldReason.UNKNOWN_FIELD,
+        path: str = "",
+    ) -> None:
         super().__init__(*texts, call=call)
         self.reason = reason
         self.path = path

@@ -1,16 +1,20 @@
 """The compiled module, where it is there: it reads and writes records without ctypes. Where it is not, since there was
-no compiler or this is no CPython, or where PENDRATSOA_PURE is set, all of it is done in Python."""
+no compiler or this is no CPython, or where PENDRATSOA_PURE is set, all of it is done in Python. It is used from the
+first call on, which loads the library."""
 
 from __future__ import annotations
 
 import ctypes
 import dataclasses
 import os
-from typing import Any, Optional, Tuple, Type
+from typing import TYPE_CHECKING, Any, Optional, Tuple, Type
 
 from ._library import library
 from ._records import Record, Row
 from .messages import RECORDS as CLASSES
+
+if TYPE_CHECKING:
+    from ._compiled import Codec
 
 RECORDS: Tuple[Type[Record], ...] = CLASSES
 
@@ -35,25 +39,35 @@ def _record(record: Type[Record]) -> Tuple[Any, ...]:
     return record, {field.name: field.default for field in fields}, tuple(map(_row, record._by_number.values()))
 
 
-def codec() -> Optional[Any]:
-    """What has two functions for each record, or None."""
+def _imported() -> Optional[Type[Codec]]:
+    """The class of the compiled module, or None."""
     if os.environ.get("PENDRATSOA_PURE"):
         return None
     try:
         from ._compiled import Codec
     except ImportError:
         return None
+    return Codec
+
+
+_CODEC = _imported()
+COMPILED = _CODEC is not None
+
+
+def codec() -> Optional[Codec]:
+    """What has two functions for each record, or None."""
+    if _CODEC is None:
+        return None
     calls = _address(library.journal_fields), _address(library.journal_payload_of_fields)
-    return Codec(*calls, tuple(map(_record, RECORDS)))
+    return _CODEC(*calls, tuple(map(_record, RECORDS)))
 
 
-def use() -> bool:
-    """Gives each record its two functions, and returns whether there are any."""
+def use() -> None:
+    """Gives each record its two functions, if there are any."""
     found = codec()
     if found is not None:
         for record in RECORDS:
             record._compiled = found.of(record.SCHEMA)
-    return found is not None
 
 
-COMPILED = use()
+library.when_loaded.append(use)

@@ -4,18 +4,22 @@ from __future__ import annotations
 
 import builtins
 import dataclasses
+import functools
 import json
 from dataclasses import dataclass, field
-from typing import Any, Mapping, Optional, Protocol, Union, cast
+from typing import Any, Callable, Mapping, Optional, Protocol, Type, TypeVar, Union, cast
 
 # _codec is imported since it lists what reads and what writes each record
 from . import _calls, _codec
 from ._calls import Notification
-from ._errors import JournalError, Unknown
+from ._errors import JournalError, Unknown, _PayloadError
 from ._protocol import COMMAND_CODES, NOTIFICATION_CODES
-from ._records import MessageRecord, earlier_frame, earlier_schema, schema_of
+from ._records import MessageRecord, Record, earlier_frame, earlier_schema, schema_of
 from ._request import BytesLike, Request, shown
 from .messages import RECORDS, AnyMessage, TypeName
+
+M = TypeVar("M", bound=MessageRecord)
+T = TypeVar("T")
 
 
 class Writable(Protocol):
@@ -25,11 +29,16 @@ class Writable(Protocol):
         """Writes all of these bytes."""
 
 
-class _AsItCame:
-    """What can be copied as it came: `bytes(item)` are its bytes, header and payload."""
+class _Item:
+    """What all items have. `bytes(item)` are its bytes as they came, header and payload."""
 
     def __bytes__(self) -> bytes:
         raise NotImplementedError
+
+    def record(self, record: Type[M], /) -> Optional[M]:
+        """The record that its payload means, if it is a message whose record is of this class; otherwise None."""
+        _check_class(record)
+        return None
 
     @property
     def bytes(self) -> builtins.bytes:
@@ -42,21 +51,23 @@ class _AsItCame:
 
 
 @dataclass(frozen=True, repr=False)
-class Message(_AsItCame):
+class Message(_Item):
     """A message of a stream of a version.
 
-    `code` is that of its type, and `requires_ack` whether its header requests an acknowledgement. As a text it is the
+    `code` is that of its type, and `requested_ack` whether its header requests an acknowledgement. As a text it is the
     name of its type and the length of its payload in bytes.
 
-    `word` is the eight bytes of its header as one big-endian number, where it came in a stream, and otherwise None:
-    what `dataclasses.replace` makes of it did not come.
+    `word` is the eight bytes of its header as one big-endian number, and `offset` where it begins in its stream, in
+    bytes. Both are None if it came in no stream: what `dataclasses.replace` makes of it did not come. Neither is
+    compared.
     """
 
     version: int
     code: int
     payload: bytes
-    requires_ack: bool = False
+    requested_ack: bool = False
     word: Optional[int] = field(init=False, default=None, compare=False, repr=False)
+    offset: Optional[int] = field(init=False, default=None, compare=False, repr=False)
 
     @classmethod
     def of(cls, type: Union[int, TypeName], payload: BytesLike = b"", version: int = 8) -> Message:
@@ -82,7 +93,7 @@ class Message(_AsItCame):
         that of a custom entry.
         """
         code = _calls.type_code(type) if isinstance(type, str) else type
-        return cls.of(code, _calls.payload(_calls.schema(version, code), _text_of(json)), version)
+        return cls.of(code, _calls.from_json(_calls.schema(version, code), _text_of(json)), version)
 
     @property
     def type(self) -> str:
@@ -96,7 +107,8 @@ class Message(_AsItCame):
 
     @property
     def is_command(self) -> bool:
-        """Whether its code is that of a command, which those of custom entries may be."""
+        """Whether its code is that of a command. So may be the code of a custom entry, which `compare_journals` skips
+        nevertheless."""
         return self.code in COMMAND_CODES
 
     @property
@@ -105,14 +117,20 @@ class Message(_AsItCame):
         return self.code in NOTIFICATION_CODES
 
     @property
-    def message(self) -> AnyMessage:
-        """The record that its payload means, which is decoded at each access. `Malformed` if it means none; a custom
-        entry has no schema: `Unknown`."""
-        schema = schema_of(self.version, self.code)
-        record = RECORDS[schema] if schema < len(RECORDS) else None
-        if record is None or not issubclass(record, MessageRecord):
-            raise JournalError(f"message: the schema {schema} is of no record that this package knows", call="message")
-        return cast(AnyMessage, record.decode(self.payload))
+    def message(self) -> Optional[AnyMessage]:
+        """The record that its payload means, which is decoded at each access. A custom entry has none: None.
+        `Malformed` if the payload means none."""
+        record = _class_of(self.version, self.code)
+        return None if record is None else cast(AnyMessage, self._read("message", record.decode, self.payload))
+
+    def record(self, record: Type[M], /) -> Optional[M]:
+        """The record that its payload means, if it is of this class; otherwise None, and nothing is decoded.
+        `Malformed` if the payload means none."""
+        found = _class_of(self.version, self.code)
+        if found is None or found is not record:
+            _check_class(record)
+            return None
+        return self._read("record", record.decode, self.payload)
 
     @classmethod
     def of_record(cls, record: MessageRecord, version: int = 8) -> Message:
@@ -121,34 +139,36 @@ class Message(_AsItCame):
         return cls.of(record.CODE, stream[8:], version)
 
     def json(self) -> Any:
-        """What its payload means, as protobuf's JSON has it: dicts, lists, texts and numbers."""
-        return json.loads(_calls.to_json(self.schema, self.payload))
+        """What its payload means, as protobuf's JSON has it: dicts, lists, texts and numbers. A custom entry has no
+        schema: `Unknown`."""
+        return json.loads(self._read("json", _calls.to_json, self.schema, self.payload))
 
     def canonical(self) -> bytes:
-        """The canonical encoding of its payload."""
-        return _calls.canonical(self.schema, self.payload)
+        """The canonical encoding of its payload. A custom entry has no schema: `Unknown`."""
+        return self._read("canonical", _calls.canonical, self.schema, self.payload)
 
     def frame(self, version: Optional[int] = None) -> bytes:
         """Its frame at a version, or at its own: the header, and after it the canonical payload.
 
         The header is that of `header`: whether it requests an acknowledgement depends on the type and the version, and
-        not on `requires_ack`. A payload of its own version's schema is `Unknown` at a version that cannot have it: a
+        not on `requested_ack`. A payload of its own version's schema is `Unknown` at a version that cannot have it: a
         suspension before version 7 has no frame from 7 on, and one since then has a frame at each.
         """
         version = self.version if version is None else version
         schema = earlier_schema(self.version, self.code)
         if schema is None:
-            return _calls.frame(version, self.code, self.payload)
-        return earlier_frame("frame", version, self.code, schema, self.payload)
+            return self._read("frame", _calls.frame, version, self.code, self.payload)
+        return self._read("frame", earlier_frame, "frame", version, self.code, schema, self.payload)
 
     def append_frame(self, out: bytearray, version: Optional[int] = None) -> int:
         """Appends its frame, as `frame` returns it, and returns its length. After an error `out` is as it was."""
         version = self.version if version is None else version
         schema = earlier_schema(self.version, self.code)
+        call = "append_frame"
         if schema is None:
-            return _calls.append_frame(out, version, self.code, self.payload)
-        frame = earlier_frame("append_frame", version, self.code, schema, self.payload)
-        return Request("append_frame").extended(out, frame)
+            return self._read(call, _calls.append_frame, out, version, self.code, self.payload)
+        frame = self._read(call, earlier_frame, call, version, self.code, schema, self.payload)
+        return Request(call).extended(out, frame)
 
     def write_frame(self, file: Writable, version: Optional[int] = None) -> None:
         """Writes its frame, as `frame` returns it, by one call of `file.write`."""
@@ -162,22 +182,36 @@ class Message(_AsItCame):
 
     def notification(self) -> Notification:
         """Its id and its result, if it is a notification."""
-        return _calls.notification(self.code, self.payload)
+        return self._read("notification", _calls.notification, self.code, self.payload)
+
+    def _read(self, call: str, function: Callable[..., T], *arguments: Any) -> T:
+        """What a function returns that reads its payload. An error of the payload says of which message it is."""
+        try:
+            return function(*arguments)
+        except _PayloadError as error:
+            where = "" if self.offset is None else f" at offset {self.offset}"
+            text = f"{call}: {_name(self.code)}{where}: {str(error).partition(': ')[2]}"
+            argument, value = error.argument, error.value
+            raise type(error)(
+                text, call=call, argument=argument, value=value, code=self.code, offset=self.offset
+            ) from None
 
     def __str__(self) -> str:
-        return f"{_name(self.code)} {len(self.payload)}{' ack' if self.requires_ack else ''}"
+        return f"{_name(self.code)} {len(self.payload)}{' ack' if self.requested_ack else ''}"
 
     def __repr__(self) -> str:
         return _fields(self)
 
 
 @dataclass(frozen=True)
-class UnknownCode(_AsItCame):
-    """Eight bytes whose code is no type's, before version 9; `word` is all eight as one big-endian number."""
+class UnknownCode(_Item):
+    """Eight bytes whose code is no type's, before version 9; `word` is all eight as one big-endian number, and `offset`
+    where they begin in their stream."""
 
     version: int
     code: int
     word: int
+    offset: Optional[int] = field(init=False, default=None, compare=False, repr=False)
 
     def __bytes__(self) -> bytes:
         return _bytes_of(self.word)
@@ -187,14 +221,15 @@ class UnknownCode(_AsItCame):
 
 
 @dataclass(frozen=True, repr=False)
-class Skipped(_AsItCame):
+class Skipped(_Item):
     """A message of an unknown type, which is skipped with its payload from version 9 on; `word` is its header's eight
-    bytes as one big-endian number."""
+    bytes as one big-endian number, and `offset` where it begins in its stream."""
 
     version: int
     code: int
     word: int
     payload: bytes
+    offset: Optional[int] = field(init=False, default=None, compare=False, repr=False)
 
     def __bytes__(self) -> bytes:
         return _bytes_of(self.word) + self.payload
@@ -207,13 +242,50 @@ class Skipped(_AsItCame):
 
 
 Item = Union[Message, UnknownCode, Skipped]
+I = TypeVar("I", Message, UnknownCode, Skipped)
 
 
-def message_that_came(version: int, code: int, payload: bytes, requires_ack: bool, word: int) -> Message:
-    """The message of a stream whose header is this word."""
-    message = Message(version, code, payload, requires_ack)
+def came(item: I, offset: int) -> I:
+    """The item, which begins at this offset of its stream."""
+    object.__setattr__(item, "offset", offset)
+    return item
+
+
+def message_that_came(message: Message, word: int, offset: int) -> Message:
+    """The message, whose header is this word."""
     object.__setattr__(message, "word", word)
-    return message
+    return came(message, offset)
+
+
+@functools.lru_cache(maxsize=1024)
+def _class_of(version: int, code: int) -> Optional[Type[MessageRecord]]:
+    """The class of the records of a type at a version; a custom entry has none. `Unknown` if there is no such version
+    or type."""
+    try:
+        schema = schema_of(version, code)
+    except Unknown:
+        if _is_custom_entry(version, code):
+            return None
+        raise
+    record: Optional[Type[Record]] = RECORDS[schema] if schema < len(RECORDS) else None
+    if record is None or not issubclass(record, MessageRecord):
+        raise JournalError(f"message: the schema {schema} is of no record that this package knows", call="message")
+    return record
+
+
+def _is_custom_entry(version: int, code: int) -> bool:
+    """Whether a code that has no schema at a version is that of a custom entry, which has a header."""
+    try:
+        return len(_calls.header(version, code, 0)) > 0
+    except Unknown:
+        return False
+
+
+def _check_class(record: Type[MessageRecord]) -> None:
+    """Says that what is looked for is no class of a message's record."""
+    if not (isinstance(record, type) and issubclass(record, MessageRecord)):
+        shown_as = record.__name__ if isinstance(record, type) else repr(record)
+        raise TypeError(f"record: record must be the class of a message's record, not {shown_as}")
 
 
 def _bytes_of(word: int) -> bytes:

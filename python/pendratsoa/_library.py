@@ -1,11 +1,12 @@
-"""The shared library: where it is found, and its functions with their parameters."""
+"""The shared library: where it is found, and its functions with their parameters. The first call loads it, so that the
+package can be imported, and its pages made, where there is none."""
 
 from __future__ import annotations
 
 import ctypes
 import os
 import pathlib
-from typing import Any, Dict, List
+from typing import Any, Callable, Dict, List, Optional
 
 from ._declared import CALLS
 
@@ -21,6 +22,9 @@ _TYPES: Dict[str, List[Any]] = {
 }
 
 PARAMETERS = {name: [type_ for word in words for type_ in _TYPES[word]] for name, words in CALLS.items()}
+
+# where a library comes from
+_SOURCES = "the wheel of a release has one, 'make python' builds one in a clone, and PENDRATSOA_LIBRARY names its file"
 
 
 def find() -> str:
@@ -40,9 +44,32 @@ def load(name: str) -> ctypes.CDLL:
             call.argtypes = parameters
             call.restype = ctypes.c_int64
     except (OSError, AttributeError) as error:
-        text = f"the library {name} cannot be used: {error}; PENDRATSOA_LIBRARY may name its file"
-        raise ImportError(f"pendratsoa: {text}", name=__name__) from error
+        text = f"pendratsoa: the library {name} cannot be used: {error}; {_SOURCES}"
+        raise ImportError(text, name=__name__) from error
     return library
 
 
-library = load(find())
+class Library:
+    """The functions of the library, as attributes. The first one that is used loads it, and is an ImportError if there
+    is none."""
+
+    def __init__(self) -> None:
+        self.loaded: Optional[ctypes.CDLL] = None
+        # what is called once it is loaded
+        self.when_loaded: List[Callable[[], object]] = []
+
+    def __getattr__(self, name: str) -> Callable[..., int]:
+        # Python looks here for what is no attribute yet
+        if name not in PARAMETERS:
+            raise AttributeError(f"the library has no function {name}")
+        if self.loaded is None:
+            self.loaded = load(find())
+        for function in PARAMETERS:
+            setattr(self, function, getattr(self.loaded, function))
+        for call in self.when_loaded:
+            call()
+        found: Callable[..., int] = vars(self)[name]
+        return found
+
+
+library = Library()

@@ -202,9 +202,10 @@ def _long_payload(writer: Writer, parameters: Tuple[Any, ...], length: int, scra
         out = ctypes.create_string_buffer(request.returned(lambda: length))
         length = request.returned(library.journal_payload_of_fields, *parameters, out, len(out))
         return out.raw[:length]
-    if number not in FieldReason.__members__.values():
+    reason = FieldReason.of(number)
+    if reason is None:
         raise request.unexpected(f"a table of fields of the kind {number}")
-    raise _field_error(writer.of, writer.table, index, FieldReason(number))
+    raise _field_error(writer.of, writer.table, index, reason)
 
 
 def signed(number: int) -> int:
@@ -255,7 +256,7 @@ class Writer:
 
 def _field_error(record: Type[Record], table: List[int], index: int, reason: FieldReason) -> FieldError:
     path = _path(record, table, index)
-    text = reason.name.lower().replace("_", " ")
+    text = reason.replace("_", " ")
     return FieldError(f"encode: {path}: {text}", call="encode", reason=reason, path=path)
 
 

@@ -7,7 +7,8 @@ import functools
 import operator
 from typing import Any, Callable, Optional, SupportsIndex, Tuple, Type, Union, cast
 
-from ._declared import ITEM_NUMBERS, NOTIFICATION_NUMBERS, READ_NUMBERS, VERDICT_NUMBERS, JsonReason
+from ._declared import FIRST_VERSION, ITEM_NUMBERS, LAST_VERSION, NOTIFICATION_NUMBERS, READ_NUMBERS, VERDICT_NUMBERS
+from ._declared import JsonReason
 from ._errors import (
     ERRORS,
     JournalError,
@@ -40,6 +41,13 @@ TEXTS = {
     OutOfMemory: "an allocation failed",
     TooLong: "the result would have more than 4,294,967,295 bytes",
     Unknown: "the library does not know an argument",
+}
+
+# what each argument is that may be unknown, and which numbers are known
+KNOWN = {
+    "version": ("protocol version", f"{FIRST_VERSION} to {LAST_VERSION}"),
+    "schema": ("schema", f"0 to {SCHEMAS - 1}"),
+    "name": ("type name", ""),
 }
 
 # why a JSON text is rejected
@@ -246,11 +254,12 @@ class Request:
         return self.error(kind, f"{argument} {shown(self.arguments[argument])} {TEXTS[kind]}", argument)
 
     def _unknown(self, argument: str) -> JournalError:
-        value = shown(self.arguments[argument])
+        value = self.arguments[argument]
         if argument == "code":
-            return self.error(Unknown, f"code {value} is not that of {self.kind}", argument)
-        what = "type with the name" if argument == "name" else argument
-        return self.error(Unknown, f"there is no {what} {value}", argument)
+            return self.error(Unknown, f"code {shown(value)} is not that of {self.kind}", argument)
+        name, known = KNOWN[argument]
+        where = f" ({known})" if known and not isinstance(value, str) else ""
+        return self.error(Unknown, f"unknown {name} {shown(value)}{where}", argument)
 
 
 @functools.lru_cache(maxsize=None)

@@ -8,7 +8,7 @@ import threading
 from typing import AsyncIterator, Awaitable, Callable, Iterator, List, Optional, Protocol, Tuple, Union
 
 from ._errors import Incomplete, TooLong
-from ._items import Item, Skipped, UnknownCode, message_that_came
+from ._items import Item, Message, Skipped, UnknownCode, came, message_that_came
 from ._library import library
 from ._request import BytesLike, ItemNumbers, Request
 
@@ -127,8 +127,10 @@ class Stream:
         self._check()
         rest = self.rest
         if rest > 0:
+            offset = self._offset
             what = "1 byte" if rest == 1 else f"{rest} bytes"
-            raise Incomplete(f"{call}: the stream ended within an item, after {what} of it", call=call, rest=rest)
+            text = f"{call}: the stream ended within the item at offset {offset}, after {what} of it"
+            raise Incomplete(text, call=call, rest=rest, offset=offset)
 
     def _read(self, receive: Callable[[int], Optional[bytes]], size: int, strict: bool) -> Iterator[Item]:
         yield from self
@@ -195,6 +197,7 @@ class Stream:
         what = f"a message of type {code:#06x} at offset {self._offset} has {length} bytes"
         error = self._request.error(TooLong, f"{what}, more than the limit of {self._limit}", "max_message_size")
         assert isinstance(error, TooLong)
+        error.code, error.length, error.limit, error.offset = code, length, self._limit, self._offset
         return error
 
     def _join(self) -> None:
@@ -208,18 +211,19 @@ class Stream:
 
     def _take(self) -> Item:
         """The item that was found, which is taken from the bytes."""
-        kind, word, code, ack, size, payload_begin = self._numbers
+        kind, word, code, requested_ack, size, payload_begin = self._numbers
         if kind not in (0, 1, 2):
             raise self._request.unexpected(f"an item of the kind {kind}")
         data, address, begin = self._left
         payload = data[begin + payload_begin : begin + size]
+        offset = self._offset
         self._left = data, address, begin + size
-        self._offset += size
+        self._offset = offset + size
         if kind == 0:
-            return message_that_came(self._version, code, payload, ack == 1, word)
+            return message_that_came(Message(self._version, code, payload, requested_ack == 1), word, offset)
         if kind == 1:
-            return UnknownCode(self._version, code, word)
-        return Skipped(self._version, code, word, payload)
+            return came(UnknownCode(self._version, code, word), offset)
+        return came(Skipped(self._version, code, word, payload), offset)
 
 
 def _checked(call: str, size: int) -> int:

@@ -3,7 +3,7 @@
 import dataclasses
 from typing import Optional, Union
 
-from pendratsoa import Item, Message
+from pendratsoa import Item, Malformed, Message, TooLong, Verdict, VerdictKind
 from pendratsoa.messages import (
     ErrorBehavior,
     ErrorMessage,
@@ -15,10 +15,34 @@ from pendratsoa.messages import (
 )
 
 
+def narrowed(item: Item) -> Optional[bytes]:
+    command = item.record(SetStateCommandMessage)
+    item.record(Value)  # type: ignore[type-var]
+    item.record("SetStateCommandMessage")  # type: ignore[arg-type]
+    command.key  # type: ignore[union-attr]
+    if command is None:
+        return None
+    command.valu  # type: ignore[attr-defined]
+    return command.key + command.frame(item.version)
+
+
+def compared(verdict: Verdict) -> str:
+    verdict.kind.nothing  # type: ignore[attr-defined]
+    kind: str = verdict.kind
+    return kind if verdict.kind == "same" or verdict.kind is VerdictKind.BAD_RECORDED else verdict.text
+
+
+def limited(error: TooLong, malformed: Malformed) -> int:
+    error.limit + 1  # type: ignore[operator]
+    malformed.offset + 1  # type: ignore[operator]
+    return 0 if error.limit is None or error.length is None else error.length - error.limit
+
+
 def read(item: Item) -> Union[bytes, int, None]:
     if not isinstance(item, Message):
         return None
     message = item.message
+    message.frame()  # type: ignore[union-attr]
     if isinstance(message, SetStateCommandMessage):
         message.valu  # type: ignore[attr-defined]
         message.value.content  # type: ignore[union-attr]

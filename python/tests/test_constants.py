@@ -1,11 +1,13 @@
 """The constants of the package are those of the header, and its library is that of the header's version."""
 
 import ctypes
+import json
+import pickle
 import re
 import unittest
 
 import pendratsoa
-from pendratsoa import IdKind, JsonReason, ResultKind, VerdictKind, _errors, _library
+from pendratsoa import FieldReason, IdKind, JsonReason, ResultKind, VerdictKind, _errors, _library
 from support import HEADER, TOP, defined, types
 
 
@@ -23,7 +25,19 @@ class TestConstants(unittest.TestCase):
     def test_kinds(self):
         numbers = defined(r"\d+")
         for kind in (*JsonReason, *IdKind, *ResultKind, *VerdictKind):
-            self.assertEqual(numbers[kind.name], kind)
+            self.assertEqual(numbers[kind.name], kind.number)
+            self.assertIs(type(kind).of(kind.number), kind)
+
+    def test_kinds_are_words(self):
+        self.assertEqual([str(kind) for kind in IdKind], ["completion_id", "signal_id", "signal_name"])
+        self.assertEqual(f"{VerdictKind.SAME} %s" % VerdictKind.BAD_REPLAYED, "same bad_replayed")
+        for kind in (*JsonReason, *FieldReason, *IdKind, *ResultKind, *VerdictKind):
+            word = kind.name.lower()
+            self.assertEqual((kind, {kind: 1}[word], {word: 1}[kind], type(kind)(word)), (word, 1, 1, kind))
+            self.assertEqual((f"{kind}", str(kind), json.dumps(kind)), (word, word, f'"{word}"'))
+            self.assertIs(pickle.loads(pickle.dumps(kind)), kind)
+        self.assertFalse(VerdictKind.SAME == "recorded_ended" or VerdictKind.SAME == 0)
+        self.assertRaises(ValueError, VerdictKind, "other")
 
     def test_versions_and_schemas(self):
         numbers = defined(r"\d+")

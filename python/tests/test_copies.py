@@ -158,14 +158,17 @@ class TestEnd(unittest.TestCase):
         stream.feed(b"\x04")
         with self.assertRaises(Incomplete) as caught:
             stream.finish()
-        self.assertEqual(str(caught.exception), "finish: the stream ended within an item, after 1 byte of it")
-        self.assertEqual((caught.exception.call, caught.exception.rest), ("finish", 1))
+        text = f"finish: the stream ended within the item at offset {len(INPUT)}, after 1 byte of it"
+        self.assertEqual(str(caught.exception), text)
+        error = caught.exception
+        self.assertEqual((error.call, error.rest, error.offset), ("finish", 1, len(INPUT)))
         self.assertIsInstance(caught.exception, EOFError)
 
     def test_strict(self):
         items = Stream().read(io.BytesIO(INPUT + INPUT[:5]), strict=True)
         self.assertEqual(str(next(items)), f"InputCommand {INPUT_LENGTH}")
-        with self.assertRaisesRegex(Incomplete, r"^read: the stream ended within an item, after 5 bytes of it$"):
+        text = rf"^read: the stream ended within the item at offset {len(INPUT)}, after 5 bytes of it$"
+        with self.assertRaisesRegex(Incomplete, text):
             next(items)
         self.assertEqual(len(list(Stream().read(io.BytesIO(INPUT), strict=True))), 1)
 

@@ -5,6 +5,8 @@ import unittest
 
 import pendratsoa
 from pendratsoa import (
+    FieldError,
+    Incomplete,
     JournalError,
     JsonError,
     Malformed,
@@ -15,8 +17,10 @@ from pendratsoa import (
     Stream,
     TooLong,
     Unknown,
+    messages,
 )
-from support import CALL_COMMAND, CUSTOM_ENTRY, SET_STATE_COMMAND, SIGNAL_NOTIFICATION, replaced, returning
+from support import CALL_COMMAND, CUSTOM_ENTRY, INPUT, INPUT_LENGTH, SET_STATE_COMMAND, SIGNAL_NOTIFICATION
+from support import replaced, returning
 
 BAD = b"\x12"
 # a notification with a result alone, and one with an id alone
@@ -33,18 +37,18 @@ class TestErrors(unittest.TestCase):
                 Unknown,
                 "name",
                 "Sleep",
-                "type_code: there is no type with the name 'Sleep'",
+                "type_code: unknown type name 'Sleep'",
             ),
             (
                 lambda: pendratsoa.type_code("\ud800"),
                 Unknown,
                 "name",
                 "\ud800",
-                "type_code: there is no type with the name '\\ud800'",
+                "type_code: unknown type name '\\ud800'",
             ),
-            (lambda: pendratsoa.schema(4, 0), Unknown, "version", 4, "schema: there is no version 4"),
+            (lambda: pendratsoa.schema(4, 0), Unknown, "version", 4, "schema: unknown protocol version 4 (5 to 9)"),
             (lambda: pendratsoa.schema(8, 8), Unknown, "code", 8, "schema: code 8 is not that of a named type"),
-            (lambda: pendratsoa.header(4, 8, 0), Unknown, "version", 4, "header: there is no version 4"),
+            (lambda: pendratsoa.header(4, 8, 0), Unknown, "version", 4, "header: unknown protocol version 4 (5 to 9)"),
             (lambda: pendratsoa.header(8, 8, 0), Unknown, "code", 8, "header: code 8 is not that of a type"),
             (
                 lambda: pendratsoa.header(8, 0, 1 << 32),
@@ -72,14 +76,14 @@ class TestErrors(unittest.TestCase):
                 Unknown,
                 "schema",
                 pendratsoa.SCHEMAS,
-                f"canonical: there is no schema {pendratsoa.SCHEMAS}",
+                f"canonical: unknown schema {pendratsoa.SCHEMAS} (0 to {pendratsoa.SCHEMAS - 1})",
             ),
             (
                 lambda: pendratsoa.to_json("Sleep", b""),
                 Unknown,
                 "schema",
                 "Sleep",
-                "to_json: there is no schema 'Sleep'",
+                "to_json: unknown schema 'Sleep'",
             ),
             (
                 lambda: pendratsoa.canonical(13, long),
@@ -149,9 +153,9 @@ class TestErrors(unittest.TestCase):
                 Unknown,
                 "version",
                 10,
-                "compare_journals: there is no version 10",
+                "compare_journals: unknown protocol version 10 (5 to 9)",
             ),
-            (lambda: Stream(10), Unknown, "version", 10, "Stream: there is no version 10"),
+            (lambda: Stream(10), Unknown, "version", 10, "Stream: unknown protocol version 10 (5 to 9)"),
         ):
             with self.subTest(text), self.assertRaises(kind) as raised:
                 call()
@@ -197,7 +201,7 @@ class TestErrors(unittest.TestCase):
             (
                 "journal_payload_of_json",
                 returning(0, 9, 0),
-                lambda: pendratsoa.payload(0, "{}"),
+                lambda: pendratsoa.from_json(0, "{}"),
                 "a JSON text of the kind 9",
             ),
             (
@@ -221,15 +225,32 @@ class TestErrors(unittest.TestCase):
             (JsonError, ValueError),
             (NoId, ValueError),
             (NoResult, ValueError),
+            (FieldError, ValueError),
+            (Incomplete, EOFError),
         ):
             self.assertTrue(issubclass(kind, other) and issubclass(kind, JournalError))
 
     def test_they_can_be_pickled(self):
-        with self.assertRaises(Malformed) as raised:
-            pendratsoa.canonical(13, BAD)
-        error = pickle.loads(pickle.dumps(raised.exception))
-        self.assertEqual(str(error), str(raised.exception))
-        self.assertEqual((error.call, error.argument, error.value), ("canonical", "payload", BAD))
+        malformed = Stream()
+        malformed.feed(INPUT + bytes.fromhex("0400000000000001") + BAD)
+        limited, ended = Stream(max_message_size=INPUT_LENGTH - 1), Stream()
+        limited.feed(INPUT)
+        ended.feed(INPUT + INPUT[:3])
+        list(ended)
+        for call, fields in (
+            (lambda: [item.message for item in malformed], ("call", "argument", "value", "code", "offset")),
+            (lambda: list(limited), ("call", "argument", "value", "code", "length", "limit", "offset")),
+            (ended.finish, ("call", "rest", "offset")),
+            (lambda: pendratsoa.from_json(13, "["), ("call", "argument", "value", "reason", "offset", "path")),
+            (messages.Failure(code=-1).encode, ("call", "reason", "path")),
+        ):
+            with self.assertRaises(JournalError) as raised:
+                call()
+            error = pickle.loads(pickle.dumps(raised.exception))
+            self.assertEqual((type(error), str(error)), (type(raised.exception), str(raised.exception)))
+            values = [getattr(raised.exception, name) for name in fields]
+            self.assertEqual([getattr(error, name) for name in fields], values)
+            self.assertNotIn(None, values)
 
 
 if __name__ == "__main__":

@@ -114,7 +114,7 @@ class TestArguments(unittest.TestCase):
             (lambda: pendratsoa.canonical(0, "text"), "canonical: payload must be bytes-like, not str"),
             (lambda: pendratsoa.canonical(None, b""), "canonical: schema must be an int, not NoneType"),
             (lambda: pendratsoa.merge(0, b"", 5), "merge: second must be bytes-like, not int"),
-            (lambda: pendratsoa.payload(0, 5), "payload: json must be a str or bytes-like, not int"),
+            (lambda: pendratsoa.from_json(0, 5), "from_json: json must be a str or bytes-like, not int"),
             (lambda: Stream().feed("text"), "feed: data must be bytes-like, not str"),
             (lambda: Stream("8"), "Stream: version must be an int, not str"),
         ):
@@ -179,7 +179,7 @@ class TestMemory(unittest.TestCase):
             with self.assertRaises(pendratsoa.Malformed):
                 pendratsoa.to_json(13, b"\xff" * 1000)
             with self.assertRaises(pendratsoa.JsonError):
-                pendratsoa.payload(13, '{"message":"text","code":"one"}')
+                pendratsoa.from_json(13, '{"message":"text","code":"one"}')
             with self.assertRaises(pendratsoa.NoId):
                 pendratsoa.notification(SIGNAL_NOTIFICATION, b"")
 

@@ -12,7 +12,11 @@ import pendratsoa
 from pendratsoa import _library
 
 PACKAGE = pathlib.Path(pendratsoa.__file__).parent
-SHOWN = "import pendratsoa; print(pendratsoa._library.library._name, pendratsoa.library_version())"
+SHOWN = """\
+import pendratsoa
+version = pendratsoa.library_version()
+print(pendratsoa._library.library.loaded._name, version)
+"""
 
 
 @unittest.skipUnless(os.path.exists(_library.find()), "the library that is used is no file that is known")
@@ -31,10 +35,10 @@ class TestLibrary(unittest.TestCase):
         shutil.copy(_library.find(), target)
         return target
 
-    def run_with(self, **environment):
-        """How a process ends that imports the package in this environment and no other: its two outputs."""
+    def run_with(self, words=SHOWN, **environment):
+        """How a process ends that uses the package in this environment and no other: its two outputs."""
         environment = {"PYTHONPATH": str(self.package.parent), "PYTHONDONTWRITEBYTECODE": "1", **environment}
-        command = [sys.executable, "-c", SHOWN]
+        command = [sys.executable, "-c", words]
         run = subprocess.run(command, env=environment, cwd=self.folder, capture_output=True, text=True)
         return run.stdout, run.stderr
 
@@ -57,16 +61,50 @@ class TestLibrary(unittest.TestCase):
         self.copy(self.system / _library.SONAME)
         self.assertEqual(self.run_with(LD_LIBRARY_PATH=str(self.system)), self.used(_library.SONAME))
 
-    def test_without_one(self):
-        nowhere = self.folder / "nowhere.so"
-        wrong = self.folder / "wrong.so"
-        wrong.write_text("no library")
-        for library in (nowhere, wrong, "libc.so.6"):
-            printed, error = self.run_with(PENDRATSOA_LIBRARY=str(library))
-            self.assertEqual(printed, "")
-            last = error.splitlines()[-1]
-            self.assertTrue(last.startswith(f"ImportError: pendratsoa: the library {library} cannot be used: "), error)
-            self.assertTrue(last.endswith("; PENDRATSOA_LIBRARY may name its file"), error)
+    def test_one_that_comes_after_a_call_has_failed(self):
+        words = (
+            "import os, pendratsoa\ntry: pendratsoa.type_name(0)\nexcept ImportError: print('missing')\n"
+            f"os.environ['PENDRATSOA_LIBRARY'] = {_library.find()!r}\nprint(pendratsoa.type_name(0))\n"
+        )
+        self.assertEqual(self.run_with(words, PENDRATSOA_LIBRARY="/nowhere"), ("missing\nStart\n", ""))
+
+
+# what is not there, what is no library, and another one
+NOWHERE, WRONG, OTHER = "/nowhere/libpendratsoa.so", __file__, "libc.so.6"
+
+
+class TestWithout(unittest.TestCase):
+    """What works without the library, and what the first call says."""
+
+    def run_without(self, library, *words):
+        """How an interpreter ends with these words where this is the library: its status and its two outputs."""
+        environment = {"PYTHONPATH": str(PACKAGE.parent), "PYTHONDONTWRITEBYTECODE": "1", "PENDRATSOA_LIBRARY": library}
+        run = subprocess.run([sys.executable, *words], env=environment, capture_output=True, text=True)
+        return run.returncode, run.stdout, run.stderr
+
+    def test_it_can_be_imported(self):
+        values = "from pendratsoa import COMPILED, messages; print(COMPILED, len(messages.RECORDS), messages.Void())"
+        for library in (NOWHERE, WRONG, OTHER):
+            status, printed, error = self.run_without(library, "-c", values)
+            self.assertEqual((status, error), (0, ""))
+            self.assertRegex(printed, r"^(True|False) [0-9]+ Void\(\)$")
+
+    def test_its_pages_can_be_made(self):
+        for name, wanted in (("pendratsoa", "class Stream("), ("pendratsoa.messages", "class SetStateCommandMessage(")):
+            status, printed, error = self.run_without(NOWHERE, "-m", "pydoc", name)
+            self.assertEqual((status, error), (0, ""))
+            self.assertIn(wanted, printed)
+
+    def test_the_first_call_says_what_is_missing(self):
+        calls = ("library_version()", "Stream()", "messages.Value().encode()", "messages.Value.decode(b'')")
+        words = "from pendratsoa import *; from pendratsoa import messages\n"
+        words += "".join(f"try: {call}\nexcept ImportError as error: print(error)\n" for call in calls)
+        for library in (NOWHERE, WRONG, OTHER):
+            status, printed, error = self.run_without(library, "-c", words)
+            self.assertEqual((status, error, len(printed.splitlines())), (0, "", len(calls)))
+            for line in printed.splitlines():
+                self.assertTrue(line.startswith(f"pendratsoa: the library {library} cannot be used: "), line)
+                self.assertTrue(line.endswith(f"; {_library._SOURCES}"), line)
 
 
 if __name__ == "__main__":

@@ -28,7 +28,7 @@ class TestMaking(unittest.TestCase):
         self.assertEqual(Message.of(CUSTOM_ENTRY, b"\xff").type, "CustomEntry(64513)")
 
     def test_the_flag_is_that_of_its_header(self):
-        flags = [Message.of("ProposeRunCompletion", PROPOSAL, version).requires_ack for version in range(5, 10)]
+        flags = [Message.of("ProposeRunCompletion", PROPOSAL, version).requested_ack for version in range(5, 10)]
         self.assertEqual(flags, [False, False, True, True, True])
 
     def test_what_does_not_exist(self):
@@ -78,8 +78,8 @@ class TestMessage(unittest.TestCase):
             self.assertEqual(message.frame(other), bytes.fromhex(f"0005{flag}00{len(PROPOSAL):08x}") + PROPOSAL)
 
     def test_its_frame_has_the_header_of_its_type(self):
-        for requires_ack in (False, True):
-            message = Message(8, PROPOSE_RUN_COMPLETION, PROPOSAL, requires_ack)
+        for requested_ack in (False, True):
+            message = Message(8, PROPOSE_RUN_COMPLETION, PROPOSAL, requested_ack)
             self.assertEqual(message.frame()[:8], pendratsoa.header(8, PROPOSE_RUN_COMPLETION, len(PROPOSAL)))
 
     def test_its_frame_is_canonical(self):

@@ -66,7 +66,7 @@ class TestNames(unittest.TestCase):
                 (lambda: pendratsoa.canonical(schema, b""), "schema", schema),
                 (lambda: pendratsoa.merge(schema, b"", b""), "schema", schema),
                 (lambda: pendratsoa.to_json(schema, b""), "schema", schema),
-                (lambda: pendratsoa.payload(schema, "{}"), "schema", schema),
+                (lambda: pendratsoa.from_json(schema, "{}"), "schema", schema),
                 (lambda: pendratsoa.compare_journals(version, b"", b""), "version", version),
                 (lambda: Stream(version), "version", version),
                 (lambda: Message.of(code), "code", code),

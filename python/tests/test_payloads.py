@@ -67,15 +67,15 @@ class TestReading(unittest.TestCase):
     def test_one_value_in_many_forms(self):
         json = ' { "name" : "\\u0078" , "wake_up_time" : 0.5e1 } '
         for text in ('{"wakeUpTime":"5","name":"x"}', json, json.encode(), bytearray(json.encode())):
-            found = pendratsoa.payload("SleepCommandMessage", text)
+            found = pendratsoa.from_json("SleepCommandMessage", text)
             self.assertEqual(found, bytes.fromhex("0805620178"))
             self.assertIs(type(found), bytes)
         for schema in range(pendratsoa.SCHEMAS):
-            self.assertEqual(pendratsoa.payload(schema, "{}"), b"")
+            self.assertEqual(pendratsoa.from_json(schema, "{}"), b"")
 
     def test_a_text_that_is_not_ascii(self):
         text = "a\u00e9\U0001f600" * 1000
-        found = pendratsoa.payload(13, json.dumps({"message": text}))
+        found = pendratsoa.from_json(13, json.dumps({"message": text}))
         self.assertEqual(json.loads(pendratsoa.to_json(13, found)), {"message": text})
 
     def test_what_is_not_taken(self):
@@ -120,11 +120,11 @@ class TestReading(unittest.TestCase):
             ("Value", '{"content":"a"}', JsonReason.NOT_BASE64, None, "content", "content: not base64"),
         ):
             with self.subTest(text), self.assertRaises(JsonError) as raised:
-                pendratsoa.payload(schema, text)
+                pendratsoa.from_json(schema, text)
             error = raised.exception
             self.assertEqual((error.reason, error.offset, error.path), (reason, offset, path))
-            self.assertEqual((error.call, error.argument, error.value), ("payload", "json", text))
-            self.assertTrue(str(error).startswith("payload: json ") and str(error).endswith(f": {why}"), str(error))
+            self.assertEqual((error.call, error.argument, error.value), ("from_json", "json", text))
+            self.assertTrue(str(error).startswith("from_json: json ") and str(error).endswith(f": {why}"), str(error))
             again = pickle.loads(pickle.dumps(error))
             self.assertEqual((again.reason, again.offset, again.path), (reason, offset, path))
 
@@ -132,7 +132,7 @@ class TestReading(unittest.TestCase):
         for levels, reason in ((101, None), (102, JsonReason.TOO_DEEP), (600, JsonReason.NOT_JSON)):
             text = '{"nestedFutures":[' * (levels - 1) + "{}" + "]}" * (levels - 1)
             try:
-                pendratsoa.payload("Future", text)
+                pendratsoa.from_json("Future", text)
             except JsonError as error:
                 self.assertEqual(error.reason, reason)
             else:

@@ -150,7 +150,10 @@ class TestFeeding(unittest.TestCase):
                     found.append(item)
             text = "Stream: a message of type 0x0000 at offset {} has 4294967295 bytes, more than the limit of {}"
             self.assertEqual(str(ended.exception), text.format(len(INPUT), INPUT_LENGTH))
-            self.assertEqual((ended.exception.argument, ended.exception.value), ("max_message_size", INPUT_LENGTH))
+            error = ended.exception
+            self.assertEqual((error.argument, error.value), ("max_message_size", INPUT_LENGTH))
+            self.assertEqual((error.code, error.length, error.limit), (0, 0xFFFF_FFFF, INPUT_LENGTH))
+            self.assertEqual(error.offset, len(INPUT))
             self.assertEqual(stream.rest, 0)
         self.assertEqual(found, EXPECTED[:1])
         for call in (lambda: stream.feed(b"x"), stream.finish, lambda: list(stream.read(io.BytesIO(), strict=True))):
@@ -164,8 +167,10 @@ class TestFeeding(unittest.TestCase):
         self.assertEqual((list(unlimited), unlimited.rest), ([], 11))
         with self.assertRaises(ValueError):
             Stream(max_message_size=-1)
-        with self.assertRaises(TooLong):
+        with self.assertRaises(TooLong) as ended:
             Stream(max_message_size=1 << 32)
+        error = ended.exception
+        self.assertEqual((error.code, error.length, error.limit, error.offset), (None, None, None, None))
 
     def test_its_version(self):
         self.assertEqual([Stream(version).version for version in range(5, 10)], list(range(5, 10)))
@@ -272,7 +277,7 @@ class TestItems(unittest.TestCase):
         stream = Stream()
         stream.feed(bytes.fromhex("00058000000000050801720178"))
         (message,) = stream
-        self.assertTrue(message.requires_ack)
+        self.assertTrue(message.requested_ack)
         self.assertEqual(message.type, "ProposeRunCompletion")
 
     def test_threads_share_a_stream(self):

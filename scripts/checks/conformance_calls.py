@@ -20,7 +20,7 @@ def payload(schema, data):
     assert record(schema, data).encode() == result
     text = pendratsoa.to_json(schema, data)
     assert pendratsoa.to_json(schema, result) == text
-    assert pendratsoa.payload(schema, text) == result
+    assert pendratsoa.from_json(schema, text) == result
     return result.hex()
 
 
@@ -72,17 +72,17 @@ def compare(type_, first, second):
 
 def json(schema, data):
     text = pendratsoa.to_json(schema, data)
-    assert pendratsoa.payload(schema, text) == pendratsoa.canonical(schema, data)
+    assert pendratsoa.from_json(schema, text) == pendratsoa.canonical(schema, data)
     return text
 
 
 def read(schema, text):
     """The payload that a JSON text is read as, or why it is not, and where."""
     try:
-        return pendratsoa.payload(schema, text).hex()
+        return pendratsoa.from_json(schema, text).hex()
     except JsonError as error:
         place = error.path if error.offset is None else str(error.offset)
-        return f"{error.reason.name.lower()} {place}".rstrip(" ")
+        return f"{error.reason} {place}".rstrip(" ")
 
 
 KINDS = {

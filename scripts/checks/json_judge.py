@@ -240,7 +240,7 @@ class Judge:
 
     def ours(self, schema, text):
         try:
-            return pendratsoa.payload(schema, text)
+            return pendratsoa.from_json(schema, text)
         except pendratsoa.JsonError:
             return None
 

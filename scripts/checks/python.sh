@@ -94,16 +94,34 @@ case_of 'the Python of README.md' python3 "$work/readme.py"
 cut -d ' ' -f 1 "$work/log" > "$out"
 printf '%s\n' Start InputCommand GetLazyStateCompletionNotification > "$work/wanted"
 same 'what it prints' "$work/wanted" "$out"
-python_of python/README.md > "$work/page.py"
-sed -n 's/^    \([A-Z][A-Za-z]* {.*\)$/\1/p' python/README.md > "$work/wanted"
-cp examples/streams/replay "$work/journal"
-sed -n '/^def passed_on/,$p' "$work/page.py" > "$work/part.py"
-sed -i '/^def passed_on/,$d' "$work/page.py"
-(cd "$work" && python3 page.py) > "$out" 2> "$err"
-same 'the lines of python/README.md' "$work/wanted" "$out"
-
-case_of 'the proxy of python/README.md' python3 -B scripts/checks/is_part.py "$work/part.py" examples/python/proxy.py
+# The parts of the page: each in a file, with what it prints, which is indented after it; the second is of the proxy.
+mkdir "$work/page"
+awk -v folder="$work/page" '
+  /^```python$/ { file = folder "/part" ++parts ".py"; next }
+  /^```$/ { file = ""; next }
+  file != "" { print > file; next }
+  parts > 0 && /^    / { print substr($0, 5) > (folder "/part" parts ".wanted") }
+' python/README.md
+cp examples/streams/* "$work/page"
+cp examples/streams/replay "$work/page/journal"
+for part in 1 3 4; do
+  if [ $part -eq 3 ] && python3 -c 'import sys; sys.exit(sys.version_info >= (3, 10))'; then
+    left_out 'the match of python/README.md' 'this python3 is older than 3.10'
+    continue
+  fi
+  (cd "$work/page" && python3 part$part.py) > "$out" 2> "$err"
+  same "the lines of python/README.md, part $part" "$work/page/part$part.wanted" "$out"
+done
+case_of 'the proxy of python/README.md' python3 -B scripts/checks/is_part.py "$work/page/part2.py" \
+  examples/python/proxy.py
 counted 'the proxy' python3 -B scripts/checks/proxied.py python3 examples/python/proxy.py
+
+# The pages of the API are made without the library.
+for name in pendratsoa pendratsoa.messages; do
+  PENDRATSOA_LIBRARY=/nowhere PYTHONPATH=$PWD/python python3 -m pydoc $name > "$out" 2> "$err"
+  grep -q '^CLASSES$' "$out"
+  outcome "the page of $name without the library" $?
+done
 
 if command -v mypy > /dev/null; then
   (cd "$work/python" && mypy --cache-dir=/dev/null) > "$out" 2> "$err"

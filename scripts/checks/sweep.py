@@ -350,7 +350,7 @@ class Calls(Sweep):
         json = set_state_json(b"key", large()).decode()
         for payload in (self.payload, self.loose):
             self.assertSame(pendratsoa.to_json("SetStateCommandMessage", payload), json, "to_json")
-        self.assertSame(pendratsoa.payload("SetStateCommandMessage", json), self.payload, "payload")
+        self.assertSame(pendratsoa.from_json("SetStateCommandMessage", json), self.payload, "payload")
 
     def test_many_numbers(self):
         packed = b"".join(map(varint, range(NUMBERS)))
@@ -358,7 +358,7 @@ class Calls(Sweep):
         json = '{"waitingCompletions":[%s]}' % ",".join(map(str, range(NUMBERS)))
         self.assertSame(pendratsoa.canonical("SuspensionMessageV6", loose), record(1, packed), "canonical")
         self.assertSame(pendratsoa.to_json("SuspensionMessageV6", loose), json, "to_json")
-        self.assertSame(pendratsoa.payload("SuspensionMessageV6", json), record(1, packed), "payload")
+        self.assertSame(pendratsoa.from_json("SuspensionMessageV6", json), record(1, packed), "payload")
 
     def test_notification(self):
         payload = b"\x08\x01" + record(5, record(1, large()))

@@ -309,7 +309,7 @@ def python_tuple(values):
 
 def python():
     text = '"""What the library for C declares: its calls, the numbers that they write, and their errors."""\n\n'
-    text += "from enum import IntEnum\nfrom typing import Dict, Tuple\n\n"
+    text += "from typing import Dict, Tuple\n\nfrom ._kinds import Kind\n\n"
     first, last = described()["versions"]
     text += f"FIRST_VERSION = {first}\nLAST_VERSION = {last}\n\n"
     text += "# the parameters of each call: the bits of a number, a slice, or the struct that is written\n"
@@ -330,8 +330,8 @@ def python():
     for entry in kinds():
         if entry["python"]:
             said = entry.get("what", " ".join(entry["comment"]))
-            text += f'\n\nclass {entry["python"]}(IntEnum):\n    """{said}"""\n\n'
-            text += "".join(f"    {name} = {number}\n" for number, name in numbered(entry))
+            text += f'\n\nclass {entry["python"]}(Kind):\n    """{said}"""\n\n'
+            text += "".join(f'    {name} = "{name.lower()}", {number}\n' for number, name in numbered(entry))
     return text
 
 

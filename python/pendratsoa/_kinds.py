@@ -1,0 +1,27 @@
+"""Kinds, which the library numbers, as words."""
+
+from __future__ import annotations
+
+from enum import Enum
+from typing import Optional, Type, TypeVar
+
+K = TypeVar("K", bound="Kind")
+
+
+class Kind(str, Enum):
+    """A kind, which is its word: it equals the word, and is printed as it. `number` is what the library calls it."""
+
+    number: int
+
+    def __new__(cls: Type[K], word: str, number: int) -> K:
+        kind = str.__new__(cls, word)
+        kind._value_ = word
+        kind.number = number
+        return kind
+
+    __str__ = str.__str__
+
+    @classmethod
+    def of(cls: Type[K], number: int) -> Optional[K]:
+        """The kind of a number. A later library may have further ones: None."""
+        return next((kind for kind in cls if kind.number == number), None)
