@@ -20,7 +20,7 @@ require_relative "pendratsoa/stream"
 #
 #   stream = Pendratsoa::Stream.new(version: 8)
 #   File.open("journal", "rb") do |file|
-#     stream.read(file) { |item| puts item.type, item.json if item.is_a?(Pendratsoa::Message) }
+#     stream.read(file) { |item| p item.type, item.message if item.is_a?(Pendratsoa::Message) }
 #   end
 #
 # What a call rejects is an exception below Pendratsoa::Error, whose text names the argument and its value; what is no
@@ -28,8 +28,8 @@ require_relative "pendratsoa/stream"
 # "SleepCommandMessage". Bytes are Strings of any encoding; those that are returned are binary, and texts are UTF-8. All
 # may be called from any thread.
 #
-# The library is the file that PENDRATSOA_LIBRARY names, or else that which is copied into this gem, or else what the
-# system finds as libpendratsoa.so.0. COMPILED says whether the compiled module reads and writes records; it is not used
-# where PENDRATSOA_PURE is set.
+# The first call loads the library: the file that PENDRATSOA_LIBRARY names, or else that which is copied into this gem,
+# or else what the system finds as libpendratsoa.so.0. Where there is none, the call is a LoadError. COMPILED says
+# whether the compiled module reads and writes records; it is not used where PENDRATSOA_PURE is set.
 module Pendratsoa
 end

@@ -48,7 +48,7 @@ class TestConformance < Minitest::Test
     assert_equal canonical, record.decode(payload).encode
     json = Pendratsoa.to_json(schema, payload)
     assert_equal json, Pendratsoa.to_json(schema, canonical)
-    assert_equal canonical, Pendratsoa.payload(schema, json)
+    assert_equal canonical, Pendratsoa.from_json(schema, json)
     digits(canonical)
   end
 
@@ -87,14 +87,14 @@ class TestConformance < Minitest::Test
 
   # The payload that a JSON text is read as, or why it is not, and where.
   def read_result(schema, text)
-    digits(Pendratsoa.payload(schema, text))
+    digits(Pendratsoa.from_json(schema, text))
   rescue Pendratsoa::JsonError => error
     "#{error.reason} #{error.offset || error.path}".rstrip
   end
 
   def json_result(schema, payload)
     json = Pendratsoa.to_json(schema, payload)
-    assert_equal Pendratsoa.canonical(schema, payload), Pendratsoa.payload(schema, json)
+    assert_equal Pendratsoa.canonical(schema, payload), Pendratsoa.from_json(schema, json)
     json
   end
 end

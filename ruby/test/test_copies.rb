@@ -87,11 +87,12 @@ class TestCopies < Minitest::Test
   def test_the_end_of_a_stream
     stream = Pendratsoa::Stream.new
     assert_same stream, stream.feed(INPUT).each { |item| item }.finish
-    text = "finish: the stream ended within an item, after 1 byte of it"
-    assert_equal 1, assert_error(Pendratsoa::Incomplete, text) { stream.feed("x").finish }.rest
+    text = "finish: the stream ended within the item at offset 17, after 1 byte of it"
+    error = assert_error(Pendratsoa::Incomplete, text) { stream.feed("x").finish }
+    assert_equal [1, 17], [error.rest, error.offset]
     items = Pendratsoa::Stream.read(StringIO.new(INPUT + INPUT[0, 5]), strict: true)
     assert_equal "InputCommand 9", items.next.to_s
-    text = "read: the stream ended within an item, after 5 bytes of it"
+    text = "read: the stream ended within the item at offset 17, after 5 bytes of it"
     error = assert_error(Pendratsoa::Incomplete, text) { items.next }
     assert_equal ["read", 5], [error.call, error.rest]
   end
@@ -104,7 +105,7 @@ class TestCopies < Minitest::Test
       in Pendratsoa::UnknownCode[code: 8] then :unknown
       end
     end
-    assert_equal [INPUT[8..], ["CustomEntry(64513)", %i[version code payload requires_ack]], :unknown], found
+    assert_equal [INPUT[8..], ["CustomEntry(64513)", %i[version code payload requested_ack]], :unknown], found
     assert_equal({ code: 8, type: nil }, Pendratsoa::Message.new(8, 8, "").deconstruct_keys(%i[code type]))
     assert_equal({}, Pendratsoa::Message.new(8, 8, "").deconstruct_keys(%i[none code type]).except(:type))
   end

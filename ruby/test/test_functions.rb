@@ -68,7 +68,7 @@ class TestNames < Minitest::Test
 
   def test_a_schema_by_its_name
     assert_equal Pendratsoa.to_json(13, "\x12\x01x"), Pendratsoa.to_json("ErrorMessage", "\x12\x01x")
-    error = assert_error(Pendratsoa::Unknown, 'canonical: there is no schema "Error"') do
+    error = assert_error(Pendratsoa::Unknown, 'canonical: unknown schema "Error"') do
       Pendratsoa.canonical("Error", "")
     end
     assert_equal ["canonical", :schema, "Error"], [error.call, error.argument, error.value]
@@ -78,17 +78,18 @@ class TestNames < Minitest::Test
     {
       "type_name: code 8 is not that of a type" => -> { Pendratsoa.type_name(8) },
       "type_name: code 65536 is not that of a type" => -> { Pendratsoa.type_name(1 << 16) },
-      'type_code: there is no type with the name "Sleep"' => -> { Pendratsoa.type_code("Sleep") },
-      "schema: there is no version 4" => -> { Pendratsoa.schema(4, 8) },
+      'type_code: unknown type name "Sleep"' => -> { Pendratsoa.type_code("Sleep") },
+      "schema: unknown protocol version 4 (5 to 9)" => -> { Pendratsoa.schema(4, 8) },
       "schema: code 64513 is not that of a named type" => -> { Pendratsoa.schema(8, 64_513) },
       "header: code 8 is not that of a type" => -> { Pendratsoa.header(8, 8, 0) },
-      "frame: there is no version 10" => -> { Pendratsoa.frame(10, 0, "") },
+      "frame: unknown protocol version 10 (5 to 9)" => -> { Pendratsoa.frame(10, 0, "") },
       "frame: code 64513 is not that of a named type" => -> { Pendratsoa.frame(8, 64_513, "") },
-      "canonical: there is no schema #{Pendratsoa::SCHEMAS}" => -> { Pendratsoa.canonical(Pendratsoa::SCHEMAS, "") },
+      "canonical: unknown schema #{Pendratsoa::SCHEMAS} (0 to #{Pendratsoa::SCHEMAS - 1})" =>
+        -> { Pendratsoa.canonical(Pendratsoa::SCHEMAS, "") },
       "notification: code 1037 is not that of a notification" => -> { Pendratsoa.notification(1037, "") },
       "header_eq?: code 0 is not that of a command" => -> { Pendratsoa.header_eq?(0, "", "") },
       "difference: code 0 is not that of a command" => -> { Pendratsoa.difference(0, "", "") },
-      "compare_journals: there is no version 4" => -> { Pendratsoa.compare_journals(4, "", "") }
+      "compare_journals: unknown protocol version 4 (5 to 9)" => -> { Pendratsoa.compare_journals(4, "", "") }
     }.each { |text, call| assert_error(Pendratsoa::Unknown, text, &call) }
   end
 
@@ -170,11 +171,11 @@ class TestReading < Minitest::Test
 
   def test_one_value_in_many_forms
     ['{"wakeUpTime":"5","name":"x"}', " { \"name\" : \"\\u0078\" , \"wake_up_time\" : 0.5e1 } "].each do |json|
-      payload = Pendratsoa.payload(SLEEP, json)
+      payload = Pendratsoa.from_json(SLEEP, json)
       assert_equal unhex("0805620178"), payload
       assert_equal Encoding::BINARY, payload.encoding
     end
-    Pendratsoa::SCHEMAS.times { |schema| assert_equal "", Pendratsoa.payload(schema, "{}") }
+    Pendratsoa::SCHEMAS.times { |schema| assert_equal "", Pendratsoa.from_json(schema, "{}") }
   end
 
   def test_what_is_not_taken
@@ -193,12 +194,12 @@ class TestReading < Minitest::Test
       [SLEEP, '{"wakeUpTime":-1}', :out_of_range, nil, "wakeUpTime", '"{\"wakeUpTime\":-1}": wakeUpTime: out of range'],
       ["Value", '{"content":"a"}', :not_base64, nil, "content", '"{\"content\":\"a\"}": content: not base64']
     ].each do |schema, json, reason, offset, path, text|
-      error = assert_error(Pendratsoa::JsonError, "payload: json #{text}") { Pendratsoa.payload(schema, json) }
+      error = assert_error(Pendratsoa::JsonError, "from_json: json #{text}") { Pendratsoa.from_json(schema, json) }
       offset ? assert_equal(offset, error.offset) : assert_nil(error.offset)
-      assert_equal [reason, path, "payload", :json, json],
+      assert_equal [reason, path, "from_json", :json, json],
                    [error.reason, error.path, error.call, error.argument, error.value]
     end
-    error = assert_raises(Pendratsoa::JsonError) { Pendratsoa.payload("Future", deep) }
+    error = assert_raises(Pendratsoa::JsonError) { Pendratsoa.from_json("Future", deep) }
     assert_equal :too_deep, error.reason
     assert_operator error.message.length, :<, 5000
   end

@@ -17,7 +17,7 @@ class TestArguments < Minitest::Test
     canonical: [[:schema, 13], [:bytes, ""]],
     merge: [[:schema, 13], [:bytes, ""], [:bytes, ""]],
     to_json: [[:schema, 13], [:bytes, ""]],
-    payload: [[:schema, 13], [:bytes, "{}"]],
+    from_json: [[:schema, 13], [:bytes, "{}"]],
     notification: [[:code, Helper::CODES[:signal]], [:bytes, "\x10\x11\x22\x00"]],
     header_eq?: [[:code, Helper::CODES[:call]], [:bytes, ""], [:bytes, ""]],
     difference: [[:code, Helper::CODES[:call]], [:bytes, ""], [:bytes, ""]],
@@ -149,8 +149,8 @@ class TestLaterLibrary < Minitest::Test
     assert_equal 8, stream.rest
     returning(0, [3, 0, 0, 0]) { assert_raises(Pendratsoa::Error) { Pendratsoa.notification(0x8000, "") } }
     returning(0, [0, 0, 0, 5]) { assert_raises(Pendratsoa::Error) { Pendratsoa.notification(0x8000, "") } }
-    returning(0, [9, 0]) { assert_raises(Pendratsoa::Error) { Pendratsoa.payload(13, "{}") } }
-    returning(0, [1 << 63, 0]) { assert_raises(Pendratsoa::Error) { Pendratsoa.payload(13, "{}") } }
+    returning(0, [9, 0]) { assert_raises(Pendratsoa::Error) { Pendratsoa.from_json(13, "{}") } }
+    returning(0, [1 << 63, 0]) { assert_raises(Pendratsoa::Error) { Pendratsoa.from_json(13, "{}") } }
     returning(0, [7, 0]) { assert_raises(Pendratsoa::Error) { Pendratsoa.compare_journals(8, "", "") } }
     returning(0, [1 << 63, 0]) { assert_raises(Pendratsoa::Error) { Pendratsoa.compare_journals(8, "", "") } }
   end
@@ -200,23 +200,41 @@ class TestThreadsAndMemory < Minitest::Test
 end
 
 class TestLibrary < Minitest::Test
-  # What Ruby prints where PENDRATSOA_LIBRARY is this.
-  def load_with(library)
+  # What Ruby prints where PENDRATSOA_LIBRARY is this, once it has required the gem.
+  def load_with(library, words)
     lib = File.expand_path("../lib", __dir__)
-    Open3.capture2e({ "PENDRATSOA_LIBRARY" => library }, RbConfig.ruby, "-w", "-I", lib, "-r", "pendratsoa", "-e",
-                    "puts Pendratsoa.library_version")
+    command = RbConfig.ruby, "-w", "-I", lib, "-r", "pendratsoa", "-e", words
+    Open3.capture2e({ "PENDRATSOA_LIBRARY" => library }, *command)
   end
 
-  def test_a_library_that_is_none
-    ["/nowhere/libpendratsoa.so", "libc.so.6", __FILE__].each do |library|
-      output, status = load_with(library)
-      refute_predicate status, :success?
-      assert_match(/pendratsoa: the library #{library} cannot be used: .*PENDRATSOA_LIBRARY.*\(LoadError\)/, output)
+  # What is not there, what is another library, and what is none.
+  NONE = ["/nowhere/libpendratsoa.so", "libc.so.6", __FILE__].freeze
+
+  def test_it_can_be_required_without_the_library
+    NONE.each do |library|
+      output, status = load_with(library, "p Pendratsoa::RECORDS.length, Pendratsoa::Value.new(content: '1'), " \
+                                          "[true, false].include?(Pendratsoa::COMPILED)")
+      assert_predicate status, :success?
+      assert_equal "#{Pendratsoa::RECORDS.length}\n#<Pendratsoa::Value content: \"1\">\ntrue\n", output
+    end
+  end
+
+  def test_the_first_call_says_what_is_missing
+    calls = %w[.library_version ::Stream.new ::Value.new.encode ::Value.decode("")]
+    words = calls.map { |call| "begin; Pendratsoa#{call}; rescue LoadError => error; puts error; end" }
+    NONE.each do |library|
+      output, status = load_with(library, words.join("\n"))
+      assert_predicate status, :success?
+      assert_equal calls.length, output.lines.length, output
+      output.each_line(chomp: true) do |line|
+        assert line.start_with?("pendratsoa: the library #{library} cannot be used: "), line
+        assert line.end_with?("; #{Pendratsoa.send(:const_get, :Library)::SOURCES}"), line
+      end
     end
   end
 
   def test_no_warnings
-    output, status = load_with(ENV.fetch("PENDRATSOA_LIBRARY", ""))
+    output, status = load_with(ENV.fetch("PENDRATSOA_LIBRARY", ""), "puts Pendratsoa.library_version")
     assert_predicate status, :success?
     assert_equal "#{Pendratsoa::VERSION}\n", output
   end

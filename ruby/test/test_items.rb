@@ -10,7 +10,7 @@ class TestItems < Minitest::Test
     assert_equal %w[Greeter greet], call.json.values_at("serviceName", "handlerName")
     assert_equal Pendratsoa.header(8, call.code, call.payload.bytesize) + call.payload, call.frame
     assert_equal call.payload, call.canonical
-    assert_equal [true, false, false], [call.command?, call.notification?, call.requires_ack?]
+    assert_equal [true, false, false], [call.command?, call.notification?, call.requested_ack?]
     assert_raises(Pendratsoa::Unknown) { call.notification }
   end
 
@@ -30,7 +30,7 @@ class TestItems < Minitest::Test
     bytes = +"0\u00e9"
     message = Pendratsoa::Message.new(8, CODES[:custom_entry], bytes)
     bytes << "more"
-    assert_equal ["0\u00e9".b, false, "CustomEntry(64513)"], [message.payload, message.requires_ack, message.type]
+    assert_equal ["0\u00e9".b, false, "CustomEntry(64513)"], [message.payload, message.requested_ack, message.type]
     assert_raises(TypeError) { Pendratsoa::Message.new(8, 1, nil) }
     assert_raises(Pendratsoa::Unknown) { message.json }
     assert_equal "code 0x0008 0", Pendratsoa::Message.new(8, 8, "").to_s
@@ -42,9 +42,9 @@ class TestItems < Minitest::Test
   end
 
   def test_a_message_of_a_type
-    { 6 => false, 7 => true }.each do |version, requires_ack|
+    { 6 => false, 7 => true }.each do |version, requested_ack|
       message = Pendratsoa::Message.of("ProposeRunCompletion", "\x08\x01", version: version)
-      assert_equal Pendratsoa::Message.new(version, CODES[:propose_run_completion], "\x08\x01", requires_ack), message
+      assert_equal Pendratsoa::Message.new(version, CODES[:propose_run_completion], "\x08\x01", requested_ack), message
     end
     assert_equal Pendratsoa::Message.new(8, CODES[:input], ""), Pendratsoa::Message.of(CODES[:input])
     assert_raises(Pendratsoa::Unknown) { Pendratsoa::Message.of("Input") }

@@ -116,7 +116,7 @@ class TestStream < Minitest::Test
 
   def test_what_is_no_stream
     [4, 10, -1, (1 << 32) + 8, 8 - (1 << 32), 1 << 64].each do |version|
-      error = assert_error(Pendratsoa::Unknown, "Stream: there is no version #{version}") do
+      error = assert_error(Pendratsoa::Unknown, "Stream: unknown protocol version #{version} (5 to 9)") do
         Pendratsoa::Stream.new(version: version)
       end
       assert_equal ["Stream", :version, version], [error.call, error.argument, error.value]
@@ -179,6 +179,8 @@ class TestStream < Minitest::Test
       error = assert_raises(Pendratsoa::TooLong) { stream.each { |item| items << item } }
       assert_equal "Stream: a message of type 0x0000 at offset 17 has 4294967295 bytes, more than the limit of 9",
                    error.message
+      assert_equal [0, 0xffff_ffff, 9, 17], [error.code, error.length, error.limit, error.offset]
+      assert_equal ["Stream", :max_message_size, 9], [error.call, error.argument, error.value]
       assert_equal 0, stream.rest
     end
     assert_equal ITEMS.take(1), items
@@ -190,6 +192,7 @@ class TestStream < Minitest::Test
     end
     assert_empty Pendratsoa::Stream.new.feed(endless).to_a
     assert_raises(ArgumentError) { Pendratsoa::Stream.new(max_message_size: -1) }
-    assert_raises(Pendratsoa::TooLong) { Pendratsoa::Stream.new(max_message_size: 1 << 32) }
+    error = assert_raises(Pendratsoa::TooLong) { Pendratsoa::Stream.new(max_message_size: 1 << 32) }
+    assert_equal [nil] * 4, [error.code, error.length, error.limit, error.offset]
   end
 end

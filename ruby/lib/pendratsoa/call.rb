@@ -14,6 +14,13 @@ module Pendratsoa
       TooLong => "the result would have more than 4,294,967,295 bytes"
     }.freeze
 
+    # What each argument is that may be unknown, and which numbers are known.
+    KNOWN = {
+      version: ["protocol version", " (#{FIRST_VERSION} to #{LAST_VERSION})"],
+      schema: ["schema", " (0 to #{SCHEMA_NAMES.length - 1})"],
+      name: ["type name", ""]
+    }.freeze
+
     # Why a JSON text is rejected.
     REASONS = {
       not_json: "not JSON",
@@ -113,7 +120,8 @@ module Pendratsoa
     # The error of a message that is longer than the limit of a stream.
     def message_too_long(code, offset, length, limit)
       what = format("a message of type 0x%04x at offset %d has %d bytes", code, offset, length)
-      error(TooLong, "#{what}, more than the limit of #{limit}", :max_message_size)
+      error(TooLong, "#{what}, more than the limit of #{limit}", :max_message_size,
+            code: code, length: length, limit: limit, offset: offset)
     end
 
     # The kind of a number among these. A later library may have further ones.
@@ -137,9 +145,9 @@ module Pendratsoa
 
     private
 
-    def error(kind, text, argument = nil)
+    def error(kind, text, argument = nil, **details)
       value = argument && @arguments.fetch(argument)
-      kind.new("#{@name}: #{text}", call: @name, argument: argument, value: value)
+      kind.new("#{@name}: #{text}", call: @name, argument: argument, value: value, **details)
     end
 
     def unexpected(what)
@@ -162,10 +170,11 @@ module Pendratsoa
     end
 
     def unknown(argument)
-      value = Shown.value(@arguments.fetch(argument))
-      return error(Unknown, "code #{value} is not that of #{@kind}", argument) if argument == :code
+      value = @arguments.fetch(argument)
+      return error(Unknown, "code #{Shown.value(value)} is not that of #{@kind}", argument) if argument == :code
 
-      error(Unknown, "there is no #{argument == :name ? "type with the name" : argument} #{value}", argument)
+      name, known = KNOWN.fetch(argument)
+      error(Unknown, "unknown #{name} #{Shown.value(value)}#{known unless value.is_a?(String)}", argument)
     end
   end
   private_constant :Call

@@ -2,7 +2,8 @@
 
 module Pendratsoa
   # The compiled module, where it is there for this Ruby: it reads and writes records without Fiddle. Where it is not,
-  # since there was no compiler or it is of another Ruby, or where PENDRATSOA_PURE is set, all of it is done in Ruby.
+  # since there was no compiler or it is of another Ruby, or where PENDRATSOA_PURE is set, all of it is done in Ruby. It
+  # is used from the first call on, which loads the library; until then it leaves all to Ruby.
   module Compiled
     FILE = File.join(__dir__, RbConfig::CONFIG.fetch("ruby_version"), "compiled.so")
     SHAPES = %i[plain optional repeated member].freeze
@@ -22,16 +23,19 @@ module Pendratsoa
     end
     private_class_method :row_of
 
-    # Whether the module is in use from now on.
+    # Whether the module is there, and is to be used.
     def self.load
       return false unless ENV.fetch("PENDRATSOA_PURE", "").empty? && File.exist?(FILE)
 
-      calls = %i[journal_fields journal_payload_of_fields].map { |name| Library::FUNCTIONS.fetch(name).to_i }
       require FILE
-      use(*calls, records)
       true
     rescue LoadError
       false
+    end
+
+    # Gives it the functions of the library, once that is loaded, and the records.
+    def self.start(functions)
+      use(*%i[journal_fields journal_payload_of_fields].map { |name| functions.fetch(name).to_i }, records) if COMPILED
     end
   end
   private_constant :Compiled

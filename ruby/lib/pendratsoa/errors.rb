@@ -15,8 +15,23 @@ module Pendratsoa
     end
   end
 
-  # A payload is not well-formed for its schema.
-  class Malformed < Error; end
+  # What an error of a payload has, if that is the payload of a message: the code of its type, and the offset at which
+  # the message begins in its stream, in bytes. Each is nil if it is not known.
+  module OfPayload
+    attr_reader :code, :offset
+
+    def initialize(message = nil, code: nil, offset: nil, **details)
+      super(message, **details)
+      @code = code
+      @offset = offset
+    end
+  end
+  private_constant :OfPayload
+
+  # A payload is not well-formed for its schema. `code` and `offset` say of which message, if they are not nil.
+  class Malformed < Error
+    include OfPayload
+  end
 
   # An allocation of the library failed. The call can be repeated.
   class OutOfMemory < Error; end
@@ -24,17 +39,34 @@ module Pendratsoa
   # A slice for numbers was too short. This gem never passes such a slice.
   class NoRoom < Error; end
 
-  # A payload has, or would have, more than 4,294,967,295 bytes, which no header can say.
-  class TooLong < Error; end
+  # A payload has, or would have, more than 4,294,967,295 bytes, which no header can say; or a message that came has
+  # more than the limit of its stream.
+  class TooLong < Error
+    # Of such a message the code of its type, the length of its payload, the limit, and where the message begins in the
+    # stream, all in bytes; otherwise nil.
+    attr_reader :code, :length, :limit, :offset
+
+    def initialize(message = nil, code: nil, length: nil, limit: nil, offset: nil, **details)
+      super(message, **details)
+      @code = code
+      @length = length
+      @limit = limit
+      @offset = offset
+    end
+  end
 
   # A version, a schema, a code or a name does not exist, or is not of the kind that the call is for.
   class Unknown < Error; end
 
-  # A notification has no id.
-  class NoId < Error; end
+  # A notification has no id. `code` and `offset` say of which message, if they are not nil.
+  class NoId < Error
+    include OfPayload
+  end
 
-  # A notification has an id, and no result.
-  class NoResult < Error; end
+  # A notification has an id, and no result. `code` and `offset` say of which message, if they are not nil.
+  class NoResult < Error
+    include OfPayload
+  end
 
   # A payload is well-formed for its schema, and not canonical.
   class NotCanonical < Error; end
@@ -57,12 +89,13 @@ module Pendratsoa
 
   # A stream ended within an item.
   class Incomplete < Error
-    # How many bytes of the item came.
-    attr_reader :rest
+    # How many bytes of the item came, and where it begins in the stream.
+    attr_reader :rest, :offset
 
-    def initialize(message = nil, rest: 0, **details)
+    def initialize(message = nil, rest: 0, offset: 0, **details)
       super(message, **details)
       @rest = rest
+      @offset = offset
     end
   end
 

@@ -9,7 +9,6 @@ module Pendratsoa
     ENTRIES = 64
     NOT_CANONICAL = ERRORS.find { |_, (name, _)| name == :NotCanonical }.first
     U64 = (0...(1 << 64))
-    FIELDS = Library::FUNCTIONS.fetch(:journal_fields)
 
     # The kinds of fields, by the numbers of the library.
     module Kinds
@@ -34,7 +33,7 @@ module Pendratsoa
     def self.read(schema, bytes, entries)
       # a String is memory that needs not be freed; what a call writes is in it alone
       room = String.new(capacity: 8 * NUMBERS * entries)
-      count = FIELDS.call(schema, bytes, bytes.bytesize, room, entries)
+      count = Library.call(:journal_fields, schema, bytes, bytes.bytesize, room, entries)
       return [count, []] unless count.positive?
 
       [count, Fiddle::Pointer[room][0, 8 * NUMBERS * [count, entries].min].unpack("Q*")]

@@ -110,8 +110,8 @@ module Pendratsoa
     # The canonical payload of what a JSON text means, which is in protobuf's own form.
     #
     # JsonError if it means no value of the schema; Unknown if there is no such schema; TooLong, OutOfMemory.
-    def payload(schema, json)
-      call = Call.new("payload", schema: schema, json: json)
+    def from_json(schema, json)
+      call = Call.new("from_json", schema: schema, json: json)
       found = nil
       kind, offset = Library.numbers(READ_NUMBERS) do |room|
         found = call.written(:journal_payload_of_json, call.schema, *call.data(:json), room, READ_NUMBERS)
@@ -160,7 +160,8 @@ module Pendratsoa
 
     # Compares a recorded journal with a replayed one, both streams of a version, command by command.
     #
-    # Other items, and bytes after the last whole item, are skipped. Unknown if there is no such version; OutOfMemory.
+    # Other items, custom entries among them, and bytes after the last whole item are skipped. Unknown if there is no
+    # such version; OutOfMemory.
     def compare_journals(version, recorded, replayed, ignore_payloads: false)
       call = Call.new("compare_journals", version: version, recorded: recorded, replayed: replayed)
       journals = call.version, *call.data(:recorded), *call.data(:replayed)

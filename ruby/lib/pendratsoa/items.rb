@@ -5,6 +5,24 @@ require "json"
 module Pendratsoa
   # What each item of a stream has besides its fields.
   module Item
+    # Where it begins in its stream, in bytes; nil if it came in none. It is no member, and `==` does not compare it.
+    attr_reader :offset
+
+    # The record that its payload means, if it is a message whose record is of this class; otherwise nil.
+    def record(record)
+      return if record.is_a?(Class) && record < MessageRecord
+
+      raise TypeError, "record: record must be the class of a message's record, not #{record.inspect}"
+    end
+
+    # What `case .. in` takes: its members, and `word` and `offset` if the pattern names them.
+    def deconstruct_keys(keys)
+      others = %i[word offset] - members
+      # a Struct gives nothing for a key that is no member, and for those after it
+      found = super(keys && (keys - others))
+      (others & keys.to_a).each { |name| found[name] = public_send(name) }
+      found
+    end
     # The item as it came, byte for byte, header and payload, as a binary String: what a proxy passes on if it does not
     # change it.
     def bytes
@@ -22,22 +40,26 @@ module Pendratsoa
   # acknowledgement. It is frozen, and so is its payload.
   #
   # `word` is the eight bytes of its header as one big-endian number, where it came in a stream, and otherwise nil. It
-  # is no member, and `==` does not compare it. In a pattern a message has its `type` besides:
+  # is no member, and `==` does not compare it. In a pattern a message has its `type` and its `message` besides:
   #
   #   case item
+  #   in Pendratsoa::Message[type: "SetStateCommand", message: { key:, value: { content: } }] then ..
   #   in Pendratsoa::Message[type: "SetStateCommand", payload:] then ..
   #   end
-  Message = Struct.new(:version, :code, :payload, :requires_ack) do
+  #
+  # A pattern with `message` decodes each message that is tried, and raises Malformed if one means no record.
+  Message = Struct.new(:version, :code, :payload, :requested_ack) do
     include Item
 
-    alias_method :requires_ack?, :requires_ack
+    alias_method :requested_ack?, :requested_ack
 
     attr_reader :word
 
-    def initialize(version, code, payload, requires_ack = false, word: nil)
+    def initialize(version, code, payload, requested_ack = false, word: nil, offset: nil)
       bytes, = Call.new("Message.new", payload: payload).data(:payload)
-      super(version, code, bytes, requires_ack ? true : false)
+      super(version, code, bytes, requested_ack ? true : false)
       @word = word
+      @offset = offset
       freeze
     end
 
@@ -58,7 +80,7 @@ module Pendratsoa
       code = code_of(type)
       # the deepest message has 202 levels of JSON
       text = json.is_a?(Hash) ? JSON.generate(json, max_nesting: 1000) : json
-      of(code, Pendratsoa.payload(Pendratsoa.schema(version, code), text), version: version)
+      of(code, Pendratsoa.from_json(Pendratsoa.schema(version, code), text), version: version)
     end
 
     # The code of a type that is given by its code or its name.
@@ -76,16 +98,20 @@ module Pendratsoa
       Pendratsoa.type_name(code)
     end
 
-    # The record that its payload means, which is decoded each time. Malformed if it means none; a custom entry has no
-    # schema: Unknown.
+    # The record that its payload means, which is decoded each time. A custom entry has none: nil. Malformed if the
+    # payload means none.
     def message
-      number = schema
-      record = RECORDS[number]
-      unless record
-        raise Error.new("message: the schema #{number} is of no record that this gem knows", call: "message")
-      end
+      found = class_of_record
+      found && reading("message") { found.decode(payload) }
+    end
 
-      record.decode(payload)
+    # The record that its payload means, if it is of this class; otherwise nil, and nothing is decoded. Malformed if the
+    # payload means none.
+    def record(record)
+      found = class_of_record
+      return super unless found && found == record
+
+      reading("record") { record.decode(payload) }
     end
 
     # The number of its payload's schema. A custom entry has none: Unknown.
@@ -93,7 +119,8 @@ module Pendratsoa
       Pendratsoa.schema(version, code)
     end
 
-    # Whether its code is that of a command, which those of custom entries may be.
+    # Whether its code is that of a command. So may be the code of a custom entry, which `compare_journals` skips
+    # nevertheless.
     def command?
       COMMAND_CODES.cover?(code)
     end
@@ -103,31 +130,36 @@ module Pendratsoa
       NOTIFICATION_CODES.cover?(code)
     end
 
-    # What its payload means, as protobuf's JSON has it: hashes, arrays, texts and numbers.
+    # What its payload means, as protobuf's JSON has it: hashes, arrays, texts and numbers. A custom entry has no
+    # schema: Unknown.
     def json
-      JSON.parse(Pendratsoa.to_json(schema, payload), max_nesting: false)
+      JSON.parse(reading("json") { Pendratsoa.to_json(schema, payload) }, max_nesting: false)
     end
 
-    # The canonical encoding of its payload.
+    # The canonical encoding of its payload. A custom entry has no schema: Unknown.
     def canonical
-      Pendratsoa.canonical(schema, payload)
+      reading("canonical") { Pendratsoa.canonical(schema, payload) }
     end
 
     # Its frame at a version, or at its own: the header, and after it the canonical payload. Whether the header requests
-    # an acknowledgement depends on the type and the version, and not on `requires_ack`. Unknown if the version cannot
+    # an acknowledgement depends on the type and the version, and not on `requested_ack`. Unknown if the version cannot
     # have its payload: a suspension before version 7 has no frame from 7 on, and one since then has a frame at each.
     def frame(version = self.version)
       earlier = Earlier.schema(self.version, code)
-      earlier ? Earlier.frame("frame", version, code, earlier, payload) : Pendratsoa.frame(version, code, payload)
+      reading("frame") do
+        earlier ? Earlier.frame("frame", version, code, earlier, payload) : Pendratsoa.frame(version, code, payload)
+      end
     end
 
     # Appends its frame, as `frame` returns it, to a binary String, which it returns. After an error it is as it was.
     def append_frame(out, version = self.version)
       earlier = Earlier.schema(self.version, code)
-      return Pendratsoa.append_frame(out, version, code, payload) unless earlier
-      raise TypeError, "append_frame: out must be a String, not #{out.class}" unless out.is_a?(String)
+      reading("append_frame") do
+        next Pendratsoa.append_frame(out, version, code, payload) unless earlier
+        raise TypeError, "append_frame: out must be a String, not #{out.class}" unless out.is_a?(String)
 
-      out << Earlier.frame("append_frame", version, code, earlier, payload)
+        out << Earlier.frame("append_frame", version, code, earlier, payload)
+      end
     end
 
     # Writes its frame, as `frame` returns it, to an IO or the like, and returns the message.
@@ -143,12 +175,12 @@ module Pendratsoa
 
     # Its id and its result, if it is a notification.
     def notification
-      Pendratsoa.notification(code, payload)
+      reading("notification") { Pendratsoa.notification(code, payload) }
     end
 
     # The name of its type and the length of its payload in bytes.
     def to_s
-      "#{type} #{payload.bytesize}#{" ack" if requires_ack}"
+      "#{type} #{payload.bytesize}#{" ack" if requested_ack}"
     rescue Error
       "code #{Shown.code(code)} #{payload.bytesize}"
     end
@@ -157,22 +189,40 @@ module Pendratsoa
       "#<#{self.class} #{self}, version #{version}, payload #{Shown.bytes(payload)}>"
     end
 
-    # What `case .. in` takes: its members, the name of its type, which is nil where no type has its code, and where the
-    # pattern names it the record, which is nil where the payload means none.
+    # What `case .. in` takes: its members, the name of its type, which is nil if no type has its code, and if the
+    # pattern names it the record. A custom entry has no record: nil. Malformed if the payload means none.
     def deconstruct_keys(keys)
-      # a Struct gives nothing for a key that is no member, and for those after it
       found = super(keys && (keys - %i[type message]))
       found[:type] = name_of_type if keys.nil? || keys.include?(:type)
-      found[:message] = message_or_nil if keys&.include?(:message)
+      found[:message] = message if keys&.include?(:message)
       found
     end
 
     private
 
-    def message_or_nil
-      message
-    rescue Malformed, Unknown
-      nil
+    # The class of its record; a custom entry has none. Unknown if there is no such version or type.
+    def class_of_record
+      number = schema
+      RECORDS[number] ||
+        raise(Error.new("message: the schema #{number} is of no record that this gem knows", call: "message"))
+    rescue Unknown
+      # what has a header and no schema is a custom entry
+      raise unless custom_entry?
+    end
+
+    def custom_entry?
+      Pendratsoa.header(version, code, 0).bytesize.positive?
+    rescue Unknown
+      false
+    end
+
+    # What a block returns that reads its payload. An error of the payload says of which message it is.
+    def reading(call)
+      yield
+    rescue Malformed, NoId, NoResult => error
+      text = error.message.partition(": ").last
+      raise error.class.new("#{call}: #{name_of_type}#{" at offset #{offset}" if offset}: #{text}", call: call,
+                            argument: error.argument, value: error.value, code: code, offset: offset)
     end
 
     def name_of_type
@@ -186,8 +236,9 @@ module Pendratsoa
   UnknownCode = Struct.new(:version, :code, :word) do
     include Item
 
-    def initialize(*)
-      super
+    def initialize(*members, offset: nil)
+      super(*members)
+      @offset = offset
       freeze
     end
 
@@ -209,9 +260,10 @@ module Pendratsoa
   Skipped = Struct.new(:version, :code, :word, :payload) do
     include Item
 
-    def initialize(*)
-      super
+    def initialize(*members, offset: nil)
+      super(*members)
       payload.freeze
+      @offset = offset
       freeze
     end
 

@@ -3,7 +3,8 @@
 require "fiddle"
 
 module Pendratsoa
-  # The shared library: where it is found, and its functions.
+  # The shared library: where it is found, and its functions. The first call loads it, so that the gem can be required,
+  # and its pages made, where there is none.
   module Library
     # The library that is copied into this gem, and the name by which the system finds another.
     BUNDLED = File.join(__dir__, "libpendratsoa.so")
@@ -18,6 +19,12 @@ module Pendratsoa
 
     # The functions with their parameters.
     PARAMETERS = CALLS.transform_values { |words| words.flat_map { |word| TYPES.fetch(word) } }.freeze
+
+    # Where a library comes from.
+    SOURCES = "the gem of a release has one, 'make ruby' in a clone copies one into it, and PENDRATSOA_LIBRARY names " \
+              "its file"
+    LOCK = Mutex.new
+    private_constant :LOCK
 
     # The file that PENDRATSOA_LIBRARY names, or else that of this gem, or else the name that the system knows.
     def self.find
@@ -36,15 +43,17 @@ module Pendratsoa
         [function, Fiddle::Function.new(handle[function.to_s], parameters, Fiddle::TYPE_LONG_LONG, need_gvl: true)]
       end.freeze
     rescue Fiddle::DLError => error
-      raise LoadError, "pendratsoa: the library #{name} cannot be used: #{error.message}; " \
-                       "PENDRATSOA_LIBRARY may name its file"
+      raise LoadError, "pendratsoa: the library #{name} cannot be used: #{error.message}; #{SOURCES}"
     end
 
-    FUNCTIONS = load(find)
+    # The functions, which are loaded once. A LoadError if there is no library.
+    def self.functions
+      @functions || LOCK.synchronize { @functions ||= load(find).tap { |found| Compiled.start(found) } }
+    end
 
     # What a function returns. Bytes are passed as a String or a pointer, and their number.
     def self.call(function, *parameters)
-      FUNCTIONS.fetch(function).call(*parameters)
+      functions.fetch(function).call(*parameters)
     end
 
     # Numbers of 64 bits that a function writes: yields room for a number of them, and returns them.

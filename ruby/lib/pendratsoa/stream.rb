@@ -107,8 +107,8 @@ module Pendratsoa
       count = rest
       return if count.zero?
 
-      text = "the stream ended within an item, after #{count == 1 ? "1 byte" : "#{count} bytes"} of it"
-      raise Incomplete.new("#{call}: #{text}", call: call, rest: count)
+      text = "the stream ended within the item at offset #{@offset}, after #{count} byte#{"s" if count > 1} of it"
+      raise Incomplete.new("#{call}: #{text}", call: call, rest: count, offset: @offset)
     end
 
     # A copy goes on by itself.
@@ -166,16 +166,17 @@ module Pendratsoa
     end
 
     # Cuts the item of these numbers from the bytes.
-    def cut(kind, word, code, ack, size, payload_begin)
+    def cut(kind, word, code, requested_ack, size, payload_begin)
       kind = @call.kind(ITEM_KINDS, kind, "an item")
       # a copy; a slice of the String could keep all of it in memory
       payload = Fiddle::Pointer[@bytes][@begin + payload_begin, size - payload_begin]
+      offset = @offset
       @begin += size
       @offset += size
       case kind
-      when :message then Message.new(@version, code, payload, ack == 1, word: word)
-      when :unknown_code then UnknownCode.new(@version, code, word)
-      else Skipped.new(@version, code, word, payload)
+      when :message then Message.new(@version, code, payload, requested_ack == 1, word: word, offset: offset)
+      when :unknown_code then UnknownCode.new(@version, code, word, offset: offset)
+      else Skipped.new(@version, code, word, payload, offset: offset)
       end
     end
   end
