@@ -276,9 +276,10 @@ def _class_of(version: int, code: int) -> Optional[Type[MessageRecord]]:
 def _is_custom_entry(version: int, code: int) -> bool:
     """Whether a code that has no schema at a version is that of a custom entry, which has a header."""
     try:
-        return len(_calls.header(version, code, 0)) > 0
+        _calls.header(version, code, 0)
     except Unknown:
         return False
+    return True
 
 
 def _check_class(record: Type[MessageRecord]) -> None:

@@ -23,6 +23,7 @@ module Pendratsoa
       (others & keys.to_a).each { |name| found[name] = public_send(name) }
       found
     end
+
     # The item as it came, byte for byte, header and payload, as a binary String: what a proxy passes on if it does not
     # change it.
     def bytes
@@ -211,7 +212,8 @@ module Pendratsoa
     end
 
     def custom_entry?
-      Pendratsoa.header(version, code, 0).bytesize.positive?
+      Pendratsoa.header(version, code, 0)
+      true
     rescue Unknown
       false
     end
