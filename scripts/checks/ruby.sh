@@ -49,9 +49,9 @@ done
 unset PENDRATSOA_PURE
 
 # The gem with the library in it needs neither this folder nor the environment. The example is run over it.
-# says_compiled NAME: whether the gem that is installed in GEM_HOME has the module
+# says_compiled NAME: whether the gem that is installed in GEM_HOME has the module, which works with its library
 says_compiled() {
-  ruby -rpendratsoa -e 'puts Pendratsoa::COMPILED' > "$out" 2> "$err"
+  ruby -rpendratsoa -e 'puts Pendratsoa::Value.decode("").encode.empty? && Pendratsoa::COMPILED' > "$out" 2> "$err"
   [ -n "$compiled" ] && echo true > "$work/wanted" || echo false > "$work/wanted"
   same "the module of $1" "$work/wanted" "$out"
 }
