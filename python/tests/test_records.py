@@ -13,6 +13,7 @@ import unittest
 
 import pendratsoa
 from pendratsoa import FieldError, FieldReason, JournalError, Malformed, Message, Stream, Unknown, messages
+from pendratsoa import _items, _records
 from pendratsoa.messages import (
     RECORDS,
     CallCompletionNotificationMessage,
@@ -112,8 +113,12 @@ class TestDecoding(unittest.TestCase):
         with replaced("journal_payload_of_fields", of_another_kind):
             text = "^encode: the library returned a table of fields of the kind 10, which this module does not know$"
             self.assertRaisesRegex(JournalError, text, Value(b"x").encode)
-        with replaced("journal_schema", returning(len(RECORDS))), self.assertRaises(JournalError):
+        for kept in (_records.schema_of, _items._class_of):
+            kept.cache_clear()
+            self.addCleanup(kept.cache_clear)
+        with replaced("journal_schema", returning(len(RECORDS))), self.assertRaises(JournalError) as raised:
             Message(8, 0x7FFF, b"").message
+        self.assertRegex(str(raised.exception), "^message: the schema [0-9]+ is of no record that this package knows$")
 
     def test_threads(self):
         payload = Future(waiting_signals=tuple(range(60)), nested_futures=(Future(),)).encode()
