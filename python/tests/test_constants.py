@@ -28,17 +28,6 @@ class TestConstants(unittest.TestCase):
             self.assertEqual(numbers[kind.name], kind.number)
             self.assertIs(type(kind).of(kind.number), kind)
 
-    def test_kinds_are_words(self):
-        self.assertEqual([str(kind) for kind in IdKind], ["completion_id", "signal_id", "signal_name"])
-        self.assertEqual(f"{VerdictKind.SAME} %s" % VerdictKind.BAD_REPLAYED, "same bad_replayed")
-        for kind in (*JsonReason, *FieldReason, *IdKind, *ResultKind, *VerdictKind):
-            word = kind.name.lower()
-            self.assertEqual((kind, {kind: 1}[word], {word: 1}[kind], type(kind)(word)), (word, 1, 1, kind))
-            self.assertEqual((f"{kind}", str(kind), json.dumps(kind)), (word, word, f'"{word}"'))
-            self.assertIs(pickle.loads(pickle.dumps(kind)), kind)
-        self.assertFalse(VerdictKind.SAME == "recorded_ended" or VerdictKind.SAME == 0)
-        self.assertRaises(ValueError, VerdictKind, "other")
-
     def test_versions_and_schemas(self):
         numbers = defined(r"\d+")
         self.assertEqual(numbers["FIRST_VERSION"], pendratsoa.FIRST_VERSION)
@@ -69,6 +58,17 @@ class TestConstants(unittest.TestCase):
         )
         listed = sorted((int(number), name) for name, number in described)
         self.assertEqual(listed, list(enumerate(pendratsoa.SCHEMA_NAMES)))
+
+    def test_kinds_are_words(self):
+        self.assertEqual([str(kind) for kind in IdKind], ["completion_id", "signal_id", "signal_name"])
+        self.assertEqual(f"{VerdictKind.SAME} %s" % VerdictKind.BAD_REPLAYED, "same bad_replayed")
+        for kind in (*JsonReason, *FieldReason, *IdKind, *ResultKind, *VerdictKind):
+            word = kind.name.lower()
+            self.assertEqual((kind, {kind: 1}[word], {word: 1}[kind], type(kind)(word)), (word, 1, 1, kind))
+            self.assertEqual((f"{kind}", str(kind), json.dumps(kind)), (word, word, f'"{word}"'))
+            self.assertIs(pickle.loads(pickle.dumps(kind)), kind)
+        self.assertFalse(VerdictKind.SAME == "recorded_ended" or VerdictKind.SAME == 0)
+        self.assertRaises(ValueError, VerdictKind, "other")
 
 
 if __name__ == "__main__":
