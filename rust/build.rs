@@ -5,11 +5,14 @@
 //!
 //! The crate of a release has the static library, in `lib`, in a folder of the target's name. There that one is linked,
 //! unless PENDRATSOA_PREFIX is set, or PENDRATSOA_STATIC is 0.
+//!
+//! A missing library is a warning, so that `cargo check`, `cargo doc` and a language server work without one. What is
+//! linked then is a library that there is not, whose name says so in the error of the linker.
 
 use std::env;
 use std::ffi::OsString;
 use std::path::{Path, PathBuf};
-use std::process::{exit, Command};
+use std::process::Command;
 
 const VARIABLES: [&str; 6] = [
     "PENDRATSOA_PREFIX",
@@ -29,8 +32,10 @@ fn main() {
         println!("cargo:rerun-if-env-changed={variable}");
     }
     if let Err(reason) = link() {
-        eprintln!("pendratsoa: {reason}");
-        exit(1);
+        println!("cargo:warning=pendratsoa: nothing can be linked, since {reason}");
+        println!("cargo:rustc-link-lib=dylib=pendratsoa_is_not_installed");
+        // a file that is never there, so that each build looks for the library again
+        println!("cargo:rerun-if-changed=pendratsoa_is_not_installed");
     }
 }
 
@@ -92,9 +97,9 @@ fn folder_of_pkg_config() -> Result<PathBuf, String> {
         })?;
     if !output.status.success() {
         let said = String::from_utf8_lossy(&output.stderr);
-        let said = said.trim();
         return Err(format!(
-            "PENDRATSOA_PREFIX is not set, and pkg-config does not know the library; {INSTALL}. It says: {said}"
+            "PENDRATSOA_PREFIX is not set, and pkg-config does not know the library; {INSTALL}. It says: {}",
+            said.split_whitespace().collect::<Vec<_>>().join(" ")
         ));
     }
     Ok(PathBuf::from(

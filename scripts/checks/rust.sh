@@ -83,28 +83,36 @@ counted 'the proxy' python3 -B "$top/scripts/checks/proxied.py" "$CARGO_TARGET_D
 sed -n '/^fn append/,/^}/p' README.md > "$work/part"
 case_of 'the proxy of rust/README.md' python3 -B "$top/scripts/checks/is_part.py" "$work/part" examples/proxy.rs
 
-# refused NAME WORDS: a build fails, and says so in these words
-refused() {
-  cargo build --quiet > "$out" 2> "$err"
-  [ $? -ne 0 ] && grep -qF "$2" "$err"
-  outcome "$1" $?
+# unlinked NAME WORDS: what needs no library is made, with a warning in these words, and a program is not linked
+unlinked() {
+  for words in check 'doc --no-deps' 'build --lib'; do
+    # shellcheck disable=SC2086 # the words are split
+    cargo $words > "$out" 2> "$err"
+    [ $? -eq 0 ] && grep -qF "warning: $2" "$err"
+    outcome "$1: cargo $words" $?
+  done
+  cargo build --example listing > "$out" 2> "$err"
+  [ $? -ne 0 ] && grep -qF "$2" "$err" && grep -qF 'pendratsoa_is_not_installed' "$err"
+  outcome "$1: a program is not linked" $?
 }
 
 PENDRATSOA_PREFIX=$work/nowhere
-refused 'no library below PENDRATSOA_PREFIX' "pendratsoa: there is no $work/nowhere/lib/libpendratsoa.a; "
+unlinked 'no library below PENDRATSOA_PREFIX' \
+  "pendratsoa: nothing can be linked, since there is no $work/nowhere/lib/libpendratsoa.a; "
 unset PENDRATSOA_PREFIX
 (
   PKG_CONFIG_PATH=$work/nowhere
   PKG_CONFIG_LIBDIR=$work/nowhere
   export PKG_CONFIG_PATH PKG_CONFIG_LIBDIR
-  refused 'no library by pkg-config' \
-    'pendratsoa: PENDRATSOA_PREFIX is not set, and pkg-config does not know the library; '
+  unlinked 'no library by pkg-config' \
+    'pendratsoa: nothing can be linked, since PENDRATSOA_PREFIX is not set, and pkg-config does not know the library; '
   echo "$passed $failed" > "$work/tally"
 )
 read -r passed failed < "$work/tally"
 PKG_CONFIG=$work/nowhere/pkg-config
 export PKG_CONFIG
-refused 'no pkg-config' "pendratsoa: PENDRATSOA_PREFIX is not set, and $PKG_CONFIG cannot be run: "
+unlinked 'no pkg-config' \
+  "pendratsoa: nothing can be linked, since PENDRATSOA_PREFIX is not set, and $PKG_CONFIG cannot be run: "
 unset PKG_CONFIG PENDRATSOA_STATIC
 
 # layout, lints and pages; unsafe code is in src/ffi.rs alone
