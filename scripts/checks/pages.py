@@ -79,7 +79,8 @@ def links_and_paths() -> Found:
     """Links, and paths in code that begin with a folder of this repository."""
     path = re.compile(f"({'|'.join(FOLDERS)})/[A-Za-z0-9_./-]+")
     for page in pages():
-        links = {target for line in lines(page) for target in re.findall(r"\]\(([^)#: ]+)[)#]", line)}
+        plain = [line for line, fence in fences(page) if fence is None]
+        links = {target for line in plain for target in re.findall(r"\]\(([^)#: ]+)[)#]", line)}
         places = {code for code in text(page).split("`")[1::2] if path.fullmatch(code)}
         targets = [(target, posixpath.join(posixpath.dirname(page), target)) for target in links]
         for target, place in sorted(targets + [(place, place) for place in places]):
