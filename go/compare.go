@@ -29,7 +29,8 @@ func commandError(call string, result int64, code uint16, first, second []byte) 
 	return given.refusal(call, result)
 }
 
-// A VerdictKind says how two journals compare.
+// A VerdictKind says how two journals compare: VerdictSame, VerdictRecordedEnded, VerdictReplayedEnded,
+// VerdictTypeMismatch, VerdictHeaderMismatch, VerdictBadRecorded or VerdictBadReplayed.
 type VerdictKind int
 
 // String returns the name of the kind, as "VerdictSame".
@@ -40,7 +41,8 @@ func (kind VerdictKind) String() string {
 // A Verdict says how two journals compare.
 type Verdict struct {
 	Kind VerdictKind
-	// Index is that of the first commands that differ, from 0, or the number of commands if none differ.
+	// Index is that of the first command that differs, is malformed or is one more, from 0; of VerdictSame it is the
+	// number of commands.
 	Index uint64
 	// Text is that of a mismatch, as the SDKs report it, and otherwise empty.
 	Text string
@@ -50,7 +52,7 @@ type Verdict struct {
 // items, and bytes after the last whole item, are skipped. If payloads are ignored, the content of user data is not
 // compared, but that of a signal is. ErrUnknown for an unknown version; ErrOutOfMemory.
 func CompareJournals(version int, recorded, replayed []byte, ignorePayloads bool) (Verdict, error) {
-	number, err := unsigned("CompareJournals", "version", version)
+	number, err := unsigned("CompareJournals", versionName, version)
 	if err != nil {
 		return Verdict{}, err
 	}
@@ -59,7 +61,7 @@ func CompareJournals(version int, recorded, replayed []byte, ignorePayloads bool
 		return journalVerdict(number, recorded, replayed, ignorePayloads, &numbers, out)
 	})
 	if result < 0 {
-		return Verdict{}, arguments{version: named("version", version)}.refusal("CompareJournals", result)
+		return Verdict{}, arguments{version: named(versionName, version)}.refusal("CompareJournals", result)
 	}
 	verdict, err := verdictOf(numbers[:], text)
 	if err != nil {

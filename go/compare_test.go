@@ -43,11 +43,11 @@ func TestLongDifference(t *testing.T) {
 func TestCommandsThatAreNone(t *testing.T) {
 	good, bad := unhex(t, "0a0161"), unhex(t, "0a")
 	_, err := HeaderEq(CodeCallCompletionNotification, good, bad, false)
-	wantError(t, err, ErrUnknown, "pendratsoa: HeaderEq: code 0x800d: unknown, or not of the kind that the call is for")
+	wantError(t, err, ErrUnknown, "pendratsoa: HeaderEq: unknown code 0x800d, or not of the kind that the call is for")
 	_, err = HeaderEq(CodeSetStateCommand, good, bad, false)
 	wantError(t, err, ErrMalformed, "pendratsoa: HeaderEq: second of 1 byte: not well-formed for its schema")
 	_, err = Difference(0xfc01, good, good)
-	wantError(t, err, ErrUnknown, "pendratsoa: Difference: code 0xfc01: unknown, or not of the kind that the call is for")
+	wantError(t, err, ErrUnknown, "pendratsoa: Difference: unknown code 0xfc01, or not of the kind that the call is for")
 	_, err = Difference(CodeSetStateCommand, bad, good)
 	wantError(t, err, ErrMalformed, "pendratsoa: Difference: first of 1 byte: not well-formed for its schema")
 }
@@ -77,6 +77,18 @@ func TestJournals(t *testing.T) {
 		found := must(CompareJournals(8, test.recorded, test.replayed, test.ignorePayloads))(t)
 		if found != test.want {
 			t.Errorf("%s: %+v", name, found)
+		}
+	}
+}
+
+// Custom entries are not compared, also those whose code is in the range of commands.
+func TestJournalsWithCustomEntries(t *testing.T) {
+	recorded := readFile(t, "examples/streams/recorded")
+	for _, code := range []string{"3f3f", "fc01"} {
+		replayed := append(unhex(t, code+"000000000001ff"), recorded...)
+		verdict := must(CompareJournals(8, recorded, replayed, false))(t)
+		if verdict != (Verdict{VerdictSame, 4, ""}) {
+			t.Errorf("%s: %+v", code, verdict)
 		}
 	}
 }

@@ -177,7 +177,7 @@ func codesOfSchemas() map[int]uint16 {
 
 // readBack returns an error if a JSON text is not read as this payload.
 func readBack(schema int, json, canonical []byte) error {
-	payload, err := Payload(schema, json)
+	payload, err := FromJSON(schema, json)
 	if err != nil {
 		return fmt.Errorf("the payload of %s: %v", json, err)
 	} else if !bytes.Equal(payload, canonical) {
@@ -310,7 +310,7 @@ func readVector(names []string, data [][]byte) (string, error) {
 	if err != nil {
 		return "", err
 	}
-	payload, err := Payload(schema, data[0])
+	payload, err := FromJSON(schema, data[0])
 	var refused *JSONError
 	if errors.As(err, &refused) {
 		place := refused.Path

@@ -122,7 +122,7 @@ func (d *Decoder) take() (Item, int64, error) {
 	if d.ended != nil {
 		return nil, 0, d.ended
 	}
-	version, err := unsigned("Decoder.Next", "version", d.version)
+	version, err := unsigned("Decoder.Next", versionName, d.version)
 	if err != nil {
 		return nil, 0, err
 	}
@@ -139,7 +139,7 @@ func (d *Decoder) take() (Item, int64, error) {
 		return nil, 0, d.ended
 	}
 	if missing < 0 {
-		return nil, 0, arguments{version: named("version", d.version)}.refusal("Decoder.Next", missing)
+		return nil, 0, arguments{version: named(versionName, d.version)}.refusal("Decoder.Next", missing)
 	}
 	if missing > 0 {
 		return nil, missing, nil
@@ -147,7 +147,7 @@ func (d *Decoder) take() (Item, int64, error) {
 	size := d.numbers[itemSize]
 	item, err := itemOf(d.version, d.numbers[:], d.rest[:size:size])
 	if err != nil {
-		return nil, 0, &Error{"Decoder.Next", named("version", d.version), err}
+		return nil, 0, &Error{"Decoder.Next", named(versionName, d.version), err}
 	}
 	d.rest = d.rest[size:]
 	d.offset += int64(size)

@@ -51,7 +51,7 @@ func TestItemsHoweverTheyAreRead(t *testing.T) {
 	want := []Item{
 		came(t, Message{Version: 8, Code: CodeInputCommand}, input),
 		UnknownCode{8, 8, 8 << 48},
-		came(t, Message{Version: 8, Code: CodeProposeRunCompletion, RequiresAck: true}, "00058000000000050801720178"),
+		came(t, Message{Version: 8, Code: CodeProposeRunCompletion, RequestedAck: true}, "00058000000000050801720178"),
 	}
 	readers := map[string]func(io.Reader) io.Reader{
 		"whole":            func(reader io.Reader) io.Reader { return reader },
@@ -170,7 +170,7 @@ func TestUnknownVersions(t *testing.T) {
 	var zero Decoder
 	_, err := zero.Next()
 	wantError(t, err, ErrUnknown,
-		"pendratsoa: Decoder.Next: version 0: unknown, or not of the kind that the call is for")
+		"pendratsoa: Decoder.Next: unknown protocol version 0 (5 to 9)")
 	for _, version := range []int{4, 10, -1, 1<<32 + 8, 8 - 1<<32, math.MinInt, math.MaxInt} {
 		if _, err := NewDecoder(bytes.NewReader(nil), version).Next(); !errors.Is(err, ErrUnknown) {
 			t.Errorf("version %d: %v", version, err)
@@ -262,7 +262,7 @@ func TestMessage(t *testing.T) {
 	}
 	_, err = call.Notification()
 	wantError(t, err, ErrUnknown,
-		"pendratsoa: ReadNotification: code 0x040d: unknown, or not of the kind that the call is for")
+		"pendratsoa: ReadNotification: unknown code 0x040d, or not of the kind that the call is for")
 }
 
 func TestMessageOfItsVersion(t *testing.T) {
@@ -284,8 +284,8 @@ func TestMessageOfItsVersion(t *testing.T) {
 
 func TestNewMessage(t *testing.T) {
 	payload := unhex(t, "0801720178")
-	for version, requiresAck := range map[int]bool{6: false, 7: true} {
-		want := Message{Version: version, Code: CodeProposeRunCompletion, Payload: payload, RequiresAck: requiresAck}
+	for version, requestedAck := range map[int]bool{6: false, 7: true} {
+		want := Message{Version: version, Code: CodeProposeRunCompletion, Payload: payload, RequestedAck: requestedAck}
 		if found := must(NewMessage(version, CodeProposeRunCompletion, payload))(t); !reflect.DeepEqual(found, want) {
 			t.Errorf("%+v", found)
 		}
@@ -300,7 +300,7 @@ func TestMessageWithoutSchemaOrType(t *testing.T) {
 	if entry.Type() != "CustomEntry(64513)" || entry.IsCommand() || entry.IsNotification() {
 		t.Errorf("%s, %v, %v", entry.Type(), entry.IsCommand(), entry.IsNotification())
 	}
-	text := "pendratsoa: Schema: code 0xfc01: unknown, or not of the kind that the call is for"
+	text := "pendratsoa: Schema: unknown code 0xfc01, or not of the kind that the call is for"
 	_, err := entry.JSON()
 	wantError(t, err, ErrUnknown, text)
 	_, err = entry.Canonical()

@@ -14,7 +14,8 @@ var (
 	ErrOutOfMemory = errors.New("an allocation failed")
 	// ErrNoRoom: a slice for numbers was too short, which this package never passes.
 	ErrNoRoom = errors.New("no room for the numbers")
-	// ErrTooLong: a payload has, or would have, more than 4,294,967,295 bytes.
+	// ErrTooLong: a payload has, or would have, more than 4,294,967,295 bytes. A MessageTooLong, which is about the limit
+	// of a decoder, wraps it too.
 	ErrTooLong = errors.New("more than 4,294,967,295 bytes")
 	// ErrUnknown: a version, a schema, a code or a name does not exist, or is not of the kind that the call is for.
 	ErrUnknown = errors.New("unknown, or not of the kind that the call is for")
@@ -43,8 +44,12 @@ type Error struct {
 	Err error
 }
 
-// Error returns a text as "pendratsoa: Canonical: schema 53: unknown, or not of the kind that the call is for".
+// Error returns a text as "pendratsoa: Canonical: payload of 3 bytes: not well-formed for its schema", and of what is
+// unknown as "pendratsoa: Canonical: unknown schema 53 (0 to 52)".
 func (e *Error) Error() string {
+	if _, saysWhich := e.Err.(unknownError); saysWhich {
+		return fmt.Sprintf("pendratsoa: %s: %v", e.Call, e.Err)
+	}
 	return fmt.Sprintf("pendratsoa: %s: %s: %v", e.Call, e.Argument, e.Err)
 }
 
@@ -53,10 +58,34 @@ func (e *Error) Unwrap() error {
 	return e.Err
 }
 
+// An unknownError says what is unknown. It wraps ErrUnknown.
+type unknownError string
+
+func (said unknownError) Error() string {
+	return string(said)
+}
+
+func (said unknownError) Unwrap() error {
+	return ErrUnknown
+}
+
+// unknown returns the error that an argument is unknown, with what a caller can make of it.
+func unknown(call, argument, more string) *Error {
+	return &Error{call, argument, unknownError("unknown " + argument + more)}
+}
+
+// What is said of an unknown version, of an unknown schema, and of a code that no type has, or none of the call's kind.
+var (
+	ofVersion = fmt.Sprintf(" (%d to %d)", FirstVersion, LastVersion)
+	ofSchema  = fmt.Sprintf(" (0 to %d)", Schemas-1)
+)
+
+const ofCode = ", or not of the kind that the call is for"
+
 // arguments are those of a call that an error can be about, each with its value. The payload is the only one of the
 // call or the first of two.
 type arguments struct {
-	version, schema, code, payload, second string
+	version, schema, code, name, payload, second string
 }
 
 // refusal returns the error that a negative number of the library is, of a call with these arguments.
@@ -64,15 +93,18 @@ func (given arguments) refusal(call string, number int64) error {
 	argument := given.payload
 	switch number {
 	case unknownVersion:
-		argument = given.version
+		return unknown(call, given.version, ofVersion)
 	case unknownSchema:
-		argument = given.schema
+		return unknown(call, given.schema, ofSchema)
 	case unknownType:
-		argument = given.code
+		if given.name != "" {
+			return unknown(call, given.name, "")
+		}
+		return unknown(call, given.code, ofCode)
 	case malformedSecond:
 		argument = given.second
 	}
-	for _, other := range []string{given.payload, given.code, given.version} {
+	for _, other := range []string{given.payload, given.code, given.name, given.version} {
 		if argument == "" {
 			argument = other
 		}
@@ -113,10 +145,16 @@ func unexpected[Number int64 | uint64](what string, number Number) error {
 func unsigned(call, name string, number int) (uint32, error) {
 	// as an unsigned number, a negative one is greater than all others
 	if uint64(number) > math.MaxUint32 {
-		return 0, &Error{call, named(name, number), ErrUnknown}
+		if name == versionName {
+			return 0, unknown(call, named(name, number), ofVersion)
+		}
+		return 0, unknown(call, named(name, number), ofSchema)
 	}
 	return uint32(number), nil
 }
+
+// versionName is what errors call a version.
+const versionName = "protocol version"
 
 // named returns an argument with its value, as "schema 53".
 func named(name string, number int) string {

@@ -59,13 +59,13 @@ func TestKindsAreThoseOfTheHeader(t *testing.T) {
 		kinds[strings.ToUpper(kind.String())] = int64(kind)
 	}
 	for kind := ResultVoid; kind <= ResultStateKeys; kind++ {
-		kinds[strings.ToUpper(strings.TrimPrefix(kind.String(), "Result"))] = int64(kind)
+		kinds[strings.ToUpper(kind.String())] = int64(kind)
 	}
 	for kind := VerdictSame; kind <= VerdictBadReplayed; kind++ {
-		kinds[strings.ToUpper(strings.TrimPrefix(kind.String(), "Verdict"))] = int64(kind)
+		kinds[strings.ToUpper(kind.String())] = int64(kind)
 	}
 	for reason := ReasonNotJSON; reason <= ReasonTooDeep; reason++ {
-		kinds[strings.ToUpper(strings.TrimPrefix(reason.String(), "Reason"))] = int64(reason)
+		kinds["JSON"+strings.ToUpper(strings.TrimPrefix(reason.String(), "Reason"))] = int64(reason)
 	}
 	numbers := map[string]int64{}
 	for name, number := range defined(t, `(?m)^#define JOURNAL_(\w+) (\d+)\b`) {
@@ -84,5 +84,23 @@ func TestKindsAreThoseOfTheHeader(t *testing.T) {
 	}
 	if text := fmt.Sprint(JSONReason(0), JSONReason(9)); text != "JSONReason(0) JSONReason(9)" {
 		t.Error(text)
+	}
+}
+
+// What go doc shows of a type is its comment, and of its constants the first.
+func TestCommentsOfKindsNameAllOfThem(t *testing.T) {
+	sources := readFile(t, "go/compare.go")
+	sources = append(sources, readFile(t, "go/notification.go")...)
+	sources = append(sources, readFile(t, "go/reading.go")...)
+	for kind, names := range map[string][]string{
+		"VerdictKind": namesOfVerdictKind, "IDKind": namesOfIDKind, "ResultKind": namesOfResultKind,
+		"JSONReason": namesOfJSONReason,
+	} {
+		comment := regexp.MustCompile(`((?://.*\n)+)type ` + kind + ` int\n`).FindSubmatch(sources)
+		for _, name := range names {
+			if comment == nil || !regexp.MustCompile(`\b`+name+`\b`).Match(comment[1]) {
+				t.Errorf("%s is not in the comment of %s", name, kind)
+			}
+		}
 	}
 }

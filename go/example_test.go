@@ -59,6 +59,20 @@ func ExampleDecoder_chunks() {
 	// CustomEntry(64513) rest 0
 }
 
+func ExampleAs() {
+	item, err := pendratsoa.NewMessage(8, pendratsoa.CodeSetStateCommand, []byte("\x0a\x01a\x1a\x03\x0a\x011"))
+	if err != nil {
+		log.Fatal(err)
+	}
+	command, ok, err := pendratsoa.As[*pendratsoa.SetStateCommandMessage](item)
+	fmt.Printf("%s %s %v %v\n", command.Key, command.Value.Content, ok, err)
+	_, ok, err = pendratsoa.As[*pendratsoa.SleepCommandMessage](item)
+	fmt.Println(ok, err)
+	// Output:
+	// a 1 true <nil>
+	// false <nil>
+}
+
 func ExampleFrame() {
 	frame, err := pendratsoa.Frame(8, pendratsoa.CodeInputCommand, []byte("r\x07\n\x05input"))
 	fmt.Printf("%x %v\n", frame, err)
@@ -105,9 +119,17 @@ func ExampleCompareJournals() {
 	}
 	for _, ignorePayloads := range []bool{false, true} {
 		verdict, err := pendratsoa.CompareJournals(8, recorded, replayed, ignorePayloads)
-		fmt.Println(verdict.Kind, verdict.Index, err)
+		if err != nil {
+			log.Fatal(err)
+		}
+		switch verdict.Kind {
+		case pendratsoa.VerdictSame:
+			fmt.Println("same,", verdict.Index, "commands")
+		default:
+			fmt.Println(verdict.Kind, "at command", verdict.Index)
+		}
 	}
 	// Output:
-	// VerdictHeaderMismatch 1 <nil>
-	// VerdictSame 4 <nil>
+	// VerdictHeaderMismatch at command 1
+	// same, 4 commands
 }

@@ -41,18 +41,49 @@ type Record interface {
 	write(writer *fieldWriter, level uint64)
 }
 
-// Record returns what the payload means: a pointer to a struct as SetStateCommandMessage, for a type switch. The errors
-// are those of Schema and Canonical.
+// Record returns what the payload means: a pointer to a struct as SetStateCommandMessage, for a type switch. A custom
+// entry has no record: nil, without an error. The errors are those of Schema and Canonical. The function As returns the
+// record of one type.
 func (m Message) Record() (Record, error) {
 	schema, err := m.Schema()
 	if err != nil {
+		// what has a header and no schema is a custom entry
+		if _, headerErr := Header(m.Version, m.Code, 0); headerErr == nil {
+			return nil, nil
+		}
 		return nil, err
 	}
 	record := newRecord(schema)
 	if record == nil {
 		return nil, &Error{"Record", named("schema", schema), ErrUnexpected}
 	}
-	return record, unmarshal(record, m.Payload)
+	if err := unmarshal(record, m.Payload); err != nil {
+		return nil, err
+	}
+	return record, nil
+}
+
+// As returns the record of an item, and true, if it is a message of the type of that record, as in
+// As[*SetStateCommandMessage](item); of any other item false, and no error: its payload is not read. The errors are
+// those of Canonical.
+func As[R Record](item Item) (record R, ok bool, err error) {
+	message, isMessage := item.(Message)
+	if !isMessage {
+		return record, false, nil
+	}
+	schema, err := message.Schema()
+	if err != nil || any(record) != nil && record.Schema() != schema {
+		// of another type, or a custom entry, which has no schema
+		return record, false, nil
+	}
+	found, ok := newRecord(schema).(R)
+	if !ok {
+		return record, false, nil
+	}
+	if err := unmarshal(found, message.Payload); err != nil {
+		return record, false, err
+	}
+	return found, true, nil
 }
 
 // NewMessageOf returns the message of a type at a version that a record is of. The errors are those of MarshalBinary of
@@ -335,7 +366,7 @@ func (to *place) writeHeader(frame []byte) error {
 
 // placeOfFrame returns where the record of a type goes that is to be a frame of a version.
 func placeOfFrame(call string, schema, version int, code uint16) (place, error) {
-	number, err := unsigned(call, "version", version)
+	number, err := unsigned(call, versionName, version)
 	return place{call, schema, headerSize, number, code}, err
 }
 

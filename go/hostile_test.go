@@ -69,7 +69,7 @@ func callAll(t *testing.T, random *rand.Rand) {
 	canonical, canonicalErr := Canonical(schema, first)
 	_, mergeErr := Merge(schema, first, second)
 	json, jsonErr := ToJSON(schema, first)
-	_, readErr := Payload(schema, second)
+	_, readErr := FromJSON(schema, second)
 	_, notificationErr := ReadNotification(code, first)
 	_, equalErr := HeaderEq(code, first, second, random.Intn(2) == 0)
 	_, differenceErr := Difference(code, first, second)
@@ -86,7 +86,7 @@ func callAll(t *testing.T, random *rand.Rand) {
 	if again, err := Canonical(schema, canonical); canonicalErr == nil && (err != nil || !bytes.Equal(again, canonical)) {
 		t.Errorf("schema %d, %x: canonical %x, and then %x, %v", schema, first, canonical, again, err)
 	}
-	if read, err := Payload(schema, json); jsonErr == nil && (err != nil || !bytes.Equal(read, canonical)) {
+	if read, err := FromJSON(schema, json); jsonErr == nil && (err != nil || !bytes.Equal(read, canonical)) {
 		t.Errorf("schema %d, %s: read as %x, %v, and not as %x", schema, json, read, err, canonical)
 	}
 	if frameErr == nil && frame == nil {

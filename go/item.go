@@ -19,10 +19,10 @@ type Item interface {
 
 // A Message is a message of a stream of a version.
 type Message struct {
-	Version     int
-	Code        uint16
-	Payload     []byte
-	RequiresAck bool
+	Version      int
+	Code         uint16
+	Payload      []byte
+	RequestedAck bool
 	// came is the message as it came, or nil of one that did not
 	came []byte
 }
@@ -58,7 +58,7 @@ func (m Message) String() string {
 		name = codeText(m.Code)
 	}
 	text := fmt.Sprintf("%s %d", name, len(m.Payload))
-	if m.RequiresAck {
+	if m.RequestedAck {
 		text += " ack"
 	}
 	return text
@@ -149,13 +149,13 @@ func NewMessage(version int, code uint16, payload []byte) (Message, error) {
 }
 
 // MessageFromJSON returns the message of a named type that a JSON text means. Its payload is canonical, and it requests
-// an acknowledgement if the header of its type does at this version. The errors are those of Schema and Payload.
+// an acknowledgement if the header of its type does at this version. The errors are those of Schema and FromJSON.
 func MessageFromJSON(version int, code uint16, json []byte) (Message, error) {
 	schema, err := Schema(version, code)
 	if err != nil {
 		return Message{}, err
 	}
-	payload, err := Payload(schema, json)
+	payload, err := FromJSON(schema, json)
 	if err != nil {
 		return Message{}, err
 	}
@@ -245,7 +245,7 @@ func itemOf(version int, numbers []uint64, bytes []byte) (Item, error) {
 	payload := bytes[numbers[itemPayload]:]
 	switch numbers[itemKind] {
 	case itemMessage:
-		return Message{version, code, payload, numbers[itemAck] != 0, bytes}, nil
+		return Message{version, code, payload, numbers[itemRequestedAck] != 0, bytes}, nil
 	case itemUnknownCode:
 		return UnknownCode{version, code, numbers[itemWord]}, nil
 	case itemSkipped:

@@ -36,13 +36,13 @@ const (
 
 // The indices of the numbers that the calls for C write, and how many there are.
 const (
-	itemKind    = 0
-	itemWord    = 1
-	itemCode    = 2
-	itemAck     = 3
-	itemSize    = 4
-	itemPayload = 5
-	itemNumbers = C.JOURNAL_ITEM_NUMBERS
+	itemKind         = 0
+	itemWord         = 1
+	itemCode         = 2
+	itemRequestedAck = 3
+	itemSize         = 4
+	itemPayload      = 5
+	itemNumbers      = C.JOURNAL_ITEM_NUMBERS
 )
 
 const (
@@ -84,9 +84,9 @@ const (
 // The kinds of items: a message; a code that is no type's, whose eight bytes are skipped (before version 9); a message
 // of an unknown type, skipped with its payload (version 9).
 const (
-	itemMessage     = C.JOURNAL_MESSAGE
-	itemUnknownCode = C.JOURNAL_UNKNOWN_CODE
-	itemSkipped     = C.JOURNAL_SKIPPED
+	itemMessage     = C.JOURNAL_ITEM_MESSAGE
+	itemUnknownCode = C.JOURNAL_ITEM_UNKNOWN_CODE
+	itemSkipped     = C.JOURNAL_ITEM_SKIPPED
 )
 
 const read = C.JOURNAL_READ
@@ -94,21 +94,21 @@ const read = C.JOURNAL_READ
 // Why a JSON text is rejected.
 const (
 	// ReasonNotJSON: it is not JSON, or not UTF-8, or nested more than one thousand levels deep.
-	ReasonNotJSON JSONReason = C.JOURNAL_NOT_JSON
+	ReasonNotJSON JSONReason = C.JOURNAL_JSON_NOT_JSON
 	// ReasonUnknownMember: a member has no name of a field of its message.
-	ReasonUnknownMember JSONReason = C.JOURNAL_UNKNOWN_MEMBER
+	ReasonUnknownMember JSONReason = C.JOURNAL_JSON_UNKNOWN_MEMBER
 	// ReasonRepeatedMember: two members have a name of the same field.
-	ReasonRepeatedMember JSONReason = C.JOURNAL_REPEATED_MEMBER
+	ReasonRepeatedMember JSONReason = C.JOURNAL_JSON_REPEATED_MEMBER
 	// ReasonSeveralMembers: two members of one oneof are there.
-	ReasonSeveralMembers JSONReason = C.JOURNAL_SEVERAL_MEMBERS
+	ReasonSeveralMembers JSONReason = C.JOURNAL_JSON_SEVERAL_MEMBERS
 	// ReasonWrongKind: a value is of another kind than its field.
-	ReasonWrongKind JSONReason = C.JOURNAL_WRONG_KIND
+	ReasonWrongKind JSONReason = C.JOURNAL_JSON_WRONG_KIND
 	// ReasonOutOfRange: a number is not whole, or not in the range of its field.
-	ReasonOutOfRange JSONReason = C.JOURNAL_OUT_OF_RANGE
+	ReasonOutOfRange JSONReason = C.JOURNAL_JSON_OUT_OF_RANGE
 	// ReasonNotBase64: a string for bytes is not base64.
-	ReasonNotBase64 JSONReason = C.JOURNAL_NOT_BASE64
+	ReasonNotBase64 JSONReason = C.JOURNAL_JSON_NOT_BASE64
 	// ReasonTooDeep: a message is nested more than one hundred levels deep.
-	ReasonTooDeep JSONReason = C.JOURNAL_TOO_DEEP
+	ReasonTooDeep JSONReason = C.JOURNAL_JSON_TOO_DEEP
 )
 
 // The names of the kinds, from the first on.
@@ -164,11 +164,11 @@ var namesOfIDKind = []string{
 
 // The kinds of a notification's result.
 const (
-	ResultVoid         ResultKind = C.JOURNAL_VOID
-	ResultValue        ResultKind = C.JOURNAL_VALUE
-	ResultFailure      ResultKind = C.JOURNAL_FAILURE
-	ResultInvocationID ResultKind = C.JOURNAL_INVOCATION_ID
-	ResultStateKeys    ResultKind = C.JOURNAL_STATE_KEYS
+	ResultVoid         ResultKind = C.JOURNAL_RESULT_VOID
+	ResultValue        ResultKind = C.JOURNAL_RESULT_VALUE
+	ResultFailure      ResultKind = C.JOURNAL_RESULT_FAILURE
+	ResultInvocationID ResultKind = C.JOURNAL_RESULT_INVOCATION_ID
+	ResultStateKeys    ResultKind = C.JOURNAL_RESULT_STATE_KEYS
 )
 
 // The names of the kinds, from the first on.
@@ -183,19 +183,19 @@ var namesOfResultKind = []string{
 // How two journals compare.
 const (
 	// VerdictSame: each command is the same as the other's at its index; the index is their count.
-	VerdictSame VerdictKind = C.JOURNAL_SAME
+	VerdictSame VerdictKind = C.JOURNAL_VERDICT_SAME
 	// VerdictRecordedEnded: the replayed journal has a command more, at this index.
-	VerdictRecordedEnded VerdictKind = C.JOURNAL_RECORDED_ENDED
+	VerdictRecordedEnded VerdictKind = C.JOURNAL_VERDICT_RECORDED_ENDED
 	// VerdictReplayedEnded: the recorded journal has a command more, at this index.
-	VerdictReplayedEnded VerdictKind = C.JOURNAL_REPLAYED_ENDED
+	VerdictReplayedEnded VerdictKind = C.JOURNAL_VERDICT_REPLAYED_ENDED
 	// VerdictTypeMismatch: the first commands that differ, at this index, are of two types.
-	VerdictTypeMismatch VerdictKind = C.JOURNAL_TYPE_MISMATCH
+	VerdictTypeMismatch VerdictKind = C.JOURNAL_VERDICT_TYPE_MISMATCH
 	// VerdictHeaderMismatch: the first commands that differ, at this index, are of one type.
-	VerdictHeaderMismatch VerdictKind = C.JOURNAL_HEADER_MISMATCH
+	VerdictHeaderMismatch VerdictKind = C.JOURNAL_VERDICT_HEADER_MISMATCH
 	// VerdictBadRecorded: the recorded command at this index is malformed; all before it are the same.
-	VerdictBadRecorded VerdictKind = C.JOURNAL_BAD_RECORDED
+	VerdictBadRecorded VerdictKind = C.JOURNAL_VERDICT_BAD_RECORDED
 	// VerdictBadReplayed: the same for the replayed command, if the recorded one is not malformed.
-	VerdictBadReplayed VerdictKind = C.JOURNAL_BAD_REPLAYED
+	VerdictBadReplayed VerdictKind = C.JOURNAL_VERDICT_BAD_REPLAYED
 )
 
 // The names of the kinds, from the first on.

@@ -2,7 +2,7 @@ package pendratsoa
 
 import "fmt"
 
-// An IDKind is the kind of a notification's id.
+// An IDKind is the kind of a notification's id: CompletionID, SignalID or SignalName.
 type IDKind int
 
 // String returns the name of the kind, as "SignalName".
@@ -10,7 +10,8 @@ func (kind IDKind) String() string {
 	return nameOfKind("IDKind", namesOfIDKind, int(kind))
 }
 
-// A ResultKind is the kind of a notification's result.
+// A ResultKind is the kind of a notification's result: ResultVoid, ResultValue, ResultFailure, ResultInvocationID or
+// ResultStateKeys.
 type ResultKind int
 
 // String returns the name of the kind, as "ResultVoid".

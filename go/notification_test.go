@@ -53,7 +53,7 @@ func TestNotificationsThatAreNone(t *testing.T) {
 	wantError(t, err, ErrNoID, "pendratsoa: ReadNotification: payload of 0 bytes: has no id")
 	_, err = ReadNotification(CodeCallCommand, nil)
 	wantError(t, err, ErrUnknown,
-		"pendratsoa: ReadNotification: code 0x040d: unknown, or not of the kind that the call is for")
+		"pendratsoa: ReadNotification: unknown code 0x040d, or not of the kind that the call is for")
 }
 
 func TestNotificationOfLaterLibrary(t *testing.T) {

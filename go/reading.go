@@ -2,7 +2,8 @@ package pendratsoa
 
 import "fmt"
 
-// A JSONReason says why a JSON text is rejected.
+// A JSONReason says why a JSON text is rejected: ReasonNotJSON, ReasonUnknownMember, ReasonRepeatedMember,
+// ReasonSeveralMembers, ReasonWrongKind, ReasonOutOfRange, ReasonNotBase64 or ReasonTooDeep.
 type JSONReason int
 
 // String returns the name of the reason, as "ReasonWrongKind".
@@ -46,11 +47,11 @@ func (e *JSONError) Unwrap() error {
 	return ErrJSON
 }
 
-// Payload returns the canonical payload of what a JSON text means, which is in protobuf's own form. A *JSONError says
+// FromJSON returns the canonical payload of what a JSON text means, which is in protobuf's own form. A *JSONError says
 // why it means no value of the schema, and wraps ErrJSON. ErrUnknown if no schema has the number; ErrTooLong,
 // ErrOutOfMemory.
-func Payload(schema int, json []byte) ([]byte, error) {
-	number, err := unsigned("Payload", "schema", schema)
+func FromJSON(schema int, json []byte) ([]byte, error) {
+	number, err := unsigned("FromJSON", "schema", schema)
 	if err != nil {
 		return nil, err
 	}
@@ -59,11 +60,11 @@ func Payload(schema int, json []byte) ([]byte, error) {
 		return journalPayloadOfJSON(number, json, &numbers, out)
 	})
 	if result < 0 {
-		return nil, schemaError("Payload", result, schema, bytesText("JSON", json))
+		return nil, schemaError("FromJSON", result, schema, bytesText("JSON", json))
 	}
 	payload, err := readingOf(numbers[:], found)
 	if err != nil {
-		return nil, &Error{"Payload", bytesText("JSON", json), err}
+		return nil, &Error{"FromJSON", bytesText("JSON", json), err}
 	}
 	return payload, nil
 }

@@ -13,12 +13,12 @@ func TestPayloadsOfJSON(t *testing.T) {
 	for _, json := range []string{
 		`{"wakeUpTime":"5","name":"x"}`, ` { "name" : "\u0078" , "wake_up_time" : 0.5e1 } `, `{"name":"x","wakeUpTime":5}`,
 	} {
-		if found := must(Payload(SchemaSleepCommandMessage, []byte(json)))(t); !bytes.Equal(found, want) {
+		if found := must(FromJSON(SchemaSleepCommandMessage, []byte(json)))(t); !bytes.Equal(found, want) {
 			t.Errorf("the payload of %s is %x", json, found)
 		}
 	}
 	for schema := 0; schema < Schemas; schema++ {
-		if found := must(Payload(schema, []byte("{}")))(t); len(found) != 0 {
+		if found := must(FromJSON(schema, []byte("{}")))(t); len(found) != 0 {
 			t.Errorf("schema %d: %x", schema, found)
 		}
 	}
@@ -48,20 +48,20 @@ func TestJSONThatIsNotTaken(t *testing.T) {
 		{SchemaValue, `{"content":"a"}`, JSONError{ReasonNotBase64, -1, "content"},
 			"JSON of 15 bytes: content: not base64"},
 	} {
-		_, err := Payload(row.schema, []byte(row.json))
-		wantError(t, err, ErrJSON, "pendratsoa: Payload: "+row.text)
+		_, err := FromJSON(row.schema, []byte(row.json))
+		wantError(t, err, ErrJSON, "pendratsoa: FromJSON: "+row.text)
 		var found *JSONError
 		if !errors.As(err, &found) || *found != row.want {
 			t.Errorf("%s: %v", row.json, err)
 		}
 	}
 	var found *JSONError
-	_, err := Payload(SchemaFuture, []byte(deep))
+	_, err := FromJSON(SchemaFuture, []byte(deep))
 	if !errors.As(err, &found) || found.Reason != ReasonTooDeep || found.Offset != -1 {
 		t.Error(err)
 	}
-	_, err = Payload(Schemas, []byte("{}"))
-	about := fmt.Sprintf("pendratsoa: Payload: schema %d: unknown, or not of the kind that the call is for", Schemas)
+	_, err = FromJSON(Schemas, []byte("{}"))
+	about := fmt.Sprintf("pendratsoa: FromJSON: unknown schema %d (0 to %d)", Schemas, Schemas-1)
 	wantError(t, err, ErrUnknown, about)
 	for _, kind := range []uint64{9, 1 << 63} {
 		if _, err := readingOf([]uint64{kind, 0}, nil); !errors.Is(err, ErrUnexpected) {
@@ -72,7 +72,7 @@ func TestJSONThatIsNotTaken(t *testing.T) {
 
 func TestMessageFromJSON(t *testing.T) {
 	message := must(MessageFromJSON(8, CodeProposeRunCompletion, []byte(`{"resultCompletionId":1,"value":"eA=="}`)))(t)
-	if !message.RequiresAck || !bytes.Equal(message.Payload, unhex(t, "0801720178")) {
+	if !message.RequestedAck || !bytes.Equal(message.Payload, unhex(t, "0801720178")) {
 		t.Error(message)
 	}
 	again := must(MessageFromJSON(8, message.Code, must(message.JSON())(t)))(t)
@@ -87,7 +87,7 @@ func TestMessageFromJSON(t *testing.T) {
 		}
 	}
 	_, err := MessageFromJSON(8, 0xFC01, []byte("{}"))
-	wantError(t, err, ErrUnknown, "pendratsoa: Schema: code 0xfc01: unknown, or not of the kind that the call is for")
+	wantError(t, err, ErrUnknown, "pendratsoa: Schema: unknown code 0xfc01, or not of the kind that the call is for")
 	_, err = MessageFromJSON(4, CodeSuspension, []byte("{}"))
-	wantError(t, err, ErrUnknown, "pendratsoa: Schema: version 4: unknown, or not of the kind that the call is for")
+	wantError(t, err, ErrUnknown, "pendratsoa: Schema: unknown protocol version 4 (5 to 9)")
 }

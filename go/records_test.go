@@ -98,11 +98,76 @@ func TestFieldsThatCannotBeEncoded(t *testing.T) {
 	if err := record.UnmarshalBinary([]byte{0x0a}); !errors.Is(err, ErrMalformed) {
 		t.Errorf("%v", err)
 	}
-	if _, err := (Message{Version: 8, Code: 0xfc01}).Record(); !errors.Is(err, ErrUnknown) {
-		t.Errorf("%v", err)
+	for _, message := range []Message{{Version: 8, Code: 8}, {Version: 4, Code: 0xfc01}} {
+		if record, err := message.Record(); record != nil || !errors.Is(err, ErrUnknown) {
+			t.Errorf("%v, %v", record, err)
+		}
+	}
+	malformed := Message{Version: 8, Code: CodeSetStateCommand, Payload: []byte{0x0a}}
+	if record, err := malformed.Record(); record != nil || !errors.Is(err, ErrMalformed) {
+		t.Errorf("%v, %v", record, err)
 	}
 	if _, err := new(SuspensionMessageV6).Frame(7); !errors.Is(err, ErrUnknown) {
 		t.Errorf("%v", err)
+	}
+}
+
+func TestCustomEntryHasNoRecord(t *testing.T) {
+	// a state that is set, a custom entry whose payload is no record, and the state again
+	stream := unhex(t, "0403000000000003"+"0a0161"+"fc01000000000002"+"ffff"+"0403000000000003"+"0a0161")
+	for version := FirstVersion; version <= LastVersion; version++ {
+		decoder := NewDecoder(bytes.NewReader(stream), version)
+		var states, custom int
+		for {
+			item, err := decoder.Next()
+			if err == io.EOF {
+				break
+			} else if err != nil {
+				t.Fatal(err)
+			}
+			switch record := must(item.(Message).Record())(t).(type) {
+			case *SetStateCommandMessage:
+				states++
+			case nil:
+				custom++
+			default:
+				t.Errorf("%T", record)
+			}
+		}
+		if states != 2 || custom != 1 {
+			t.Errorf("version %d: %d states, %d custom entries", version, states, custom)
+		}
+	}
+}
+
+func TestRecordOfOneType(t *testing.T) {
+	state := Message{Version: 8, Code: CodeSetStateCommand, Payload: unhex(t, "0a0161")}
+	malformed := Message{Version: 8, Code: CodeSetStateCommand, Payload: unhex(t, "0a")}
+	entry := Message{Version: 8, Code: 0xfc01, Payload: unhex(t, "0a")}
+	command, ok, err := As[*SetStateCommandMessage](state)
+	if !ok || err != nil || string(command.Key) != "a" {
+		t.Errorf("%v, %v, %v", command, ok, err)
+	}
+	if command, ok, err := As[*SetStateCommandMessage](malformed); command != nil || ok || !errors.Is(err, ErrMalformed) {
+		t.Errorf("%v, %v, %v", command, ok, err)
+	}
+	// the payload of another type is not read
+	for _, item := range []Item{malformed, entry, UnknownCode{Version: 8, Code: 8}, Message{Version: 4}} {
+		if found, ok, err := As[*ErrorMessage](item); found != nil || ok || err != nil {
+			t.Errorf("%v: %v, %v, %v", item, found, ok, err)
+		}
+	}
+	if record, ok, err := As[Record](state); !ok || err != nil || record.Schema() != SchemaSetStateCommandMessage {
+		t.Errorf("%v, %v, %v", record, ok, err)
+	}
+	// a suspension has the record of its version
+	for version, isEarlier := range map[int]bool{6: true, 7: false} {
+		item := Message{Version: version, Code: CodeSuspension}
+		_, earlier, _ := As[*SuspensionMessageV6](item)
+		_, later, _ := As[*SuspensionMessage](item)
+		if earlier != isEarlier || later == isEarlier {
+			t.Errorf("version %d: %v, %v", version, earlier, later)
+		}
 	}
 }
 
@@ -232,8 +297,8 @@ func TestErrorsLeaveTheSliceAsItWas(t *testing.T) {
 		}
 	}
 	for version, text := range map[int]string{
-		4:  "pendratsoa: AppendFrame: version 4: unknown, or not of the kind that the call is for",
-		-1: "pendratsoa: AppendFrame: version -1: unknown, or not of the kind that the call is for",
+		4:  "pendratsoa: AppendFrame: unknown protocol version 4 (5 to 9)",
+		-1: "pendratsoa: AppendFrame: unknown protocol version -1 (5 to 9)",
 	} {
 		found, err := new(SetStateCommandMessage).AppendFrame(dst, version)
 		if len(found) != 3 {

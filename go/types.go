@@ -17,7 +17,7 @@ func LibraryVersion() (string, error) {
 // Schema returns the number of the schema that payloads of a type have at a version. A custom entry has none:
 // ErrUnknown.
 func Schema(version int, code uint16) (int, error) {
-	number, err := unsigned("Schema", "version", version)
+	number, err := unsigned("Schema", versionName, version)
 	if err != nil {
 		return 0, err
 	}
@@ -47,7 +47,7 @@ func SchemaNamed(name string) (int, error) {
 			return number, nil
 		}
 	}
-	return 0, &Error{"SchemaNamed", nameText(name), ErrUnknown}
+	return 0, unknown("SchemaNamed", nameText(name), "")
 }
 
 // TypeName returns the name of the type that has a code, as "SleepCommand", or "CustomEntry(64513)" of a custom entry.
@@ -65,7 +65,7 @@ func TypeName(code uint16) (string, error) {
 func TypeCode(name string) (uint16, error) {
 	code := journalTypeCode([]byte(name))
 	if code < 0 {
-		return 0, arguments{code: nameText(name)}.refusal("TypeCode", code)
+		return 0, arguments{name: nameText(name)}.refusal("TypeCode", code)
 	}
 	return uint16(code), nil
 }
@@ -76,7 +76,7 @@ const headerSize = 8
 // Header returns the eight bytes that come before a payload of this length. ErrUnknown for an unknown version and for
 // a code that is no type's; ErrTooLong for a length of more than 4,294,967,295 bytes, ErrNegative for one below 0.
 func Header(version int, code uint16, payloadLength int) ([]byte, error) {
-	number, err := unsigned("Header", "version", version)
+	number, err := unsigned("Header", versionName, version)
 	if err != nil {
 		return nil, err
 	}
@@ -109,7 +109,7 @@ func AppendFrame(dst []byte, version int, code uint16, payload []byte) ([]byte, 
 }
 
 func appendFrame(call string, dst []byte, version int, code uint16, payload []byte) ([]byte, error) {
-	number, err := unsigned(call, "version", version)
+	number, err := unsigned(call, versionName, version)
 	if err != nil {
 		return dst, err
 	}
@@ -142,7 +142,8 @@ func appendEarlierFrame(call string, dst []byte, version int, code uint16, schem
 		return dst, err
 	}
 	if found != schema {
-		return dst, &Error{call, named("version", version), ErrUnknown}
+		given := named(versionName, version)
+		return dst, &Error{call, given, unknownError(given + " has no message of this record")}
 	}
 	canonical, err := Canonical(schema, payload)
 	if err != nil {
@@ -157,7 +158,7 @@ func appendEarlierFrame(call string, dst []byte, version int, code uint16, schem
 
 // versionAndCode returns the two arguments of a call that takes them.
 func versionAndCode(version int, code uint16) arguments {
-	return arguments{version: named("version", version), code: codeText(code)}
+	return arguments{version: named(versionName, version), code: codeText(code)}
 }
 
 // nameText returns a name as an argument with its value.

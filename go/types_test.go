@@ -62,28 +62,28 @@ func TestConstantsOfTypesAndSchemas(t *testing.T) {
 }
 
 func TestUnknownNumbersAndNames(t *testing.T) {
-	const unknown = ": unknown, or not of the kind that the call is for"
+	const orNot = ", or not of the kind that the call is for"
 	_, err := TypeName(8)
-	wantError(t, err, ErrUnknown, "pendratsoa: TypeName: code 0x0008"+unknown)
+	wantError(t, err, ErrUnknown, "pendratsoa: TypeName: unknown code 0x0008"+orNot)
 	_, err = TypeCode("Sleep")
-	wantError(t, err, ErrUnknown, `pendratsoa: TypeCode: name "Sleep"`+unknown)
+	wantError(t, err, ErrUnknown, `pendratsoa: TypeCode: unknown name "Sleep"`)
 	_, err = SchemaNamed("Sleep\x00")
-	wantError(t, err, ErrUnknown, `pendratsoa: SchemaNamed: name "Sleep\x00"`+unknown)
+	wantError(t, err, ErrUnknown, `pendratsoa: SchemaNamed: unknown name "Sleep\x00"`)
 	for _, name := range []string{"", "CustomEntry(64513)", "sleepCommand", "\xff", strings.Repeat("Sleep", 100_000)} {
 		if _, err := TypeCode(name); !errors.Is(err, ErrUnknown) || len(err.Error()) > 200 {
 			t.Errorf("%.20s: %.300v", name, err)
 		}
 	}
 	_, err = Schema(8, 0xfc01)
-	wantError(t, err, ErrUnknown, "pendratsoa: Schema: code 0xfc01"+unknown)
+	wantError(t, err, ErrUnknown, "pendratsoa: Schema: unknown code 0xfc01"+orNot)
 	_, err = Schema(4, 0xfc01)
-	wantError(t, err, ErrUnknown, "pendratsoa: Schema: version 4"+unknown)
+	wantError(t, err, ErrUnknown, "pendratsoa: Schema: unknown protocol version 4 (5 to 9)")
 	_, err = Header(8, 8, 0)
-	wantError(t, err, ErrUnknown, "pendratsoa: Header: code 0x0008"+unknown)
+	wantError(t, err, ErrUnknown, "pendratsoa: Header: unknown code 0x0008"+orNot)
 	_, err = Frame(8, 0xfc01, nil)
-	wantError(t, err, ErrUnknown, "pendratsoa: Frame: code 0xfc01"+unknown)
+	wantError(t, err, ErrUnknown, "pendratsoa: Frame: unknown code 0xfc01"+orNot)
 	_, err = Canonical(Schemas, nil)
-	wantError(t, err, ErrUnknown, fmt.Sprintf("pendratsoa: Canonical: schema %d", Schemas)+unknown)
+	wantError(t, err, ErrUnknown, fmt.Sprintf("pendratsoa: Canonical: unknown schema %d (0 to %d)", Schemas, Schemas-1))
 }
 
 func TestNoNumberIsCut(t *testing.T) {
@@ -93,7 +93,8 @@ func TestNoNumberIsCut(t *testing.T) {
 		_, frameErr := Frame(version, CodeStart, nil)
 		_, compareErr := CompareJournals(version, nil, nil, false)
 		for _, err := range []error{schemaErr, headerErr, frameErr, compareErr} {
-			if !errors.Is(err, ErrUnknown) || !strings.Contains(err.Error(), ": version "+strconv.Itoa(version)+": ") {
+			text := fmt.Sprintf(": unknown protocol version %d (5 to 9)", version)
+			if !errors.Is(err, ErrUnknown) || !strings.Contains(err.Error(), text) {
 				t.Errorf("version %d: %v", version, err)
 			}
 		}
@@ -104,7 +105,8 @@ func TestNoNumberIsCut(t *testing.T) {
 		_, mergeErr := Merge(schema, nil, nil)
 		_, jsonErr := ToJSON(schema, nil)
 		for _, err := range []error{formedErr, canonicalErr, mergeErr, jsonErr} {
-			if !errors.Is(err, ErrUnknown) || !strings.Contains(err.Error(), ": schema "+strconv.Itoa(schema)+": ") {
+			text := fmt.Sprintf(": unknown schema %d (0 to %d)", schema, Schemas-1)
+			if !errors.Is(err, ErrUnknown) || !strings.Contains(err.Error(), text) {
 				t.Errorf("schema %d: %v", schema, err)
 			}
 		}

@@ -55,7 +55,7 @@ export type AnyTyped = { [T in NamedType]: Message<T> }[NamedType] | Message<`Cu
 
 /** A message of a stream. */
 export class Message<T extends TypeName = TypeName> {
-  constructor(version: number, code: number, payload: Uint8Array, requiresAck?: boolean);
+  constructor(version: number, code: number, payload: Uint8Array, requestedAck?: boolean);
 
   /**
    * The message of a type that a record is of. It requests an acknowledgement if the header of its type does at the
@@ -87,7 +87,7 @@ export class Message<T extends TypeName = TypeName> {
   readonly payload: Uint8Array;
 
   /** Whether its header requests an acknowledgement. */
-  readonly requiresAck: boolean;
+  readonly requestedAck: boolean;
 
   /** The eight bytes of its header as one big-endian number, where it came in a stream, and otherwise undefined. */
   get word(): bigint | undefined;
@@ -103,12 +103,12 @@ export class Message<T extends TypeName = TypeName> {
   get type(): T;
 
   /**
-   * The record that its payload means, which is decoded at each access. Bytes in it are parts of the payload, or of its
-   * canonical encoding.
-   * @throws {Malformed}
-   * @throws {Unknown} a custom entry has no schema
+   * The record that its payload means, which is decoded at each access; undefined of a custom entry, which has no
+   * record. Bytes in it are parts of the payload, or of its canonical encoding.
+   * @throws {Malformed} the payload is not well-formed for its schema
+   * @throws {Unknown} it came in no stream, and there is no such version or type
    */
-  get message(): T extends NamedType ? MessageRecords[T] : never;
+  get message(): T extends NamedType ? MessageRecords[T] : undefined;
 
   /**
    * The number of the schema of its payload.
@@ -125,21 +125,21 @@ export class Message<T extends TypeName = TypeName> {
   /**
    * What its payload means, as the object that protobuf's JSON form of it is: 64-bit numbers are texts, bytes are
    * base64.
-   * @throws {Malformed}
+   * @throws {Malformed} a payload is not well-formed for its schema
    * @throws {Unknown} a custom entry has no schema
    */
   json(): JsonObject;
 
   /**
    * The canonical encoding of its payload.
-   * @throws {Malformed}
+   * @throws {Malformed} a payload is not well-formed for its schema
    * @throws {Unknown} a custom entry has no schema
    */
   canonical(): Uint8Array;
 
   /**
    * Its frame at a version, by default its own: a header, and after it the canonical payload.
-   * @throws {Malformed}
+   * @throws {Malformed} a payload is not well-formed for its schema
    * @throws {Unknown} a custom entry has no schema; the version cannot have the payload: a suspension before version 7
    *   has no frame from 7 on, and one since then has a frame at each
    */
@@ -148,7 +148,7 @@ export class Message<T extends TypeName = TypeName> {
   /**
    * Writes its frame, at a version, by default its own, to the front of an array, as the function `frameInto`.
    * @returns its length; if that is more than the length of the array, nothing is written
-   * @throws {Malformed}
+   * @throws {Malformed} a payload is not well-formed for its schema
    * @throws {Unknown} a custom entry has no schema
    */
   frameInto(out: Uint8Array, version?: number): number;
@@ -156,9 +156,9 @@ export class Message<T extends TypeName = TypeName> {
   /**
    * Its id and its result.
    * @throws {Unknown} it is no notification
-   * @throws {Malformed}
-   * @throws {NoId}
-   * @throws {NoResult}
+   * @throws {Malformed} a payload is not well-formed for its schema
+   * @throws {NoId} it has no id
+   * @throws {NoResult} it has an id and no result
    */
   notification(): Notification;
 
@@ -225,9 +225,9 @@ export class Skipped {
 /** What a stream takes. */
 export interface StreamOptions {
   /**
-   * The greatest size of a payload in bytes; without it there is no limit. A larger message is a `TooLong` as soon as
-   * its header came, and ends the stream: what came is dropped, and from then on each loop, `feed` and `finish` throw
-   * that error.
+   * The greatest size of a payload in bytes; without it there is no limit. A larger message is a `MessageTooLong` as
+   * soon as its header came, and ends the stream: what came is dropped, and from then on each loop, `feed` and `finish`
+   * throw that error.
    */
   maxMessageSize?: number;
 }
@@ -324,8 +324,8 @@ export function header(version: number, code: number, payloadLength: number): Ui
  * The frame of a message of a named type at a version: its header, and the canonical payload of what `payload` means. A
  * suspension is read by its schema from version 7 on, and written by that of the version.
  * @throws {Unknown} the version is none, or no named type has the code
- * @throws {Malformed}
- * @throws {TooLong}
+ * @throws {Malformed} a payload is not well-formed for its schema
+ * @throws {TooLong} a payload would have more than 4,294,967,295 bytes
  */
 export function frame(version: number, code: number, payload: Uint8Array): Uint8Array;
 
@@ -334,8 +334,8 @@ export function frame(version: number, code: number, payload: Uint8Array): Uint8
  * `subarray`.
  * @returns its length; if that is more than the length of the array, nothing is written
  * @throws {Unknown} the version is none, or no named type has the code
- * @throws {Malformed}
- * @throws {TooLong}
+ * @throws {Malformed} a payload is not well-formed for its schema
+ * @throws {TooLong} a payload would have more than 4,294,967,295 bytes
  */
 export function frameInto(version: number, code: number, payload: Uint8Array, out: Uint8Array): number;
 
@@ -346,35 +346,35 @@ export function isWellFormed(schema: Schema, payload: Uint8Array): boolean;
 
 /**
  * The canonical payload of what a payload means.
- * @throws {Malformed}
- * @throws {TooLong}
+ * @throws {Malformed} a payload is not well-formed for its schema
+ * @throws {TooLong} a payload would have more than 4,294,967,295 bytes
  */
 export function canonical(schema: Schema, payload: Uint8Array): Uint8Array;
 
 /**
  * The canonical payload of the result of merging the second payload into the first, as protobuf merges messages.
  * @throws {Malformed} one of the two is not well-formed by itself
- * @throws {TooLong}
+ * @throws {TooLong} a payload would have more than 4,294,967,295 bytes
  */
 export function merge(schema: Schema, first: Uint8Array, second: Uint8Array): Uint8Array;
 
 /**
  * What a payload means, as a text in protobuf's JSON form.
- * @throws {Malformed}
- * @throws {TooLong}
+ * @throws {Malformed} a payload is not well-formed for its schema
+ * @throws {TooLong} a payload would have more than 4,294,967,295 bytes
  */
 export function toJson(schema: Schema, payload: Uint8Array): string;
 
 /**
  * The canonical payload of what a JSON text means, which is in protobuf's own form: a text, or its UTF-8.
  * @throws {JsonError} it means no value of the schema
- * @throws {TooLong}
+ * @throws {TooLong} a payload would have more than 4,294,967,295 bytes
  */
-export function payload(schema: Schema, json: string | Uint8Array): Uint8Array;
+export function fromJson(schema: Schema, json: string | Uint8Array): Uint8Array;
 
 /**
  * The record that a payload means.
- * @throws {Malformed}
+ * @throws {Malformed} a payload is not well-formed for its schema
  */
 export function readRecord<N extends SchemaName>(schema: N, payload: Uint8Array): Records[N];
 
@@ -409,9 +409,9 @@ export interface NotificationResult {
 /**
  * The id and the result of a notification of any type.
  * @throws {Unknown} no notification has the code
- * @throws {Malformed}
- * @throws {NoId}
- * @throws {NoResult}
+ * @throws {Malformed} a payload is not well-formed for its schema
+ * @throws {NoId} it has no id
+ * @throws {NoResult} it has an id and no result
  */
 export function notification(code: number, payload: Uint8Array): Notification;
 
@@ -429,7 +429,7 @@ export interface CompareOptions {
 /**
  * Whether two commands of a type are the same for a replay.
  * @throws {Unknown} no command has the code
- * @throws {Malformed}
+ * @throws {Malformed} a payload is not well-formed for its schema
  */
 export function headerEq(code: number, first: Uint8Array, second: Uint8Array, options?: CompareOptions): boolean;
 
@@ -437,7 +437,7 @@ export function headerEq(code: number, first: Uint8Array, second: Uint8Array, op
  * A line for each printed field in which two commands of a type differ, each after a line feed and three spaces; an
  * empty text if they differ in none.
  * @throws {Unknown} no command has the code
- * @throws {Malformed}
+ * @throws {Malformed} a payload is not well-formed for its schema
  */
 export function difference(code: number, first: Uint8Array, second: Uint8Array): string;
 
@@ -514,9 +514,24 @@ export class NoRoom extends JournalError {
   readonly code: 'JOURNAL_NO_ROOM';
 }
 
-/** A payload would have more than 4,294,967,295 bytes. */
+/** A payload has, or would have, more than 4,294,967,295 bytes; or a message is longer than the limit of its stream. */
 export class TooLong extends JournalError {
   readonly code: 'JOURNAL_TOO_LONG';
+}
+
+/** The payload of a message has more bytes than the limit of its stream. */
+export class MessageTooLong extends TooLong {
+  /** The code of its type. */
+  readonly typeCode: number;
+
+  /** The size of its payload in bytes, by its header. */
+  readonly length: number;
+
+  /** The greatest size of a payload that the stream takes, in bytes. */
+  readonly limit: number;
+
+  /** Where its header begins in the stream, in bytes. */
+  readonly offset: number;
 }
 
 /** A number or a name does not exist, or is not of the kind that the call is for. */
@@ -581,8 +596,10 @@ export class FieldError extends JournalError {
   readonly path: string;
 }
 
-/** A source, or a stream that `finish` was called of, ended within an item, of which `value` bytes came. */
+/** A source, or a stream that `finish` was called of, ended within an item. */
 export class Incomplete extends JournalError {
   readonly code: 'JOURNAL_INCOMPLETE';
-  readonly value: number;
+
+  /** How many bytes of that item came. */
+  readonly rest: number;
 }

@@ -141,10 +141,10 @@ static int64_t print_item(uint32_t version, const uint8_t *bytes, const struct j
     int64_t error = 0;
 
     switch (item->kind) {
-    case JOURNAL_UNKNOWN_CODE:
+    case JOURNAL_ITEM_UNKNOWN_CODE:
         printf("unknown 0x%x\n", (unsigned)code);
         return 0;
-    case JOURNAL_SKIPPED:
+    case JOURNAL_ITEM_SKIPPED:
         printf("skipped 0x%x %zu\n", (unsigned)code, length);
         return 0;
     default:
@@ -154,7 +154,7 @@ static int64_t print_item(uint32_t version, const uint8_t *bytes, const struct j
         return JOURNAL_UNKNOWN_TYPE;
     }
     printf("%.*s %zu", (int)name_length, (const char *)name, length);
-    if (item->ack) {
+    if (item->requested_ack) {
         fputs(" ack", stdout);
     }
     if (code == code_of("CallCommand") || code == code_of("OneWayCallCommand")) {

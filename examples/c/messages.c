@@ -111,16 +111,17 @@ static int copy_item(uint32_t version, const uint8_t *bytes, const struct journa
     uint8_t header[8];
     int64_t result;
 
-    if (item->kind == JOURNAL_MESSAGE && item->code == JOURNAL_SET_STATE_COMMAND) {
+    if (item->kind == JOURNAL_ITEM_MESSAGE && item->code == JOURNAL_TYPE_SET_STATE_COMMAND) {
         result = set_value(payload, length, value);
         if (result < 0 ||
-            journal_header(version, JOURNAL_SET_STATE_COMMAND, (uint32_t)result, header, sizeof header) < 0) {
+            journal_header(version, JOURNAL_TYPE_SET_STATE_COMMAND, (uint32_t)result, header, sizeof header) < 0) {
             return 0;
         }
         return fwrite(header, 1, sizeof header, stdout) == sizeof header &&
                fwrite(out.bytes, 1, (size_t)result, stdout) == (size_t)result;
     }
-    if (item->kind == JOURNAL_MESSAGE && item->code == JOURNAL_CALL_COMMAND && print_call(payload, length) < 0) {
+    if (item->kind == JOURNAL_ITEM_MESSAGE && item->code == JOURNAL_TYPE_CALL_COMMAND &&
+        print_call(payload, length) < 0) {
         return 0;
     }
     return fwrite(bytes, 1, (size_t)item->size, stdout) == item->size;

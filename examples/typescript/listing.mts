@@ -44,7 +44,7 @@ function line(item: Item): string {
     case 'skipped':
       return `skipped 0x${item.code.toString(16)} ${item.payload.length}`;
     case 'message': {
-      const words = [item.type, item.payload.length, ...(item.requiresAck ? ['ack'] : [])];
+      const words = [item.type, item.payload.length, ...(item.requestedAck ? ['ack'] : [])];
       const isCall = item.type === 'CallCommand' || item.type === 'OneWayCallCommand';
       return [...words, ...(isCall ? names(item) : [])].join(' ');
     }

@@ -80,8 +80,8 @@ export function toJson(schema, payload) {
   return text(written((out) => addon.json(number, payload, out), given));
 }
 
-export function payload(schema, json) {
-  const given = { call: 'payload', schema, json };
+export function fromJson(schema, json) {
+  const given = { call: 'fromJson', schema, json };
   const number = known(schema, given);
   const utf8 = typeof json === 'string' ? utf8Of(json) : json;
   const found = written((out) => addon.payloadOfJson(number, utf8, readNumbers, out), given);

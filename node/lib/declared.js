@@ -75,7 +75,7 @@ export const VERDICT_KINDS = [
 ];
 
 /** The indices of the numbers of a item, and how many there are. */
-export const ITEM = { kind: 0, word: 1, code: 2, ack: 3, size: 4, payload: 5 };
+export const ITEM = { kind: 0, word: 1, code: 2, requestedAck: 3, size: 4, payload: 5 };
 export const ITEM_NUMBERS = 6;
 
 /** The indices of the numbers of a reading, and how many there are. */

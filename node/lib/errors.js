@@ -2,7 +2,9 @@
 
 import { inspect } from 'node:util';
 
+import { addon } from './addon.js';
 import { ERRORS } from './declared.js';
+import { SCHEMA_NAMES } from './protocol.js';
 
 /** A call failed. */
 export class JournalError extends Error {
@@ -39,10 +41,25 @@ export class NoRoom extends JournalError {
   }
 }
 
-/** A payload would have more than 4,294,967,295 bytes. */
+/** A payload has, or would have, more than 4,294,967,295 bytes. */
 export class TooLong extends JournalError {
   static {
     identify(this, 'JOURNAL_TOO_LONG');
+  }
+}
+
+/** A message of a stream is longer than the limit of the stream. */
+export class MessageTooLong extends TooLong {
+  static {
+    identify(this, 'JOURNAL_TOO_LONG');
+  }
+
+  constructor(message, { typeCode, length, limit, offset, ...details } = {}) {
+    super(message, details);
+    this.typeCode = typeCode;
+    this.length = length;
+    this.limit = limit;
+    this.offset = offset;
   }
 }
 
@@ -106,6 +123,11 @@ export class Incomplete extends JournalError {
   static {
     identify(this, 'JOURNAL_INCOMPLETE');
   }
+
+  constructor(message, { rest, ...details } = {}) {
+    super(message, details);
+    this.rest = rest;
+  }
 }
 
 /** Gives a class its name and its code, which its instances inherit. */
@@ -151,6 +173,14 @@ const KINDS = {
 // What is too long, or becomes so: the library does not say which argument that is of.
 const LONG = ['payloadLength', 'maxMessageSize', 'json', 'payload', 'first'];
 
+// What is said of each argument that can be unknown.
+const UNKNOWN = {
+  version: (value) => `protocol version ${shown(value)} (${addon.FIRST_VERSION} to ${addon.LAST_VERSION})`,
+  schema: (value) => `schema ${shown(value)}${typeof value === 'string' ? '' : ` (0 to ${SCHEMA_NAMES.length - 1})`}`,
+  code: (value) => `code ${codeText(value)}, or not of the kind that the call is for`,
+  name: (value) => `name ${shown(value)}`,
+};
+
 /** The error that a negative number is, of a call: its name and its arguments, by their names. */
 export function refusal(number, given) {
   if (!ERRORS.has(number)) {
@@ -164,7 +194,8 @@ export function refusal(number, given) {
     return new ErrorClass(`${call}: ${reason}`, { call });
   }
   const value = given[argument];
-  return new ErrorClass(`${call}: ${argument} ${shown(value)}: ${reason}`, { call, argument, value });
+  const said = kind === 'Unknown' ? `unknown ${UNKNOWN[argument](value)}` : `${argument} ${shown(value)}: ${reason}`;
+  return new ErrorClass(`${call}: ${said}`, { call, argument, value });
 }
 
 /** The error that the library returned the number of an error, or of a kind, which only a later one has. */
@@ -184,10 +215,17 @@ export function notTaken({ call, json }, { reason, offset, path }) {
 /** The error of the message of a header, at an offset of a stream, that is longer than the limit of the stream. */
 export function messageTooLong({ call, maxMessageSize }, head, offset) {
   const view = new DataView(head.buffer, head.byteOffset, 8);
-  const code = view.getUint16(0).toString(16).padStart(4, '0');
-  const what = `a message of type 0x${code} at offset ${offset} has ${view.getUint32(4)} bytes`;
-  const message = `${call}: ${what}, more than the limit of ${maxMessageSize}`;
-  return new TooLong(message, { call, argument: 'maxMessageSize', value: maxMessageSize });
+  const [typeCode, length, limit] = [view.getUint16(0), view.getUint32(4), maxMessageSize];
+  const what = `a message of type ${codeText(typeCode)} at offset ${offset} has ${length} bytes`;
+  return new MessageTooLong(`${call}: ${what}, more than the limit of ${limit}`, {
+    call,
+    argument: 'maxMessageSize',
+    value: limit,
+    typeCode,
+    length,
+    limit,
+    offset,
+  });
 }
 
 /** The error that a field cannot be encoded: what leads to it, and why. */
@@ -199,7 +237,7 @@ export function fieldError(path, reason) {
 export function incomplete(call, rest) {
   const what = call === 'finish' ? 'stream' : 'source';
   const message = `${call}: the ${what} ended within an item, after ${byteCount(rest)} of it`;
-  return new Incomplete(message, { call, argument: what, value: rest });
+  return new Incomplete(message, { call, rest });
 }
 
 /** The error that an argument is of another kind than it has to be. */
@@ -215,6 +253,11 @@ function shown(value) {
     return `of ${byteCount(value.byteLength)}`;
   }
   return inspect(value, { breakLength: Infinity, customInspect: false, depth: 0, maxStringLength: 64 });
+}
+
+/** The code of a type as a text, as 0x0400; what is no code as it is. */
+function codeText(code) {
+  return Number.isInteger(code) && code >= 0 ? `0x${code.toString(16).padStart(4, '0')}` : shown(code);
 }
 
 function byteCount(count) {

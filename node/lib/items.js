@@ -6,9 +6,9 @@ import {
   canonical,
   frame,
   frameInto,
+  fromJson,
   header,
   notification,
-  payload,
   schema,
   toJson,
   typeCode,
@@ -35,11 +35,11 @@ export class Message {
     };
   }
 
-  constructor(version, code, payload, requiresAck = false) {
+  constructor(version, code, payload, requestedAck = false) {
     this.version = version;
     this.code = code;
     this.payload = payload;
-    this.requiresAck = requiresAck;
+    this.requestedAck = requestedAck;
   }
 
   static of(type, record, version = 8) {
@@ -53,7 +53,7 @@ export class Message {
 
   static fromJson(type, json, version = 8) {
     const code = typeof type === 'string' ? typeCode(type) : type;
-    const read = payload(schema(version, code), isPlainObject(json) ? JSON.stringify(json) : json);
+    const read = fromJson(schema(version, code), isPlainObject(json) ? JSON.stringify(json) : json);
     return made(version, code, read);
   }
 
@@ -73,7 +73,8 @@ export class Message {
   }
 
   get message() {
-    return recordOf(this.schema, this.payload);
+    const number = schemaOf(this.version, this.code);
+    return number === undefined ? undefined : recordOf(number, this.payload);
   }
 
   get schema() {
@@ -123,12 +124,26 @@ export class Message {
   }
 
   toString() {
-    return `${nameOf(this.code)} ${this.payload.length}${this.requiresAck ? ' ack' : ''}`;
+    return `${nameOf(this.code)} ${this.payload.length}${this.requestedAck ? ' ack' : ''}`;
   }
 
   toJSON() {
-    const { kind, version, code, requiresAck } = this;
-    return { kind, version, code, type: nameOf(code), requiresAck, payload: base64(this.payload) };
+    const { kind, version, code, requestedAck } = this;
+    return { kind, version, code, type: nameOf(code), requestedAck, payload: base64(this.payload) };
+  }
+}
+
+/** The number of the schema of a message, or undefined of a custom entry, which has none. */
+function schemaOf(version, code) {
+  try {
+    return schema(version, code);
+  } catch (error) {
+    if (!(error instanceof Unknown)) {
+      throw error;
+    }
+    // what has a header and no schema is a custom entry; this throws if there is no such version or type
+    header(version, code, 0);
+    return undefined;
   }
 }
 

@@ -131,7 +131,7 @@ function itemOf(version, bytes) {
   const payload = () => bytes.slice(Number(numbers[ITEM.payload]), Number(numbers[ITEM.size]));
   switch (ITEM_KINDS[Number(numbers[ITEM.kind])]) {
     case 'message':
-      return messageThatCame(numbers[ITEM.word], version, code, payload(), numbers[ITEM.ack] === 1n);
+      return messageThatCame(numbers[ITEM.word], version, code, payload(), numbers[ITEM.requestedAck] === 1n);
     case 'unknownCode':
       return new UnknownCode(version, code, numbers[ITEM.word]);
     case 'skipped':

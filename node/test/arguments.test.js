@@ -60,7 +60,7 @@ const CALLS = {
   canonical: { schema: 0, payload: NONE },
   merge: { schema: 0, first: NONE, second: NONE },
   toJson: { schema: 0, payload: NONE },
-  payload: { schema: 0, json: Buffer.from('{}') },
+  fromJson: { schema: 0, json: Buffer.from('{}') },
   notification: { code: 0xfbff, payload: hex('10112200') },
   headerEq: { code: 0x0400, first: NONE, second: NONE },
   difference: { code: 0x0400, first: NONE, second: NONE },

@@ -138,13 +138,13 @@ test('a view of any memory', () => {
 test('payloads of JSON', () => {
   const json = ' { "name" : "\\u0078" , "wake_up_time" : 0.5e1 } ';
   for (const text of ['{"wakeUpTime":"5","name":"x"}', json, Buffer.from(json), Uint8Array.from(Buffer.from(json))]) {
-    assert.deepEqual(pendratsoa.payload('SleepCommandMessage', text), hex('0805620178'));
+    assert.deepEqual(pendratsoa.fromJson('SleepCommandMessage', text), hex('0805620178'));
   }
   for (const schema of pendratsoa.schemaNames.keys()) {
-    assert.deepEqual(pendratsoa.payload(schema, '{}'), hex(''));
+    assert.deepEqual(pendratsoa.fromJson(schema, '{}'), hex(''));
   }
   const text = 'a\u00e9\u{1f600}'.repeat(20_000);
-  const payload = pendratsoa.payload(ERROR_MESSAGE, JSON.stringify({ message: text }));
+  const payload = pendratsoa.fromJson(ERROR_MESSAGE, JSON.stringify({ message: text }));
   assert.deepEqual(payload, pendratsoa.canonical(ERROR_MESSAGE, errorMessage(text)));
 });
 
@@ -177,19 +177,20 @@ test('JSON that is rejected', () => {
     ['Value', '{"content":"a"}', 'notBase64', undefined, 'content', 'content: not base64'],
   ]) {
     assert.throws(
-      () => pendratsoa.payload(schema, json),
+      () => pendratsoa.fromJson(schema, json),
       (error) => {
         assert.ok(error instanceof pendratsoa.JsonError);
         assert.equal(error.code, 'JOURNAL_JSON_ERROR');
         assert.deepEqual([error.reason, error.offset, error.path], [reason, offset, path]);
-        assert.deepEqual([error.call, error.argument, error.value], ['payload', 'json', json]);
-        assert.ok(error.message.startsWith('payload: json ') && error.message.endsWith(`: ${why}`), error.message);
+        assert.deepEqual([error.call, error.argument, error.value], ['fromJson', 'json', json]);
+        assert.ok(error.message.startsWith('fromJson: json ') && error.message.endsWith(`: ${why}`), error.message);
         return true;
       },
     );
   }
-  assert.throws(() => pendratsoa.payload('Future', deep), { name: 'JsonError', reason: 'tooDeep' });
-  assert.throws(() => pendratsoa.payload(pendratsoa.schemaNames.length, '{}'), { name: 'Unknown', argument: 'schema' });
+  assert.throws(() => pendratsoa.fromJson('Future', deep), { name: 'JsonError', reason: 'tooDeep' });
+  const none = pendratsoa.schemaNames.length;
+  assert.throws(() => pendratsoa.fromJson(none, '{}'), { name: 'Unknown', argument: 'schema' });
 });
 
 test('messages of JSON', () => {
@@ -212,7 +213,7 @@ test('messages of JSON', () => {
 test('a message', () => {
   const message = new Message(8, 0x0400, hex('72070a05696e707574'));
   assert.equal(message.kind, 'message');
-  assert.equal(message.requiresAck, false);
+  assert.equal(message.requestedAck, false);
   assert.equal(message.type, 'InputCommand');
   assert.equal(message.schema, 20);
   assert.deepEqual(message.json(), { value: { content: 'aW5wdXQ=' } });
@@ -308,6 +309,16 @@ test('commands compared', () => {
   assert.equal(pendratsoa.difference(SET_STATE_COMMAND, first, first), '');
 });
 
+test('custom entries are not compared', () => {
+  const recorded = bytesOf('examples/streams/recorded');
+  // the first of the two codes is in the range of commands
+  for (const code of [0x3f3f, CUSTOM_ENTRY]) {
+    const replayed = joined(pendratsoa.header(8, code, 1), hex('ff'), recorded);
+    const verdict = pendratsoa.compareJournals(8, recorded, replayed);
+    assert.deepEqual([verdict.kind, verdict.index], ['same', 4]);
+  }
+});
+
 test('each verdict on journals', () => {
   for (const [recorded, replayed, kind, index] of [
     ['', '', 'same', 0],
@@ -392,9 +403,20 @@ test('what does not exist is named', () => {
   ]) {
     assert.throws(call, unknown(argument, value));
   }
-  assert.throws(() => pendratsoa.canonical('Voids', none), {
-    message: "canonical: schema 'Voids': unknown, or not of the kind that the call is for",
-  });
+  const schemas = pendratsoa.schemaNames.length;
+  for (const [call, message] of [
+    [() => pendratsoa.canonical('Voids', none), "canonical: unknown schema 'Voids'"],
+    [() => pendratsoa.canonical(schemas, none), `canonical: unknown schema ${schemas} (0 to ${schemas - 1})`],
+    [() => pendratsoa.schema(4, 0), 'schema: unknown protocol version 4 (5 to 9)'],
+    [() => pendratsoa.typeCode('Sleep'), "typeCode: unknown name 'Sleep'"],
+    [
+      () => pendratsoa.headerEq(CALL_COMPLETION, none, none),
+      'headerEq: unknown code 0x800d, or not of the kind that the call is for',
+    ],
+    [() => pendratsoa.typeName(-1), 'typeName: unknown code -1, or not of the kind that the call is for'],
+  ]) {
+    assert.throws(call, { name: 'Unknown', message });
+  }
 });
 
 test('no number wraps', () => {

@@ -15,11 +15,11 @@ import {
   canonical,
   difference,
   frame,
+  fromJson,
   header,
   headerEq,
   isWellFormed,
   merge,
-  payload as payloadOf,
   readRecord,
   schema,
   toJson,
@@ -51,15 +51,15 @@ function payloadResult(name, payload) {
 
 function jsonResult(name, payload) {
   const json = toJson(name, payload);
-  assert.deepEqual(payloadOf(name, json), canonical(name, payload));
-  assert.deepEqual(payloadOf(name, Buffer.from(json)), canonical(name, payload));
+  assert.deepEqual(fromJson(name, json), canonical(name, payload));
+  assert.deepEqual(fromJson(name, Buffer.from(json)), canonical(name, payload));
   return json;
 }
 
 /** The payload that a JSON text is read as, or why it is not, and where. */
 function readResult(name, text) {
   try {
-    return digits(payloadOf(name, text));
+    return digits(fromJson(name, text));
   } catch (error) {
     if (!(error instanceof JsonError)) {
       throw error;

@@ -108,7 +108,7 @@ test('items as texts and as JSON', () => {
   const lines = [`InputCommand ${input}`, `SetStateCommand ${set}`, 'CustomEntry(64513) 1', 'unknown 0x8', 'End 0'];
   assert.deepEqual(found.map(String), [...lines, 'skipped 0x8 2', 'code 0x8 0', 'ProposeRunCompletion 0 ack']);
   const json = JSON.parse(JSON.stringify(found));
-  const fields = { kind: 'message', version: 8, requiresAck: false, payload: '/w==' };
+  const fields = { kind: 'message', version: 8, requestedAck: false, payload: '/w==' };
   assert.deepEqual(json[2], { ...fields, code: 0xfc01, type: 'CustomEntry(64513)' });
   assert.deepEqual(json[3], { kind: 'unknownCode', version: 8, code: 8, word: String(0x0008a5a500000000n) });
   assert.deepEqual(json[5], { kind: 'skipped', version: 9, code: 8, word: '3', payload: 'AP8=' });
@@ -123,7 +123,7 @@ test('the end of a stream', () => {
   assert.throws(() => stream.finish(), (error) => {
     assert.ok(error instanceof Incomplete);
     assert.equal(error.message, 'finish: the stream ended within an item, after 1 byte of it');
-    assert.deepEqual([error.call, error.argument, error.value], ['finish', 'stream', 1]);
+    assert.deepEqual([error.call, error.rest], ['finish', 1]);
     return true;
   });
 });

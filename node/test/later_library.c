@@ -219,7 +219,7 @@ int64_t journal_verdict(uint32_t version, const uint8_t *recorded, size_t record
     if (verdict_room < JOURNAL_VERDICT_NUMBERS) {
         return JOURNAL_NO_ROOM;
     }
-    verdict->kind = recorded_length > 0 ? recorded[0] : JOURNAL_SAME;
+    verdict->kind = recorded_length > 0 ? recorded[0] : JOURNAL_VERDICT_SAME;
     verdict->index = 0;
     return 0;
 }

@@ -79,12 +79,12 @@ test('tables of other kinds, and of other fields', () => {
 });
 
 test('JSON texts of other kinds', () => {
-  assert.throws(() => pendratsoa.payload(0, hex('08')), { name: 'JsonError', reason: 'tooDeep' });
-  assert.throws(() => pendratsoa.payload(0, hex('09')), notKnown('payload', 'kind of JSON text 9'));
-  assert.throws(() => pendratsoa.payload(0, ''), {
+  assert.throws(() => pendratsoa.fromJson(0, hex('08')), { name: 'JsonError', reason: 'tooDeep' });
+  assert.throws(() => pendratsoa.fromJson(0, hex('09')), notKnown('fromJson', 'kind of JSON text 9'));
+  assert.throws(() => pendratsoa.fromJson(0, ''), {
     name: 'TooLong',
     argument: 'json',
-    message: "payload: json '': more than 4,294,967,295 bytes",
+    message: "fromJson: json '': more than 4,294,967,295 bytes",
   });
 });
 

@@ -11,8 +11,8 @@ import {
   canonical,
   compareJournals,
   frame,
+  fromJson,
   notification,
-  payload,
   toJson,
   typeCode,
 } from 'pendratsoa';
@@ -40,14 +40,14 @@ function round(index) {
     message.frame();
   }
   compareJournals(8, RECORDED, RECORDED);
-  payload(ERROR_MESSAGE, '{"message":"text"}');
+  fromJson(ERROR_MESSAGE, '{"message":"text"}');
   notification(0xfbff, hex('1a0473746f702a030a0178'));
   frame(8, 1, hex('22120a010122080a010222030a010122030a0103'));
   for (const call of [
     () => canonical(ERROR_MESSAGE, hex('12')),
     () => canonical(ERROR_MESSAGE, 'text'),
     () => typeCode('none'),
-    () => payload(ERROR_MESSAGE, '{"message":"text","code":"one"}'),
+    () => fromJson(ERROR_MESSAGE, '{"message":"text","code":"one"}'),
     () => new Stream().feed(undefined),
   ]) {
     assert.throws(call, (error) => error instanceof JournalError || error instanceof TypeError);

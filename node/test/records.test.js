@@ -115,8 +115,23 @@ test('values of another kind', () => {
   }
   assert.throws(() => readRecord('Value', hex('0a')), Malformed);
   assert.throws(() => readRecord('Values', hex('')), Unknown);
-  assert.throws(() => new Message(8, 0xfc01, hex('')).message, Unknown);
+  assert.throws(() => new Message(8, 8, hex('')).message, Unknown);
+  assert.throws(() => new Message(4, 0xfc01, hex('')).message, Unknown);
   assert.throws(() => Message.of('SetStatCommand', {}), Unknown);
+});
+
+test('a custom entry has no record', () => {
+  // a state that is set, a custom entry whose payload is no record, and the state again
+  const state = '0403000000000003 0a0161';
+  for (const version of [5, 6, 7, 8, 9]) {
+    const stream = new Stream(version);
+    stream.feed(hex(`${state} fc01000000000002 ffff ${state}`));
+    const found = [...stream].map((item) => item.message);
+    assert.equal(found.length, 3);
+    assert.equal(found[1], undefined);
+    assert.deepEqual([found[0], found[2]].map(({ key }) => text(key)), ['a', 'a']);
+    stream.finish();
+  }
 });
 
 test('a getter that writes another record', () => {

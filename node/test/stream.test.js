@@ -121,7 +121,7 @@ test('the word of an item has all 64 bits', () => {
 
 test('an acknowledgement', () => {
   const found = itemsAtOnce(hex('0005800000000005 0801720178 0005000000000000'));
-  assert.deepEqual(found.map(({ requiresAck }) => requiresAck), [true, false]);
+  assert.deepEqual(found.map(({ requestedAck }) => requestedAck), [true, false]);
 });
 
 test('a loop continues where the one before ended', () => {
@@ -284,8 +284,7 @@ test('a source that ends within an item', async () => {
     {
       name: 'Incomplete',
       code: 'JOURNAL_INCOMPLETE',
-      argument: 'source',
-      value: 8,
+      rest: 8,
       call: 'items',
       message: 'items: the source ended within an item, after 8 bytes of it',
     },
@@ -346,16 +345,21 @@ test('the examples are listed as their listings are', () => {
 });
 
 test('a message that is longer than the limit ends the stream', async () => {
-  const endless = hex('00000000ffffffff 010203');
+  const endless = hex('04030000ffffffff 010203');
   const limit = INPUT.length - 8;
   const stream = new Stream(8, { maxMessageSize: limit });
   stream.feed(joined(INPUT, endless));
   const found = [];
   const error = {
-    name: 'TooLong',
+    name: 'MessageTooLong',
+    code: 'JOURNAL_TOO_LONG',
     argument: 'maxMessageSize',
+    typeCode: 0x0403,
+    length: 2 ** 32 - 1,
+    limit,
+    offset: INPUT.length,
     message:
-      `Stream: a message of type 0x0000 at offset ${INPUT.length} has 4294967295 bytes, ` +
+      `Stream: a message of type 0x0403 at offset ${INPUT.length} has 4294967295 bytes, ` +
       `more than the limit of ${limit}`,
   };
   for (let i = 0; i < 2; i += 1) {

@@ -42,7 +42,7 @@ export function listed(items) {
     const code = `0x${item.code.toString(16)}`;
     switch (item.kind) {
       case 'message':
-        return `${item.type} ${item.payload.length}${item.requiresAck ? ' ack' : ''}`;
+        return `${item.type} ${item.payload.length}${item.requestedAck ? ' ack' : ''}`;
       case 'unknownCode':
         return `unknown ${code}`;
       default:

@@ -12,6 +12,7 @@ import {
   LAST_VERSION,
   Malformed,
   Message,
+  MessageTooLong,
   Notification,
   SchemaName,
   SetStateCommandMessage,
@@ -25,6 +26,7 @@ import {
   decode,
   difference,
   frame,
+  fromJson,
   header,
   headerEq,
   isWellFormed,
@@ -32,7 +34,6 @@ import {
   libraryVersion,
   merge,
   notification,
-  payload,
   readRecord,
   schema,
   schemaNames,
@@ -57,7 +58,7 @@ export function described(item: Item): string {
       const length: number = item.bytes.length + item.frameInto(new Uint8Array(20), 9);
       // @ts-expect-error it cannot be changed
       item.payload = bytes;
-      const read = `${type} ${item.schema + item.payload.length} ${item.requiresAck} ${json}`;
+      const read = `${type} ${item.schema + item.payload.length} ${item.requestedAck} ${json}`;
       return `${read} ${item.frame().length} ${word} ${length}`;
     }
     case 'unknownCode':
@@ -114,6 +115,18 @@ export function read(item: Item): string | bigint | number | Uint8Array | undefi
   }
 }
 
+/** A custom entry has no record. */
+export function isCustomEntry(item: Item): boolean {
+  const custom: Same<Message<`CustomEntry(${number})`>['message'], undefined> = true;
+  const setState: Same<Message<'SetStateCommand'>['message'], SetStateCommandMessage> = true;
+  if (item.kind !== 'message') {
+    return custom && setState;
+  }
+  // @ts-expect-error it may be that of a custom entry
+  item.message.toString();
+  return item.message === undefined;
+}
+
 export function made(): Uint8Array[] {
   const command: SetStateCommandMessage = { key: bytes, value: { content: bytes }, name: '' };
   const changed: SetStateCommandMessage = { ...command, value: { content: new Uint8Array(1) } };
@@ -163,8 +176,8 @@ export function calls(): void {
     canonical('Value', bytes),
     merge(numbers[0] ?? 0, bytes, bytes),
     new Message(8, 0, bytes).canonical(),
-    payload('Value', '{}'),
-    payload(1, bytes),
+    fromJson('Value', '{}'),
+    fromJson(1, bytes),
     Message.fromJson('SleepCommand', { wakeUpTime: 5 }).payload,
     Message.fromJson(8, '{}', LAST_VERSION).payload,
   ];
@@ -180,7 +193,7 @@ export function calls(): void {
   // @ts-expect-error there is no such schema
   canonical('Values', bytes);
   // @ts-expect-error a number is no text
-  payload('Value', 5);
+  fromJson('Value', 5);
   // @ts-expect-error a version is a number
   schema('8', index);
   // @ts-expect-error the names are constant
@@ -202,7 +215,11 @@ export function caught(error: unknown): string {
     return error.reason === 'notUtf8' ? error.path : error.reason;
   }
   if (error instanceof Incomplete) {
-    return error.value.toFixed();
+    return error.rest.toFixed();
+  }
+  if (error instanceof MessageTooLong) {
+    const code: 'JOURNAL_TOO_LONG' = error.code;
+    return code + (error.typeCode + error.length + error.limit + error.offset).toFixed();
   }
   if (error instanceof Unknown || error instanceof JournalError) {
     return `${error.argument ?? ''} ${String(error.value)} ${error.message}`;

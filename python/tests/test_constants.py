@@ -24,9 +24,10 @@ class TestConstants(unittest.TestCase):
 
     def test_kinds(self):
         numbers = defined(r"\d+")
-        for kind in (*JsonReason, *IdKind, *ResultKind, *VerdictKind):
-            self.assertEqual(numbers[kind.name], kind.number)
-            self.assertIs(type(kind).of(kind.number), kind)
+        for kinds, family in ((JsonReason, "JSON_"), (IdKind, ""), (ResultKind, "RESULT_"), (VerdictKind, "VERDICT_")):
+            for kind in kinds:
+                self.assertEqual(numbers[family + kind.name], kind.number)
+                self.assertIs(kinds.of(kind.number), kind)
 
     def test_versions_and_schemas(self):
         numbers = defined(r"\d+")
@@ -41,7 +42,7 @@ class TestConstants(unittest.TestCase):
         self.assertEqual(len(listed), len(pendratsoa.TypeCode))
         for code in pendratsoa.TypeCode:
             self.assertEqual(listed[pendratsoa.type_name(code)], code)
-            self.assertEqual(defined("0x[0-9A-F]+", 16)[code.name], code)
+            self.assertEqual(defined("0x[0-9A-F]+", 16)["TYPE_" + code.name], code)
 
     def test_calls(self):
         self.assertEqual(re.findall(r"^int64_t (journal_\w+)\(", HEADER, re.M), list(_library.PARAMETERS))

@@ -21,11 +21,12 @@ class TestConstants < Minitest::Test
   end
 
   def test_kinds_are_those_of_the_header
-    [Pendratsoa::ID_KINDS, Pendratsoa::RESULT_KINDS, Pendratsoa::VERDICT_KINDS].each do |kinds|
-      kinds.each_with_index { |kind, number| assert_equal number, defined_numbers[kind.to_s.upcase], kind }
-    end
-    Pendratsoa::JSON_REASONS.each_with_index do |reason, index|
-      assert_equal index + 1, defined_numbers[reason.to_s.upcase], reason
+    families = { "" => Pendratsoa::ID_KINDS, "RESULT_" => Pendratsoa::RESULT_KINDS,
+                 "VERDICT_" => Pendratsoa::VERDICT_KINDS, "JSON_" => [nil, *Pendratsoa::JSON_REASONS] }
+    families.each do |family, kinds|
+      kinds.each_with_index do |kind, number|
+        assert_equal number, defined_numbers[family + kind.to_s.upcase], kind if kind
+      end
     end
     assert_equal [3, 5, 7],
                  [Pendratsoa::ID_KINDS, Pendratsoa::RESULT_KINDS, Pendratsoa::VERDICT_KINDS].map(&:length)
@@ -38,7 +39,7 @@ class TestConstants < Minitest::Test
   end
 
   def test_types_are_those_of_the_header
-    codes = HEADER.scan(/^#define JOURNAL_(\w+) 0x(\h+)$/).to_h { |name, digits| [name.to_sym, digits.hex] }
+    codes = HEADER.scan(/^#define JOURNAL_TYPE_(\w+) 0x(\h+)$/).to_h { |name, digits| [name.to_sym, digits.hex] }
     names = Pendratsoa.constants.grep(/\ACODE_/)
     assert_equal codes, names.to_h { |name| [name.to_s.delete_prefix("CODE_").to_sym, Pendratsoa.const_get(name)] }
     codes.each_value { |code| assert_equal code, Pendratsoa.type_code(Pendratsoa.type_name(code)) }

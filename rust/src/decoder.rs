@@ -62,21 +62,24 @@ impl Decoder {
 
     /// A decoder at a version from 5 to 9 that takes no message whose payload has more bytes than this.
     ///
-    /// A longer message is `Error::TooLong` as soon as its header came, with the length that the header announces. It
-    /// ends the stream: from then on each iteration, `feed`, `room`, `read_from` and `finish` return this error. The
-    /// first of the three that take bytes drops what came.
+    /// A longer message is `Error::MessageTooLong` as soon as its header came, with its code, the length that the
+    /// header announces, and its offset in the stream. It ends the stream: from then on each iteration, `feed`, `room`,
+    /// `read_from` and `finish` return this error. The first of the three that take bytes drops what came.
     ///
     /// ```
-    /// use pendratsoa::{Argument, Decoder, Error};
+    /// use pendratsoa::{Decoder, Error};
     ///
     /// let mut decoder = Decoder::with_max_message_size(8, 1_000)?;
-    /// decoder.feed(&[0, 3, 0, 0, 0, 0, 0, 0, 0, 0, 0, 0, 0xFF, 0xFF, 0xFF, 0xFF])?;
+    /// decoder.feed(&[0, 3, 0, 0, 0, 0, 0, 0, 4, 0, 0, 0, 0, 0, 4, 0])?;
     /// let mut items = decoder.items();
     /// assert!(items.next().unwrap().is_ok());
-    /// let length = Argument::PayloadLength(4_294_967_295);
-    /// assert_eq!(items.next(), Some(Err(Error::TooLong(length.clone()))));
-    /// assert_eq!(decoder.offset(), 8);
-    /// assert_eq!(decoder.feed(&[0]), Err(Error::TooLong(length)));
+    /// match items.next() {
+    ///     Some(Err(Error::MessageTooLong(error))) => {
+    ///         assert_eq!((error.code, error.length, error.limit, error.offset), (0x0400, 1_024, 1_000, 8));
+    ///     }
+    ///     other => panic!("{other:?}"),
+    /// }
+    /// assert!(matches!(decoder.feed(&[0]), Err(Error::MessageTooLong(_))));
     /// assert_eq!(decoder.rest(), 0);
     /// assert_eq!(decoder.finish(), decoder.feed(&[0]));
     /// # Ok::<(), Error>(())
@@ -228,8 +231,8 @@ impl Decoder {
 
     /// The whole items among the bytes that came and are in no item yet. An item that was taken does not come again.
     ///
-    /// The iterator ends after an error, `Error::Unexpected` or `Error::TooLong`; the item that is the reason is not
-    /// taken.
+    /// The iterator ends after an error, `Error::Unexpected` or `Error::MessageTooLong`; the item that is the reason is
+    /// not taken.
     pub fn items(&mut self) -> Items<'_> {
         Items {
             version: self.version,
@@ -279,9 +282,10 @@ impl<'a> Iterator for Items<'a> {
                 Some(Ok(item))
             }
             Ok(Next::Missing(_)) => None,
-            Err(error) => {
+            Err(mut error) => {
                 self.has_failed = true;
-                if let Error::TooLong(_) = error {
+                if let Error::MessageTooLong(message) = &mut error {
+                    message.offset = *self.taken;
                     *self.ended = Some(error.clone());
                 }
                 Some(Err(error))

@@ -6,6 +6,8 @@ use std::fmt;
 use crate::ffi::{About, Refusal};
 use crate::fields::FieldError;
 use crate::reading::JsonError;
+use crate::schema::Schema;
+use crate::{FIRST_VERSION, LAST_VERSION};
 
 /// Why a call fails, and which of its arguments is the reason.
 #[derive(Clone, Debug, PartialEq, Eq, Hash)]
@@ -17,8 +19,10 @@ pub enum Error {
     OutOfMemory,
     /// A slice for numbers is too short. This crate never passes such a slice.
     NoRoom,
-    /// A payload would have more than 4,294,967,295 bytes.
+    /// A payload has, or would have, more than 4,294,967,295 bytes.
     TooLong(Argument),
+    /// The payload of a message has more bytes than the limit of the decoder.
+    MessageTooLong(MessageTooLong),
     /// A version, a schema, a code or a name does not exist, or is not of the kind that the call is for.
     Unknown(Argument),
     /// A notification has no id.
@@ -61,6 +65,38 @@ pub enum Argument {
     Second(usize),
 }
 
+/// A message whose payload has more bytes than is taken.
+#[derive(Clone, Copy, Debug, PartialEq, Eq, Hash)]
+#[non_exhaustive]
+pub struct MessageTooLong {
+    /// The code of its type.
+    pub code: u16,
+    /// The length of its payload in bytes, by its header.
+    pub length: u32,
+    /// The greatest length that is taken.
+    pub limit: u32,
+    /// Where its header begins in the stream, in bytes.
+    pub offset: u64,
+}
+
+impl MessageTooLong {
+    /// The message whose header these bytes begin with.
+    pub(crate) fn of(bytes: &[u8], limit: u32) -> MessageTooLong {
+        let (code, length) = match *bytes {
+            [a, b, _, _, c, d, e, f, ..] => {
+                (u16::from_be_bytes([a, b]), u32::from_be_bytes([c, d, e, f]))
+            }
+            _ => (0, 0),
+        };
+        MessageTooLong {
+            code,
+            length,
+            limit,
+            offset: 0,
+        }
+    }
+}
+
 impl Error {
     /// The error for an error number, by the argument that it can be about.
     pub(crate) fn of(refusal: Refusal, argument: impl FnOnce(About) -> Argument) -> Error {
@@ -95,14 +131,23 @@ impl fmt::Display for Error {
             Error::OutOfMemory => f.write_str("an allocation failed"),
             Error::NoRoom => f.write_str("a slice for numbers is too short"),
             Error::TooLong(argument) => {
-                write!(f, "{argument} is too long for a header, or becomes so")
+                write!(f, "{argument}: the payload exceeds 4,294,967,295 bytes")
             }
-            Error::Unknown(argument) => {
+            Error::MessageTooLong(error) => error.fmt(f),
+            Error::Unknown(Argument::Version(number)) => write_unknown_version(f, *number),
+            Error::Unknown(Argument::Schema(number)) => {
                 write!(
                     f,
-                    "{argument} is unknown, or not of the kind that the call is for"
+                    "unknown schema {number} (0 to {})",
+                    Schema::ALL.len() - 1
                 )
             }
+            Error::Unknown(Argument::Code(code)) => write!(
+                f,
+                "unknown code {code:#06x}, or not of the kind that the call is for"
+            ),
+            Error::Unknown(Argument::Name(name)) => write!(f, "unknown name {name:?}"),
+            Error::Unknown(argument) => write!(f, "{argument} is unknown"),
             Error::NoId(argument) => write!(f, "{argument} has no id"),
             Error::NoResult(argument) => write!(f, "{argument} has an id, and no result"),
             Error::NotCanonical(argument) => {
@@ -127,7 +172,35 @@ impl fmt::Display for Error {
     }
 }
 
+/// Writes that a version is none; or, of one that is, that it has not the record for which a frame was to be made.
+fn write_unknown_version(f: &mut fmt::Formatter<'_>, number: u32) -> fmt::Result {
+    if (FIRST_VERSION..=LAST_VERSION).contains(&number) {
+        return write!(f, "protocol version {number} has no message of this record");
+    }
+    write!(
+        f,
+        "unknown protocol version {number} ({FIRST_VERSION} to {LAST_VERSION})"
+    )
+}
+
 impl error::Error for Error {}
+
+impl fmt::Display for MessageTooLong {
+    fn fmt(&self, f: &mut fmt::Formatter<'_>) -> fmt::Result {
+        let MessageTooLong {
+            code,
+            length,
+            limit,
+            offset,
+        } = self;
+        write!(
+            f,
+            "a message of type {code:#06x} at offset {offset} has {length} bytes, more than the limit of {limit}"
+        )
+    }
+}
+
+impl error::Error for MessageTooLong {}
 
 impl fmt::Display for Argument {
     fn fmt(&self, f: &mut fmt::Formatter<'_>) -> fmt::Result {
@@ -176,27 +249,36 @@ mod tests {
             (Error::NoRoom, "a slice for numbers is too short"),
             (
                 Error::TooLong(Argument::PayloadLength(1 << 32)),
-                "the payload length 4294967296 is too long for a header, or becomes so",
+                "the payload length 4294967296: the payload exceeds 4,294,967,295 bytes",
+            ),
+            (
+                Error::MessageTooLong(MessageTooLong {
+                    code: 0x0400,
+                    length: 1_048_577,
+                    limit: 1_048_576,
+                    offset: 106,
+                }),
+                "a message of type 0x0400 at offset 106 has 1048577 bytes, more than the limit of 1048576",
+            ),
+            (
+                Error::Unknown(Argument::Version(7)),
+                "protocol version 7 has no message of this record",
             ),
             (
                 Error::Unknown(Argument::Version(4)),
-                "the version 4 is unknown, or not of the kind that the call is for",
+                "unknown protocol version 4 (5 to 9)",
             ),
             (
                 Error::Unknown(Argument::Code(0x404)),
-                "the code 0x0404 is unknown, or not of the kind that the call is for",
-            ),
-            (
-                Error::Unknown(Argument::Schema(53)),
-                "the schema 53 is unknown, or not of the kind that the call is for",
+                "unknown code 0x0404, or not of the kind that the call is for",
             ),
             (
                 Error::Unknown(Argument::Name("a\"\n".to_owned())),
-                "the name \"a\\\"\\n\" is unknown, or not of the kind that the call is for",
+                "unknown name \"a\\\"\\n\"",
             ),
             (
                 Error::TooLong(Argument::Json(3)),
-                "the JSON text of 3 bytes is too long for a header, or becomes so",
+                "the JSON text of 3 bytes: the payload exceeds 4,294,967,295 bytes",
             ),
             (
                 Error::NoId(Argument::Payload(2)),
@@ -218,6 +300,9 @@ mod tests {
         for (error, text) in errors {
             assert_eq!(error.to_string(), text);
         }
+        let count = u32::try_from(Schema::ALL.len()).unwrap();
+        let text = format!("unknown schema {count} (0 to {})", count - 1);
+        assert_eq!(Error::Unknown(Argument::Schema(count)).to_string(), text);
     }
 
     #[test]

@@ -7,12 +7,13 @@ use crate::calls::{
     append_earlier_frame, append_frame, canonical, earlier_schema, header, schema, to_json,
     type_name,
 };
-use crate::error::{narrowed, Argument, Error};
-use crate::ffi::{self, Refusal, MESSAGE, SKIPPED, UNKNOWN_CODE};
+use crate::error::{narrowed, Argument, Error, MessageTooLong};
+use crate::ffi::{self, Refusal, ITEM_MESSAGE, ITEM_SKIPPED, ITEM_UNKNOWN_CODE};
+use crate::fields::MessageRecord;
 use crate::message_type::MessageType;
 use crate::messages::AnyMessage;
 use crate::notification::{notification, Notification};
-use crate::reading::payload;
+use crate::reading::from_json;
 
 /// An item of a stream. It borrows the bytes of the stream, and copies none.
 #[derive(Clone, Copy, Debug, PartialEq, Eq, Hash)]
@@ -36,7 +37,7 @@ pub struct Message<'a> {
     /// The header, as a big-endian number.
     pub word: u64,
     /// Whether the header requests an acknowledgement.
-    pub requires_ack: bool,
+    pub requested_ack: bool,
     /// The payload as it came, which need not be well-formed.
     pub payload: &'a [u8],
 }
@@ -126,7 +127,7 @@ impl fmt::Display for Item<'_> {
                     Ok(name) => f.write_str(&name)?,
                     Err(_) => write!(f, "code {:#06x}", message.code)?,
                 }
-                let ack = if message.requires_ack { " ack" } else { "" };
+                let ack = if message.requested_ack { " ack" } else { "" };
                 write!(f, " {}{ack}", message.payload.len())
             }
             Item::UnknownCode(unknown) => write!(f, "unknown {:#x}", unknown.code),
@@ -160,18 +161,18 @@ impl<'a> Message<'a> {
         let word = u64::from_be_bytes(header(version, code, payload.len())?);
         // a header of no payload is a whole item, of which the library says what it requests
         let header = header(version, code, 0)?;
-        let requires_ack = match next_item(version, &header)? {
+        let requested_ack = match next_item(version, &header)? {
             Next::Item {
                 item: Item::Message(message),
                 ..
-            } => message.requires_ack,
+            } => message.requested_ack,
             _ => return Err(Error::unexpected("the header", word)),
         };
         Ok(Message {
             version,
             code,
             word,
-            requires_ack,
+            requested_ack,
             payload,
         })
     }
@@ -197,7 +198,7 @@ impl<'a> Message<'a> {
         json: impl AsRef<[u8]>,
         buffer: &'a mut Vec<u8>,
     ) -> Result<Message<'a>, Error> {
-        *buffer = payload(schema(version, code)?, json)?;
+        *buffer = from_json(schema(version, code)?, json)?;
         Message::new(version, code, buffer)
     }
 
@@ -227,25 +228,56 @@ impl<'a> Message<'a> {
         schema(self.version, self.code)
     }
 
-    /// The record that the payload means, which borrows it where it is canonical.
+    /// The record that the payload means, which borrows it where it is canonical; `None` for a custom entry, which has
+    /// no record.
     ///
-    /// `Error::Malformed`, `Error::TooLong`, `Error::OutOfMemory`; a custom entry has no schema: `Error::Unknown`.
+    /// `Error::Malformed`, `Error::TooLong`, `Error::OutOfMemory`. [`Message::record`] reads the record of one type.
     ///
     /// ```
     /// use pendratsoa::messages::AnyMessage;
     /// use pendratsoa::{Message, MessageType};
     ///
     /// let message = Message::new(8, MessageType::SetStateCommand.code(), b"\n\x01a\x1a\x03\n\x011")?;
-    /// if let AnyMessage::SetStateCommand(command) = message.message()? {
+    /// if let Some(AnyMessage::SetStateCommand(command)) = message.message()? {
     ///     assert_eq!(*command.key, *b"a");
     ///     assert_eq!(*command.value.unwrap().content, *b"1");
     /// }
     /// # Ok::<(), pendratsoa::Error>(())
     /// ```
-    pub fn message(&self) -> Result<AnyMessage<'a>, Error> {
-        let schema = self.schema()?;
+    pub fn message(&self) -> Result<Option<AnyMessage<'a>>, Error> {
+        let schema = match self.schema() {
+            // what has a header and no schema is a custom entry
+            Err(Error::Unknown(_)) if header(self.version, self.code, 0).is_ok() => {
+                return Ok(None);
+            }
+            schema => schema?,
+        };
         AnyMessage::read(schema, self.payload)
             .unwrap_or_else(|| Err(Error::unexpected("the schema", schema)))
+            .map(Some)
+    }
+
+    /// The record of the payload, if the message is of the type of that record, and otherwise `None`; it borrows the
+    /// payload where it is canonical. The payload of another type is not looked at.
+    ///
+    /// `Error::Malformed`, `Error::TooLong`, `Error::OutOfMemory`.
+    ///
+    /// ```
+    /// use pendratsoa::messages::{SetStateCommandMessage, SleepCommandMessage};
+    /// use pendratsoa::{Message, MessageType};
+    ///
+    /// let message = Message::new(8, MessageType::SetStateCommand.code(), b"\n\x01a\x1a\x03\n\x011")?;
+    /// if let Some(command) = message.record::<SetStateCommandMessage>()? {
+    ///     assert_eq!(*command.key, *b"a");
+    /// }
+    /// assert_eq!(message.record::<SleepCommandMessage>()?, None);
+    /// # Ok::<(), pendratsoa::Error>(())
+    /// ```
+    pub fn record<R: MessageRecord<'a>>(&self) -> Result<Option<R>, Error> {
+        if self.code != R::TYPE.code() || self.schema()? != R::SCHEMA.number() {
+            return Ok(None);
+        }
+        R::decode(self.payload).map(Some)
     }
 
     /// The JSON of what the payload means, as [`to_json`] writes it.
@@ -357,35 +389,29 @@ pub fn next_item(version: u32, bytes: &[u8]) -> Result<Next<'_>, Error> {
 
 /// Finds the item that bytes begin with, as [`next_item`], if its payload has at most `limit` bytes.
 ///
-/// `Error::TooLong` with [`Argument::PayloadLength`], the length that its header announces, as soon as the eight bytes
-/// of the header are there.
+/// `Error::MessageTooLong` as soon as the eight bytes of a header are there that announces more. Its offset is 0, since
+/// the message begins where the bytes do.
 ///
 /// ```
-/// use pendratsoa::{next_item_within, Argument, Error};
+/// use pendratsoa::{next_item_within, Error};
 ///
 /// let endless = [0, 0, 0, 0, 0xFF, 0xFF, 0xFF, 0xFF];
-/// let length = Argument::PayloadLength(4_294_967_295);
-/// assert_eq!(next_item_within(8, 1_000, &endless), Err(Error::TooLong(length)));
+/// match next_item_within(8, 1_000, &endless) {
+///     Err(Error::MessageTooLong(error)) => assert_eq!(error.length, 4_294_967_295),
+///     other => panic!("{other:?}"),
+/// }
 /// ```
 pub fn next_item_within(version: u32, limit: u32, bytes: &[u8]) -> Result<Next<'_>, Error> {
     let mut numbers = [0; 6];
     let missing =
         ffi::next_within(version, limit, bytes, &mut numbers).map_err(|refusal| match refusal {
-            Refusal::TooLong => Error::TooLong(Argument::PayloadLength(announced(bytes))),
+            Refusal::TooLong => Error::MessageTooLong(MessageTooLong::of(bytes, limit)),
             refusal => Error::of(refusal, |_| Argument::Version(version)),
         })?;
     if missing > 0 {
         return Ok(Next::Missing(missing));
     }
     item_of(version, bytes, numbers)
-}
-
-/// The length of a payload in the header that bytes begin with.
-fn announced(bytes: &[u8]) -> usize {
-    match bytes {
-        [_, _, _, _, a, b, c, d, ..] => u32::from_be_bytes([*a, *b, *c, *d]) as usize,
-        _ => 0,
-    }
 }
 
 /// The item of these numbers, which the bytes begin with.
@@ -398,19 +424,19 @@ fn item_of(version: u32, bytes: &[u8], numbers: [u64; 6]) -> Result<Next<'_>, Er
         .get(begin..size)
         .ok_or_else(|| Error::unexpected("the size", size))?;
     let item = match kind {
-        MESSAGE => Item::Message(Message {
+        ITEM_MESSAGE => Item::Message(Message {
             version,
             code,
             word,
-            requires_ack: ack == 1,
+            requested_ack: ack == 1,
             payload,
         }),
-        UNKNOWN_CODE => Item::UnknownCode(UnknownCode {
+        ITEM_UNKNOWN_CODE => Item::UnknownCode(UnknownCode {
             version,
             code,
             word,
         }),
-        SKIPPED => Item::Skipped(Skipped {
+        ITEM_SKIPPED => Item::Skipped(Skipped {
             version,
             code,
             word,
@@ -434,7 +460,7 @@ mod tests {
     #[test]
     fn each_kind_is_an_item() {
         let (version, code, word, payload) = (8, 0xFC01, 5, &BYTES[8..]);
-        let requires_ack = true;
+        let requested_ack = true;
         for (number, item) in [
             (
                 0,
@@ -442,7 +468,7 @@ mod tests {
                     version,
                     code,
                     word,
-                    requires_ack,
+                    requested_ack,
                     payload,
                 }),
             ),

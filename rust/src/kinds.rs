@@ -7,9 +7,9 @@
 pub enum FieldReason {
     /// The schema of its message has no field of its number.
     UnknownField,
-    /// Its field is before the last one, or is there already and not repeated.
+    /// Its field is before the last one, or is that one, not repeated and in no oneof.
     OutOfOrder,
-    /// Another member of its oneof is there.
+    /// The last field is in the same oneof, also if it is its own field.
     SeveralMembers,
     /// Its kind is not that of its field, or it is a message of another schema.
     WrongKind,

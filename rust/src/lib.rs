@@ -17,12 +17,12 @@
 //! The library decides everything about the protocol; this crate turns its numbers into types. Each call of
 //! `pendratsoa.h` is a function here, of the same name without `journal_`, but for four: `journal_next` is
 //! [`next_item`] and, over chunks, [`Decoder`]; `journal_json` is [`to_json`]; `journal_payload_of_json` is
-//! [`payload`]; `journal_verdict` is [`compare_journals`].
+//! [`from_json`]; `journal_verdict` is [`compare_journals`].
 //!
 //! - Items borrow the bytes of their stream, and are copied nowhere.
 //! - What fails says so by an [`Error`]; a failed allocation is one, too.
 //! - Functions may be called from any thread at once, and every type here is [`Send`] and [`Sync`].
-//! - The deepest payloads take 32 KiB of stack, and 160 KiB in [`to_json`]; the deepest texts 320 KiB in [`payload`].
+//! - The deepest payloads take 32 KiB of stack, and 160 KiB in [`to_json`]; the deepest texts 320 KiB in [`from_json`].
 #![deny(unsafe_code, unsafe_op_in_unsafe_fn)]
 #![warn(missing_docs)]
 
@@ -51,14 +51,14 @@ pub use calls::{
     merge, schema, to_json, type_code, type_name,
 };
 pub use decoder::{Decoder, Items};
-pub use error::{Argument, Error};
+pub use error::{Argument, Error, MessageTooLong};
 pub use fields::FieldError;
 pub use item::{next_item, next_item_within, Item, Message, Next, Skipped, UnknownCode};
 pub use journals::{compare_journals, Verdict, VerdictKind};
 pub use kinds::{FieldReason, Version};
 pub use message_type::MessageType;
 pub use notification::{notification, Notification, NotificationId, NotificationResult};
-pub use reading::{payload, JsonError, JsonReason};
+pub use reading::{from_json, JsonError, JsonReason};
 pub use schema::Schema;
 
 /// The first protocol version.

@@ -4,7 +4,9 @@ use crate::calls::text;
 use crate::error::{narrowed, Argument, Error};
 use crate::ffi::{self, About};
 use crate::ffi::{COMPLETION_ID, SIGNAL_ID, SIGNAL_NAME};
-use crate::ffi::{FAILURE, INVOCATION_ID, STATE_KEYS, VALUE, VOID};
+use crate::ffi::{
+    RESULT_FAILURE, RESULT_INVOCATION_ID, RESULT_STATE_KEYS, RESULT_VALUE, RESULT_VOID,
+};
 
 /// The id and the result of a notification.
 #[derive(Clone, Debug, PartialEq, Eq, Hash)]
@@ -84,11 +86,11 @@ fn notification_of(numbers: [u64; 4], bytes: Vec<u8>) -> Result<Notification, Er
         kind => return Err(Error::unexpected("the kind of id", kind)),
     };
     let result = match result_kind {
-        VOID => NotificationResult::Void,
-        VALUE => NotificationResult::Value(result),
-        FAILURE => NotificationResult::Failure(result),
-        INVOCATION_ID => NotificationResult::InvocationId(text(result)?),
-        STATE_KEYS => NotificationResult::StateKeys(result),
+        RESULT_VOID => NotificationResult::Void,
+        RESULT_VALUE => NotificationResult::Value(result),
+        RESULT_FAILURE => NotificationResult::Failure(result),
+        RESULT_INVOCATION_ID => NotificationResult::InvocationId(text(result)?),
+        RESULT_STATE_KEYS => NotificationResult::StateKeys(result),
         kind => return Err(Error::unexpected("the kind of result", kind)),
     };
     Ok(Notification { id, result })

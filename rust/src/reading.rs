@@ -59,11 +59,11 @@ const REASONS: [JsonReason; 8] = [
 /// no schema has the number.
 ///
 /// ```
-/// use pendratsoa::{payload, Error, JsonReason, Schema};
+/// use pendratsoa::{from_json, Error, JsonReason, Schema};
 ///
 /// let value = Schema::Value.number();
-/// assert_eq!(payload(value, r#"{"content": "eA=="}"#)?, [0x0A, 1, b'x']);
-/// match payload(value, r#"{"content": 1}"#) {
+/// assert_eq!(from_json(value, r#"{"content": "eA=="}"#)?, [0x0A, 1, b'x']);
+/// match from_json(value, r#"{"content": 1}"#) {
 ///     Err(Error::Json(error)) => {
 ///         assert_eq!((error.reason, error.path.as_str()), (JsonReason::WrongKind, "content"));
 ///     }
@@ -71,7 +71,7 @@ const REASONS: [JsonReason; 8] = [
 /// }
 /// # Ok::<(), pendratsoa::Error>(())
 /// ```
-pub fn payload(schema: u32, json: impl AsRef<[u8]>) -> Result<Vec<u8>, Error> {
+pub fn from_json(schema: u32, json: impl AsRef<[u8]>) -> Result<Vec<u8>, Error> {
     let json = json.as_ref();
     let mut numbers = [0; 2];
     let bytes = ffi::payload_of_json(schema, json, &mut numbers).map_err(|refusal| {

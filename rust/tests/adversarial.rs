@@ -3,8 +3,8 @@
 use std::io::{self, ErrorKind, Read};
 
 use pendratsoa::{
-    canonical, compare_journals, difference, frame, header, header_eq, is_well_formed, merge,
-    next_item, notification, payload, schema, to_json, type_code, type_name, Argument, Decoder,
+    canonical, compare_journals, difference, frame, from_json, header, header_eq, is_well_formed,
+    merge, next_item, notification, schema, to_json, type_code, type_name, Argument, Decoder,
     Error, Item, JsonReason, Message, MessageType, Next, Schema, VerdictKind, FIRST_VERSION,
     LAST_VERSION,
 };
@@ -126,7 +126,7 @@ fn schemas_that_do_not_exist() {
             assert_eq!(to_json(number, payload), Err(unknown.clone()));
         }
         for json in ["{}", "{", ""] {
-            assert_eq!(payload(number, json), Err(unknown.clone()));
+            assert_eq!(from_json(number, json), Err(unknown.clone()));
         }
     }
 }
@@ -406,7 +406,7 @@ fn payloads_of_noise() {
 
 /// The reason for which a text is rejected, where it stops being JSON, and the path to the rejected value.
 fn refused(schema: Schema, json: &[u8]) -> (JsonReason, Option<usize>, String) {
-    match payload(schema.number(), json) {
+    match from_json(schema.number(), json) {
         Err(Error::Json(error)) => (error.reason, error.offset, error.path),
         other => panic!("{other:?}"),
     }
@@ -484,7 +484,7 @@ fn texts_of_noise() {
             let place = random.below(json.len());
             json[place] = b"{}[]:,\"\\0-.eE \xFF"[random.below(15)];
         }
-        match payload(schema, &json) {
+        match from_json(schema, &json) {
             Ok(found) => assert_eq!(canonical(schema, &found), Ok(found)),
             Err(Error::Json(error)) => {
                 assert_eq!(error.offset.is_some(), error.reason == JsonReason::NotJson);
@@ -509,10 +509,10 @@ fn messages_of_json() {
     }
     let code = MessageType::ProposeRunCompletion.code();
     let json = r#"{"resultCompletionId":1,"value":"eA=="}"#;
-    for (version, requires_ack) in [(6, false), (7, true), (9, true)] {
+    for (version, requested_ack) in [(6, false), (7, true), (9, true)] {
         let message = Message::from_json(version, code, json, &mut buffer).unwrap();
         assert_eq!(message.payload, [0x08, 1, 0x72, 1, b'x']);
-        assert_eq!(message.requires_ack, requires_ack);
+        assert_eq!(message.requested_ack, requested_ack);
         // the members of its JSON are in the order of the fields' numbers
         let mut other = Vec::new();
         let again = Message::from_json(version, code, message.json().unwrap(), &mut other).unwrap();

@@ -10,7 +10,7 @@ use std::path::Path;
 use std::process::ExitCode;
 
 use pendratsoa::{
-    canonical, difference, frame, header, header_eq, is_well_formed, merge, payload, schema,
+    canonical, difference, frame, from_json, header, header_eq, is_well_formed, merge, schema,
     to_json, type_code, Decoder, Error, Item, Schema,
 };
 
@@ -135,7 +135,7 @@ fn on_payload(name: &str, input: &str) -> Outcome {
     law("its JSON is the same", to_json(schema, &found)? == json)?;
     law(
         "its JSON is read back",
-        payload(schema, &json).as_ref() == Ok(&found),
+        from_json(schema, &json).as_ref() == Ok(&found),
     )?;
     Ok(hex(&found))
 }
@@ -193,7 +193,7 @@ fn listing<'a>(version: u32, chunks: impl IntoIterator<Item = &'a [u8]>) -> Outc
         for item in decoder.items() {
             listed.push(match item? {
                 Item::Message(message) => {
-                    let ack = if message.requires_ack { " ack" } else { "" };
+                    let ack = if message.requested_ack { " ack" } else { "" };
                     let law_of_names = message.message_type().map(|named| named.to_string());
                     law("names", law_of_names == Some(message.type_name()?))?;
                     format!("{} {}{ack}", message.type_name()?, message.payload.len())
@@ -235,14 +235,14 @@ fn on_json(name: &str, input: &str) -> Outcome {
     let json = to_json(schema, &input)?;
     law(
         "JSON is read as the canonical payload",
-        payload(schema, &json) == canonical(schema, &input),
+        from_json(schema, &json) == canonical(schema, &input),
     )?;
     Ok(json)
 }
 
 /// The payload that a JSON text is read as, or why it is not, and where.
 fn on_read(name: &str, text: &str) -> Outcome {
-    match payload(number(name)?, bytes(text)?) {
+    match from_json(number(name)?, bytes(text)?) {
         Ok(payload) => Ok(hex(&payload)),
         Err(Error::Json(error)) => {
             let mut words = String::new();

@@ -176,19 +176,32 @@ fn a_decoder_has_room_for_what_comes_in_another_way() {
 
 #[test]
 fn a_message_that_is_longer_than_the_limit_ends_the_stream() {
-    let stream = [0, 0, 0, 0, 0, 0, 0, 0, 0, 0, 0, 0, 0, 0, 0, 10, 0xFF];
-    let error = Error::TooLong(Argument::PayloadLength(10));
+    let stream = [0, 0, 0, 0, 0, 0, 0, 0, 4, 0, 0, 0, 0, 0, 0, 10, 0xFF];
     for takes in 0..3 {
         let mut decoder = Decoder::with_max_message_size(8, 9).unwrap();
         decoder.room(20).unwrap()[..17].copy_from_slice(&stream);
         decoder.advance(17);
-        let found: Vec<bool> = decoder.items().map(|item| item.is_ok()).collect();
-        assert_eq!(found, [true, false]);
+        let mut found: Vec<_> = decoder.items().collect();
+        assert_eq!(found.len(), 2);
+        assert!(found[0].is_ok());
+        let error = found.remove(1).unwrap_err();
+        match &error {
+            Error::MessageTooLong(found) => {
+                assert_eq!((found.code, found.length), (0x0400, 10));
+                assert_eq!((found.limit, found.offset), (9, 8));
+            }
+            other => panic!("{other}"),
+        }
+        assert_eq!(
+            error.to_string(),
+            "a message of type 0x0400 at offset 8 has 10 bytes, more than the limit of 9"
+        );
         assert_eq!((decoder.offset(), decoder.rest()), (8, 9));
         match takes {
             0 => assert_eq!(decoder.feed(&[0]), Err(error.clone())),
             1 => assert_eq!(decoder.room(1), Err(error.clone())),
             _ => {
+                // the same error, as that of a reader
                 let found = decoder.read_from(&[0][..]).unwrap_err();
                 assert_eq!(found.kind(), io::ErrorKind::InvalidData);
             }

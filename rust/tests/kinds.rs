@@ -37,7 +37,7 @@ fn items() {
             assert_eq!((message.version, message.code), (8, 5));
             assert_eq!(message.word.to_be_bytes(), bytes[..8]);
             assert_eq!(message.payload, &bytes[8..]);
-            assert!(message.requires_ack);
+            assert!(message.requested_ack);
             assert_eq!(
                 message.message_type(),
                 Some(MessageType::ProposeRunCompletion)
@@ -235,6 +235,17 @@ fn verdicts() {
             VerdictKind::TypeMismatch | VerdictKind::HeaderMismatch
         );
         assert_eq!(!text.is_empty(), has_text, "{kind:?}: {text}");
+    }
+}
+
+#[test]
+fn custom_entries_are_not_compared() {
+    let clear = frame(MessageType::ClearAllStateCommand, &[]);
+    // the first of the two codes is in the range of commands
+    for code in [0x3F3F, 0xFC01] {
+        let entry = [&header(8, code, 1).unwrap()[..], &[0xFF], &clear].concat();
+        let verdict = compare_journals(8, &clear, &entry, false).unwrap();
+        assert_eq!((verdict.kind, verdict.index), (VerdictKind::Same, 1));
     }
 }
 

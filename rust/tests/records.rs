@@ -6,10 +6,11 @@ use pendratsoa::messages::{
     AnyMessage, CallCompletionNotificationMessage, ErrorBehavior, ErrorMessage, Failure, Future,
     Header, InputCommandMessage, MessageRecord, OutputCommandMessage, OutputCommandResult, Record,
     SetStateCommandMessage, SignalNotificationMessage, SignalNotificationSignalId, StateKeys,
-    SuspensionMessageV6, Value, Void,
+    SuspensionMessage, SuspensionMessageV6, Value, Void,
 };
 use pendratsoa::{
     header, Argument, Decoder, Error, FieldReason, Item, Message, MessageType, Version,
+    FIRST_VERSION, LAST_VERSION,
 };
 
 const RECORDED: &[u8] = include_bytes!("../../examples/streams/recorded");
@@ -25,7 +26,7 @@ fn the_messages_of_a_stream() {
             Item::Message(message) => message,
             other => panic!("{other}"),
         };
-        let record = message.message().unwrap();
+        let record = message.message().unwrap().unwrap();
         assert_eq!(record.frame(Version::V8).unwrap(), item.to_bytes().unwrap());
         if let AnyMessage::SetStateCommand(command) = record {
             assert!(matches!(command.key, Cow::Borrowed(b"counter")));
@@ -42,6 +43,59 @@ fn the_messages_of_a_stream() {
         }
     }
     assert_eq!(states, 1);
+}
+
+#[test]
+fn a_custom_entry_has_no_record() {
+    // a state that is set, a custom entry whose payload is no record, and the state again
+    let state = b"\x04\x03\x00\x00\x00\x00\x00\x03\n\x01a";
+    let custom = b"\xFC\x01\x00\x00\x00\x00\x00\x02\xFF\xFF";
+    let stream = [&state[..], custom, state].concat();
+    for version in FIRST_VERSION..=LAST_VERSION {
+        let mut decoder = Decoder::new(version).unwrap();
+        decoder.feed(&stream).unwrap();
+        let (mut states, mut custom) = (0, 0);
+        for item in decoder.items() {
+            match item {
+                Ok(Item::Message(message)) => match message.message() {
+                    Ok(Some(AnyMessage::SetStateCommand(_))) => states += 1,
+                    Ok(None) => custom += 1,
+                    other => panic!("{other:?}"),
+                },
+                other => panic!("{other:?}"),
+            }
+        }
+        assert_eq!((states, custom), (2, 1));
+        assert_eq!(decoder.finish(), Ok(()));
+    }
+}
+
+#[test]
+fn the_record_of_one_type() {
+    let code = MessageType::SetStateCommand.code();
+    let message = Message::new(8, code, b"\n\x01a").unwrap();
+    let command: Option<SetStateCommandMessage<'_>> = message.record().unwrap();
+    assert_eq!(*command.unwrap().key, *b"a");
+    // the payload of another type is not looked at
+    let malformed = Message::new(8, code, &[10]).unwrap();
+    assert_eq!(malformed.record::<ErrorMessage<'_>>(), Ok(None));
+    assert_eq!(
+        malformed.record::<SetStateCommandMessage<'_>>(),
+        Err(Error::Malformed(Argument::Payload(1)))
+    );
+    let entry = Message::new(8, 0xFC01, &[10]).unwrap();
+    assert_eq!(entry.record::<SetStateCommandMessage<'_>>(), Ok(None));
+    // a suspension has the record of its version
+    let code = MessageType::Suspension.code();
+    for (version, is_earlier) in [(6, true), (7, false)] {
+        let message = Message::new(version, code, &[]).unwrap();
+        let earlier = message.record::<SuspensionMessageV6<'_>>().unwrap();
+        let later = message.record::<SuspensionMessage<'_>>().unwrap();
+        assert_eq!(
+            (earlier.is_some(), later.is_some()),
+            (is_earlier, !is_earlier)
+        );
+    }
 }
 
 #[test]
@@ -172,8 +226,9 @@ fn what_is_no_record() {
         Value::decode(&[10]),
         Err(Error::Malformed(Argument::Payload(1)))
     );
-    let entry = Message::new(8, 0xFC01, &[]).unwrap();
-    assert_eq!(entry.message(), Err(Error::Unknown(Argument::Code(0xFC01))));
+    let mut unknown = Message::new(8, 0xFC01, &[]).unwrap();
+    unknown.code = 8;
+    assert_eq!(unknown.message(), Err(Error::Unknown(Argument::Code(8))));
     let suspension = SuspensionMessageV6 {
         waiting_completions: vec![1],
         ..Default::default()

@@ -52,13 +52,19 @@ listed unknown_type 9
 case_of 'the proxy is built' go build -o "$work/proxy_program" ./examples/proxy
 counted 'the proxy' python3 -B "$top/scripts/checks/proxied.py" "$work/proxy_program"
 
-# The page: its program, and its part of the proxy.
-mkdir "$work/go/page"
-awk -v page="$work/go/page/main.go" -v part="$work/part" \
-  '/^```go$/ { file = blocks++ ? part : page; next } /^```$/ { file = "" } file != "" { print > file }' README.md
+# The page: its program, its part of the proxy, and the program that compares.
+mkdir "$work/go/page" "$work/go/compare"
+awk -v page="$work/go/page/main.go" -v part="$work/part" -v compare="$work/go/compare/main.go" '
+  /^## / { section = $2 }
+  /^```go$/ { file = section == "Compare" ? compare : blocks++ ? part : page; next }
+  /^```$/ { file = "" }
+  file != "" { print > file }' README.md
 sed -n '/^Of `examples/,/^[A-Z] /s/^    //p' README.md > "$work/wanted"
 go run ./page < "$work/examples/streams/replay" > "$out" 2> "$err"
 same 'the program of go/README.md' "$work/wanted" "$out"
+sed -n '/^Of `recorded/,/^|/s/^    //p' README.md > "$work/wanted"
+go run ./compare "$work/examples/streams/recorded" "$work/examples/streams/replayed_other_payload" > "$out" 2> "$err"
+same 'the program of go/README.md that compares' "$work/wanted" "$out"
 case_of 'the proxy of go/README.md' python3 -B "$top/scripts/checks/is_part.py" "$work/part" examples/proxy/main.go
 
 if go test -race -run '^$' . > "$work/race" 2>&1; then

@@ -118,12 +118,20 @@ else
   left_out 'the types and the example' 'there is no tsc; the Debian package node-typescript has it'
 fi
 
-# The page's program, with its types taken away.
-sed -n '/^```ts$/,/^```$/{/^```/d;p;}' node/README.md > "$user/page.mjs"
-(cd "$user" && ln -s "$OLDPWD/examples" examples && node page.mjs) > "$work/log" 2> "$err"
+# The page's programs, which are JavaScript too; the second one is under Compare.
+awk -v page="$user/page.mjs" -v compare="$user/compare.mjs" '
+  /^## / { section = $2 }
+  /^```ts$/ { file = section == "Compare" ? compare : page; next }
+  /^```$/ { file = "" }
+  file != "" { print > file }' node/README.md
+ln -s "$PWD/examples" "$user/examples"
+(cd "$user" && node page.mjs) > "$work/log" 2> "$err"
 sed -n 1p "$work/log" > "$out"
 sed -n 's/^It prints `\(.*\)` first\..*/\1/p' node/README.md > "$work/wanted"
 same 'the program of node/README.md' "$work/wanted" "$out"
+(cd "$user" && node compare.mjs) > "$out" 2> "$err"
+sed -n 's/^It prints `\(.*\)`\.$/\1/p' node/README.md > "$work/wanted"
+same 'the program of node/README.md that compares' "$work/wanted" "$out"
 
 cp examples/typescript/proxy.mjs "$user/"
 counted 'the proxy' python3 -B scripts/checks/proxied.py node "$user/proxy.mjs"

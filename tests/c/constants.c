@@ -22,8 +22,8 @@
 #define FIELD(field, expected) field_is(#field, field, expected)
 /* The code of a type that has this name, and the number of its schema. */
 #define TYPE(name, text) \
-    IS(JOURNAL_##name, journal_type_code((const uint8_t *)text, sizeof text - 1)); \
-    IS(JOURNAL_SCHEMA_##name, journal_schema(9, JOURNAL_##name));
+    IS(JOURNAL_TYPE_##name, journal_type_code((const uint8_t *)text, sizeof text - 1)); \
+    IS(JOURNAL_SCHEMA_##name, journal_schema(9, JOURNAL_TYPE_##name));
 #define OTHER(name, number) IS(JOURNAL_SCHEMA_##name, number);
 
 /* The command that sets "a" to nothing, the same of "b", a call, and a command that is malformed. */
@@ -130,14 +130,14 @@ static void items(void) {
     FIELD(item.kind, 0);
     FIELD(item.word, 0x0005800000000000 + sizeof proposal - 8);
     FIELD(item.code, 5);
-    FIELD(item.ack, 1);
+    FIELD(item.requested_ack, 1);
     FIELD(item.size, sizeof proposal);
     FIELD(item.payload, 8);
-    IS(JOURNAL_MESSAGE, item.kind);
+    IS(JOURNAL_ITEM_MESSAGE, item.kind);
     journal_next(8, unknown, sizeof unknown, &found.item, 7);
-    IS(JOURNAL_UNKNOWN_CODE, found.item.kind);
+    IS(JOURNAL_ITEM_UNKNOWN_CODE, found.item.kind);
     journal_next(9, unknown, sizeof unknown, &found.item, 7);
-    IS(JOURNAL_SKIPPED, found.item.kind);
+    IS(JOURNAL_ITEM_SKIPPED, found.item.kind);
     FIELD(found.after, 99);
 }
 
@@ -154,38 +154,40 @@ static void notifications(void) {
     }
     IS(JOURNAL_NOTIFICATION_NUMBERS, room);
     IS(JOURNAL_COMPLETION_ID, notification->id);
-    IS(JOURNAL_VOID, notification->result);
+    IS(JOURNAL_RESULT_VOID, notification->result);
     FIELD(notification->number, 9);
     journal_notification(0xFBFF, signal, sizeof signal, notification, 5, NULL, 0);
     IS(JOURNAL_SIGNAL_ID, notification->id);
-    IS(JOURNAL_VALUE, notification->result);
+    IS(JOURNAL_RESULT_VALUE, notification->result);
     FIELD(notification->number, 17);
     journal_notification(0xFBFF, named, sizeof named, notification, 5, NULL, 0);
     IS(JOURNAL_SIGNAL_NAME, notification->id);
-    IS(JOURNAL_INVOCATION_ID, notification->result);
+    IS(JOURNAL_RESULT_INVOCATION_ID, notification->result);
     FIELD(notification->id, 2);
     FIELD(notification->number, 0);
     FIELD(notification->name_length, 4);
     FIELD(notification->result, 3);
     journal_notification(0x8002, failure, sizeof failure, notification, 5, NULL, 0);
-    IS(JOURNAL_FAILURE, notification->result);
+    IS(JOURNAL_RESULT_FAILURE, notification->result);
     journal_notification(0x8002, keys, sizeof keys, notification, 5, NULL, 0);
-    IS(JOURNAL_STATE_KEYS, notification->result);
+    IS(JOURNAL_RESULT_STATE_KEYS, notification->result);
     FIELD(found.after, 99);
 }
 
 static void verdicts(void) {
     const uint8_t nine[] = {NINE}, set_a[] = {NINE, SET_A}, set_b[] = {NINE, SET_B}, call[] = {NINE, CALL};
     const uint8_t bad[] = {NINE, BAD};
+#define ROW(kind, recorded, replayed) {#kind, recorded, replayed, {sizeof recorded, sizeof replayed}, kind}
     const struct { const char *name; const uint8_t *recorded, *replayed; size_t lengths[2]; uint64_t kind; } rows[] = {
-        {"JOURNAL_SAME", nine, nine, {sizeof nine, sizeof nine}, JOURNAL_SAME},
-        {"JOURNAL_RECORDED_ENDED", nine, set_a, {sizeof nine, sizeof set_a}, JOURNAL_RECORDED_ENDED},
-        {"JOURNAL_REPLAYED_ENDED", set_a, nine, {sizeof set_a, sizeof nine}, JOURNAL_REPLAYED_ENDED},
-        {"JOURNAL_TYPE_MISMATCH", set_a, call, {sizeof set_a, sizeof call}, JOURNAL_TYPE_MISMATCH},
-        {"JOURNAL_HEADER_MISMATCH", set_a, set_b, {sizeof set_a, sizeof set_b}, JOURNAL_HEADER_MISMATCH},
-        {"JOURNAL_BAD_RECORDED", bad, set_a, {sizeof bad, sizeof set_a}, JOURNAL_BAD_RECORDED},
-        {"JOURNAL_BAD_REPLAYED", set_a, bad, {sizeof set_a, sizeof bad}, JOURNAL_BAD_REPLAYED},
+        ROW(JOURNAL_VERDICT_SAME, nine, nine),
+        ROW(JOURNAL_VERDICT_RECORDED_ENDED, nine, set_a),
+        ROW(JOURNAL_VERDICT_REPLAYED_ENDED, set_a, nine),
+        ROW(JOURNAL_VERDICT_TYPE_MISMATCH, set_a, call),
+        ROW(JOURNAL_VERDICT_HEADER_MISMATCH, set_a, set_b),
+        ROW(JOURNAL_VERDICT_BAD_RECORDED, bad, set_a),
+        ROW(JOURNAL_VERDICT_BAD_REPLAYED, set_a, bad),
     };
+#undef ROW
     struct { struct journal_verdict verdict; uint64_t after; } found = {{0, 0}, 99};
     size_t room = 0;
 
@@ -206,13 +208,13 @@ static void verdicts(void) {
 static void readings(void) {
     static const struct { const char *name, *text; uint32_t schema; uint64_t kind, offset; } rows[] = {
         {"JOURNAL_READ", "{\"serviceName\": \"s\"}", 33, JOURNAL_READ, 0},
-        {"JOURNAL_NOT_JSON", "{\"serviceName\": s}", 33, JOURNAL_NOT_JSON, 16},
-        {"JOURNAL_UNKNOWN_MEMBER", "{\"service\": \"s\"}", 33, JOURNAL_UNKNOWN_MEMBER, 0},
-        {"JOURNAL_REPEATED_MEMBER", "{\"key\": \"\", \"key\": \"\"}", 33, JOURNAL_REPEATED_MEMBER, 0},
-        {"JOURNAL_SEVERAL_MEMBERS", "{\"value\": \"\", \"failure\": {}}", 15, JOURNAL_SEVERAL_MEMBERS, 0},
-        {"JOURNAL_WRONG_KIND", "{\"headers\": {}}", 33, JOURNAL_WRONG_KIND, 0},
-        {"JOURNAL_OUT_OF_RANGE", "{\"resultCompletionId\": 1.5}", 33, JOURNAL_OUT_OF_RANGE, 0},
-        {"JOURNAL_NOT_BASE64", "{\"parameter\": \"a\"}", 33, JOURNAL_NOT_BASE64, 0},
+        {"JOURNAL_JSON_NOT_JSON", "{\"serviceName\": s}", 33, JOURNAL_JSON_NOT_JSON, 16},
+        {"JOURNAL_JSON_UNKNOWN_MEMBER", "{\"service\": \"s\"}", 33, JOURNAL_JSON_UNKNOWN_MEMBER, 0},
+        {"JOURNAL_JSON_REPEATED_MEMBER", "{\"key\": \"\", \"key\": \"\"}", 33, JOURNAL_JSON_REPEATED_MEMBER, 0},
+        {"JOURNAL_JSON_SEVERAL_MEMBERS", "{\"value\": \"\", \"failure\": {}}", 15, JOURNAL_JSON_SEVERAL_MEMBERS, 0},
+        {"JOURNAL_JSON_WRONG_KIND", "{\"headers\": {}}", 33, JOURNAL_JSON_WRONG_KIND, 0},
+        {"JOURNAL_JSON_OUT_OF_RANGE", "{\"resultCompletionId\": 1.5}", 33, JOURNAL_JSON_OUT_OF_RANGE, 0},
+        {"JOURNAL_JSON_NOT_BASE64", "{\"parameter\": \"a\"}", 33, JOURNAL_JSON_NOT_BASE64, 0},
     };
     struct { struct journal_reading reading; uint64_t after; } found = {{0, 0}, 99};
     char deep[4096] = "";
@@ -236,7 +238,7 @@ static void readings(void) {
         strcat(deep, "]}");
     }
     journal_payload_of_json(7, (const uint8_t *)deep, strlen(deep), &found.reading, 3, NULL, 0);
-    IS(JOURNAL_TOO_DEEP, found.reading.kind);
+    IS(JOURNAL_JSON_TOO_DEEP, found.reading.kind);
     FIELD(found.after, 99);
 }
 
@@ -299,6 +301,9 @@ static void writings(void) {
         ROW(JOURNAL_ENTRY_OUT_OF_BOUNDS, 33, A_HEADER, ITS_KEY(1, 5, 1, 2)),
         ROW(JOURNAL_ENTRY_WRONG_LEVEL, 33, A_HEADER, ITS_KEY(2, 5, 0, 1)),
     };
+    static const struct journal_field twice[] = {
+        {0, FIELD_PROPOSE_RUN_COMPLETION_VALUE, 6, 0, 0, 1}, {0, FIELD_PROPOSE_RUN_COMPLETION_VALUE, 6, 0, 0, 1}
+    };
     const uint8_t bytes[] = {'k', 0xFF};
     struct { struct journal_writing writing; uint64_t after; } found = {{0, 0}, 99};
     struct journal_field deep[101];
@@ -320,6 +325,10 @@ static void writings(void) {
     journal_payload_of_fields(7, deep, COUNT(deep), NULL, 0, &found.writing, 3, NULL, 0);
     IS(JOURNAL_ENTRY_TOO_DEEP, found.writing.kind);
     FIELD(found.writing.index, 100);
+    /* one member of a oneof twice is two members of it, and not out of order */
+    journal_payload_of_fields(15, twice, COUNT(twice), bytes, sizeof bytes, &found.writing, 3, NULL, 0);
+    IS(JOURNAL_ENTRY_SEVERAL_MEMBERS, found.writing.kind);
+    FIELD(found.writing.index, 1);
     FIELD(found.after, 99);
 }
 

@@ -462,7 +462,7 @@ static int stands(const struct slice *slice, size_t from) {
 /* Which of its kinds the result of a call is that is no error. */
 static int kind_of(int call, int64_t result, const uint64_t *numbers) {
     switch (call) {
-    case NEXT: case NEXT_WITHIN: return result > 0 ? JOURNAL_SKIPPED + 1 : (int)numbers[0];
+    case NEXT: case NEXT_WITHIN: return result > 0 ? JOURNAL_ITEM_SKIPPED + 1 : (int)numbers[0];
     case IS_WELL_FORMED: case HEADER_EQ: return (int)result;
     /* the first number is the kind of its id, and the last that of its result */
     case NOTIFICATION: return (int)(5 * numbers[0] + numbers[3]);
@@ -669,8 +669,8 @@ static void put_text(struct source *source, const char *text, size_t length) {
 /* Literal bytes, which may hold zeros. */
 #define PUT(source, text) put_text(source, text, sizeof(text) - 1)
 
-#define SET_STATE_COMMAND JOURNAL_SET_STATE_COMMAND
-#define CALL_COMMAND JOURNAL_CALL_COMMAND
+#define SET_STATE_COMMAND JOURNAL_TYPE_SET_STATE_COMMAND
+#define CALL_COMMAND JOURNAL_TYPE_CALL_COMMAND
 #define CALL_SCHEMA JOURNAL_SCHEMA_CALL_COMMAND
 #define A_CALL "\x22\x06\x0A\x01k\x12\x01v"
 #define NO_PAYLOAD "\x07"
@@ -692,16 +692,16 @@ static void put_journals(struct work *work, struct source *sources, int kind) {
         PUT_MESSAGE(recorded, CALL_COMMAND, A_CALL);
     }
     *replayed = *recorded;
-    if (kind == JOURNAL_BAD_RECORDED) {
+    if (kind == JOURNAL_VERDICT_BAD_RECORDED) {
         PUT_MESSAGE(recorded, SET_STATE_COMMAND, NO_PAYLOAD);
-    } else if (kind != JOURNAL_RECORDED_ENDED) {
+    } else if (kind != JOURNAL_VERDICT_RECORDED_ENDED) {
         PUT_MESSAGE(recorded, SET_STATE_COMMAND, "\x0A\x01k");
     }
     switch (kind) {
-    case JOURNAL_REPLAYED_ENDED: break;
-    case JOURNAL_TYPE_MISMATCH: PUT_MESSAGE(replayed, CALL_COMMAND, A_CALL); break;
-    case JOURNAL_HEADER_MISMATCH: PUT_MESSAGE(replayed, SET_STATE_COMMAND, "\x0A\x01l"); break;
-    case JOURNAL_BAD_REPLAYED: PUT_MESSAGE(replayed, SET_STATE_COMMAND, NO_PAYLOAD); break;
+    case JOURNAL_VERDICT_REPLAYED_ENDED: break;
+    case JOURNAL_VERDICT_TYPE_MISMATCH: PUT_MESSAGE(replayed, CALL_COMMAND, A_CALL); break;
+    case JOURNAL_VERDICT_HEADER_MISMATCH: PUT_MESSAGE(replayed, SET_STATE_COMMAND, "\x0A\x01l"); break;
+    case JOURNAL_VERDICT_BAD_REPLAYED: PUT_MESSAGE(replayed, SET_STATE_COMMAND, NO_PAYLOAD); break;
     default: PUT_MESSAGE(replayed, SET_STATE_COMMAND, "\x0A\x01k"); break;
     }
 }
@@ -735,10 +735,10 @@ static void put_text_of(struct request *request, int kind) {
     struct source *source = &request->source[0];
 
     source->length = 0;
-    if (kind == JOURNAL_SEVERAL_MEMBERS) {
+    if (kind == JOURNAL_JSON_SEVERAL_MEMBERS) {
         request->schema = PROPOSAL_SCHEMA;
     }
-    if (kind < JOURNAL_TOO_DEEP) {
+    if (kind < JOURNAL_JSON_TOO_DEEP) {
         put(source, texts[kind], strlen(texts[kind]));
         return;
     }
@@ -840,19 +840,19 @@ static void make_wanted(struct work *work, struct request *request, int kind, en
     case NEXT:
     case NEXT_WITHIN:
         first->length = 0;
-        if (kind == JOURNAL_MESSAGE) {
+        if (kind == JOURNAL_ITEM_MESSAGE) {
             put_message(first, CALL_COMMAND, A_CALL, sizeof A_CALL - 1);
         } else {
             put_message(first, 8, A_CALL, sizeof A_CALL - 1);
-            request->version = kind == JOURNAL_SKIPPED ? 9 : 5 + below(work, 4);
+            request->version = kind == JOURNAL_ITEM_SKIPPED ? 9 : 5 + below(work, 4);
         }
-        first->length = kind > JOURNAL_SKIPPED ? below(work, 8) : first->length;
+        first->length = kind > JOURNAL_ITEM_SKIPPED ? below(work, 8) : first->length;
         break;
     case NOTIFICATION:
         put_notification(first, error == NO_ID ? 3 : kind / 5, error == NO_RESULT ? 5 : kind % 5);
         break;
     case VERDICT:
-        put_journals(work, request->source, error == OUT_OF_MEMORY ? JOURNAL_HEADER_MISMATCH : kind);
+        put_journals(work, request->source, error == OUT_OF_MEMORY ? JOURNAL_VERDICT_HEADER_MISMATCH : kind);
         break;
     case MERGE: case HEADER_EQ: case DIFFERENCE:
         PUT(second, A_CALL);
@@ -891,7 +891,7 @@ static void make_wanted(struct work *work, struct request *request, int kind, en
     }
     if (error == UNKNOWN_TYPE || (error == UNKNOWN_VERSION && one_of(work, 2))) {
         request->code = call == NOTIFICATION ? CALL_COMMAND
-                      : call == HEADER_EQ || call == DIFFERENCE ? JOURNAL_SIGNAL_NOTIFICATION
+                      : call == HEADER_EQ || call == DIFFERENCE ? JOURNAL_TYPE_SIGNAL_NOTIFICATION
                                                                 : 0x0004;
         if (call == TYPE_CODE) {
             PUT(first, "callCommand");

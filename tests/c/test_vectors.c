@@ -210,16 +210,16 @@ static void list_item(struct buffer *listing, const struct journal_item *item) {
     char text[64];
     int64_t length;
 
-    if (item->kind == JOURNAL_UNKNOWN_CODE) {
+    if (item->kind == JOURNAL_ITEM_UNKNOWN_CODE) {
         snprintf(text, sizeof text, "unknown %#" PRIx64 ", ", item->code);
-    } else if (item->kind == JOURNAL_SKIPPED) {
+    } else if (item->kind == JOURNAL_ITEM_SKIPPED) {
         snprintf(text, sizeof text, "skipped %#" PRIx64 " %" PRIu64 ", ", item->code,
                  item->size - item->payload);
     } else {
         length = WRITTEN(journal_type_name((uint16_t)item->code, written.bytes, written.room));
         append(listing, written.bytes, length < 0 ? 0 : (size_t)length);
         snprintf(text, sizeof text, " %" PRIu64 "%s, ", item->size - item->payload,
-                 item->ack ? " ack" : "");
+                 item->requested_ack ? " ack" : "");
     }
     append_text(listing, text);
 }
@@ -321,11 +321,11 @@ static void read_json(void) {
     int64_t length = WRITTEN(journal_payload_of_json(schema, text.bytes, text.length, &reading, JOURNAL_READ_NUMBERS,
                                                      written.bytes, written.room));
 
-    if (length < 0 || reading.kind == JOURNAL_READ || reading.kind > JOURNAL_TOO_DEEP) {
+    if (length < 0 || reading.kind == JOURNAL_READ || reading.kind > JOURNAL_JSON_TOO_DEEP) {
         say_written(length);
     } else {
         append_text(&found, reasons[reading.kind]);
-        if (reading.kind == JOURNAL_NOT_JSON) {
+        if (reading.kind == JOURNAL_JSON_NOT_JSON) {
             snprintf(offset, sizeof offset, " %" PRIu64, reading.offset);
             append_text(&found, offset);
         } else if (length > 0) {

@@ -131,6 +131,10 @@ PREAMBLE = """\
  * as many as `room`. After an error all that a call could write is unchanged. Texts are UTF-8 and have no zero byte at
  * the end.
  *
+ * Names. A constant of a family begins with its name: the code of a type with JOURNAL_TYPE_, the number of a schema
+ * with JOURNAL_SCHEMA_, a kind with JOURNAL_ITEM_, JOURNAL_FIELD_, JOURNAL_RESULT_ or JOURNAL_VERDICT_, a reason with
+ * JOURNAL_JSON_ or JOURNAL_ENTRY_. The errors, which come first, have no such word and are negative.
+ *
  * Threads. Calls share nothing: any number of threads may make them at once.
  */
 #ifndef PENDRATSOA_H
@@ -173,7 +177,7 @@ def header():
 
 def c_protocol():
     """The codes of the types and the numbers of the schemas by name, which the header has with the other numbers."""
-    codes = {f"JOURNAL_{snake(message.type_name())}": f"0x{message.code:04X}" for message in typed()}
+    codes = {f"JOURNAL_TYPE_{snake(message.type_name())}": f"0x{message.code:04X}" for message in typed()}
     numbers = {f"JOURNAL_SCHEMA_{snake(schema_name(message))}": message.schema for message in schemas()}
     assert len(set(codes) | set(numbers)) == len(typed()) + len(schemas()), "two constants of one name"
     return (

@@ -46,11 +46,11 @@ func proxy(version, address string) error {
 		return err
 	}
 	defer target.Close()
-	return passOn(pendratsoa.NewDecoder(source, number), target)
+	return passOn(pendratsoa.NewDecoder(source, number), number, target)
 }
 
-// passOn writes the items of a decoder, as they are to be passed on.
-func passOn(decoder *pendratsoa.Decoder, target io.Writer) error {
+// passOn writes the items of a decoder, as they are to be passed on at a version.
+func passOn(decoder *pendratsoa.Decoder, version int, target io.Writer) error {
 	for {
 		item, err := decoder.Next()
 		if err == io.EOF {
@@ -58,7 +58,7 @@ func passOn(decoder *pendratsoa.Decoder, target io.Writer) error {
 		} else if err != nil {
 			return err
 		}
-		bytes, err := passedOn(item)
+		bytes, err := passedOn(item, version)
 		if err != nil {
 			return err
 		}
@@ -68,17 +68,12 @@ func passOn(decoder *pendratsoa.Decoder, target io.Writer) error {
 	}
 }
 
-// passedOn returns what takes the place of an item.
-func passedOn(item pendratsoa.Item) ([]byte, error) {
-	message, ok := item.(pendratsoa.Message)
-	if !ok || message.Code != pendratsoa.CodeSetStateCommand {
-		return item.Bytes(), nil
-	}
-	record, err := message.Record()
+// passedOn returns what takes the place of an item of a version.
+func passedOn(item pendratsoa.Item, version int) ([]byte, error) {
+	command, ok, err := pendratsoa.As[*pendratsoa.SetStateCommandMessage](item)
 	if err != nil {
 		return nil, err
 	}
-	command, ok := record.(*pendratsoa.SetStateCommandMessage)
 	if !ok || command.Value == nil {
 		return item.Bytes(), nil
 	}
@@ -87,5 +82,5 @@ func passedOn(item pendratsoa.Item) ([]byte, error) {
 		return nil, err
 	}
 	command.Value.Content = strconv.AppendInt(nil, int64(number)+1, 10)
-	return command.Frame(message.Version)
+	return command.Frame(version)
 }

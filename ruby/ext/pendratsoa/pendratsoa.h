@@ -13,6 +13,10 @@
  * as many as `room`. After an error all that a call could write is unchanged. Texts are UTF-8 and have no zero byte at
  * the end.
  *
+ * Names. A constant of a family begins with its name: the code of a type with JOURNAL_TYPE_, the number of a schema
+ * with JOURNAL_SCHEMA_, a kind with JOURNAL_ITEM_, JOURNAL_FIELD_, JOURNAL_RESULT_ or JOURNAL_VERDICT_, a reason with
+ * JOURNAL_JSON_ or JOURNAL_ENTRY_. The errors, which come first, have no such word and are negative.
+ *
  * Threads. Calls share nothing: any number of threads may make them at once.
  */
 #ifndef PENDRATSOA_H
@@ -99,47 +103,47 @@ int64_t journal_type_name(uint16_t code, uint8_t *out, size_t room);
 int64_t journal_type_code(const uint8_t *name, size_t name_length);
 
 /* The codes of the types. */
-#define JOURNAL_START 0x0000
-#define JOURNAL_SUSPENSION 0x0001
-#define JOURNAL_ERROR 0x0002
-#define JOURNAL_END 0x0003
-#define JOURNAL_PROPOSE_RUN_COMPLETION 0x0005
-#define JOURNAL_AWAITING_ON 0x0006
-#define JOURNAL_PROPOSE_RUN_COMPLETION_ACK 0x0007
-#define JOURNAL_GET_STATE_EPHEMERAL_COMMAND 0x0200
-#define JOURNAL_GET_STATE_EPHEMERAL_NOTIFICATION 0x0300
-#define JOURNAL_INPUT_COMMAND 0x0400
-#define JOURNAL_OUTPUT_COMMAND 0x0401
-#define JOURNAL_GET_LAZY_STATE_COMMAND 0x0402
-#define JOURNAL_SET_STATE_COMMAND 0x0403
-#define JOURNAL_CLEAR_STATE_COMMAND 0x0404
-#define JOURNAL_CLEAR_ALL_STATE_COMMAND 0x0405
-#define JOURNAL_GET_LAZY_STATE_KEYS_COMMAND 0x0406
-#define JOURNAL_GET_EAGER_STATE_COMMAND 0x0407
-#define JOURNAL_GET_EAGER_STATE_KEYS_COMMAND 0x0408
-#define JOURNAL_GET_PROMISE_COMMAND 0x0409
-#define JOURNAL_PEEK_PROMISE_COMMAND 0x040A
-#define JOURNAL_COMPLETE_PROMISE_COMMAND 0x040B
-#define JOURNAL_SLEEP_COMMAND 0x040C
-#define JOURNAL_CALL_COMMAND 0x040D
-#define JOURNAL_ONE_WAY_CALL_COMMAND 0x040E
-#define JOURNAL_SEND_SIGNAL_COMMAND 0x0410
-#define JOURNAL_RUN_COMMAND 0x0411
-#define JOURNAL_ATTACH_INVOCATION_COMMAND 0x0412
-#define JOURNAL_GET_INVOCATION_OUTPUT_COMMAND 0x0413
-#define JOURNAL_COMPLETE_AWAKEABLE_COMMAND 0x0414
-#define JOURNAL_GET_LAZY_STATE_COMPLETION_NOTIFICATION 0x8002
-#define JOURNAL_GET_LAZY_STATE_KEYS_COMPLETION_NOTIFICATION 0x8006
-#define JOURNAL_GET_PROMISE_COMPLETION_NOTIFICATION 0x8009
-#define JOURNAL_PEEK_PROMISE_COMPLETION_NOTIFICATION 0x800A
-#define JOURNAL_COMPLETE_PROMISE_COMPLETION_NOTIFICATION 0x800B
-#define JOURNAL_SLEEP_COMPLETION_NOTIFICATION 0x800C
-#define JOURNAL_CALL_COMPLETION_NOTIFICATION 0x800D
-#define JOURNAL_CALL_INVOCATION_ID_COMPLETION_NOTIFICATION 0x800E
-#define JOURNAL_RUN_COMPLETION_NOTIFICATION 0x8011
-#define JOURNAL_ATTACH_INVOCATION_COMPLETION_NOTIFICATION 0x8012
-#define JOURNAL_GET_INVOCATION_OUTPUT_COMPLETION_NOTIFICATION 0x8013
-#define JOURNAL_SIGNAL_NOTIFICATION 0xFBFF
+#define JOURNAL_TYPE_START 0x0000
+#define JOURNAL_TYPE_SUSPENSION 0x0001
+#define JOURNAL_TYPE_ERROR 0x0002
+#define JOURNAL_TYPE_END 0x0003
+#define JOURNAL_TYPE_PROPOSE_RUN_COMPLETION 0x0005
+#define JOURNAL_TYPE_AWAITING_ON 0x0006
+#define JOURNAL_TYPE_PROPOSE_RUN_COMPLETION_ACK 0x0007
+#define JOURNAL_TYPE_GET_STATE_EPHEMERAL_COMMAND 0x0200
+#define JOURNAL_TYPE_GET_STATE_EPHEMERAL_NOTIFICATION 0x0300
+#define JOURNAL_TYPE_INPUT_COMMAND 0x0400
+#define JOURNAL_TYPE_OUTPUT_COMMAND 0x0401
+#define JOURNAL_TYPE_GET_LAZY_STATE_COMMAND 0x0402
+#define JOURNAL_TYPE_SET_STATE_COMMAND 0x0403
+#define JOURNAL_TYPE_CLEAR_STATE_COMMAND 0x0404
+#define JOURNAL_TYPE_CLEAR_ALL_STATE_COMMAND 0x0405
+#define JOURNAL_TYPE_GET_LAZY_STATE_KEYS_COMMAND 0x0406
+#define JOURNAL_TYPE_GET_EAGER_STATE_COMMAND 0x0407
+#define JOURNAL_TYPE_GET_EAGER_STATE_KEYS_COMMAND 0x0408
+#define JOURNAL_TYPE_GET_PROMISE_COMMAND 0x0409
+#define JOURNAL_TYPE_PEEK_PROMISE_COMMAND 0x040A
+#define JOURNAL_TYPE_COMPLETE_PROMISE_COMMAND 0x040B
+#define JOURNAL_TYPE_SLEEP_COMMAND 0x040C
+#define JOURNAL_TYPE_CALL_COMMAND 0x040D
+#define JOURNAL_TYPE_ONE_WAY_CALL_COMMAND 0x040E
+#define JOURNAL_TYPE_SEND_SIGNAL_COMMAND 0x0410
+#define JOURNAL_TYPE_RUN_COMMAND 0x0411
+#define JOURNAL_TYPE_ATTACH_INVOCATION_COMMAND 0x0412
+#define JOURNAL_TYPE_GET_INVOCATION_OUTPUT_COMMAND 0x0413
+#define JOURNAL_TYPE_COMPLETE_AWAKEABLE_COMMAND 0x0414
+#define JOURNAL_TYPE_GET_LAZY_STATE_COMPLETION_NOTIFICATION 0x8002
+#define JOURNAL_TYPE_GET_LAZY_STATE_KEYS_COMPLETION_NOTIFICATION 0x8006
+#define JOURNAL_TYPE_GET_PROMISE_COMPLETION_NOTIFICATION 0x8009
+#define JOURNAL_TYPE_PEEK_PROMISE_COMPLETION_NOTIFICATION 0x800A
+#define JOURNAL_TYPE_COMPLETE_PROMISE_COMPLETION_NOTIFICATION 0x800B
+#define JOURNAL_TYPE_SLEEP_COMPLETION_NOTIFICATION 0x800C
+#define JOURNAL_TYPE_CALL_COMPLETION_NOTIFICATION 0x800D
+#define JOURNAL_TYPE_CALL_INVOCATION_ID_COMPLETION_NOTIFICATION 0x800E
+#define JOURNAL_TYPE_RUN_COMPLETION_NOTIFICATION 0x8011
+#define JOURNAL_TYPE_ATTACH_INVOCATION_COMPLETION_NOTIFICATION 0x8012
+#define JOURNAL_TYPE_GET_INVOCATION_OUTPUT_COMPLETION_NOTIFICATION 0x8013
+#define JOURNAL_TYPE_SIGNAL_NOTIFICATION 0xFBFF
 
 /* The numbers of the schemas. */
 #define JOURNAL_SCHEMA_VOID 0
@@ -204,18 +208,18 @@ int64_t journal_type_code(const uint8_t *name, size_t name_length);
  * The kinds of items: a message; a code that is no type's, whose eight bytes are skipped (before version 9); a message
  * of an unknown type, skipped with its payload (version 9).
  */
-#define JOURNAL_MESSAGE 0
-#define JOURNAL_UNKNOWN_CODE 1
-#define JOURNAL_SKIPPED 2
+#define JOURNAL_ITEM_MESSAGE 0
+#define JOURNAL_ITEM_UNKNOWN_CODE 1
+#define JOURNAL_ITEM_SKIPPED 2
 
 /* An item of a stream. */
 struct journal_item {
-    uint64_t kind;    /* one of the three kinds */
-    uint64_t word;    /* its first eight bytes as one big-endian number */
-    uint64_t code;    /* the code of its type, or the unknown code */
-    uint64_t ack;     /* 1 if its header requests an acknowledgement, otherwise 0 */
-    uint64_t size;    /* its size in bytes, header and payload */
-    uint64_t payload; /* where its payload begins, in bytes from the item's first */
+    uint64_t kind;          /* one of the three kinds */
+    uint64_t word;          /* its first eight bytes as one big-endian number */
+    uint64_t code;          /* the code of its type, or the unknown code */
+    uint64_t requested_ack; /* 1 if its header requests an acknowledgement, otherwise 0 */
+    uint64_t size;          /* its size in bytes, header and payload */
+    uint64_t payload;       /* where its payload begins, in bytes from the item's first */
 };
 
 /* How many numbers that are: a struct journal_item is as an array of them, and the room for one is their count. */
@@ -303,15 +307,15 @@ int64_t journal_merge(uint32_t schema, const uint8_t *first, size_t first_length
 int64_t journal_json(uint32_t schema, const uint8_t *payload, size_t payload_length, uint8_t *out, size_t room);
 
 /* What kind of a result it is when a JSON text is read: a payload, or why there is none. */
-#define JOURNAL_READ 0            /* the text means a value, whose canonical payload is written */
-#define JOURNAL_NOT_JSON 1        /* it is not JSON, or not UTF-8, or nested more than one thousand levels deep */
-#define JOURNAL_UNKNOWN_MEMBER 2  /* a member has no name of a field of its message */
-#define JOURNAL_REPEATED_MEMBER 3 /* two members have a name of the same field */
-#define JOURNAL_SEVERAL_MEMBERS 4 /* two members of one oneof are there */
-#define JOURNAL_WRONG_KIND 5      /* a value is of another kind than its field */
-#define JOURNAL_OUT_OF_RANGE 6    /* a number is not whole, or not in the range of its field */
-#define JOURNAL_NOT_BASE64 7      /* a string for bytes is not base64 */
-#define JOURNAL_TOO_DEEP 8        /* a message is nested more than one hundred levels deep */
+#define JOURNAL_READ 0                 /* the text means a value, whose canonical payload is written */
+#define JOURNAL_JSON_NOT_JSON 1        /* it is not JSON, or not UTF-8, or nested more than one thousand levels deep */
+#define JOURNAL_JSON_UNKNOWN_MEMBER 2  /* a member has no name of a field of its message */
+#define JOURNAL_JSON_REPEATED_MEMBER 3 /* two members have a name of the same field */
+#define JOURNAL_JSON_SEVERAL_MEMBERS 4 /* two members of one oneof are there */
+#define JOURNAL_JSON_WRONG_KIND 5      /* a value is of another kind than its field */
+#define JOURNAL_JSON_OUT_OF_RANGE 6    /* a number is not whole, or not in the range of its field */
+#define JOURNAL_JSON_NOT_BASE64 7      /* a string for bytes is not base64 */
+#define JOURNAL_JSON_TOO_DEEP 8        /* a message is nested more than one hundred levels deep */
 
 /* What a JSON text is read as. */
 struct journal_reading {
@@ -375,8 +379,8 @@ int64_t journal_fields(uint32_t schema, const uint8_t *payload, size_t payload_l
 /* What kind of a result it is when a payload is written from a table: written, or why an entry may not come. */
 #define JOURNAL_WRITTEN 0               /* the payload is written */
 #define JOURNAL_ENTRY_UNKNOWN_FIELD 1   /* the schema of its message has no field of its number */
-#define JOURNAL_ENTRY_OUT_OF_ORDER 2    /* its field is before the last one, or is there already and not repeated */
-#define JOURNAL_ENTRY_SEVERAL_MEMBERS 3 /* another member of its oneof is there */
+#define JOURNAL_ENTRY_OUT_OF_ORDER 2    /* its field is before the last one, or is that one, not repeated and in no oneof */
+#define JOURNAL_ENTRY_SEVERAL_MEMBERS 3 /* the last field is in the same oneof, also if it is its own field */
 #define JOURNAL_ENTRY_WRONG_KIND 4      /* its kind is not that of its field, or it is a message of another schema */
 #define JOURNAL_ENTRY_OUT_OF_RANGE 5    /* its value is not in the range of its kind */
 #define JOURNAL_ENTRY_NOT_UTF8 6        /* its bytes should be a text, and are not UTF-8 */
@@ -418,11 +422,11 @@ int64_t journal_payload_of_fields(uint32_t schema, const struct journal_field *f
 #define JOURNAL_SIGNAL_NAME 2
 
 /* The kinds of a notification's result. */
-#define JOURNAL_VOID 0
-#define JOURNAL_VALUE 1
-#define JOURNAL_FAILURE 2
-#define JOURNAL_INVOCATION_ID 3
-#define JOURNAL_STATE_KEYS 4
+#define JOURNAL_RESULT_VOID 0
+#define JOURNAL_RESULT_VALUE 1
+#define JOURNAL_RESULT_FAILURE 2
+#define JOURNAL_RESULT_INVOCATION_ID 3
+#define JOURNAL_RESULT_STATE_KEYS 4
 
 /* The id and the result of a notification. */
 struct journal_notification {
@@ -488,13 +492,13 @@ int64_t journal_difference(uint16_t code, const uint8_t *first, size_t first_len
  */
 
 /* How two journals compare. */
-#define JOURNAL_SAME 0            /* each command is the same as the other's at its index; the index is their count */
-#define JOURNAL_RECORDED_ENDED 1  /* the replayed journal has a command more, at this index */
-#define JOURNAL_REPLAYED_ENDED 2  /* the recorded journal has a command more, at this index */
-#define JOURNAL_TYPE_MISMATCH 3   /* the first commands that differ, at this index, are of two types */
-#define JOURNAL_HEADER_MISMATCH 4 /* the first commands that differ, at this index, are of one type */
-#define JOURNAL_BAD_RECORDED 5    /* the recorded command at this index is malformed; all before it are the same */
-#define JOURNAL_BAD_REPLAYED 6    /* the same for the replayed command, if the recorded one is not malformed */
+#define JOURNAL_VERDICT_SAME 0            /* each command is the same as the other's at its index; the index is their count */
+#define JOURNAL_VERDICT_RECORDED_ENDED 1  /* the replayed journal has a command more, at this index */
+#define JOURNAL_VERDICT_REPLAYED_ENDED 2  /* the recorded journal has a command more, at this index */
+#define JOURNAL_VERDICT_TYPE_MISMATCH 3   /* the first commands that differ, at this index, are of two types */
+#define JOURNAL_VERDICT_HEADER_MISMATCH 4 /* the first commands that differ, at this index, are of one type */
+#define JOURNAL_VERDICT_BAD_RECORDED 5    /* the recorded command at this index is malformed; all before it are the same */
+#define JOURNAL_VERDICT_BAD_REPLAYED 6    /* the same for the replayed command, if the recorded one is not malformed */
 
 /* The verdict on two journals. */
 struct journal_verdict {

@@ -9,9 +9,9 @@ use std::mem::MaybeUninit;
 
 use super::{appended, count, written, About, Refusal, Result};
 
-pub(crate) const MESSAGE: u64 = 0;
-pub(crate) const UNKNOWN_CODE: u64 = 1;
-pub(crate) const SKIPPED: u64 = 2;
+pub(crate) const ITEM_MESSAGE: u64 = 0;
+pub(crate) const ITEM_UNKNOWN_CODE: u64 = 1;
+pub(crate) const ITEM_SKIPPED: u64 = 2;
 pub(crate) const READ: u64 = 0;
 pub(crate) const FIELD_UINT32: u64 = 1;
 pub(crate) const FIELD_UINT64: u64 = 2;
@@ -24,11 +24,11 @@ pub(crate) const WRITTEN: u64 = 0;
 pub(crate) const COMPLETION_ID: u64 = 0;
 pub(crate) const SIGNAL_ID: u64 = 1;
 pub(crate) const SIGNAL_NAME: u64 = 2;
-pub(crate) const VOID: u64 = 0;
-pub(crate) const VALUE: u64 = 1;
-pub(crate) const FAILURE: u64 = 2;
-pub(crate) const INVOCATION_ID: u64 = 3;
-pub(crate) const STATE_KEYS: u64 = 4;
+pub(crate) const RESULT_VOID: u64 = 0;
+pub(crate) const RESULT_VALUE: u64 = 1;
+pub(crate) const RESULT_FAILURE: u64 = 2;
+pub(crate) const RESULT_INVOCATION_ID: u64 = 3;
+pub(crate) const RESULT_STATE_KEYS: u64 = 4;
 
 /// The calls as the header declares them.
 mod c {

@@ -160,7 +160,7 @@ fn list_by_next(version: u32, stream: &[u8]) -> String {
         };
         match item {
             Item::Message(message) => {
-                listing.message(message.code, message.requires_ack, message.payload.len())
+                listing.message(message.code, message.requested_ack, message.payload.len())
             }
             Item::UnknownCode(unknown) => listing.unknown(unknown.code),
             Item::Skipped(skipped) => listing.skipped(skipped.code, skipped.payload.len()),
