@@ -196,12 +196,18 @@ def rules() -> Found:
         yield page, f"{seen[each]} headings in {each[0]} begin: {each[2]}", seen[each] == 1
 
 
+# What is quoted of code and of definitions: the words after a fence, and how the names of the files end.
+QUOTED = {"rust": ".rt", "antt": ".antt"}
+
+
 def quoted_code() -> Found:
-    """What the page of a crate quotes of code is there, line by line."""
-    code = {line.lstrip(" ") for file in files("crates", ".rt") for line in lines(file)}
-    for page in map(str, sorted(pathlib.Path("crates").glob("*/README.md"))):
-        for line in (line.lstrip(" ") for line, fence in fences(page) if fence == "rust"):
-            yield page, f"no such line of code: {line}", line in code
+    """What a page here or the page of a crate quotes of code and of definitions is there, line by line."""
+    quoting = [*map(str, sorted(pathlib.Path("crates").glob("*/README.md"))), *files("docs", ".md")]
+    for fence, ending in QUOTED.items():
+        code = {line.lstrip(" ") for file in files("crates", ending) for line in lines(file)}
+        for page in quoting:
+            for line in (line.lstrip(" ") for line, inside in fences(page) if inside == fence):
+                yield page, f"no such line of code: {line}", line in code
 
 
 def shown_dump() -> Found:
