@@ -201,7 +201,7 @@ def main():
 def adopt(asked, adoption, theirs, text):
     """Makes the copy and tries it; the status."""
     try:
-        described = copying.made(asked.out, asked.theirs, text, adoption, proto.description(), descriptors.read)
+        described = copying.made(asked.out, asked.theirs.name, text, adoption)
         copying.generate(asked.out)
         expected = write_stream(asked, adoption, theirs, described)
     except Refused as refused:

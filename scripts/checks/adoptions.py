@@ -83,6 +83,12 @@ FILES = [
         ["alike"],
     ),
     (
+        "a default of proto2",
+        f'{PROTO2}message Failure {{ optional uint32 code = 5 [default = 500]; optional string message = 6; }}\n',
+        [("otherwise", "Failure.code: where it is absent, it is 500 there")],
+        ["Failure.message: where"],
+    ),
+    (
         "a wide number for a narrow one",
         f"{HEAD}message Failure {{ uint64 code = 1; }}\n",
         [("lost", "of a number of more than 32 bits the low 32 bits are read")],

@@ -5,7 +5,7 @@ import shutil
 import subprocess
 import sys
 
-from generators import ROOT, Refused, laid_out, literals, quoted, renumbered
+from generators import ROOT, Refused, descriptors, laid_out, literals, proto, quoted, renumbered
 
 from .pairs import EXAMPLES
 
@@ -58,6 +58,12 @@ WHOSE = {
     "docs/PROOFS.md": (
         "- Agreement with a Restate server: the field numbers are this project's own.",
         "- Agreement with a Restate server: the field numbers are those of `{theirs}`, where that has a field.",
+    ),
+    "docs/COMPATIBILITY.md": (
+        "Agreement with a Restate server is not claimed and was not tested: the field numbers are this project's own, "
+        "until\n`sh scripts/adopt.sh` makes a copy with others ([CHANGING](CHANGING.md#numbers-of-ones-own)).",
+        "Agreement with a Restate server is not claimed and was not tested.\nThe field numbers are those of "
+        "`{theirs}`, where that has a field\n([CHANGING](CHANGING.md#numbers-of-ones-own)).",
     ),
     "docs/CHANGING.md": (
         "The field numbers of `proto/journal.proto` are this project's own. ",
@@ -206,14 +212,14 @@ def adopt_literals(out, renumbering, listings):
     return quotes.count
 
 
-def made(out, theirs, text, adoption, ours, read):
+def made(out, theirs, text, adoption):
     """Makes the copy, with what repeats numbers by hand, and says how much of it there is; the description there."""
     copied(out)
     (out / "proto" / "journal.proto").write_text(text, encoding="utf-8")
-    say_whose(out, theirs.name)
-    described = read(out / "proto" / "journal.proto")
+    say_whose(out, theirs)
+    described = descriptors.read(out / "proto" / "journal.proto")
     adopt_further(out, adoption)
-    renumbering = renumbered.Renumbering(ours, described)
+    renumbering = renumbered.Renumbering(proto.description(), described)
     print(f"{adopt_vectors(out, renumbering)} hand-written test vectors have other numbers")
     print(f"{adopt_tests(out, renumbering)} payloads that tests quote have other numbers")
     listings = adopt_examples(out, renumbering)

@@ -195,7 +195,9 @@ class Further:
         for oneof, fields in groups.items():
             home = self.home_of(message, matched, oneof)
             if oneof and home is None:
-                self.add_oneof(other, oneof, fields, (message.name, message.end), is_compared)
+                one = self.added_oneof(other, fields, message.name)
+                one.is_printed = one.is_compared = is_compared
+                self.put(one, message.end, message.name)
                 continue
             for field in fields:
                 one = AddedField(field, self.row(message.name, field), None, self.pairs)
@@ -215,17 +217,14 @@ class Further:
     def row(self, name, field):
         return self.report.say(f"{name}.{field.name}", "", f"{field.number} {shape(field)}", THEIRS)
 
-    def add_oneof(self, other, name, fields, place, is_compared, within=None):
+    def added_oneof(self, other, fields, home, within=None):
         """A oneof that only they have, in a message of ours or in one that is added."""
-        declared = next(one for one in other.oneofs if one.name == name)
-        one = AddedOneof(declared, within)
-        one.is_printed = one.is_compared = is_compared
+        one = AddedOneof(next(one for one in other.oneofs if one.name == fields[0].oneof), within)
+        one.home = home
         for field in fields:
-            one.parts.append(AddedField(field, self.row(place[0], field), one, self.pairs))
-            one.parts[-1].row.more = f"in the oneof {name}"
-        if within is None:
-            self.put(one, place[1], place[0])
-        for part in one.parts:
+            part = AddedField(field, self.row(home, field), one, self.pairs)
+            part.row.more = f"in the oneof {one.name}"
+            one.parts.append(part)
             self.check_field(part)
         return one
 
@@ -261,9 +260,11 @@ class Further:
         groups = {}
         for field in other.fields:
             groups.setdefault(field.oneof or field.name, []).append(field)
-        for group, fields in groups.items():
+        for fields in groups.values():
             if fields[0].oneof:
-                one.parts.append(self.add_oneof(other, group, fields, (name, 0), one.is_command(), one))
+                part = self.added_oneof(other, fields, name, one)
+                part.is_printed = part.is_compared = one.is_command()
+                one.parts.append(part)
                 continue
             part = AddedField(fields[0], self.row(name, fields[0]), one, self.pairs)
             is_name = fields[0].number == self.pairs.number_of_name

@@ -59,6 +59,9 @@ class TakenField:
             self.declare()
         else:
             self.stay()
+        if theirs.default:
+            point = f"{self.name()}: where it is absent, it is {theirs.default} there, which is not said here"
+            self.home.report.note(OTHERWISE, point)
 
     def said(self, *parts):
         return self.home.report.say(self.name(), f"{self.field.number} {shape(self.field)}", parts[1], parts[0],

@@ -124,7 +124,7 @@ class Named:
 @dataclasses.dataclass
 class Field(Named):
     """A field: its number, its kind as the language has it, the name of its message or enum, whether it is `optional`
-    or `repeated`, the oneof that it is a member of, and its name in JSON."""
+    or `repeated`, the oneof that it is a member of, its name in JSON, and the default that a file in proto2 says."""
 
     number: int = 0
     kind: str = ""
@@ -132,6 +132,7 @@ class Field(Named):
     label: str = ""
     oneof: str = ""
     json_name: str = ""
+    default: str = ""
 
 
 @dataclasses.dataclass
@@ -269,7 +270,7 @@ class Reader:
 
     def field(self, path, field, oneof):
         found = self.named(Field, path, field, number=field.number(3), oneof=oneof, json_name=field.text(10))
-        found.kind = KINDS[field.number(5)]
+        found.kind, found.default = KINDS[field.number(5)], field.text(7)
         found.type_name = self.type_name(field)
         found.label = "repeated" if field.number(4) == REPEATED else "optional" if field.number(17) else ""
         entry = self.known.get(field.text(6))
