@@ -43,10 +43,10 @@ class TakenField:
         if theirs is None:
             self.number = self.home.free(field)
             if self.home.other is not None:
-                self.row = self.said(OURS, "", f"at {self.number}")
+                self.row = self.say("", OURS, f"at {self.number}")
                 self.home.report.fields[self.home.name].append(field.name)
             return
-        self.row = self.said(KIND, f"{theirs.number} {shape(theirs)}")
+        self.row = self.say(f"{theirs.number} {shape(theirs)}", KIND)
         if field.kind == theirs.kind == "enum":
             pairs.enum_names.setdefault(theirs.type_name, field.type_name)
         if not self.home.may_have(field, theirs.number):
@@ -63,9 +63,9 @@ class TakenField:
             point = f"{self.name()}: where it is absent, it is {theirs.default} there, which is not said here"
             self.home.report.note(OTHERWISE, point)
 
-    def said(self, *parts):
-        return self.home.report.say(self.name(), f"{self.field.number} {shape(self.field)}", parts[1], parts[0],
-                                    *parts[2:])
+    def say(self, there, said, more=""):
+        """The row of the field."""
+        return self.home.report.say(self.name(), f"{self.field.number} {shape(self.field)}", there, said, more)
 
     def name(self):
         return f"{self.home.name}.{self.field.name}"
@@ -178,7 +178,7 @@ class TakenMessage:
             field.number = None
         for field in self.fields:
             field.decide()
-        if self.name == FLAT:
+        if self.name == FLAT and self.other is not None:
             self.keep_order()
         if row is not None:
             moved = [f"{one.field.name} at {one.number}" for one in self.fields if one.number != one.field.number]
@@ -258,8 +258,8 @@ class TakenCodes:
         self.pairs, self.report = pairs, report
         self.base, why = codes.base_of(pairs)
         if why:
-            report.note(DECIDE, "numbers that comments add to a code, as in 'Type: 0x0400 + 10', are read as "
-                        f"hexadecimal: {why}")
+            added = "numbers that comments add to a code, as in 'Type: 0x0400 + 10'"
+            report.note(DECIDE, f"{added}, are read as hexadecimal: {why}")
         self.found, self.uncoded = {}, []
         for name, message in pairs.ours.items():
             ours = message.options.get("code")
