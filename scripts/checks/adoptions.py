@@ -109,8 +109,8 @@ FILES = [
     ),
     (
         "an enum without 0",
-        f"{PROTO2}enum ErrorBehavior {{ RETRY = 5; PAUSE = 7; }}\nenum Mode {{ FAST = 3; }}\n"
-        "message ErrorMessage { optional ErrorBehavior behavior = 4; optional Mode mode = 60; }\n",
+        f"{PROTO2}enum ErrorBehavior {{ RETRY = 5; PAUSE = 7; }}\nenum Pace {{ FAST = 3; }}\n"
+        "message ErrorMessage { optional ErrorBehavior behavior = 4; optional Pace pace = 60; }\n",
         [("", "5"), ("", "an enum of 3 FAST")],
         ["left out"],
     ),

@@ -4,6 +4,7 @@ import re
 import shutil
 import subprocess
 import sys
+import textwrap
 
 from generators import ROOT, Refused, descriptors, laid_out, literals, proto, quoted, renumbered
 
@@ -34,56 +35,68 @@ def copied(out):
 # What hand-written pages say of the numbers here, and what the copy says instead of it.
 WHOSE = {
     "proto/journal.proto": (
-        "// The field numbers are this project's own, but those of SuspensionMessageV6; agreement with a server is not "
-        "claimed.\n",
-        "// The field numbers are those of {theirs}, where that has a field; tools/adopt.py has taken them.\n",
+        "this project's own, but those of SuspensionMessageV6; agreement with a server is not claimed",
+        "those of `{theirs}`, where that has a field; tools/adopt.py has taken them",
     ),
     "README.md": (
-        "- **The field numbers are this project's own** ([journal.proto](proto/journal.proto)). Agreement with a "
-        "Restate server\n  is not claimed and was not tested. `sh scripts/adopt.sh THEIR.proto OUT` makes a copy with "
-        "the numbers of a runtime's\n  .proto ([CHANGING](docs/CHANGING.md#numbers-of-ones-own)).",
-        "- **The field numbers are those of `{theirs}`**, where that has a field\n"
-        "  ([journal.proto](proto/journal.proto)): `scripts/adopt.sh` has taken them\n"
-        "  ([CHANGING](docs/CHANGING.md#numbers-of-ones-own)). Agreement with a Restate server is not claimed and was "
-        "not tested.",
+        "**The field numbers are this project's own**",
+        "**The field numbers are those of `{theirs}`**, where that has a field",
     ),
     "docs/DIFFERENCES.md": (
-        "| this project's own (`proto/journal.proto`), but those of `SuspensionMessageV6` |",
-        "| those of `{theirs}`, where that has a field (`proto/journal.proto`) |",
+        "this project's own (`proto/journal.proto`), but those of `SuspensionMessageV6`",
+        "those of `{theirs}`, where that has a field (`proto/journal.proto`)",
     ),
     "docs/FORMAT.md": (
-        "they are this project's own, but those of `SuspensionMessageV6`.",
-        "they are those of `{theirs}`, where that has a field.",
+        "this project's own, except those of `SuspensionMessageV6`",
+        "those of `{theirs}`, where that has a field",
     ),
-    "docs/PROOFS.md": (
-        "- Agreement with a Restate server: the field numbers are this project's own.",
-        "- Agreement with a Restate server: the field numbers are those of `{theirs}`, where that has a field.",
-    ),
-    "docs/COMPATIBILITY.md": (
-        "Agreement with a Restate server is not claimed and was not tested: the field numbers are this project's own, "
-        "until\n`sh scripts/adopt.sh` makes a copy with others ([CHANGING](CHANGING.md#numbers-of-ones-own)).",
-        "Agreement with a Restate server is not claimed and was not tested.\nThe field numbers are those of "
-        "`{theirs}`, where that has a field\n([CHANGING](CHANGING.md#numbers-of-ones-own)).",
+    **dict.fromkeys(
+        ("docs/PROOFS.md", "docs/COMPATIBILITY.md"),
+        (
+            "the field numbers are this project's own",
+            "the field numbers are those of `{theirs}`, where that has a field",
+        ),
     ),
     "docs/CHANGING.md": (
-        "The field numbers of `proto/journal.proto` are this project's own. ",
-        "The field numbers of `proto/journal.proto` are those of `{theirs}`, where that has a field.\n",
+        "The field numbers of `proto/journal.proto` are this project's own",
+        "The field numbers of `proto/journal.proto` are those of `{theirs}`, where that has a field",
     ),
 }
+
+WIDTH = 120
 
 
 def whose(path):
     """What a page says of the numbers: this project's words, or those of a copy that was adopted already."""
-    here, there = WHOSE[path]
-    return re.compile(f"{re.escape(here)}|{re.escape(there).replace(re.escape('{theirs}'), '[^`]+?')}")
+    patterns = (re.escape(words).replace(r"\{theirs\}", "[^`]+").replace(r"\ ", r"\s+") for words in WHOSE[path])
+    return re.compile("|".join(patterns))
 
 
 def say_whose(out, theirs):
     """Says on the pages of the copy whose numbers these are."""
     for path, (_, there) in WHOSE.items():
         place = out / path
-        text = place.read_text(encoding="utf-8")
-        place.write_text(whose(path).sub(lambda _, there=there: there.format(theirs=theirs), text), encoding="utf-8")
+        text = whose(path).sub(lambda _, there=there: there.format(theirs=theirs), place.read_text(encoding="utf-8"))
+        place.write_text(filled(text) if path.endswith(".md") else text, encoding="utf-8")
+
+
+def filled(text):
+    """A page, in which paragraphs and items with a line that is too long are laid out again."""
+    blocks = re.split(r"(\n\n|\n(?=- ))", text)
+    return "".join(block if not is_too_long(block) else laid_out_block(block) for block in blocks)
+
+
+def is_too_long(block):
+    """Whether a block is a paragraph or an item, and has a line that is too long."""
+    return max(map(len, block.split("\n"))) > WIDTH and not re.match(r"[|#\n ]|\d+\.", block)
+
+
+def laid_out_block(block):
+    indent = "  " if block.startswith("- ") else ""
+    end = "\n" if block.endswith("\n") else ""
+    words = " ".join(block.split())
+    lines = textwrap.fill(words, WIDTH, subsequent_indent=indent, break_long_words=False, break_on_hyphens=False)
+    return lines + end
 
 
 def adopt_further(out, adoption):
