@@ -2,7 +2,6 @@ pub mod Items
 pub mod Errors
 pub mod Typed
 pub mod Written
-pub mod Sent
 pub mod TemplateParts
 pub mod View
 pub mod Decoded

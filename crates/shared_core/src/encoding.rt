@@ -1,18 +1,16 @@
 //! Streams of frames: the decoder, which takes a stream in chunks; its items and messages, and messages decoded; the
-//! items of a slice; the encoder; and the items of a reader and the messages of a writer.
+//! items of a slice; the encoder; and the items of a reader.
 
 mod consume_next;
 mod decode_message;
 mod encoder;
 mod error;
-mod message_writer;
 
 pub use crate::encoding::consume_next::ConsumeNext;
 pub use crate::encoding::decode_message::DecodeMessage;
 pub use crate::encoding::encoder::Encoder;
 pub use crate::encoding::error::DecodingError;
-pub use crate::encoding::message_writer::{MessageWriter, SendError};
-pub use shared_core_io::{ItemReader, ReadError, WriteError};
+pub use shared_core_io::{ItemReader, ReadError};
 pub use shared_core_stream::encoding::{
     Decoder, Item, ItemKind, ItemRef, ItemRefError, ItemRefs, Items, LimitedDecoder, LimitedError,
     LimitedItemRefs, LimitedItems, LimitedPushError, MessageTooLong, MissingBytes, PiecesError,

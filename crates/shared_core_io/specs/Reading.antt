@@ -1,7 +1,7 @@
--- What reading chunks and items from a reader does.
+-- What reading items from a reader does.
 use Rattle.std.specs.Prelude.{◌≡◌, ◌≢◌, ℕ, ◌+◌, ◌<◌, ◌≤◌, List, [], ◌∷◌, ◌++◌, length}
 use Rattle.std.specs.Prelude.{Result, Ok, Err, Option, Some, None}
-use Rattle.std.specs.Io.KnownBytes.{Consumes, IsAtEnd, Keeps}
+use Rattle.std.specs.Io.KnownBytes.{IsAtEnd}
 use Rattle.std.specs.IoError.{error_kind}
 use Rattle.std.specs.declared.io.ErrorKind.TheVariants.{Interrupted}
 use Rattle.bytes.specs.Filled.{Filled}
@@ -9,17 +9,8 @@ use Rattle.shared_core_stream.specs.Items.{front_word, NoItemBegins}
 use Rattle.shared_core_stream.specs.Limits.{Limited, TakesWithin, rejection, after_item, after_rejection}
 use Rattle.shared_core_stream.specs.declared.encoding.item.Item.{Item}
 use Rattle.shared_core_stream.specs.declared.encoding.limit_error.MessageTooLong.{MessageTooLong}
-use Rattle.shared_core_io.specs.declared.chunk.ChunkError.{ChunkError}
-use Rattle.shared_core_io.specs.declared.chunk.ChunkError.TheVariants as chunk
 use Rattle.shared_core_io.specs.declared.error.ReadError.{ReadError}
 use Rattle.shared_core_io.specs.declared.error.ReadError.TheVariants.{Failed, TooLong, Truncated, OutOfMemory}
-
--- What one read took of the reader's bytes, by its result: a chunk, which is empty only at the end; nothing if it
--- failed, which no interrupted read does; or bytes that could not be copied.
-abbrev pub IsChunk : Result (List ℕ) ChunkError → Option (List ℕ) → Option (List ℕ) → Type 0
-IsChunk (Ok bytes) old new = Consumes old new bytes × (length bytes ≡ 0 → IsAtEnd new)
-IsChunk (Err (chunk.Failed reason)) old new = Keeps old new × (error_kind reason ≢ Interrupted)
-IsChunk (Err chunk.OutOfMemory) old new = (lost : List ℕ) × Consumes old new lost
 
 -- A decoder to which more bytes have come.
 abbrev pub with_more : Limited → List ℕ → Limited

@@ -14,8 +14,8 @@ ghost use Rattle.shared_core_io.specs.Reading.{most_held, most_of_a_part, result
 ghost use Rattle.shared_core_io.specs.Reading.{IsDrained, IsRead, IsTaken, IsTakenOf, LosesNothing};
 ghost use Rattle.shared_core_io.specs.declared.error.ReadError.TheVariants.{OutOfMemory, TooLong};
 
-use crate::chunk::read_some;
 use crate::error::ReadError;
+use crate::one_read::read_some;
 use bytes::{Bytes, BytesMut};
 use shared_core_base::version::Version;
 use shared_core_stream::encoding::{

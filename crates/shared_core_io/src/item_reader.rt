@@ -5,7 +5,7 @@ ghost use Rattle.std.specs.Io.KnownBytes.{Consumes};
 ghost use Rattle.shared_core_base.specs.Version.{version_number};
 ghost use Rattle.shared_core_stream.specs.Items.{TakesItem};
 ghost use Rattle.shared_core_stream.specs.declared.encoding.item.Item.{Item as AnyItem};
-ghost use Rattle.shared_core_io.specs.Reading.{with_more, IsRead, IsTakenOf};
+ghost use Rattle.shared_core_io.specs.Reading.{with_more, IsRead};
 
 use crate::error::ReadError;
 use crate::item_buffer::{CHUNK, ItemBuffer};
@@ -63,19 +63,6 @@ impl<R: Read + Drop> ItemReader<R> {
             (held_in self.old.items).unread.bytes item rest → self.new.reader ≡ self.old.reader }
     {
         let Some((_, item)) = self.items.next_with_word(&mut self.reader)? else {
-            return Ok(None);
-        };
-        Ok(Some(item))
-    }
-
-    /// Returns the next item of what was read, and reads nothing; `None` if that holds no whole item.
-    ///
-    /// `TooLong` and `OutOfMemory` are as of `next_item`, and no other error comes.
-    pub fn take_item(&mut self) -> Result<Option<Item>, ReadError>
-        ensures taken { IsTakenOf (held_in self.old.items) result (held_in self.new.items) }
-        ensures reader { self.new.reader ≡ self.old.reader }
-    {
-        let Some((_, item)) = self.items.take_with_word()? else {
             return Ok(None);
         };
         Ok(Some(item))

@@ -1,5 +1,5 @@
 -- Streams of which only messages within a limit are taken.
-use Rattle.std.specs.Prelude.{◌≡◌, ℕ, ◌+◌, ◌-◌, ◌^◌, ◌<◌, ◌≤◌, nat_lt, min, if◌then◌else◌, List, [], length, All}
+use Rattle.std.specs.Prelude.{◌≡◌, ℕ, ◌+◌, ◌-◌, ◌^◌, ◌≤◌, nat_lt, min, if◌then◌else◌, List, [], length, All}
 use Rattle.std.specs.Prelude.{Option, Some, None, Result, Ok, Err}
 use Rattle.std.specs.Option.{option_or}
 use Rattle.shared_core_base.specs.declared.version.Version.{Version}
@@ -76,14 +76,6 @@ after_item state bytes =
       unread = record state.unread { bytes = bytes };
       offset = offset_after state.offset (length state.unread.bytes - length bytes);
     }
-
--- The next word was asked for. A rejected message is the error. `None`: a header is not whole; nothing changes. A word:
--- that at the front; nothing changes.
-abbrev pub ReturnsWord : Limited → Result (Option ℕ) MessageTooLong → Limited → Type 0
-ReturnsWord old (Err error) new = (rejection old ≡ Some error) × (new ≡ after_rejection old error)
-ReturnsWord old (Ok None) new = (rejection old ≡ None) × (length old.unread.bytes < 8) × (new ≡ old)
-ReturnsWord old (Ok (Some word)) new =
-    (rejection old ≡ None) × (8 ≤ length old.unread.bytes) × (word ≡ front_word old.unread.bytes) × (new ≡ old)
 
 -- The next item was asked for, within a limit, of bytes at an offset. A message at the front that is too long is the
 -- error, and nothing is taken. Otherwise: `None` if and only if no whole item is at the front; the item at the front

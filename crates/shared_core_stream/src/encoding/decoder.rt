@@ -124,7 +124,7 @@ impl Decoder {
     ghost use Rattle.shared_core_stream.specs.Items.{NoItemBegins, PayloadIsNext, PushFails};
     ghost use Rattle.shared_core_stream.specs.Limits.{ReturnsNext};
     ghost use Rattle.std.specs.Prelude.{◌<◌};
-    ghost use Rattle.shared_core_stream.specs.Items.{TakesItem, front_word};
+    ghost use Rattle.shared_core_stream.specs.Items.{TakesItem};
 
     /// Returns a decoder of this version, which is at least V5, before any byte has come. Does not allocate.
     pub fn new(alloc: Global, version: Version) -> Decoder
@@ -136,13 +136,6 @@ impl Decoder {
             head: None,
             pending: PendingBytes::new(alloc),
         }
-    }
-
-    /// The version.
-    pub(crate) fn version(&self) -> Version
-        ensures { result ≡ self.now.version }
-    {
-        self.version
     }
 
     /// Drops the pending bytes.
@@ -175,19 +168,6 @@ impl Decoder {
         }
         self.pending.copy_to(&mut bytes)?;
         Ok(bytes)
-    }
-
-    /// The word of the next header, or `None` if its eight bytes have not all come. Takes nothing.
-    ///
-    /// An item does not hold its whole word: bits without a meaning are left out, and for a code that is no type's, all
-    /// bits but the code.
-    pub fn next_word(&mut self) -> Option<u64>
-        ensures kept { self.new ≡ self.old }
-        ensures word { MatchOption result (length self.old.bytes < 8)
-            (λ word. (8 ≤ length self.old.bytes) × (word ≡ front_word self.old.bytes)) }
-    {
-        let head = hold_head(&mut self.head, &mut self.pending)?;
-        Some(u64::from_be_bytes(head))
     }
 
     /// Appends a chunk of the stream, of any length, to the pending bytes, without copying it. Only one of fewer than

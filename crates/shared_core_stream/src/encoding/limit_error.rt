@@ -30,7 +30,7 @@ pub struct MessageTooLong {
 impl MessageTooLong {
     /// The message that a word announces at an offset, if it is longer than the limit.
     #[inline(always)]
-    pub fn by(version: Version, limit: u32, offset: u64, word: u64) -> Option<MessageTooLong>
+    pub(crate) fn by(version: Version, limit: u32, offset: u64, word: u64) -> Option<MessageTooLong>
         ensures { result ≡ too_long_by version limit offset word }
     {
         MessageTooLong::announced(&Announced::by(version, word), limit, offset, word)

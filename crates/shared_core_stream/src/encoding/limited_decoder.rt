@@ -10,9 +10,9 @@ use std::marker::Model;
 
 /// A decoder that takes no message whose payload is longer than a limit.
 ///
-/// The items before the first longer one come as from a `Decoder`. Then each call of `next_word` and `next_item` is the
-/// error `MessageTooLong`: it comes as soon as the header has come, whatever has come of the payload. From the first
-/// such error on nothing is held, and `push` returns each chunk. A limit of `u32::MAX` is none.
+/// The items before the first longer one come as from a `Decoder`. Then each call of `next_item` is the error
+/// `MessageTooLong`: it comes as soon as the header has come, whatever has come of the payload. From the first such
+/// error on nothing is held, and `push` returns each chunk. A limit of `u32::MAX` is none.
 #[derive(Drop)]
 pub struct LimitedDecoder {
     decoder: Decoder,
@@ -38,7 +38,7 @@ impl LimitedDecoder {
     ghost use Rattle.std.specs.Prelude.{None, false};
     ghost use Rattle.shared_core_base.specs.Version.{version_number};
     ghost use Rattle.shared_core_stream.specs.Items.{front_word};
-    ghost use Rattle.shared_core_stream.specs.Limits.{without_word, LimitedPushFails, ReturnsWithin, ReturnsWord};
+    ghost use Rattle.shared_core_stream.specs.Limits.{without_word, LimitedPushFails, ReturnsWithin};
     ghost use Rattle.shared_core_stream.specs.Limits.{after_rejection};
 
     /// Returns a decoder of this version, which is at least V5, and this limit, before any byte has come. Does not
@@ -83,26 +83,6 @@ impl LimitedDecoder {
         ensures { result.now ≡ self.now.unread }
     {
         &self.decoder
-    }
-
-    /// The word of the next header, or `None` if its eight bytes have not all come; an error if its message is longer
-    /// than the limit, or one was rejected before. Takes nothing, but after an error nothing is held.
-    #[inline(always)]
-    pub fn next_word(&mut self) -> Result<Option<u64>, MessageTooLong>
-        ensures { ReturnsWord self.old result self.new }
-    {
-        if let Some(rejected) = self.rejected {
-            return Err(rejected);
-        }
-        let Some(word) = self.decoder.next_word() else {
-            return Ok(None);
-        };
-        let version = self.decoder.version();
-        let Some(rejected) = MessageTooLong::by(version, self.limit, self.offset, word) else {
-            return Ok(Some(word));
-        };
-        self.reject(rejected);
-        Err(rejected)
     }
 
     /// Appends a chunk of the stream, as `Decoder::push`. After a message was rejected it is returned in the error.

@@ -1,6 +1,6 @@
 use Rattle.std.proofs.Common.{◌≡◌, length}
 use Rattle.std.specs.Io.KnownBytes.{Keeps}
-use Rattle.shared_core_io.proofs.chunk.read_some.Given as goal
+use Rattle.shared_core_io.proofs.one_read.read_some.Given as goal
 
 abbrev pub invariant-loop : goal.invariant-loop
 invariant-loop g l = (length l.buffer ≡ length l.initial.buffer)
