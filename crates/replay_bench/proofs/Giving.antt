@@ -1,6 +1,6 @@
 -- What sources give.
 use Rattle.std.proofs.Common.{◌≡◌, ℕ, List, [], ◌∷◌, ◌++◌, length, true, Option, Some, None, Ok, Err, refl, sym}
-use Rattle.std.proofs.Common.{ap, ◌∙◌, Bool, subst, arith, append-nil, append_assoc, length-append}
+use Rattle.std.proofs.Common.{ap, ◌∙◌, subst, arith, append-nil, append_assoc}
 use Rattle.std.specs.List.{concat}
 use Rattle.std.specs.Prelude.{IfSome}
 use Rattle.std.specs.Io.KnownBytes.{prepend_known, Consumes, IsAtEnd}
@@ -10,15 +10,13 @@ use Rattle.shared_core_stream.specs.declared.encoding.item.Item.{Item}
 use Rattle.shared_core_stream.specs.declared.encoding.limit_error.MessageTooLong.{MessageTooLong as LongMessage}
 use Rattle.shared_core_stream.specs.Items.{NoItemBegins, TakesItem}
 use Rattle.shared_core_stream.specs.Limits.{Limited, too_long_at}
-use Rattle.shared_core_stream.proofs.Items.{nothing_begins_with_none, takes_more}
+use Rattle.shared_core_stream.proofs.Items.{takes_more}
 use Rattle.shared_core_stream.proofs.Limits.{accepted, front_more, rejected_front}
+use Rattle.shared_core_stream.proofs.LongMessages.{limit_below}
 use Rattle.shared_core_io.specs.Reading.{with_more, IsRead}
 use Rattle.shared_core_io.specs.declared.error.ReadError.TheVariants as read
-use Rattle.replay_bench.specs.Sources.{coming_of, limit_of, BeginsTooLong, EndsKnown, RejectsBytes, RejectsNext}
-use Rattle.replay_bench.specs.Sources.{TakesKnown}
-use Rattle.replay_bench.specs.declared.sources.SourceError.{SourceError}
+use Rattle.replay_bench.specs.Sources.{coming_of, limit_of, BeginsTooLong, EndsKnown, RejectsNext, TakesKnown}
 use Rattle.replay_bench.specs.declared.sources.SourceError.TheVariants as source
-use Rattle.replay_bench.proofs.LongMessages.{limit_below}
 
 -- ---- chunks in memory
 
@@ -27,33 +25,11 @@ no_chunks [] none = refl
 no_chunks (chunk ∷ chunks) none = absurd (omega (arith, none))
 
 module _ (version : Version) (all bytes others : List ℕ) (same : bytes ++ others ≡ all) where
-  pub slice_takes : (new : List ℕ) (item : Item) → TakesItem version bytes item new
-      → TakesItem version all item (new ++ others)
-  slice_takes new item taken =
-      subst (λ (b : List ℕ). TakesItem version b item (new ++ others)) same
-      (takes_more version bytes new others item taken)
-
   pub slice_ends : (rest : ℕ) → others ≡ [] → NoItemBegins version bytes → rest ≡ length bytes
       → NoItemBegins version all × (rest ≡ length all)
   slice_ends rest none begins count =
       let is : bytes ≡ all = sym (append-nil bytes) ∙ ap (λ (o : List ℕ). bytes ++ o) (sym none) ∙ same in
       subst (λ (b : List ℕ). NoItemBegins version b × (rest ≡ length b)) is (begins, count)
-
-  pub slice_rejects : (limit : ℕ) (may : Bool) (chunk left : List ℕ) (error : SourceError) → others ≡ chunk ++ left
-      → RejectsBytes (bytes ++ chunk) error → RejectsNext version limit may (Some all) error
-  slice_rejects limit may chunk left source.TooLong is long =
-      omega (
-        arith,
-        long,
-        ap length same,
-        ap length is,
-        length-append bytes chunk,
-        length-append bytes others,
-        length-append chunk left,
-      )
-  slice_rejects limit may chunk left source.OutOfMemory is long = tt
-  slice_rejects limit may chunk left source.Failed is long = absurd long
-  slice_rejects limit may chunk left (source.MessageTooLong message) is long = absurd long
 
 -- ---- what a reader has left, where that is known
 
@@ -102,16 +78,6 @@ module _ (old new : Limited) (gave : List ℕ) (first left : Option (List ℕ)) 
       rw (none, still)
       (known_takes old.unread.version old.unread.bytes gave new.unread.bytes item first left consumed taken)
 
-  pub end_given : IsRead (with_more old gave) left (Ok None) new
-      → EndsKnown old.unread.version (coming_of old first) 0
-  end_given (end, accepts, empty, same) =
-      let none : old.rejected ≡ None = (accepted (with_more old gave) accepts).0 in
-      rw none
-      (known_ends old.unread.version old.unread.bytes gave 0 first left consumed end
-      (subst (λ (bytes : List ℕ). NoItemBegins old.unread.version bytes) (sym empty)
-      (nothing_begins_with_none old.unread.version))
-      (sym (ap length empty)))
-
   pub rest_given : (count : ℕ) → IsRead (with_more old gave) left (Err (read.Truncated count)) new
       → EndsKnown old.unread.version (coming_of old first) count
   rest_given count (end, accepts, nothing, counted, some, same) =
@@ -132,14 +98,6 @@ module _ (old new : Limited) (gave : List ℕ) (first left : Option (List ℕ)) 
             known_begins old.unread.version old.unread.bytes gave old.limit old.offset message first left consumed
                 front,
           )
-
-  -- the version and the limit stay
-  pub item_version : (item : Item) → IsRead (with_more old gave) left (Ok (Some item)) new
-      → new.unread.version ≡ old.unread.version
-  item_version item (accepts, taken, after) = ap (λ (s : Limited). s.unread.version) after
-
-  pub item_limit : (item : Item) → IsRead (with_more old gave) left (Ok (Some item)) new → limit_of new ≡ limit_of old
-  item_limit item (accepts, taken, after) = ap limit_of after
 
 -- ---- a reader of which nothing was read
 

@@ -11,6 +11,5 @@ pub mod Readings
 pub mod Rejections
 pub mod Seen
 pub mod Stops
-pub mod LongMessages
 pub mod Endings
 pub mod OneOutcome

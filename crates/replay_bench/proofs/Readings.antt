@@ -23,7 +23,7 @@ use Rattle.replay_bench.specs.Journals.{command_of, if_command}
 use Rattle.replay_bench.specs.Reading.{HasRead, HasReadOn, IsKnownLast, IsKnownSurvey, IsKnownThen}
 use Rattle.replay_bench.specs.Sources.{reader_error, BeginsTooLong, EndsKnown, HasLonger, MayReject, RejectsNext}
 use Rattle.replay_bench.specs.Sources.{TakesKnown}
-use Rattle.replay_bench.proofs.LongMessages.{limit_is}
+use Rattle.shared_core_stream.proofs.LongMessages.{limit_is}
 
 -- ---- items and commands
 

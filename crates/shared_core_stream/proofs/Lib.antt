@@ -6,3 +6,4 @@ pub mod Splits
 pub mod Limits
 pub mod LimitedStreams
 pub mod LimitedSplits
+pub mod LongMessages

@@ -1,4 +1,4 @@
--- Messages that are longer than a limit.
+-- What a message that is longer than a limit says of the limit.
 use Rattle.std.proofs.Common.{◌≡◌, ◌<◌, ℕ, Bool, true, false, List, length, Option, Some, nat_lt, refl, sym, ap}
 use Rattle.std.proofs.Common.{arith}
 use Rattle.std.specs.Option.{option_map_or}
@@ -9,7 +9,7 @@ use Rattle.shared_core_stream.specs.Limits.{too_long_at, too_long_by}
 use Rattle.shared_core_stream.specs.declared.encoding.limit_error.MessageTooLong.{MessageTooLong}
 use Rattle.shared_core_stream.proofs.LimitedSplits.{body_below}
 
--- What a message that is longer than a limit says of it.
+-- The message has the limit that it is longer than, and no limit that is none has such a message.
 record IsOver (limit : ℕ) (message : MessageTooLong) : Type 0 where
   is : message.limit ≡ limit
   below : limit < 4294967295
