@@ -1,7 +1,7 @@
 -- How the printing of a stream continues, and what is written when it ends.
 use Rattle.std.proofs.Common.{ℕ, ◌+◌, ◌≤◌, drop, Some, None, Bool, true, false, cond, length-append}
 use Rattle.std.proofs.Common.{length-drop, ◌≡◌, List, [], ◌∷◌, ◌++◌, length, ap, sym, subst, ◌∙◌, append_assoc}
-use Rattle.std.proofs.Common.{append-nil, arith, Result, Ok, Err, Option, inl, inr, refl, All}
+use Rattle.std.proofs.Common.{append-nil, arith, Result, Ok, Err, Option, inl, inr, refl}
 use Rattle.std.proofs.lemmas.List.Elements.{All-append, All-push}
 use Rattle.std.specs.Io.KnownBytes.{Appends, Consumes, IsAtEnd}
 use Rattle.std.proofs.KnownBytes.{Appends-nil, Appends-trans, Consumes-nil, Consumes-trans}
@@ -27,7 +27,8 @@ use Rattle.shared_core_stream.specs.Limits.{Limited}
 use Rattle.shared_core_stream.specs.Limits.{after_item, offset_after, payload_length, too_long_at, TakesWithin}
 use Rattle.shared_core_io.specs.Reading.{with_more}
 use Rattle.stream_lines.specs.Printing.{item_size, items_size, lines, trouble_at, first_trouble, ArePrinted}
-use Rattle.stream_lines.specs.Printing.{too_long_after, AreWithin, Begins, IsLack, IsLongIn, IsWrittenFor}
+use Rattle.stream_lines.specs.Printing.{too_long_after, AllWithin, AreWithin, Begins, IsLack, IsLongIn}
+use Rattle.stream_lines.specs.Printing.{IsWrittenFor}
 use Rattle.stream_lines.specs.Steps.{holding, Added, IsAfter}
 
 lines_join : (line : ℕ → ℕ → Item → List ℕ) (at : ℕ) (bytes : List ℕ) (items others : List Item)
@@ -141,9 +142,6 @@ lines_more version line at stream rest more items h =
 begins_after : {A : Type 0} (front text whole : List A) → Begins text whole → Begins (front ++ text) (front ++ whole)
 begins_after front text whole (more, is) = (more, ap (λ l. front ++ l) is ∙ sym (append_assoc front text more))
 
-begins_longer : {A : Type 0} (text whole more : List A) → Begins text whole → Begins text (whole ++ more)
-begins_longer text whole more (left, is) = (left ++ more, ap (λ l. l ++ more) is ∙ append_assoc text left more)
-
 -- the item that is too long is one of the items
 pub lack_in : (is_long : Item → Type 0) (version : Version) (bytes rest : List ℕ) (front : List Item) (item : Item)
     (error : PrintError) → IsItemsThen version bytes (front ++ item ∷ []) rest → IsLack (is_long item) error → IsLack
@@ -217,18 +215,6 @@ takes version limit offset old new item is taken after =
     )
 
 module _ (line : ℕ → ℕ → Item → List ℕ) (trouble : Item → Option Trouble) (version : Version) (limit : ℕ) where
-  -- nothing was added
-  pub added_none : (at : ℕ) (before : Option (ℕ × Trouble)) (text bytes : List ℕ) → Added line trouble version limit at
-      before text bytes at before text bytes
-  added_none at before text bytes = record {
-    more = [];
-    next = then_start version bytes;
-    within = λ k item below. absurd (omega (arith, below));
-    printed = sym (append-nil text);
-    place = omega arith;
-    noted = sym (or_none before);
-  }
-
   -- one item was
   pub added_one : (at word offset : ℕ) (before found : Option (ℕ × Trouble)) (text longer bytes rest : List ℕ)
       (item : Item) → TakesWithin version limit bytes item rest → word ≡ front_word bytes → longer ≡ text ++ line at
@@ -303,38 +289,33 @@ module _ (line : ℕ → ℕ → Item → List ℕ) (last : ℕ → List ℕ →
     (trouble : Item → Option Trouble) (version : Version) (limit : ℕ) (first start : Option (List ℕ)) where
   -- the first items of a stream, whatever follows them, are the first that it splits into
   printed_output : (stream rest written : List ℕ) (items : List Item) (left : Option (List ℕ)) → IsItemsThen version
-      stream items rest → Begins written (lines line 0 stream items) → ArePrinted line last is_long trouble version
-      limit
-      (Err Output) stream written left
-  printed_output stream rest written items left front begun =
+      stream items rest → AllWithin limit items → Begins written (lines line 0 stream items) → ArePrinted line last
+      is_long trouble version limit (Err Output) stream written left
+  printed_output stream rest written items left front within begun =
       let (all, after, split) = split_of version stream in
-      let (others, is) = split_begins version stream after all split items rest front in
-      let longer = begins_longer written (lines line 0 stream items)
-      (lines line (0 + items_size items) (drop (items_size items) stream) others) begun in
       record {
         items = all;
         rest = after;
         split = split;
-        written_for = inl
-            (subst (Begins written) (lines_join line 0 stream items others ∙ ap (lines line 0 stream) (sym is)) longer);
+        written_for = inl (items, (split_begins version stream after all split items rest front, within), begun);
       }
 
   printed_lack : (error : PrintError) (stream rest : List ℕ) (items : List Item) (left : Option (List ℕ)) → IsLack
-      (IsLongIn is_long version rest) error → IsItemsThen version stream items rest → ArePrinted line last is_long
-      trouble version limit (Err error) stream (lines line 0 stream items) left
-  printed_lack Input stream rest items left lack front = absurd lack
-  printed_lack (MessageTooLong longer) stream rest items left lack front = absurd lack
-  printed_lack Output stream rest items left lack front = absurd lack
-  printed_lack OutOfMemory stream rest items left lack front =
+      (IsLongIn is_long version rest) error → IsItemsThen version stream items rest → AllWithin limit items →
+      ArePrinted line last is_long trouble version limit (Err error) stream (lines line 0 stream items) left
+  printed_lack Input stream rest items left lack front within = absurd lack
+  printed_lack (MessageTooLong longer) stream rest items left lack front within = absurd lack
+  printed_lack Output stream rest items left lack front within = absurd lack
+  printed_lack OutOfMemory stream rest items left lack front within =
       let (all, after, split) = split_of version stream in
       record {
         items = all;
         rest = after;
         split = split;
         written_for =
-            (items, split_begins version stream after all split items rest front, refl);
+            (items, (split_begins version stream after all split items rest front, within), refl);
       }
-  printed_lack TooLong stream rest items left (more, item, others, then_item, long) front =
+  printed_lack TooLong stream rest items left (more, item, others, then_item, long) front within =
       let (all, after, split) = split_of version stream in
       let until = items ++ (more ++ item ∷ []) in
       let then_long_one = then_join version stream rest others items (more ++ item ∷ []) front then_item in
@@ -342,8 +323,15 @@ module _ (line : ℕ → ℕ → Item → List ℕ) (last : ℕ → List ℕ →
         items = all;
         rest = after;
         split = split;
-        written_for =
-            (items, more, item, split_begins version stream after all split until others then_long_one, long, refl);
+        written_for = (
+          items,
+          more,
+          item,
+          split_begins version stream after all split until others then_long_one,
+          long,
+          within,
+          refl,
+        );
       }
 
   pub starts : GoesOn line trouble version limit first start first start 0 [] None
@@ -360,7 +348,7 @@ module _ (line : ℕ → ℕ → Item → List ℕ) (last : ℕ → List ℕ →
 
   -- the message after these items is longer than the limit
   printed_long : (stream rest : List ℕ) (items : List Item) (left : Option (List ℕ)) (longer : Longer) → IsItemsThen
-      version stream items rest → All (λ item. payload_length item ≤ limit) items → too_long_after version limit items
+      version stream items rest → AllWithin limit items → too_long_after version limit items
       rest ≡ Some longer → ArePrinted line last is_long trouble version limit (Err (MessageTooLong longer)) stream
       (lines line 0 stream items) left
   printed_long stream rest items left longer front within after =
@@ -435,6 +423,7 @@ module _ (line : ℕ → ℕ → Item → List ℕ) (last : ℕ → List ℕ →
         end,
         begins_after written_so_far written (last (items_size so_far.items) pending)
             (subst (λ (n : ℕ). Begins written (last n pending)) so_far.place is),
+        so_far.within,
       ))
 
     module _ (now : Option (List ℕ)) (chunk : List ℕ) (taken : Consumes left now chunk) where
@@ -460,8 +449,7 @@ module _ (line : ℕ → ℕ → Item → List ℕ) (last : ℕ → List ℕ →
         written_before,
         with_chunk,
         wrote_before,
-        printed_lack error
-            (so_far.read ++ chunk) (pending ++ chunk) so_far.items now lack then_chunk,
+        printed_lack error (so_far.read ++ chunk) (pending ++ chunk) so_far.items now lack then_chunk so_far.within.0,
       )
 
       module _ (after : ℕ) (noted : Option (ℕ × Trouble)) (text rest : List ℕ)
@@ -488,7 +476,7 @@ module _ (line : ℕ → ℕ → Item → List ℕ) (last : ℕ → List ℕ →
             too_long_after version limit (so_far.items ++ step.more) rest ≡ longer
         after_next longer is = ap (λ n. too_long_at version limit (offset_after 0 n) rest) (sym place_next) ∙ is
 
-        within_next : All (λ item. payload_length item ≤ limit) (so_far.items ++ step.more)
+        within_next : AllWithin limit (so_far.items ++ step.more)
         within_next = All-append (λ item. payload_length item ≤ limit) so_far.items step.more so_far.within.0
             step.within
 
@@ -501,7 +489,7 @@ module _ (line : ℕ → ℕ → Item → List ℕ) (last : ℕ → List ℕ →
           with_chunk,
           Appends-trans start out grown written_before written wrote_before wrote,
           printed_output (so_far.read ++ chunk) rest (written_before ++ written) (so_far.items ++ step.more) now
-              then_items
+              then_items within_next
               (subst (Begins (written_before ++ written)) joined (begins_after written_before written text is)),
         )
 

@@ -72,21 +72,29 @@ IsLack is_long error = ⊥
 abbrev pub too_long_after : Version → ℕ → List Item → List ℕ → Option Longer
 too_long_after version limit items rest = too_long_at version limit (offset_after 0 (items_size items)) rest
 
+-- Each of the items is within the limit.
+abbrev pub AllWithin : ℕ → List Item → Type 0
+AllWithin limit items = All (λ item. payload_length item ≤ limit) items
+
 -- Each of the items is within the limit, and no longer message is after them.
 abbrev pub AreWithin : Version → ℕ → List Item → List ℕ → Type 0
-AreWithin version limit items rest =
-    All (λ item. payload_length item ≤ limit) items × (too_long_after version limit items rest ≡ None)
+AreWithin version limit items rest = AllWithin limit items × (too_long_after version limit items rest ≡ None)
 
 -- These items, each within the limit, are at the front of the stream, and after them is a message that is longer.
 abbrev pub EndsTooLong : Version → ℕ → List ℕ → List Item → Longer → Type 0
 EndsTooLong version limit stream items error =
-    (rest : List ℕ) × IsItemsThen version stream items rest × All (λ item. payload_length item ≤ limit) items
+    (rest : List ℕ) × IsItemsThen version stream items rest × AllWithin limit items
     × (too_long_after version limit items rest ≡ Some error)
 
+-- The first items, each of which is within the limit.
+abbrev pub AreFirst : ℕ → List Item → List Item → Type 0
+AreFirst limit done items = Begins done items × AllWithin limit done
+
 -- What is written for each result, for a stream of these items and these remaining bytes, and what the reader has left:
--- all lines and the report, at the input's end; the lines of all items; a prefix of these or, at the input's end, of
--- all lines; the lines of the first items; those of the items before one that is too long; or those of the items before
--- the first message that is longer than the limit. In the first two cases there is no longer one.
+-- all lines and the report, at the input's end; the lines of all items; a prefix of the lines of the first items or, at
+-- the input's end, of all lines; the lines of the first items; those of the items before one that is too long; or those
+-- of the items before the first message that is longer than the limit. No line is of such a message or of what is after
+-- it: where all items have their lines there is none, and otherwise the first items are before it.
 abbrev pub IsWrittenFor : Version → ℕ → (ℕ → ℕ → Item → List ℕ) → (ℕ → List ℕ → List ℕ) → (Item → Type 0) →
     (Item → Option Trouble) → Result Report PrintError → List ℕ → List Item → List ℕ → List ℕ → Option (List ℕ) →
     Type 0
@@ -96,12 +104,13 @@ IsWrittenFor version limit line last is_long trouble (Ok report) stream items re
 IsWrittenFor version limit line last is_long trouble (Err Input) stream items rest written left =
     (written ≡ lines line 0 stream items) × AreWithin version limit items rest
 IsWrittenFor version limit line last is_long trouble (Err Output) stream items rest written left =
-    Begins written (lines line 0 stream items) ⊎ (IsAtEnd left × Begins written (all_lines line last stream items rest))
+    ((done : List Item) × AreFirst limit done items × Begins written (lines line 0 stream done))
+    ⊎ (IsAtEnd left × Begins written (all_lines line last stream items rest) × AreWithin version limit items rest)
 IsWrittenFor version limit line last is_long trouble (Err OutOfMemory) stream items rest written left =
-    (done : List Item) × Begins done items × (written ≡ lines line 0 stream done)
+    (done : List Item) × AreFirst limit done items × (written ≡ lines line 0 stream done)
 IsWrittenFor version limit line last is_long trouble (Err TooLong) stream items rest written left =
     (done : List Item) × (front : List Item) × (item : Item) × Begins (done ++ (front ++ item ∷ [])) items × is_long
-    item × (written ≡ lines line 0 stream done)
+    item × AllWithin limit done × (written ≡ lines line 0 stream done)
 IsWrittenFor version limit line last is_long trouble (Err (MessageTooLong error)) stream items rest written left =
     (done : List Item) × EndsTooLong version limit stream done error × (written ≡ lines line 0 stream done)
 

@@ -36,7 +36,8 @@ use std::io::{Read, Write};
 /// all items of what was read are written; after `Output` a prefix of these lines, or of all if the input had ended;
 /// after `OutOfMemory` and `TooLong` the lines of the first items. `TooLong` comes only if one of the items after them
 /// is too long for a line. `MessageTooLong` comes after the lines of the items before the first message whose payload
-/// is longer than the limit, as soon as its header has come; a limit of `u32::MAX` is none.
+/// is longer than the limit, as soon as its header has come; a limit of `u32::MAX` is none. Whatever is returned, no
+/// line is of a message that is longer, or of what comes after one.
 pub fn print_lines<P: LinePrinter, R: Read, W: Write>(
     alloc: Global,
     version: Version,
