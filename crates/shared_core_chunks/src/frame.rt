@@ -1,6 +1,6 @@
 //! The frame of a record, appended as chunks, or in a buffer of its own.
 
-ghost use Rattle.std.specs.Prelude.{◌≡◌, ◌≤◌, ◌<◌, ◌+◌, ◌^◌, ◌++◌, IfOk, IsErr, OnOk, OnErr, Err, length};
+ghost use Rattle.std.specs.Prelude.{◌≡◌, ◌≤◌, ◌<◌, ◌^◌, ◌++◌, IfOk, OnOk, OnErr, Err};
 ghost use Rattle.std.specs.Int.{w64, to_be_bytes};
 ghost use Rattle.std.specs.Result.{IsErrOf};
 ghost use Rattle.shared_core_base.specs.MessageHeader.{word_of};
@@ -15,7 +15,7 @@ use crate::record::ChunkRecord;
 use bytes::BytesMut;
 use shared_core_base::header::MessageHeader;
 use shared_core_codec::error::EncodingError;
-use shared_core_codec::record::WireRecord;
+use shared_core_message::frame::{fill_frame, header_of};
 use shared_core_message::restate_message::RestateMessage;
 use std::alloc::{AllocError, Global};
 
@@ -75,30 +75,6 @@ pub(crate) fn owned_frame<M: ChunkRecord + RestateMessage>(
     Ok(bytes)
 }
 
-/// The header of a record's frame. `PayloadTooLong` if the canonical payload has more than 4,294,967,295 bytes.
-fn header_of<M: RestateMessage>(
-    message: &M,
-    requested_ack: Option<bool>,
-) -> Result<MessageHeader, EncodingError>
-    ensures header { IfOk result (λ header. header ≡ record {
-      ty = M.message_type;
-      length = size table M.schema (M.parts message.now);
-      requested_ack = requested_ack;
-    }) }
-    ensures short { IfOk result (λ _. size table M.schema (M.parts message.now) < 2 ^ 32) }
-    ensures fits { Fits table (M.parts message.now) (table M.schema) }
-    ensures too_long { IsErr result → (result ≡ Err PayloadTooLong)
-        × (2 ^ 32 ≤ size table M.schema (M.parts message.now)) }
-{
-    let Some(length) = message.encoded_len() else {
-        return Err(EncodingError::PayloadTooLong);
-    };
-    match requested_ack {
-        Some(flag) => Ok(MessageHeader::new_with_requested_ack(M::ty(), flag, length)),
-        None => Ok(MessageHeader::new(M::ty(), length)),
-    }
-}
-
 /// Appends a header and the payload of a record, of which the long parts are copied once. The payload is not too long:
 /// its length is in the header.
 fn gather_frame<M: ChunkRecord>(
@@ -134,7 +110,7 @@ fn share_frame<M: ChunkRecord>(
 }
 
 /// Appends a header and the payload of a record, which are copied.
-fn copy_frame<M: WireRecord>(
+fn copy_frame<M: RestateMessage>(
     message: &M,
     header: MessageHeader,
     out: &mut BytesMut,
@@ -152,14 +128,4 @@ fn copy_frame<M: WireRecord>(
     out.advance_mut(count);
     fill_frame(message, header, &mut out.as_mut_slice()[front..]);
     Ok(())
-}
-
-/// Writes a header and the payload of a record into a slice of exactly their length.
-fn fill_frame<M: WireRecord>(message: &M, header: MessageHeader, out: &mut [u8])
-    requires len { length out.old ≡ 8 + size table M.schema (M.parts message.now) }
-    ensures { out.new ≡ to_be_bytes w64 (word_of header) ++ canonical_payload table M.schema (M.parts message.now) }
-{
-    let (head, rest) = out.split_at_mut(MessageHeader::SIZE);
-    head.copy_from_slice(&header.to_bytes());
-    message.fill_payload(rest);
 }

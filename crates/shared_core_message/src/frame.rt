@@ -130,7 +130,7 @@ pub fn encode_frame_into_bytes<P: FramePayload>(
 }
 
 /// The header of a record's frame. `PayloadTooLong` if the canonical payload has more than 4,294,967,295 bytes.
-fn header_of<P: FramePayload>(
+pub fn header_of<P: FramePayload>(
     payload: &P,
     requested_ack: Option<bool>,
 ) -> Result<MessageHeader, EncodingError>
@@ -154,7 +154,7 @@ fn header_of<P: FramePayload>(
 }
 
 /// Writes a header and the canonical payload of a record into a slice of exactly their length.
-fn fill_frame<P: FramePayload>(payload: &P, header: MessageHeader, out: &mut [u8])
+pub fn fill_frame<P: FramePayload>(payload: &P, header: MessageHeader, out: &mut [u8])
     requires len { length out.old ≡ 8 + size table P.payload_schema (P.payload_parts payload.now) }
     ensures { out.new ≡ to_be_bytes w64 (word_of header)
         ++ canonical_payload table P.payload_schema (P.payload_parts payload.now) }
