@@ -3,9 +3,10 @@
 use crate::chunk_dispatch::frame_of;
 use bytes::Bytes;
 use journal_c_api::outcome::{CallError, version_of, write_over};
+use shared_core::encoding::Encoder;
 use shared_core::header::MessageType;
 use shared_core::version::Version;
-use shared_core_chunks::{ChunkMessage, FrameChunks, encode_chunks, encode_to_vec};
+use shared_core_chunks::{ChunkMessage, FrameChunks, encode_gathered};
 use std::alloc::Global;
 
 /// What a round makes of a message.
@@ -69,13 +70,14 @@ fn encode_joined<M: ChunkMessage>(
     message: &M,
     rounds: usize,
 ) -> Result<Vec<u8>, CallError> {
+    let encoder = Encoder::new(version);
     let mut frames = FrameChunks::new(alloc);
     for _round in 1..rounds {
         frames.clear();
-        encode_chunks(version, message, &mut frames)?;
+        encoder.encode_into(message, &mut frames)?;
     }
     frames.clear();
-    encode_chunks(version, message, &mut frames)?;
+    encoder.encode_into(message, &mut frames)?;
     joined(alloc, &mut frames)
 }
 
@@ -87,9 +89,9 @@ fn encode_owned<M: ChunkMessage>(
     rounds: usize,
 ) -> Result<Vec<u8>, CallError> {
     for _round in 1..rounds {
-        encode_to_vec(alloc, version, message)?;
+        encode_gathered(alloc, version, message)?;
     }
-    Ok(encode_to_vec(alloc, version, message)?)
+    Ok(encode_gathered(alloc, version, message)?)
 }
 
 /// The bytes of all chunks.

@@ -166,10 +166,10 @@ fn encode_spare<M: RestateEncodableMessage>(
     let mut frame = BytesMut::new(alloc);
     for _round in 1..rounds {
         frame.clear();
-        encoder.encode_into_bytes(message, &mut frame)?;
+        encoder.encode_into(message, &mut frame)?;
     }
     frame.clear();
-    encoder.encode_into_bytes(message, &mut frame)?;
+    encoder.encode_into(message, &mut frame)?;
     let Ok(frame) = frame.freeze() else {
         return Err(CallError::OutOfMemory);
     };
@@ -205,6 +205,6 @@ fn shared_frame<M: RestateEncodableMessage>(
     block: &mut BytesMut,
 ) -> Result<Bytes, CallError> {
     block.clear();
-    encoder.encode_into_bytes(message, block)?;
+    encoder.encode_into(message, block)?;
     Ok(block.freeze_to(block.len())?)
 }

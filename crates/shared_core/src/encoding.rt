@@ -5,11 +5,13 @@ mod consume_next;
 mod decode_message;
 mod encoder;
 mod error;
+mod frame_buffer;
 
 pub use crate::encoding::consume_next::ConsumeNext;
 pub use crate::encoding::decode_message::DecodeMessage;
 pub use crate::encoding::encoder::Encoder;
 pub use crate::encoding::error::DecodingError;
+pub use crate::encoding::frame_buffer::FrameBuffer;
 pub use shared_core_io::{ItemReader, ReadError};
 pub use shared_core_stream::encoding::{
     Decoder, Item, ItemKind, ItemRef, ItemRefError, ItemRefs, Items, LimitedDecoder, LimitedError,

@@ -15,5 +15,5 @@ mod records;
 pub mod value;
 
 pub use crate::chunks::{FrameChunks, SHARED_LEN};
-pub use crate::encode::{encode_chunks, encode_to_vec};
+pub use crate::encode::encode_gathered;
 pub use crate::message::ChunkMessage;

@@ -1,12 +1,13 @@
 //! Messages into frames.
 
-ghost use Rattle.std.specs.Prelude.{◌≡◌, ◌+◌, ◌<◌, ◌≤◌, ◌^◌, IfOk, OnOk, OnErr, Err, vec_len, vec_capacity};
+ghost use Rattle.std.specs.Prelude.{◌≡◌, ◌+◌, ◌≤◌, ◌^◌, IfOk, OnOk, OnErr, Err};
 ghost use Rattle.std.specs.Result.{IsErrOf};
 ghost use Rattle.shared_core_base.specs.Version.{version_number};
 ghost use Rattle.shared_core_codec.specs.declared.error.EncodingError.TheVariants.{PayloadTooLong, OutOfMemory};
 ghost use Rattle.shared_core_message.specs.Frames.{wire_size, wire_frame};
 
-use bytes::{Bytes, BytesMut};
+use crate::encoding::FrameBuffer;
+use bytes::Bytes;
 use shared_core_base::version::Version;
 use shared_core_codec::error::EncodingError;
 use shared_core_message::restate_message::RestateEncodableMessage;
@@ -74,62 +75,35 @@ impl Encoder {
         Ok(frame)
     }
 
-    /// Appends the frame of a message, as `encode` returns it, to a buffer.
+    /// Appends the frame of a message, as `encode` returns it, to a buffer: a `Vec<u8>`, a `BytesMut`, or the chunks of
+    /// `shared_core_chunks`.
     ///
-    /// The errors are those of `encode`, and after one the buffer is unchanged. Its capacity never shrinks. It
-    /// allocates only if the buffer has too little room, so a buffer that is cleared and reused does not allocate once
-    /// it has had room for the longest frame.
+    /// The errors are those of `encode`, and after one the buffer has the same bytes. A `Vec<u8>` or a `BytesMut`
+    /// allocates only if it has too little room. So a `Vec<u8>` that is cleared and reused does not allocate once it
+    /// has had room for the longest frame; its capacity never shrinks. `freeze_to` takes frames off a `BytesMut` as
+    /// `Bytes` that share its block, so that many frames need few allocations.
     #[tactic(auto, using(crate::proofs::DecodedFrames::appended_is_frame_of))]
-    pub fn encode_into<M: RestateEncodableMessage>(
+    pub fn encode_into<M: RestateEncodableMessage, B: FrameBuffer<M>>(
         &self,
         message: &M,
-        out: &mut Vec<u8>,
+        out: &mut B,
     ) -> Result<(), EncodingError>
-        ensures appended { OnOk result (out.new.items
-            ≡ out.old.items ++ wire_frame M.message_type (M.wire_form message.now self.now.version)) }
+        ensures appended { OnOk result (B.contents out.new
+            ≡ B.contents out.old ++ wire_frame M.message_type (M.wire_form message.now self.now.version)) }
         ensures frame { OnOk result
             (IsFrameOf self.now.version M.message_type (M.wire_form message.now self.now.version)
             (wire_frame M.message_type (M.wire_form message.now self.now.version))) }
-        ensures unchanged { OnErr result (out.new.items ≡ out.old.items) }
-        ensures capacity { vec_capacity out.old ≤ vec_capacity out.new }
+        ensures unchanged { OnErr result (B.contents out.new ≡ B.contents out.old) }
+        ensures kept { OnOk result
+            (B.keeps out.old out.new (8 + wire_size (M.wire_form message.now self.now.version))) }
+        ensures kept_after_error { OnErr result (B.keeps out.old out.new 0) }
         ensures full { IsErrOf result OutOfMemory
-            → vec_capacity out.old < vec_len out.old + (8 + wire_size (M.wire_form message.now self.now.version)) }
+            → B.lacks out.old (8 + wire_size (M.wire_form message.now self.now.version)) }
         ensures too_long { IsErrOf result PayloadTooLong
             → 2 ^ 32 ≤ wire_size (M.wire_form message.now self.now.version) }
         ensures rejected { 2 ^ 32 ≤ wire_size (M.wire_form message.now self.now.version)
             → result ≡ Err PayloadTooLong }
     {
-        message.encode_into(self.version, out)
-    }
-
-    /// Appends the frame of a message, as `encode` returns it, to a buffer whose spare room is initialized, so that no
-    /// byte is written twice. `out.freeze_to(out.len())` then takes the frames off as `Bytes` that share the buffer's
-    /// block, so that many frames need few allocations.
-    ///
-    /// The errors are those of `encode`, and after one the buffer has the same bytes. It allocates only if the buffer
-    /// has too little spare room.
-    #[tactic(auto, using(crate::proofs::DecodedFrames::appended_is_frame_of))]
-    pub fn encode_into_bytes<M: RestateEncodableMessage>(
-        &self,
-        message: &M,
-        out: &mut BytesMut,
-    ) -> Result<(), EncodingError>
-        ensures appended { OnOk result (out.new.items
-            ≡ out.old.items ++ wire_frame M.message_type (M.wire_form message.now self.now.version)) }
-        ensures frame { OnOk result
-            (IsFrameOf self.now.version M.message_type (M.wire_form message.now self.now.version)
-            (wire_frame M.message_type (M.wire_form message.now self.now.version))) }
-        ensures unchanged { OnErr result (out.new.items ≡ out.old.items) }
-        ensures full { IsErrOf result OutOfMemory
-            → out.old.spare < 8 + wire_size (M.wire_form message.now self.now.version) }
-        ensures spare { OnOk result
-            (out.old.spare ≤ out.new.spare + (8 + wire_size (M.wire_form message.now self.now.version))) }
-        ensures kept { OnErr result (out.old.spare ≤ out.new.spare) }
-        ensures too_long { IsErrOf result PayloadTooLong
-            → 2 ^ 32 ≤ wire_size (M.wire_form message.now self.now.version) }
-        ensures rejected { 2 ^ 32 ≤ wire_size (M.wire_form message.now self.now.version)
-            → result ≡ Err PayloadTooLong }
-    {
-        message.encode_into_bytes(self.version, out)
+        out.append_frame(self.version, message)
     }
 }

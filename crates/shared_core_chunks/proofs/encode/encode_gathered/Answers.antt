@@ -6,7 +6,7 @@ use Rattle.shared_core_base.specs.declared.version.Version.{Version}
 use Rattle.shared_core_message.specs.Frames.{WireFits, WireForm, wire_frame, wire_size}
 use Rattle.shared_core.specs.Decoded.{IsFrameOf}
 use Rattle.shared_core.proofs.DecodedFrames.{is_frame_of}
-use Rattle.shared_core_chunks.proofs.encode.encode_to_vec.Goals as goal
+use Rattle.shared_core_chunks.proofs.encode.encode_gathered.Goals as goal
 
 -- what is returned in a buffer is a frame
 owned_is_frame_of : {V E : Type 0} (items : V → List ℕ) (result : Result V E) (version : Version) (ty : MessageType)
