@@ -257,17 +257,20 @@ class OneOfLines:
         return member.message, f"Message tables.{schema_name(member.message)}", ["equality_rules", *found]
 
     def merge(self, member, variant, local):
-        """The arm that merges an occurrence of a member: a message and a text are merged into what is there."""
+        """The arm that merges an occurrence of a member: a message and a text are merged into what is there, or read
+        in place if nothing is. A member of another number is replaced only by one that was read."""
         one = f"{self.name}::{variant}"
         if member.kind not in ("message", "text"):
             return f"            {member.number} => *oneof = Some({one}(FieldKind::read_value(field)?)),\n"
         return (
             f"            {member.number} => {{\n"
-            f"                if !matches!(oneof, Some({one}(_))) {{\n"
+            "                if oneof.is_none() {\n"
             f"                    *oneof = Some({one}(FieldKind::empty_value(field.alloc)));\n"
             "                }\n"
             f"                if let Some({one}({local})) = oneof {{\n"
             f"                    {local}.merge_value(field)?;\n"
+            "                } else {\n"
+            f"                    *oneof = Some({one}(FieldKind::read_value(field)?));\n"
             "                }\n"
             "            }\n"
         )
@@ -299,7 +302,8 @@ def write_oneof(source, module, name, oneof, about, derived=()):
         + "    ghost part = { elim [\n"
         + "".join(lines.parts)
         + "    ] };\n\n"
-        + "    #[tactic(auto, using(shared_core_codec::proofs::Keeping::part_stays))]\n"
+        + "    #[tactic(auto, using(shared_core_codec::proofs::Keeping::part_stays, "
+        + "shared_core_codec::proofs::Keeping::member_after))]\n"
         + f"    fn merge_member(oneof: &mut Option<{name}>, field: &Occurrence<'_>) -> {result}<(), WireError> {{\n"
         + "        match field.number {\n"
         + "".join(lines.merges)

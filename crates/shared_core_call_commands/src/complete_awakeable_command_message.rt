@@ -48,26 +48,30 @@ impl OneOf for Result {
       | result_is.Failure x ↦ Member 3 (message_part ⟦<Failure as WireRecord>⟧.parts x)
     ] };
 
-    #[tactic(auto, using(shared_core_codec::proofs::Keeping::part_stays))]
+    #[tactic(auto, using(shared_core_codec::proofs::Keeping::part_stays, shared_core_codec::proofs::Keeping::member_after))]
     fn merge_member(
         oneof: &mut Option<Result>,
         field: &Occurrence<'_>,
     ) -> result::Result<(), WireError> {
         match field.number {
             2 => {
-                if !matches!(oneof, Some(Result::Value(_))) {
+                if oneof.is_none() {
                     *oneof = Some(Result::Value(FieldKind::empty_value(field.alloc)));
                 }
                 if let Some(Result::Value(value)) = oneof {
                     value.merge_value(field)?;
+                } else {
+                    *oneof = Some(Result::Value(FieldKind::read_value(field)?));
                 }
             }
             3 => {
-                if !matches!(oneof, Some(Result::Failure(_))) {
+                if oneof.is_none() {
                     *oneof = Some(Result::Failure(FieldKind::empty_value(field.alloc)));
                 }
                 if let Some(Result::Failure(failure)) = oneof {
                     failure.merge_value(field)?;
+                } else {
+                    *oneof = Some(Result::Failure(FieldKind::read_value(field)?));
                 }
             }
             _ => unreachable!(),

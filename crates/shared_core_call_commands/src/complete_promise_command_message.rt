@@ -47,28 +47,32 @@ impl OneOf for Completion {
       | completion_is.CompletionFailure x ↦ Member 3 (message_part ⟦<Failure as WireRecord>⟧.parts x)
     ] };
 
-    #[tactic(auto, using(shared_core_codec::proofs::Keeping::part_stays))]
+    #[tactic(auto, using(shared_core_codec::proofs::Keeping::part_stays, shared_core_codec::proofs::Keeping::member_after))]
     fn merge_member(
         oneof: &mut Option<Completion>,
         field: &Occurrence<'_>,
     ) -> Result<(), WireError> {
         match field.number {
             2 => {
-                if !matches!(oneof, Some(Completion::CompletionValue(_))) {
+                if oneof.is_none() {
                     *oneof = Some(Completion::CompletionValue(FieldKind::empty_value(field.alloc)));
                 }
                 if let Some(Completion::CompletionValue(completion_value)) = oneof {
                     completion_value.merge_value(field)?;
+                } else {
+                    *oneof = Some(Completion::CompletionValue(FieldKind::read_value(field)?));
                 }
             }
             3 => {
-                if !matches!(oneof, Some(Completion::CompletionFailure(_))) {
+                if oneof.is_none() {
                     *oneof = Some(Completion::CompletionFailure(FieldKind::empty_value(
                         field.alloc,
                     )));
                 }
                 if let Some(Completion::CompletionFailure(completion_failure)) = oneof {
                     completion_failure.merge_value(field)?;
+                } else {
+                    *oneof = Some(Completion::CompletionFailure(FieldKind::read_value(field)?));
                 }
             }
             _ => unreachable!(),

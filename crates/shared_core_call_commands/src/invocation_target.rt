@@ -41,24 +41,26 @@ impl OneOf for InvocationTarget {
       | invocation_target_is.WorkflowTarget x ↦ Member 4 (message_part ⟦<WorkflowTarget as WireRecord>⟧.parts x)
     ] };
 
-    #[tactic(auto, using(shared_core_codec::proofs::Keeping::part_stays))]
+    #[tactic(auto, using(shared_core_codec::proofs::Keeping::part_stays, shared_core_codec::proofs::Keeping::member_after))]
     fn merge_member(
         oneof: &mut Option<InvocationTarget>,
         field: &Occurrence<'_>,
     ) -> Result<(), WireError> {
         match field.number {
             1 => {
-                if !matches!(oneof, Some(InvocationTarget::InvocationId(_))) {
+                if oneof.is_none() {
                     *oneof = Some(InvocationTarget::InvocationId(FieldKind::empty_value(
                         field.alloc,
                     )));
                 }
                 if let Some(InvocationTarget::InvocationId(invocation_id)) = oneof {
                     invocation_id.merge_value(field)?;
+                } else {
+                    *oneof = Some(InvocationTarget::InvocationId(FieldKind::read_value(field)?));
                 }
             }
             3 => {
-                if !matches!(oneof, Some(InvocationTarget::IdempotentRequestTarget(_))) {
+                if oneof.is_none() {
                     *oneof = Some(InvocationTarget::IdempotentRequestTarget(FieldKind::empty_value(
                         field.alloc,
                     )));
@@ -68,16 +70,22 @@ impl OneOf for InvocationTarget {
                 ) = oneof
                 {
                     idempotent_request_target.merge_value(field)?;
+                } else {
+                    *oneof = Some(InvocationTarget::IdempotentRequestTarget(FieldKind::read_value(
+                        field,
+                    )?));
                 }
             }
             4 => {
-                if !matches!(oneof, Some(InvocationTarget::WorkflowTarget(_))) {
+                if oneof.is_none() {
                     *oneof = Some(InvocationTarget::WorkflowTarget(FieldKind::empty_value(
                         field.alloc,
                     )));
                 }
                 if let Some(InvocationTarget::WorkflowTarget(workflow_target)) = oneof {
                     workflow_target.merge_value(field)?;
+                } else {
+                    *oneof = Some(InvocationTarget::WorkflowTarget(FieldKind::read_value(field)?));
                 }
             }
             _ => unreachable!(),

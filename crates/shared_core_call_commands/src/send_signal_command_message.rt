@@ -49,7 +49,7 @@ impl OneOf for SignalId {
       | signal_id_is.Name x ↦ Member 3 (text_part x)
     ] };
 
-    #[tactic(auto, using(shared_core_codec::proofs::Keeping::part_stays))]
+    #[tactic(auto, using(shared_core_codec::proofs::Keeping::part_stays, shared_core_codec::proofs::Keeping::member_after))]
     fn merge_member(
         oneof: &mut Option<SignalId>,
         field: &Occurrence<'_>,
@@ -57,11 +57,13 @@ impl OneOf for SignalId {
         match field.number {
             2 => *oneof = Some(SignalId::Idx(FieldKind::read_value(field)?)),
             3 => {
-                if !matches!(oneof, Some(SignalId::Name(_))) {
+                if oneof.is_none() {
                     *oneof = Some(SignalId::Name(FieldKind::empty_value(field.alloc)));
                 }
                 if let Some(SignalId::Name(name)) = oneof {
                     name.merge_value(field)?;
+                } else {
+                    *oneof = Some(SignalId::Name(FieldKind::read_value(field)?));
                 }
             }
             _ => unreachable!(),
@@ -119,34 +121,40 @@ impl OneOf for Result {
       | result_is.Failure x ↦ Member 6 (message_part ⟦<Failure as WireRecord>⟧.parts x)
     ] };
 
-    #[tactic(auto, using(shared_core_codec::proofs::Keeping::part_stays))]
+    #[tactic(auto, using(shared_core_codec::proofs::Keeping::part_stays, shared_core_codec::proofs::Keeping::member_after))]
     fn merge_member(
         oneof: &mut Option<Result>,
         field: &Occurrence<'_>,
     ) -> result::Result<(), WireError> {
         match field.number {
             4 => {
-                if !matches!(oneof, Some(Result::Void(_))) {
+                if oneof.is_none() {
                     *oneof = Some(Result::Void(FieldKind::empty_value(field.alloc)));
                 }
                 if let Some(Result::Void(void)) = oneof {
                     void.merge_value(field)?;
+                } else {
+                    *oneof = Some(Result::Void(FieldKind::read_value(field)?));
                 }
             }
             5 => {
-                if !matches!(oneof, Some(Result::Value(_))) {
+                if oneof.is_none() {
                     *oneof = Some(Result::Value(FieldKind::empty_value(field.alloc)));
                 }
                 if let Some(Result::Value(value)) = oneof {
                     value.merge_value(field)?;
+                } else {
+                    *oneof = Some(Result::Value(FieldKind::read_value(field)?));
                 }
             }
             6 => {
-                if !matches!(oneof, Some(Result::Failure(_))) {
+                if oneof.is_none() {
                     *oneof = Some(Result::Failure(FieldKind::empty_value(field.alloc)));
                 }
                 if let Some(Result::Failure(failure)) = oneof {
                     failure.merge_value(field)?;
+                } else {
+                    *oneof = Some(Result::Failure(FieldKind::read_value(field)?));
                 }
             }
             _ => unreachable!(),

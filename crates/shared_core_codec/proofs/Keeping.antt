@@ -16,8 +16,8 @@ use Rattle.shared_core_wire.specs.Value.{one_part, ◌+++◌}
 use Rattle.shared_core_codec.proofs.FieldElements.{parts_push}
 use Rattle.shared_core_codec.specs.FieldParts.{parts_of}
 use Rattle.shared_core_codec.specs.Folding.{fold_read}
-use Rattle.shared_core_codec.specs.Kept.{BeginsWith, PartKept, PartsKept, PartAfter, RowAfter, RowsAfter}
-use Rattle.shared_core_codec.specs.Kept.{IsPartlyMerged}
+use Rattle.shared_core_codec.specs.Kept.{BeginsWith, PartKept, PartsKept, PartAfterError, PartAfter, RowAfter}
+use Rattle.shared_core_codec.specs.Kept.{RowsAfter, IsPartlyMerged}
 use Rattle.shared_core_codec.specs.Occurrences.{merged_with}
 use Rattle.shared_core_codec.specs.Table.{table}
 
@@ -87,16 +87,25 @@ part_equal p q e = subst (λ (t : Part). PartKept p t) (sym e) (part_same p)
 parts_equal : (ps qs : Parts) → qs ≡ ps → PartsKept ps qs
 parts_equal ps qs e = subst (λ (t : Parts). PartsKept ps t) (sym e) (parts_same ps)
 
+kept_after_error : (p q : Part) → PartAfterError p q → PartKept p q
+kept_after_error p (Member n q) h = tt
+kept_after_error (Member m p) q h = h
+kept_after_error (Number n) q h = part_equal (Number n) q h
+kept_after_error (Bytes bytes) q h = part_equal (Bytes bytes) q h
+kept_after_error p q h = h
+
 part_kept : (p q : Part) (ok : Bool) → PartAfter p q ok → PartKept p q
-part_kept p (Member n q) ok h = tt
-part_kept (Number n) q false h = part_equal (Number n) q h
-part_kept (Bytes bytes) q false h = part_equal (Bytes bytes) q h
-part_kept p q ok h = h
+part_kept p q true h = h
+part_kept p q false h = kept_after_error p q h
 
 -- An absent part becomes anything.
 pub absent_after : (q : Part) (ok : Bool) → PartAfter Absent q ok
-absent_after (Member n q) ok = tt
-absent_after q ok = tt
+absent_after q true = absent_kept q
+absent_after q false = absent_kept q
+
+-- A member that is held after an error as a value of its kind is.
+pub member_after : (n : ℕ) (p q : Part) → PartAfter p q false → PartAfter (Member n p) (Member n q) false
+member_after n p q h = (refl, h)
 
 row_kept : (b : Bool) (p q : Part) (ok : Bool) → RowAfter b p q ok → PartKept p q
 row_kept true p q ok h = part_kept p q ok h
@@ -111,16 +120,18 @@ rows_kept (row ∷ rows) n (cons p ps) (cons q qs) ok h = (
 )
 rows_kept _ n v w ok h = parts_equal v w h
 
+stays_after_error : (p : Part) → PartAfterError p p
+stays_after_error Absent = tt
+stays_after_error (Number n) = refl
+stays_after_error (Bytes bytes) = refl
+stays_after_error (Nested ps) = parts_same ps
+stays_after_error (Elements ps) = part_same (Elements ps)
+stays_after_error (Member n p) = (refl, stays_after_error p)
+
 -- A merge that changes nothing.
 pub part_stays : (p : Part) (ok : Bool) → PartAfter p p ok
-part_stays Absent ok = tt
-part_stays (Number n) true = tt
-part_stays (Number n) false = refl
-part_stays (Bytes bytes) true = tt
-part_stays (Bytes bytes) false = refl
-part_stays (Nested ps) ok = parts_same ps
-part_stays (Elements ps) ok = part_same (Elements ps)
-part_stays (Member n p) ok = tt
+part_stays p true = part_same p
+part_stays p false = stays_after_error p
 
 row_stays : (b : Bool) (p : Part) (ok : Bool) → RowAfter b p p ok
 row_stays true p ok = part_stays p ok

@@ -13,8 +13,8 @@ abbrev pub BeginsWith : Parts → Parts → Type 0
 BeginsWith old new = (more : Parts) × (new ≡ old +++ more)
 
 abbrev mutual
-  -- Nothing that a part held is lost: a number is a number and bytes are bytes, which may be others; a message keeps
-  -- what it held, a list its elements, at its front; a oneof holds a member, which may be another.
+  -- What a part keeps: a number is a number and bytes are bytes, which may be others; a message keeps what it held, a
+  -- list its elements, at its front; a oneof holds a member, which may be another.
   pub PartKept : Part → Part → Type 0
   PartKept old (Member n q) = Unit {0}
   PartKept Absent new = Unit {0}
@@ -24,19 +24,24 @@ abbrev mutual
   PartKept (Elements old) (Elements new) = BeginsWith old new
   PartKept _ _ = ⊥
 
-  -- Nothing that a message held is lost, in any of its parts.
+  -- What a message keeps, in each of its parts.
   pub PartsKept : Parts → Parts → Type 0
   PartsKept nil nil = Unit {0}
   PartsKept (cons p ps) (cons q qs) = PartKept p q × PartsKept ps qs
   PartsKept _ _ = ⊥
 
--- A part after one merge, which was ok or has failed: nothing is lost, and after a failure a number and bytes are the
--- same.
+-- A part after a merge that has failed: a number and bytes are the same, a oneof holds the member that it held, of
+-- which the same is true, and a message and a list are kept.
+abbrev pub PartAfterError : Part → Part → Type 0
+PartAfterError (Member m p) (Member n q) = (m ≡ n) × PartAfterError p q
+PartAfterError (Number n) new = new ≡ Number n
+PartAfterError (Bytes bytes) new = new ≡ Bytes bytes
+PartAfterError old new = PartKept old new
+
+-- A part after one merge, which was ok or has failed.
 abbrev pub PartAfter : Part → Part → Bool → Type 0
-PartAfter old (Member n q) ok = Unit {0}
-PartAfter (Number n) new false = new ≡ Number n
-PartAfter (Bytes bytes) new false = new ≡ Bytes bytes
-PartAfter old new ok = PartKept old new
+PartAfter old new true = PartKept old new
+PartAfter old new false = PartAfterError old new
 
 -- The same of a row that has the record's number; any other does not change.
 abbrev pub RowAfter : Bool → Part → Part → Bool → Type 0
@@ -44,14 +49,14 @@ RowAfter true old new ok = PartAfter old new ok
 RowAfter false old new ok = new ≡ old
 
 -- The parts of a message after one record was merged, which was ok or has failed: only the row of the record's number
--- may have changed, and nothing is lost in it.
+-- may have changed.
 abbrev pub RowsAfter : List Row → ℕ → Parts → Parts → Bool → Type 0
 RowsAfter (row ∷ rows) n (cons p ps) (cons q qs) ok = RowAfter (includes (numbers row) n) p q ok × RowsAfter rows n ps
     qs ok
 RowsAfter _ n old new ok = new ≡ old
 
 -- Merging the items of a payload into a message has failed at one of them: those before it are records, and they are
--- merged; since then only the row of one number may have changed, and nothing is lost in it.
+-- merged; since then only the row of one number may have changed, as by a merge that has failed.
 pub record IsPartlyMerged (left s : ℕ) (old : Parts) (items : List (Result PlacedRecord WireError)) (new : Parts) : Type
     0 where
   pub count : ℕ

@@ -52,7 +52,7 @@ pub trait WireRecord: Sized + Drop + PartialEq {
         ensures { parts result ≡ empty_value (table schema) };
 
     /// Merges one occurrence into the field of its number; if the schema has no such field, nothing changes. After an
-    /// error that field alone may have changed, and nothing that it held is lost. (For the code of records.)
+    /// error only that field may have changed, and nothing that it held is lost. (For the code of records.)
     fn merge_field(&mut self, field: &Occurrence<'_>) -> Result<(), WireError>
         ensures ok { OnOk result (RecordMerges schema field.now (parts self.old) (parts self.new)) }
         ensures malformed { IsErrOf result error.Malformed → schema_accepts schema field.now ≡ false }
@@ -184,7 +184,7 @@ pub trait WireRecord: Sized + Drop + PartialEq {
 }
 
 /// Merges the bytes of a message into a record, one occurrence after the other. After an error those up to some one are
-/// merged, and nothing that the record held is lost.
+/// merged, and the next one has replaced nothing.
 pub(crate) fn merge_occurrences<M: WireRecord>(
     target: &mut M,
     message: &MessageBytes<'_>,
@@ -206,11 +206,11 @@ pub(crate) fn merge_occurrences<M: WireRecord>(
 /// Merges a payload that its owner keeps into a record of the caller's, whatever that holds, as `merge` does, without
 /// moving the record. The errors are those of `decode`.
 ///
-/// After an error nothing that the record held is lost: lists have their elements at their front, messages hold what
-/// they held, and a field that was present is present. The payload's records are merged up to some one of them:
-/// numbers, texts, bytes and the members of oneofs may have been replaced by what these say. The next record may have
-/// changed its own field alone: it replaces no number, text or bytes, but a message or a list may have part of it, an
-/// absent field may be present, and a oneof may hold the empty member of its number.
+/// After an error the payload's records are merged up to some one of them: numbers, texts, bytes and the members of
+/// oneofs may have been replaced by what these say. Lists have the elements that they had at their front, messages hold
+/// what they held, and a field that was present is present. The next record may have changed its own field only: it
+/// replaces no number, text, bytes or member of a oneof, but a message or a list may have part of it, and an absent
+/// field may be present.
 #[tactic(auto, using(crate::proofs::MergingRecords::computed_accepted, crate::proofs::MergingRecords::computed_merged, crate::proofs::MergingRecords::computed_rejected))]
 pub fn merge_payload<M: WireRecord>(
     target: &mut M,

@@ -40,34 +40,40 @@ impl OneOf for AnyResult {
       | any_result_is.Failure x ↦ Member 6 (message_part ⟦<Failure as WireRecord>⟧.parts x)
     ] };
 
-    #[tactic(auto, using(shared_core_codec::proofs::Keeping::part_stays))]
+    #[tactic(auto, using(shared_core_codec::proofs::Keeping::part_stays, shared_core_codec::proofs::Keeping::member_after))]
     fn merge_member(
         oneof: &mut Option<AnyResult>,
         field: &Occurrence<'_>,
     ) -> Result<(), WireError> {
         match field.number {
             4 => {
-                if !matches!(oneof, Some(AnyResult::Void(_))) {
+                if oneof.is_none() {
                     *oneof = Some(AnyResult::Void(FieldKind::empty_value(field.alloc)));
                 }
                 if let Some(AnyResult::Void(void)) = oneof {
                     void.merge_value(field)?;
+                } else {
+                    *oneof = Some(AnyResult::Void(FieldKind::read_value(field)?));
                 }
             }
             5 => {
-                if !matches!(oneof, Some(AnyResult::Value(_))) {
+                if oneof.is_none() {
                     *oneof = Some(AnyResult::Value(FieldKind::empty_value(field.alloc)));
                 }
                 if let Some(AnyResult::Value(value)) = oneof {
                     value.merge_value(field)?;
+                } else {
+                    *oneof = Some(AnyResult::Value(FieldKind::read_value(field)?));
                 }
             }
             6 => {
-                if !matches!(oneof, Some(AnyResult::Failure(_))) {
+                if oneof.is_none() {
                     *oneof = Some(AnyResult::Failure(FieldKind::empty_value(field.alloc)));
                 }
                 if let Some(AnyResult::Failure(failure)) = oneof {
                     failure.merge_value(field)?;
+                } else {
+                    *oneof = Some(AnyResult::Failure(FieldKind::read_value(field)?));
                 }
             }
             _ => unreachable!(),

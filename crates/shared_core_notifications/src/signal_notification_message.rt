@@ -47,7 +47,7 @@ impl OneOf for SignalId {
       | signal_id_is.Name x ↦ Member 3 (text_part x)
     ] };
 
-    #[tactic(auto, using(shared_core_codec::proofs::Keeping::part_stays))]
+    #[tactic(auto, using(shared_core_codec::proofs::Keeping::part_stays, shared_core_codec::proofs::Keeping::member_after))]
     fn merge_member(
         oneof: &mut Option<SignalId>,
         field: &Occurrence<'_>,
@@ -55,11 +55,13 @@ impl OneOf for SignalId {
         match field.number {
             2 => *oneof = Some(SignalId::Idx(FieldKind::read_value(field)?)),
             3 => {
-                if !matches!(oneof, Some(SignalId::Name(_))) {
+                if oneof.is_none() {
                     *oneof = Some(SignalId::Name(FieldKind::empty_value(field.alloc)));
                 }
                 if let Some(SignalId::Name(name)) = oneof {
                     name.merge_value(field)?;
+                } else {
+                    *oneof = Some(SignalId::Name(FieldKind::read_value(field)?));
                 }
             }
             _ => unreachable!(),

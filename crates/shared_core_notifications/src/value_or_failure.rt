@@ -36,26 +36,30 @@ impl OneOf for ValueOrFailure {
       | value_or_failure_is.Failure x ↦ Member 6 (message_part ⟦<Failure as WireRecord>⟧.parts x)
     ] };
 
-    #[tactic(auto, using(shared_core_codec::proofs::Keeping::part_stays))]
+    #[tactic(auto, using(shared_core_codec::proofs::Keeping::part_stays, shared_core_codec::proofs::Keeping::member_after))]
     fn merge_member(
         oneof: &mut Option<ValueOrFailure>,
         field: &Occurrence<'_>,
     ) -> Result<(), WireError> {
         match field.number {
             5 => {
-                if !matches!(oneof, Some(ValueOrFailure::Value(_))) {
+                if oneof.is_none() {
                     *oneof = Some(ValueOrFailure::Value(FieldKind::empty_value(field.alloc)));
                 }
                 if let Some(ValueOrFailure::Value(value)) = oneof {
                     value.merge_value(field)?;
+                } else {
+                    *oneof = Some(ValueOrFailure::Value(FieldKind::read_value(field)?));
                 }
             }
             6 => {
-                if !matches!(oneof, Some(ValueOrFailure::Failure(_))) {
+                if oneof.is_none() {
                     *oneof = Some(ValueOrFailure::Failure(FieldKind::empty_value(field.alloc)));
                 }
                 if let Some(ValueOrFailure::Failure(failure)) = oneof {
                     failure.merge_value(field)?;
+                } else {
+                    *oneof = Some(ValueOrFailure::Failure(FieldKind::read_value(field)?));
                 }
             }
             _ => unreachable!(),

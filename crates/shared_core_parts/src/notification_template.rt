@@ -44,7 +44,7 @@ impl OneOf for Id {
       | id_is.SignalName x ↦ Member 3 (text_part x)
     ] };
 
-    #[tactic(auto, using(shared_core_codec::proofs::Keeping::part_stays))]
+    #[tactic(auto, using(shared_core_codec::proofs::Keeping::part_stays, shared_core_codec::proofs::Keeping::member_after))]
     fn merge_member(
         oneof: &mut Option<Id>,
         field: &Occurrence<'_>,
@@ -53,11 +53,13 @@ impl OneOf for Id {
             1 => *oneof = Some(Id::CompletionId(FieldKind::read_value(field)?)),
             2 => *oneof = Some(Id::SignalId(FieldKind::read_value(field)?)),
             3 => {
-                if !matches!(oneof, Some(Id::SignalName(_))) {
+                if oneof.is_none() {
                     *oneof = Some(Id::SignalName(FieldKind::empty_value(field.alloc)));
                 }
                 if let Some(Id::SignalName(signal_name)) = oneof {
                     signal_name.merge_value(field)?;
+                } else {
+                    *oneof = Some(Id::SignalName(FieldKind::read_value(field)?));
                 }
             }
             _ => unreachable!(),
@@ -125,50 +127,60 @@ impl OneOf for Result {
       | result_is.StateKeys x ↦ Member 17 (message_part ⟦<StateKeys as WireRecord>⟧.parts x)
     ] };
 
-    #[tactic(auto, using(shared_core_codec::proofs::Keeping::part_stays))]
+    #[tactic(auto, using(shared_core_codec::proofs::Keeping::part_stays, shared_core_codec::proofs::Keeping::member_after))]
     fn merge_member(
         oneof: &mut Option<Result>,
         field: &Occurrence<'_>,
     ) -> result::Result<(), WireError> {
         match field.number {
             4 => {
-                if !matches!(oneof, Some(Result::Void(_))) {
+                if oneof.is_none() {
                     *oneof = Some(Result::Void(FieldKind::empty_value(field.alloc)));
                 }
                 if let Some(Result::Void(void)) = oneof {
                     void.merge_value(field)?;
+                } else {
+                    *oneof = Some(Result::Void(FieldKind::read_value(field)?));
                 }
             }
             5 => {
-                if !matches!(oneof, Some(Result::Value(_))) {
+                if oneof.is_none() {
                     *oneof = Some(Result::Value(FieldKind::empty_value(field.alloc)));
                 }
                 if let Some(Result::Value(value)) = oneof {
                     value.merge_value(field)?;
+                } else {
+                    *oneof = Some(Result::Value(FieldKind::read_value(field)?));
                 }
             }
             6 => {
-                if !matches!(oneof, Some(Result::Failure(_))) {
+                if oneof.is_none() {
                     *oneof = Some(Result::Failure(FieldKind::empty_value(field.alloc)));
                 }
                 if let Some(Result::Failure(failure)) = oneof {
                     failure.merge_value(field)?;
+                } else {
+                    *oneof = Some(Result::Failure(FieldKind::read_value(field)?));
                 }
             }
             16 => {
-                if !matches!(oneof, Some(Result::InvocationId(_))) {
+                if oneof.is_none() {
                     *oneof = Some(Result::InvocationId(FieldKind::empty_value(field.alloc)));
                 }
                 if let Some(Result::InvocationId(invocation_id)) = oneof {
                     invocation_id.merge_value(field)?;
+                } else {
+                    *oneof = Some(Result::InvocationId(FieldKind::read_value(field)?));
                 }
             }
             17 => {
-                if !matches!(oneof, Some(Result::StateKeys(_))) {
+                if oneof.is_none() {
                     *oneof = Some(Result::StateKeys(FieldKind::empty_value(field.alloc)));
                 }
                 if let Some(Result::StateKeys(state_keys)) = oneof {
                     state_keys.merge_value(field)?;
+                } else {
+                    *oneof = Some(Result::StateKeys(FieldKind::read_value(field)?));
                 }
             }
             _ => unreachable!(),

@@ -43,7 +43,7 @@ impl OneOf for Result {
       | result_is.Failure x ↦ Member 15 (message_part ⟦<Failure as WireRecord>⟧.parts x)
     ] };
 
-    #[tactic(auto, using(shared_core_codec::proofs::Keeping::part_stays))]
+    #[tactic(auto, using(shared_core_codec::proofs::Keeping::part_stays, shared_core_codec::proofs::Keeping::member_after))]
     fn merge_member(
         oneof: &mut Option<Result>,
         field: &Occurrence<'_>,
@@ -51,11 +51,13 @@ impl OneOf for Result {
         match field.number {
             14 => *oneof = Some(Result::Value(FieldKind::read_value(field)?)),
             15 => {
-                if !matches!(oneof, Some(Result::Failure(_))) {
+                if oneof.is_none() {
                     *oneof = Some(Result::Failure(FieldKind::empty_value(field.alloc)));
                 }
                 if let Some(Result::Failure(failure)) = oneof {
                     failure.merge_value(field)?;
+                } else {
+                    *oneof = Some(Result::Failure(FieldKind::read_value(field)?));
                 }
             }
             _ => unreachable!(),

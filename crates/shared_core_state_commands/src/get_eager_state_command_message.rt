@@ -48,26 +48,30 @@ impl OneOf for Result {
       | result_is.Value x ↦ Member 14 (message_part ⟦<Value as WireRecord>⟧.parts x)
     ] };
 
-    #[tactic(auto, using(shared_core_codec::proofs::Keeping::part_stays))]
+    #[tactic(auto, using(shared_core_codec::proofs::Keeping::part_stays, shared_core_codec::proofs::Keeping::member_after))]
     fn merge_member(
         oneof: &mut Option<Result>,
         field: &Occurrence<'_>,
     ) -> result::Result<(), WireError> {
         match field.number {
             13 => {
-                if !matches!(oneof, Some(Result::Void(_))) {
+                if oneof.is_none() {
                     *oneof = Some(Result::Void(FieldKind::empty_value(field.alloc)));
                 }
                 if let Some(Result::Void(void)) = oneof {
                     void.merge_value(field)?;
+                } else {
+                    *oneof = Some(Result::Void(FieldKind::read_value(field)?));
                 }
             }
             14 => {
-                if !matches!(oneof, Some(Result::Value(_))) {
+                if oneof.is_none() {
                     *oneof = Some(Result::Value(FieldKind::empty_value(field.alloc)));
                 }
                 if let Some(Result::Value(value)) = oneof {
                     value.merge_value(field)?;
+                } else {
+                    *oneof = Some(Result::Value(FieldKind::read_value(field)?));
                 }
             }
             _ => unreachable!(),
