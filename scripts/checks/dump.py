@@ -74,7 +74,19 @@ MADE = {
     "v6": V6,
     "troubles": (STREAMS / "unknown_type").read_bytes() + V6 + (STREAMS / "cut_short").read_bytes(),
     "cut": (STREAMS / "replay").read_bytes() + b"\0",
+    # of no item: a part of a header, and a header whose payload does not come
+    "byte": b"\0",
+    "eight": b"\0\0\0\0\0\0\0\x02",
+    "nine": b"\0\0\0\0\0\0\0\x02\0",
 }
+
+
+def no_journal(count: int, version: int = 8) -> tuple[str, str]:
+    """What is said of a stream that has this number of bytes and no whole item."""
+    bytes_ = "1 byte" if count == 1 else f"{count} bytes"
+    return (f"offset 0: {bytes_} after the last whole item",
+            f"no message in it; is it a journal of version {version}?")
+
 
 # Words, the lines, and what is said on the standard error; the standard input is the stream replay.
 CASES: tuple[tuple[str, str, *tuple[str, ...]], ...] = (
@@ -143,6 +155,10 @@ CASES: tuple[tuple[str, str, *tuple[str, ...]], ...] = (
     ("--type GetLazyStateCompletionNotificationMessage,START -", START + STATE + REST),
     ("--strict replay", START + INPUT + STATE + REST),
     ("--strict --type Suspension --protocol 6 v6", OF_V6 + '{"offset":39,"rest":0}\n'),
+    # what has no whole item may be no journal, also of a few bytes
+    ("byte", '{"offset":0,"rest":1,"bytes":"AA=="}\n', *no_journal(1)),
+    ("--no-payload eight", '{"offset":0,"rest":8}\n', *no_journal(8)),
+    ("--protocol 9 --no-payload nine", '{"offset":0,"rest":9}\n', *no_journal(9, 9)),
 )
 
 # With --strict an unknown code, a malformed payload and bytes in no item are a failure, the first with its offset.

@@ -79,6 +79,11 @@ REJECTED: tuple[tuple[str, Words, str], ...] = (
     ("journal_dump", "--type Strat replay", f"{TYPES} 'Strat'; did you mean Start?"),
     ("journal_dump", "--type SetStatCommandMessage replay",
      f"{TYPES} 'SetStatCommandMessage'; did you mean SetStateCommand?"),
+    # three names at most, and the nearest first
+    ("journal_dump", "--type Promise replay",
+     f"{TYPES} 'Promise'; did you mean GetPromiseCommand, PeekPromiseCommand, CompletePromiseCommand?\n"),
+    ("journal_dump", "--type PeekPromiseComand replay",
+     f"{TYPES} 'PeekPromiseComand'; did you mean PeekPromiseCommand, GetPromiseCommand?\n"),
     *(("journal_dump", ("--type", name, "replay"), f"{TYPES} '{name}'")
       for name in ("CustomEntry", "CustomEntry(64513", "CustomEntry(64513) ", "",
                    *(f"CustomEntry({code})" for code in ("65536", "0", "8", "1024", "064513", "+64513", "")))),
