@@ -16,10 +16,10 @@ pub trait FrameBuffer<M: RestateEncodableMessage> {
     /// Its bytes.
     ghost contents: { Self → List ℕ };
 
-    /// It has no room for so many bytes more. Where it does not say what room it has, this says nothing.
+    /// It has no room for this many bytes more. A buffer that does not say what room it has says nothing here.
     ghost lacks: { Self → ℕ → Type 0 };
 
-    /// What stays of its room, if so many bytes are appended.
+    /// What is left of its room, once this many bytes are appended.
     ghost keeps: { Self → Self → ℕ → Type 0 };
 
     /// Appends the frame of a message at a version, as `Encoder::encode_into` says.
