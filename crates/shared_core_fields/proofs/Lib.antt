@@ -3,7 +3,7 @@ pub mod ByValue
 pub mod Reading
 pub mod Back
 pub mod Depths
-pub mod Appending
+pub mod FieldEntries
 pub mod Written
 pub mod FewRows
 pub mod Checked

@@ -20,7 +20,7 @@ use Rattle.shared_core_fields.specs.declared.fields.FieldValue.{FieldValue}
 use Rattle.shared_core_fields.specs.declared.fields.FieldValue.TheVariants as v
 use Rattle.shared_core_fields.specs.declared.fields.CanonicalPayload.{CanonicalPayload}
 use Rattle.shared_core_fields.specs.declared.runs.Run.{Run}
-use Rattle.shared_core_fields.proofs.Appending.{of_message}
+use Rattle.shared_core_fields.proofs.FieldEntries.{of_message}
 
 written_more : (ys zs xs : List FieldEntry) (at : ℕ) → written_at (written_at xs at ys) (at + length ys) zs ≡ written_at
     xs at (ys ++ zs)

@@ -5,16 +5,10 @@ use Rattle.shared_core_wire.specs.Value.{Part, Parts, Nested}
 use Rattle.shared_core_wire.specs.Canonical.{levels}
 use Rattle.shared_core_codec.specs.Table.{table}
 use Rattle.shared_core_fields.specs.Fields.{FieldPart, message_fields}
-use Rattle.shared_core_fields.specs.Views.{field_part}
-use Rattle.shared_core_fields.specs.declared.table.Entry.{Entry}
 
 -- A field, and how deep the message is that it is of.
 abbrev pub LevelField : Type 0
 LevelField = ℕ × FieldPart
-
--- The same of the program.
-abbrev pub entry_view : Entry → LevelField
-entry_view e = (e.level, field_part e.field)
 
 -- The fields within a part of a kind, where `nested` has those of a message.
 abbrev pub within_part : (ℕ → Parts → List LevelField) → Part → Kind → List LevelField

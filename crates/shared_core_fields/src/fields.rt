@@ -90,6 +90,14 @@ impl<'a> CanonicalPayload<'a> {
         }
     }
 
+    /// The canonical payload that bytes are known to be, as those that were just encoded: without a check.
+    pub fn known(schema: u32, bytes: &'a [u8]) -> CanonicalPayload<'a>
+        requires { IsCanonical schema bytes.now }
+        ensures same { (result.schema ≡ schema) × (result.bytes.now ≡ bytes.now) }
+    {
+        CanonicalPayload { schema, bytes }
+    }
+
     /// Returns an iterator over its fields: those of what it means, row by row in the order of the schema, without the
     /// fields within nested messages.
     pub fn fields(self) -> Fields<'a>

@@ -1,20 +1,10 @@
-//! The fields of all levels of a canonical payload, in one table.
+//! The fields of all levels of a payload, in one table.
 
 ghost use Rattle.std.specs.Prelude.{◌≡◌};
 ghost use Rattle.shared_core_codec.specs.ProgramRows.{kind_view};
 ghost use Rattle.shared_core_fields.specs.Rows.{kind_number};
 
-use crate::fields::Field;
 use shared_core_codec::rows::Kind;
-
-/// A field, and how deep the message is that it is of.
-#[derive(Clone, Copy)]
-pub struct Entry<'a> {
-    /// The level: 0 of the payload's own fields, and one more within each message.
-    pub level: u32,
-    /// The field.
-    pub field: Field<'a>,
-}
 
 /// A field as six numbers, whose bytes are at an offset in the payload: an entry of the table that other languages
 /// read. A repeated field has an entry for each element, and so has a packed run for each number.
@@ -68,6 +58,5 @@ pub fn kind_number(kind: Kind) -> u64
     }
 }
 
-pub mod append;
 pub mod check;
-pub mod write;
+mod write;

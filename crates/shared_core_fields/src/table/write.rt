@@ -19,21 +19,9 @@ use crate::fields::{CanonicalPayload, Field, FieldValue};
 use crate::runs::Run;
 use shared_core_wire::records::LEVELS;
 
-/// Writes the entries of the fields of all levels of a payload, in order, at the front of a slice: as many as there is
-/// room for. Returns how many the payload has, at most as many as it has bytes. Does not allocate, and makes one pass
-/// over the bytes.
-pub fn write_entries(out: &mut [FieldEntry], payload: CanonicalPayload<'_>) -> usize
-    ensures rows { WritesRows payload.entry.bytes.now
-        (table_rows payload.entry.schema (payload_meaning payload.entry.schema payload.entry.bytes.now))
-        0 out.old out.new }
-    ensures count { result
-        ≡ length (table_rows payload.entry.schema (payload_meaning payload.entry.schema payload.entry.bytes.now)) }
-    ensures few { result ≤ length payload.entry.bytes.now }
-{
-    write_payload(out, payload.schema, payload.bytes)
-}
-
-/// Writes the entries of the bytes of a canonical payload.
+/// Writes the entries of the fields of all levels of a canonical payload, in order, at the front of a slice: as many as
+/// there is room for. Returns how many the payload has, at most as many as it has bytes. Does not allocate, and makes
+/// one pass over the bytes.
 pub(super) fn write_payload(out: &mut [FieldEntry], schema: u32, bytes: &[u8]) -> usize
     requires short { length bytes.now < 4294967296 }
     requires canonical { is_canonical_payload 100 schema bytes.now ≡ true }

@@ -1,7 +1,7 @@
 use Rattle.std.proofs.Common.{◌+◌, ◌-◌, ◌<◌, ◌≤◌, ℕ, List, [], map, ap, subst, arith, rules}
 use Rattle.shared_core_fields.specs.Rows.{level_rows}
 use Rattle.shared_core_fields.specs.Views.{EachIsAt, IsAt, field_part, unplaced, value_bytes}
-use Rattle.shared_core_fields.proofs.Appending.{of_last, of_other}
+use Rattle.shared_core_fields.proofs.FieldEntries.{of_last, of_other}
 use Rattle.shared_core_fields.proofs.Written.{nothing, at_within, first_few, inner_few, field_step, message_rows}
 use Rattle.shared_core_fields.proofs.table.write.+write_within.Goals as goal
 

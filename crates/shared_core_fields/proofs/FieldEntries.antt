@@ -1,39 +1,14 @@
--- Appending the entries of a field, and of the fields within it.
-use Rattle.std.proofs.Common.{◌≡◌, ℕ, zero, suc, ◌+◌, ◌-◌, ◌<◌, Bool, List, [], ◌∷◌, ◌++◌, map, append_assoc, refl, sym}
-use Rattle.std.proofs.Common.{ap, ◌∙◌, arith}
+-- The entries of a field, and of the fields within it, by what it holds.
+use Rattle.std.proofs.Common.{◌≡◌, ℕ, zero, suc, ◌+◌, ◌-◌, ◌<◌, Bool, List, [], ◌∷◌, refl, ap, ◌∙◌, arith}
 use Rattle.std.specs.Prelude.{flat_map}
 use Rattle.shared_core_codec.specs.Table.{table}
 use Rattle.shared_core_codec.specs.Payloads.{payload_meaning}
 use Rattle.shared_core_fields.specs.Fields.{FieldPart, message_fields}
 use Rattle.shared_core_fields.specs.Views.{value_kind, value_part}
-use Rattle.shared_core_fields.specs.Entries.{LevelField, entry_view, within_field, field_entries}
+use Rattle.shared_core_fields.specs.Entries.{LevelField, within_field, field_entries}
 use Rattle.shared_core_fields.specs.declared.fields.FieldValue.{FieldValue}
 use Rattle.shared_core_fields.specs.declared.fields.FieldValue.TheVariants as v
 use Rattle.shared_core_fields.specs.declared.fields.CanonicalPayload.{CanonicalPayload}
-use Rattle.shared_core_fields.specs.declared.table.Entry.{Entry}
-
-mapped : (xs ys : List Entry) → map entry_view (xs ++ ys) ≡ map entry_view xs ++ map entry_view ys
-mapped [] ys = refl
-mapped (x ∷ xs) ys = ap (λ (es : List LevelField). entry_view x ∷ es) (mapped xs ys)
-
-pub pushed : (xs ys : List Entry) (x : Entry) → ys ≡ xs ++ x ∷ [] → map entry_view ys ≡ map entry_view xs ++ entry_view
-    x ∷ []
-pushed xs ys x e = ap (λ (zs : List Entry). map entry_view zs) e ∙ mapped xs (x ∷ [])
-
-pub turn : (left level : ℕ) (old new all front : List LevelField) (f : FieldPart) (fs rest : List FieldPart) → fs ≡ f ∷
-    rest → field_entries left level f ≡ front → new ≡ old ++ front
-    → old ++ flat_map (field_entries left level) fs ≡ all → new ++ flat_map (field_entries left level) rest ≡ all
-turn left level old new all front f fs rest e g n h =
-    ap (λ (es : List LevelField). es ++ flat_map (field_entries left level) rest) n ∙ append_assoc old front
-    (flat_map (field_entries left level) rest)
-    ∙ ap (λ (es : List LevelField). old ++ (es ++ flat_map (field_entries left level) rest)) (sym g)
-    ∙ ap (λ (gs : List FieldPart). old ++ flat_map (field_entries left level) gs) (sym e) ∙ h
-
-pub joined : (old mid new es : List LevelField) (x : LevelField) → mid ≡ old ++ x ∷ [] → new ≡ mid ++ es → new ≡ old ++
-    (x ∷ es)
-joined old mid new es x m n = n ∙ ap (λ (ys : List LevelField). ys ++ es) m ∙ append_assoc old (x ∷ []) es
-
--- ---- the entries of a field, by what it holds
 
 abbrev inner_entries : ℕ → ℕ → CanonicalPayload → List LevelField
 inner_entries left level m = flat_map (field_entries left level)
