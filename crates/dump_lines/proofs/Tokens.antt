@@ -1,15 +1,16 @@
 -- The tokens of an object's members, one after the other.
-use Rattle.std.proofs.Common.{◌≡◌, ℕ, List, [], ◌∷◌, ◌++◌, Bool, true, false, cond, Option, Some, None, refl, ap, ◌∙◌}
-use Rattle.std.proofs.Common.{append_assoc}
+use Rattle.std.proofs.Common.{◌≡◌, ℕ, List, [], ◌∷◌, ◌++◌, Bool, true, false, cond, Option, Some, None, refl, sym}
+use Rattle.std.proofs.Common.{ap, ◌∙◌, append_assoc}
 use Rattle.std.specs.Prelude.{codes}
 use Rattle.std.specs.Int.{w64, to_be_bytes}
 use Rattle.std.specs.Prelude.{◌==◌}
 use Rattle.base64.specs.GeneralPurpose.{encode_of}
 use Rattle.base64.specs.Engines.{standard}
-use Rattle.json.specs.Token.{Token, key, string}
+use Rattle.json.specs.Token.{Token, key, string, end_object}
 use Rattle.json.specs.Json.{Members, member, no_members, boolean}
-use Rattle.json.specs.Tree.{members_tokens}
+use Rattle.json.specs.Tree.{json_tokens, members_tokens}
 use Rattle.shared_core_wire.specs.Acceptance.{accepts_payload}
+use Rattle.shared_core_wire.specs.Value.{Parts}
 use Rattle.shared_core_codec.specs.Table.{table}
 use Rattle.shared_core_codec.specs.Payloads.{IsAccepted, payload_meaning}
 use Rattle.shared_core_json.specs.Form.{byte_string_json, json_with}
@@ -27,6 +28,20 @@ pub shown_message : (texts : Bool) (schema : Option ℕ) (s : ℕ) (payload : Li
     payload → payload_members texts schema payload ≡ member (codes "message")
     (json_with texts s (payload_meaning s payload)) no_members
 shown_message texts schema s payload e a = rw (e, a) refl
+
+-- the member of a canonical payload that means what a well-formed one does
+pub shown_canonical : (texts : Bool) (schema : Option ℕ) (s : ℕ) (payload : List ℕ) (t : ℕ) (bytes : List ℕ)
+    (old named new : List Token) → schema ≡ Some s → IsAccepted s payload → t ≡ s
+    → payload_meaning s bytes ≡ payload_meaning s payload → named ≡ old ++ key (codes "message") ∷ []
+    → new ≡ named ++ json_tokens (json_with texts t (payload_meaning t bytes))
+    → new ++ end_object ∷ [] ≡ old ++ members_tokens (payload_members texts schema payload)
+shown_canonical texts schema s payload t bytes old named new e a k m n w =
+    let json = json_tokens (json_with texts s (payload_meaning s payload)) in
+    let written = w ∙ ap (λ (u : ℕ). named ++ json_tokens (json_with texts u (payload_meaning u bytes))) k
+    ∙ ap (λ (v : Parts). named ++ json_tokens (json_with texts s v)) m in
+    then_tokens named new json (end_object ∷ []) written
+    ∙ then_tokens old named (key (codes "message") ∷ []) (json ++ end_object ∷ []) n
+    ∙ ap (λ (ms : Members). old ++ members_tokens ms) (sym (shown_message texts schema s payload e a))
 
 not_accepted : (b : Bool) → ¬ (b ≡ true) → b ≡ false
 not_accepted true h = absurd (h refl)

@@ -1,9 +1,9 @@
 -- The result for a payload that is to be printed.
 use Rattle.std.specs.Prelude.{◌≡◌, ℕ, List, Option, Some, None, Result, Ok, Err}
-use Rattle.shared_core_codec.specs.Payloads.{IsAccepted, payload_meaning}
+use Rattle.shared_core_codec.specs.Payloads.{IsAccepted}
 use Rattle.shared_core_json.specs.declared.error.JsonError.{JsonError}
 use Rattle.shared_core_json.specs.declared.error.JsonError.TheVariants.{Malformed, TooLong, OutOfMemory}
-use Rattle.shared_core_json.specs.Payloads.{IsEncoding, IsTooLong}
+use Rattle.shared_core_json.specs.Payloads.{IsCanonicalOf, IsTooLong}
 
 -- There is a schema, the payload is well-formed for it, and the canonical payload of what it means is too long to be
 -- written.
@@ -15,8 +15,8 @@ IsLongFor schema payload = (s : ℕ) × (schema ≡ Some s) × IsTooLong s paylo
 -- None only if there is no schema.
 abbrev pub ReturnsEncoding : Option ℕ → List ℕ → List ℕ → Result (Option ℕ) JsonError → Type 0
 ReturnsEncoding schema payload canonical (Ok None) = schema ≡ None
-ReturnsEncoding schema payload canonical (Ok (Some s)) = (schema ≡ Some s) × IsAccepted s payload × IsEncoding s
-    (payload_meaning s payload) canonical
+ReturnsEncoding schema payload canonical (Ok (Some s)) = (schema ≡ Some s) × IsAccepted s payload × IsCanonicalOf s
+    payload canonical
 ReturnsEncoding schema payload canonical (Err Malformed) = (s : ℕ) × (schema ≡ Some s) × ¬ (IsAccepted s payload)
 ReturnsEncoding schema payload canonical (Err TooLong) = IsLongFor schema payload
 ReturnsEncoding schema payload canonical (Err OutOfMemory) = Unit {0}

@@ -10,8 +10,6 @@ ghost use Rattle.json.specs.Tree.{json_tokens, members_tokens};
 ghost use Rattle.shared_core_stream.specs.declared.encoding.item.Item.TheVariants as variant;
 ghost use Rattle.shared_core_base.specs.MessageType.{debug_name_of};
 ghost use Rattle.dump_lines.specs.Canonical.{IsLongFor};
-ghost use Rattle.dump_lines.specs.declared.lines.Form.TheVariants.{Encoded};
-ghost use Rattle.dump_lines.specs.declared.lines.Written.TheVariants.{Whole};
 ghost use Rattle.stream_lines.specs.Printing.{IsLack};
 ghost use Rattle.dump_lines.specs.Dump.{HasLongPayload};
 ghost use Rattle.shared_core_message.specs.Schemas.{schema_at};
@@ -26,7 +24,8 @@ use crate::scratch::Scratch;
 use bytes::Bytes;
 use json::Writer;
 use shared_core_base::header::MessageType;
-use shared_core_json::{JsonError, write_byte_string, write_encoding, write_if_canonical};
+use shared_core_fields::fields::CanonicalPayload;
+use shared_core_json::{JsonError, write_byte_string, write_payload};
 use shared_core_message::schemas::schema_at;
 use shared_core_stream::encoding::{Decoder, Item, RawMessage};
 use std::alloc::{AllocError, Global};
@@ -35,24 +34,6 @@ use stream_lines::PrintError;
 
 /// What a code is multiplied by in the word of a header.
 const CODE_UNIT: u128 = 1 << 48;
-
-/// Which bytes the JSON of a payload is written of.
-#[derive(Clone, Copy)]
-pub enum Form {
-    /// The payload as it was received.
-    Received,
-    /// The canonical encoding of what it means.
-    Encoded,
-}
-
-/// Whether an object was written.
-#[derive(Clone, Copy)]
-pub enum Written {
-    /// All of it.
-    Whole,
-    /// A part of it, up to a payload that is not canonical.
-    NotCanonical,
-}
 
 /// The code of an item.
 pub fn item_code(item: &Item) -> u16
@@ -95,42 +76,38 @@ pub fn write_rest(
     Ok(())
 }
 
-/// Writes the objects of items by these options, with each payload in one form.
+/// Writes the objects of items by these options.
 #[derive(Drop)]
 pub struct ItemWriter<'a, C> {
     pub alloc: Global,
     pub options: &'a Options<'a>,
     pub canonicalizer: &'a C,
-    pub form: Form,
 }
 
 impl<'a, C: Canonicalizer> ItemWriter<'a, C> {
-    /// Overwrites the line with the object of an item. Returns `NotCanonical` only if payloads are written as they were
-    /// received; then the line is unspecified.
+    /// Overwrites the line with the object of an item. After an error the line is unspecified.
     pub fn write_object(
         &self,
         offset: u128,
         word: u64,
         item: &Item,
         scratch: &mut Scratch,
-    ) -> Result<Written, PrintError>
-        ensures utf8 { IfOk result (λ _. IsUtf8 scratch.new.line.items) }
-        ensures printed { IfOk result (λ _. scratch.new.line.items ≡ print (tokens scratch.new.line.items)) }
-        ensures object { IfOk result (λ written. written ≡ Whole → tokens scratch.new.line.items
+    ) -> Result<(), PrintError>
+        ensures utf8 { OnOk result (IsUtf8 scratch.new.line.items) }
+        ensures printed { OnOk result (scratch.new.line.items ≡ print (tokens scratch.new.line.items)) }
+        ensures object { OnOk result (tokens scratch.new.line.items
             ≡ json_tokens (item_json self.now.options.now offset word item.now)) }
-        ensures whole { IfOk result (λ written. self.now.form ≡ Encoded → written ≡ Whole) }
         ensures lack { IfErr result (IsLack (HasLongPayload self.now.options.now item.now)) }
     {
         let mut line = mem::replace(&mut scratch.line, Vec::new(self.alloc));
         line.clear();
         let mut out = Writer::new(line);
-        let written = self.write_item(offset, word, item, scratch, &mut out)?;
+        self.write_item(offset, word, item, scratch, &mut out)?;
         scratch.line = out.into_inner();
-        Ok(written)
+        Ok(())
     }
 
-    /// Writes the object of an item. The result is that of `write_object`; if the payload is not canonical, some tokens
-    /// may be written.
+    /// Writes the object of an item.
     fn write_item(
         &self,
         offset: u128,
@@ -138,31 +115,29 @@ impl<'a, C: Canonicalizer> ItemWriter<'a, C> {
         item: &Item,
         scratch: &mut Scratch,
         out: &mut Writer,
-    ) -> Result<Written, PrintError>
-        ensures tokens { IfOk result (λ written. written ≡ Whole → out.new.tokens ≡ out.old.tokens
+    ) -> Result<(), PrintError>
+        ensures tokens { OnOk result (out.new.tokens ≡ out.old.tokens
             ++ json_tokens (item_json self.now.options.now offset word item.now)) }
-        ensures whole { IfOk result (λ written. self.now.form ≡ Encoded → written ≡ Whole) }
         ensures before { out.new.before ≡ out.old.before }
         ensures lack { IfErr result (IsLack (HasLongPayload self.now.options.now item.now)) }
     {
         out.begin_object()?;
         write_offset(out, offset, &mut scratch.text)?;
-        let written = self.write_members(word, item, scratch, out)?;
+        self.write_members(word, item, scratch, out)?;
         out.end_object()?;
-        Ok(written)
+        Ok(())
     }
 
-    /// Writes the members of an item after its offset. The result is that of `write_object`.
+    /// Writes the members of an item after its offset.
     fn write_members(
         &self,
         word: u64,
         item: &Item,
         scratch: &mut Scratch,
         out: &mut Writer,
-    ) -> Result<Written, PrintError>
-        ensures tokens { IfOk result (λ written. written ≡ Whole → out.new.tokens ++ end_object ∷ [] ≡ out.old.tokens
+    ) -> Result<(), PrintError>
+        ensures tokens { OnOk result (out.new.tokens ++ end_object ∷ [] ≡ out.old.tokens
             ++ members_tokens (item_members self.now.options.now word item.now)) }
-        ensures whole { IfOk result (λ written. self.now.form ≡ Encoded → written ≡ Whole) }
         ensures before { out.new.before ≡ out.old.before }
         ensures lack { IfErr result (IsLack (HasLongPayload self.now.options.now item.now)) }
     {
@@ -175,20 +150,19 @@ impl<'a, C: Canonicalizer> ItemWriter<'a, C> {
                 write_skipped(self.options, word, *code, payload, &mut scratch.base64, out)?;
             }
         }
-        Ok(Written::Whole)
+        Ok(())
     }
 
-    /// Writes the members of a message after its offset. The result is that of `write_object`.
+    /// Writes the members of a message after its offset.
     fn write_message_members(
         &self,
         word: u64,
         message: &RawMessage,
         scratch: &mut Scratch,
         out: &mut Writer,
-    ) -> Result<Written, PrintError>
-        ensures tokens { IfOk result (λ written. written ≡ Whole → out.new.tokens ++ end_object ∷ [] ≡ out.old.tokens
+    ) -> Result<(), PrintError>
+        ensures tokens { OnOk result (out.new.tokens ++ end_object ∷ [] ≡ out.old.tokens
             ++ members_tokens (item_members self.now.options.now word (variant.Message message.now))) }
-        ensures whole { IfOk result (λ written. self.now.form ≡ Encoded → written ≡ Whole) }
         ensures before { out.new.before ≡ out.old.before }
         ensures lack { IfErr result (IsLack ((self.now.options.now.payloads ≡ true) × IsLongFor
             (schema_at self.now.options.now.version message.now.header.ty) message.now.payload)) }
@@ -204,41 +178,35 @@ impl<'a, C: Canonicalizer> ItemWriter<'a, C> {
         if self.options.payloads {
             return self.write_payload(ty, message.payload(), scratch, out);
         }
-        Ok(Written::Whole)
+        Ok(())
     }
 
-    /// Writes the members of a message's payload. The result is that of `write_object`.
+    /// Writes the members of a message's payload.
     fn write_payload(
         &self,
         ty: MessageType,
         payload: &Bytes,
         scratch: &mut Scratch,
         out: &mut Writer,
-    ) -> Result<Written, PrintError>
-        ensures tokens { IfOk result (λ written. written ≡ Whole → out.new.tokens ++ end_object ∷ [] ≡ out.old.tokens
+    ) -> Result<(), PrintError>
+        ensures tokens { OnOk result (out.new.tokens ++ end_object ∷ [] ≡ out.old.tokens
             ++ members_tokens (payload_members self.now.options.now.texts
             (schema_at self.now.options.now.version ty) payload.now)) }
-        ensures whole { IfOk result (λ written. self.now.form ≡ Encoded → written ≡ Whole) }
         ensures before { out.new.before ≡ out.old.before }
         ensures lack { IfErr result (IsLack (IsLongFor (schema_at self.now.options.now.version ty) payload.now)) }
     {
-        if let Form::Encoded = self.form {
-            self.write_encoded(ty, payload, scratch, out)?;
-            return Ok(Written::Whole);
-        }
         let texts = self.options.texts;
         let Some(schema) = schema_at(self.options.version, ty) else {
             // the payload of a custom entry is opaque
             write_bytes(out, texts, payload, &mut scratch.base64)?;
-            return Ok(Written::Whole);
+            return Ok(());
+        };
+        let Some(checked) = CanonicalPayload::check(schema, payload.as_slice()) else {
+            return self.write_encoded(ty, payload, scratch, out);
         };
         out.key("message")?;
-        let base64 = &mut scratch.base64;
-        if write_if_canonical(out, base64, texts, schema, payload.as_slice())? {
-            Ok(Written::Whole)
-        } else {
-            Ok(Written::NotCanonical)
-        }
+        write_payload(out, &mut scratch.base64, texts, checked)?;
+        Ok(())
     }
 
     /// Writes the members of a message's payload, by the canonical encoding of what it means.
@@ -260,9 +228,8 @@ impl<'a, C: Canonicalizer> ItemWriter<'a, C> {
         match canonicalizer.canonical_of(self.alloc, version, ty, payload, &mut scratch.canonical) {
             Ok(Some(schema)) => {
                 out.key("message")?;
-                let canonical = scratch.canonical.as_slice();
-                let base64 = &mut scratch.base64;
-                write_encoding(out, base64, texts, schema, canonical)?;
+                let canonical = CanonicalPayload::known(schema, scratch.canonical.as_slice());
+                write_payload(out, &mut scratch.base64, texts, canonical)?;
             }
             Ok(None) => write_bytes(out, texts, payload, &mut scratch.base64)?,
             Err(JsonError::Malformed) => {

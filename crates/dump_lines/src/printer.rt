@@ -12,7 +12,7 @@ ghost use Rattle.dump_lines.specs.Spread.{AreGood, tokens_text};
 ghost use Rattle.dump_lines.specs.Terminal.{rest_options};
 
 use crate::canonicalizer::Canonicalizer;
-use crate::lines::{Form, ItemWriter, Written, is_selected, item_code, write_rest};
+use crate::lines::{ItemWriter, is_selected, item_code, write_rest};
 use crate::options::Options;
 use crate::pretty::pretty_text;
 use crate::scratch::Scratch;
@@ -82,17 +82,12 @@ impl<'a, C: Canonicalizer> LinePrinter for Printer<'a, C> {
         if !is_selected(options.codes, item_code(&item)) {
             return Ok(());
         }
-        let mut writer = ItemWriter {
+        let writer = ItemWriter {
             alloc,
             options,
             canonicalizer: self.canonicalizer,
-            form: Form::Received,
         };
-        if let Written::NotCanonical = writer.write_object(offset, word, &item, scratch)? {
-            // the object begins anew
-            writer.form = Form::Encoded;
-            writer.write_object(offset, word, &item, scratch)?;
-        }
+        writer.write_object(offset, word, &item, scratch)?;
         Ok(append_object(alloc, options.pretty, scratch.line.as_slice(), lines)?)
     }
 

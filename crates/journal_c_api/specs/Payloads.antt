@@ -15,7 +15,7 @@ use Rattle.shared_core_message.specs.Messages.{message_schema}
 use Rattle.shared_core.specs.Typed.{MeansParts}
 use Rattle.shared_core.specs.Visiting.{written_form}
 use Rattle.shared_core_json.specs.Form.{json_text}
-use Rattle.shared_core_json.specs.Payloads.{IsEncoding, IsTooLong}
+use Rattle.shared_core_json.specs.Payloads.{IsCanonicalOf, IsTooLong}
 use Rattle.journal_c_api.specs.declared.outcome.CallError.{CallError}
 use Rattle.journal_c_api.specs.declared.outcome.CallError.TheVariants.{Malformed, MalformedSecond, OutOfMemory, TooLong}
 use Rattle.journal_c_api.specs.declared.outcome.CallError.TheVariants.{UnknownSchema, UnknownType}
@@ -71,8 +71,7 @@ ReturnsCanonical s payload outcome = ReturnsMerged s payload [] outcome × Keeps
 -- If the payload is well-formed for the schema, the result is the canonical payload of what it means, or that it is too
 -- long for a header; otherwise it is Malformed. An allocation may fail.
 abbrev pub EncodesPayload : {Z : Type 0} → ℕ → List ℕ → Result (Vec ℕ Z) CallError → Type 0
-EncodesPayload s payload (Ok canonical) = IsAccepted s payload × IsEncoding s (payload_meaning s payload)
-    canonical.items
+EncodesPayload s payload (Ok canonical) = IsAccepted s payload × IsCanonicalOf s payload canonical.items
 EncodesPayload s payload (Err Malformed) = ¬ (IsAccepted s payload)
 EncodesPayload s payload (Err TooLong) = IsTooLong s payload
 EncodesPayload s payload (Err OutOfMemory) = Unit {0}

@@ -10,9 +10,9 @@ use bytes::Bytes;
 use json::Writer;
 use shared_core::messages::{RecordVisitor, visit_record};
 use shared_core::wire::{WireRecord, decode_parts};
-use shared_core_codec::canonical::is_canonical;
 use shared_core_codec::check;
-use shared_core_json::{write_canonical as encode_canonical, write_encoding, write_if_canonical};
+use shared_core_fields::fields::CanonicalPayload;
+use shared_core_json::{write_canonical as encode_canonical, write_payload};
 use std::alloc::Global;
 use std::fmt::Debug;
 
@@ -27,7 +27,7 @@ pub fn write_canonical(
 ) -> Result<usize, CallError>
     ensures { Writes (ReturnsCanonical schema payload.now) out.old out.new result }
 {
-    if check::is_schema(schema) && is_canonical(schema, payload) {
+    if check::is_schema(schema) && CanonicalPayload::check(schema, payload).is_some() {
         write_over(payload, out);
         return Ok(payload.len());
     }
@@ -169,24 +169,25 @@ fn json(alloc: Global, schema: u32, payload: &[u8]) -> Result<Vec<u8>, CallError
     }
     let mut text = Writer::new(Vec::new(alloc));
     let mut base64 = Vec::new(alloc);
-    if write_if_canonical(&mut text, &mut base64, false, schema, payload)? {
+    if let Some(checked) = CanonicalPayload::check(schema, payload) {
+        write_payload(&mut text, &mut base64, false, checked)?;
         return Ok(text.into_inner());
     }
-    let decoding = CanonicalPayload { alloc, payload };
-    let canonical = visit_record(schema, decoding).ok_or(CallError::UnknownSchema)??;
-    text = Writer::new(Vec::new(alloc));
-    write_encoding(&mut text, &mut base64, false, schema, canonical.as_slice())?;
+    let printing = Printing { alloc, payload };
+    let canonical = visit_record(schema, printing).ok_or(CallError::UnknownSchema)??;
+    let known = CanonicalPayload::known(schema, canonical.as_slice());
+    write_payload(&mut text, &mut base64, false, known)?;
     Ok(text.into_inner())
 }
 
 /// Decodes a payload, and returns the canonical payload of what it means, from which the JSON is made.
 #[derive(Drop)]
-struct CanonicalPayload<'a> {
+struct Printing<'a> {
     alloc: Global,
     payload: &'a [u8],
 }
 
-impl<'a> RecordVisitor for CanonicalPayload<'a> {
+impl<'a> RecordVisitor for Printing<'a> {
     type Output = Result<Vec<u8>, CallError>;
 
     ghost results = { λ self schema output. EncodesPayload schema self.payload.now output };

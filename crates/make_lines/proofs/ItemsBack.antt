@@ -26,8 +26,7 @@ use Rattle.shared_core_json.specs.Form.{byte_string_json, members_json, json_wit
 use Rattle.shared_core_json_reader.specs.declared.error.Reason.TheVariants.{OutOfRange}
 use Rattle.shared_core_json_reader.specs.Scalars.{bytes_read}
 use Rattle.shared_core_json_reader.specs.FirstError.{number_reason, bytes_reason, value_error}
-use Rattle.shared_core_json_reader.proofs.LawOfJson.{back_bytes}
-use Rattle.shared_core_json_reader.proofs.Meanings.{accepted_means}
+use Rattle.shared_core_json.proofs.Meanings.{accepted_means, back_bytes}
 use Rattle.shared_core_json_reader.proofs.ScalarsBack.{u32_back, bytes_back, byte_string_back, byte_string_there}
 use Rattle.shared_core_json_reader.proofs.TreeBack.{message_back}
 use Rattle.shared_core_json_reader.proofs.NamesApart.{same_bytes}

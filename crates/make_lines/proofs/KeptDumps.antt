@@ -15,7 +15,7 @@ use Rattle.shared_core_wire.specs.Canonical.{canonical_payload}
 use Rattle.shared_core_codec.specs.Table.{table}
 use Rattle.shared_core_codec.specs.Payloads.{payload_meaning}
 use Rattle.shared_core_codec.specs.Canonicity.{IsCanonical}
-use Rattle.shared_core_json_reader.proofs.LawOfJson.{back_bytes}
+use Rattle.shared_core_json.proofs.Meanings.{back_bytes}
 use Rattle.shared_core_stream.specs.declared.encoding.item.Item.{Item}
 use Rattle.shared_core_stream.specs.declared.encoding.item.Item.TheVariants.{Unknown, Skipped}
 use Rattle.shared_core_message.specs.Schemas.{schema_at}

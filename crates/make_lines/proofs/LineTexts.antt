@@ -25,7 +25,7 @@ use Rattle.shared_core_codec.specs.Table.{table}
 use Rattle.shared_core_codec.specs.Payloads.{payload_meaning}
 use Rattle.shared_core_json.specs.Form.{byte_string_json, json_with}
 use Rattle.shared_core_json_reader.proofs.LawOfJson.{byte_string_depth, value_low}
-use Rattle.shared_core_json_reader.proofs.Meanings.{accepted_means}
+use Rattle.shared_core_json.proofs.Meanings.{accepted_means}
 use Rattle.shared_core_json_reader.proofs.Printed.{are_visible, visible_decimal, MayPrint, MembersMay, TokenMay}
 use Rattle.shared_core_json_reader.proofs.Printed.{TokensMay, tokens_may, printed_back}
 use Rattle.shared_core_json_reader.proofs.PrintedValues.{byte_string_may, value_may}

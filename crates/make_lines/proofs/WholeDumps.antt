@@ -18,7 +18,7 @@ use Rattle.shared_core_base.specs.declared.version.Version.{Version}
 use Rattle.shared_core_base.specs.Version.{skips_unknown_messages}
 use Rattle.shared_core_base.specs.MessageType.{type_of}
 use Rattle.shared_core_json.specs.Form.{byte_string_json}
-use Rattle.shared_core_json_reader.proofs.LawOfJson.{back_bytes}
+use Rattle.shared_core_json.proofs.Meanings.{back_bytes}
 use Rattle.shared_core_json_reader.proofs.ScalarsBack.{byte_string_back, byte_string_there}
 use Rattle.shared_core_stream.specs.declared.encoding.item.Item.{Item}
 use Rattle.shared_core_stream.specs.declared.encoding.item.Item.TheVariants.{Message, Unknown, Skipped}

@@ -1,7 +1,6 @@
 pub mod NamesAt
-pub mod InRows
-pub mod Walk
-pub mod Lookup
 pub mod Members
-pub mod Levels
-pub mod Payloads
+pub mod Values
+pub mod PlainScalars
+pub mod Meanings
+pub mod CanonicalBytes

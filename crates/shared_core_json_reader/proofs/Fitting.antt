@@ -10,15 +10,16 @@ use Rattle.std.proofs.lemmas.Str.{is_utf8-from_IsUtf8, IsUtf8-nil}
 use Rattle.json.specs.Json.{Json, null, boolean, number, string, array, object, Items, no_items, item, Members}
 use Rattle.json.specs.Find.{as_str}
 use Rattle.shared_core_wire.specs.Schema.{Kind, Row, U32, U64, Boolean, Enumeration, Text, ByteString, Message}
-use Rattle.shared_core_wire.specs.Schema.{table_of, includes, member_kind, all_numbers}
+use Rattle.shared_core_wire.specs.Schema.{includes, member_kind, all_numbers}
 use Rattle.shared_core_wire.specs.Schema as schema
 use Rattle.shared_core_wire.specs.Value.{Part, Parts, Absent, Number, Bytes, Nested, Elements, Member, nil, cons}
 use Rattle.shared_core_wire.specs.Value.{default_of}
 use Rattle.shared_core_wire.specs.Canonical.{kind_of, part_levels, levels}
 use Rattle.shared_core_wire.specs.Fitting.{is_single, has_shape, NumberFits, PartFits, ElementsFit, Fits}
 use Rattle.shared_core_wire.proofs.Runs.{and_split, and_join}
-use Rattle.shared_core_codec.specs.Table.{schemas, table}
+use Rattle.shared_core_codec.specs.Table.{table}
 use Rattle.shared_core_codec.proofs.Tables.{are_schemas}
+use Rattle.shared_core_json.proofs.PlainScalars.{is_scalar, plain_scalars, have_scalars}
 use Rattle.shared_core_json_reader.specs.EnumValues.{EnumField, enum_fields}
 use Rattle.shared_core_json_reader.specs.Rows.{NamedField, NamedRow, Plain, Optional, Repeated, OneOf, named_field}
 use Rattle.shared_core_json_reader.specs.Rows.{named_row, named_rows, enum_values, values_in}
@@ -102,16 +103,6 @@ enum_fits values j m low e = by_name (option_and_then (value_named values) (as_s
     by_name None q h = let w = some_then signed_bits (whole_read j) m h in signed_fits w.0 m w.2
     by_name (Some x) q h = let y : x ≡ m = cc in let w = some_then (value_named values) (as_str j) x q in omega
         (arith, named_fits values w.0 x low w.2, y)
-
--- a kind whose default is there
-abbrev pub is_scalar : Kind → Bool
-is_scalar U32 = true
-is_scalar U64 = true
-is_scalar Boolean = true
-is_scalar Enumeration = true
-is_scalar Text = true
-is_scalar ByteString = true
-is_scalar (Message s) = false
 
 abbrev pub FieldsLow : List NamedField → Type 0
 FieldsLow [] = Unit {0}
@@ -315,24 +306,6 @@ module _ (nested : ℕ → Json → Option Parts) (bound : ℕ) (fit : (s : ℕ)
       (some_if (are_known rows ms) (rows_read nested ms rows) ps e).1
 
 -- ---- the rows of the schemas
-
--- no plain field is a message
-unfoldable pub plain_scalars : List Row → Bool
-plain_scalars [] = true
-plain_scalars (schema.Plain n k ∷ rows) = is_scalar k && plain_scalars rows
-plain_scalars (schema.Optional n k ∷ rows) = plain_scalars rows
-plain_scalars (schema.Repeated n k ∷ rows) = plain_scalars rows
-plain_scalars (schema.OneOf members ∷ rows) = plain_scalars rows
-
-each_has : (all : List (List Row)) → list_all plain_scalars all ≡ true → (s : ℕ) → plain_scalars (table_of all s) ≡ true
-unfolding plain_scalars
-each_has [] h s = refl
-each_has (rows ∷ all) h zero = (and_split _ _ h).0
-each_has (rows ∷ all) h (suc s) = each_has all (and_split _ _ h).1 s
-
-pub have_scalars : (s : ℕ) → plain_scalars (table s) ≡ true
-unfolding plain_scalars
-have_scalars s = each_has schemas refl s
 
 low_in : (fields : List EnumField) → list_all (λ f. are_low f.values) fields ≡ true → (s n : ℕ) → are_low
     (values_in fields s n) ≡ true

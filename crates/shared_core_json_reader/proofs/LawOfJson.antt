@@ -30,7 +30,8 @@ use Rattle.shared_core_json.specs.Form.{items_json, members_json, json_with}
 use Rattle.shared_core_json_reader.specs.Laws.{JsonIsReadBack}
 use Rattle.shared_core_json_reader.specs.Reading.{only_value, text_payload}
 use Rattle.shared_core_json_reader.proofs.Agreeing.{out_of}
-use Rattle.shared_core_json_reader.proofs.TreeBack.{PartBytes, PartsBytes, message_back}
+use Rattle.shared_core_json.proofs.Meanings.{PartBytes, PartsBytes, back_bytes}
+use Rattle.shared_core_json_reader.proofs.TreeBack.{message_back}
 use Rattle.shared_core_json_reader.proofs.Whole.{IsText, of_tokens, text_of_value}
 
 -- ---- how deep the JSON of a value is
@@ -143,10 +144,6 @@ mutual
       (omega (arith, members_low texts ns ps rows f.2))
 
 -- ---- the bytes of a value are those of its payload
-
-pub back_bytes : (a b : List ℕ) → IsBytes (a ++ b) → IsBytes b
-back_bytes [] b h = h
-back_bytes (x ∷ a) b h = back_bytes a b (λ i. h (suc i))
 
 no_bytes : (b : List ℕ) → length b ≡ 0 → IsBytes b
 no_bytes [] e i = omega arith

@@ -15,4 +15,4 @@ pub mod LawOfJson
 pub mod ReadAgain
 pub mod Printed
 pub mod PrintedValues
-pub mod Meanings
+pub mod WellFormedBack

@@ -19,7 +19,7 @@ use Rattle.shared_core_codec.specs.Table.{table}
 use Rattle.shared_core_codec.proofs.Tables.{are_schemas}
 use Rattle.shared_core_json.specs.Fields.{names_of, name_of}
 use Rattle.shared_core_json.specs.Form.{is_present, member_if, part_json, items_json, members_json, json_with}
-use Rattle.shared_core_json.proofs.Lookup.{not_before}
+use Rattle.shared_core_json.proofs.Meanings.{PartBytes, PartsBytes}
 use Rattle.shared_core_json_reader.specs.Rows.{NamedField, NamedRow, Plain, Optional, Repeated, named_field, named_row}
 use Rattle.shared_core_json_reader.specs.Rows.{named_rows}
 use Rattle.shared_core_json_reader.specs.Reading.{original_name, is_named, names_field, row_names, names_row, are_known}
@@ -31,22 +31,14 @@ use Rattle.shared_core_json_reader.proofs.NamesApart.{names_key, names_apart, sa
 use Rattle.shared_core_json_reader.proofs.ScalarsBack.{u32_back, u64_back, boolean_back, enum_back, text_back}
 use Rattle.shared_core_json_reader.proofs.ScalarsBack.{byte_string_back, byte_string_there}
 
--- ---- what the bytes of a value are
-
-abbrev mutual
-  pub PartBytes : Part → Type 0
-  PartBytes Absent = Unit {0}
-  PartBytes (Number n) = Unit {0}
-  PartBytes (Bytes b) = IsBytes b
-  PartBytes (Nested ps) = PartsBytes ps
-  PartBytes (Elements ps) = PartsBytes ps
-  PartBytes (Member n p) = PartBytes p
-
-  pub PartsBytes : Parts → Type 0
-  PartsBytes nil = Unit {0}
-  PartsBytes (cons p ps) = PartBytes p × PartsBytes ps
-
 -- ---- the members of an object
+
+not_before : (xs ys : List ℕ) (n : ℕ) → are_distinct (xs ++ ys) ≡ true → includes ys n ≡ true → includes xs n ≡ false
+not_before xs ys n d h = by_test (includes xs n) refl
+  where
+    by_test : (b : Bool) → includes xs n ≡ b → b ≡ false
+    by_test true e = absurd (let q : includes ys n ≡ false = distinct_other xs ys n d e in cc)
+    by_test false e = refl
 
 own_number : (n : ℕ) → includes (n ∷ []) n ≡ true
 own_number n = ap (λ (b : Bool). b || false) (eq-eqb n n refl)

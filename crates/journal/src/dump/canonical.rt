@@ -2,8 +2,8 @@
 
 ghost use Rattle.std.specs.Prelude.{IfOk};
 ghost use Rattle.std.specs.Result.{IsErrOf};
-ghost use Rattle.shared_core_codec.specs.Payloads.{IsAccepted, payload_meaning};
-ghost use Rattle.shared_core_json.specs.Payloads.{IsEncoding, IsTooLong};
+ghost use Rattle.shared_core_codec.specs.Payloads.{IsAccepted};
+ghost use Rattle.shared_core_json.specs.Payloads.{IsCanonicalOf, IsTooLong};
 ghost use Rattle.shared_core_json.specs.declared.error.JsonError.TheVariants.{Malformed, TooLong};
 
 use bytes::Bytes;
@@ -61,7 +61,7 @@ impl<'a> RecordVisitor for Writing<'a> {
 
     ghost results = { λ self schema output.
         IfOk output (λ buffer. IsAccepted schema self.payload.now
-        × IsEncoding schema (payload_meaning schema self.payload.now) buffer.items)
+        × IsCanonicalOf schema self.payload.now buffer.items)
         × (IsErrOf output Malformed → ¬ (IsAccepted schema self.payload.now))
         × (IsErrOf output TooLong → IsTooLong schema self.payload.now) };
 

@@ -1,13 +1,15 @@
-use Rattle.std.proofs.Common.{◌≡◌, ◌++◌, map, length}
-use Rattle.shared_core_json.specs.Written.{number_token, numbers_past}
+use Rattle.std.proofs.Common.{◌≡◌, ◌++◌, Bool}
+use Rattle.json.specs.Tree.{items_tokens}
+use Rattle.shared_core_wire.specs.Overlay.{low_numbers}
+use Rattle.shared_core_wire.specs.Schema.{U32}
+use Rattle.shared_core_fields.specs.Runs.{run_numbers, numbers_left}
+use Rattle.shared_core_json.specs.Form.{items_json}
 use Rattle.shared_core_json.proofs.write.write_run.Given as goal
 
 abbrev pub invariant-loop-number : goal.invariant-loop-number
 invariant-loop-number l = record {
-  tokens : l.out.tokens ++ map number_token (numbers_past 0 l.rest) ≡ l.initial.out.tokens ++ map number_token
-      (numbers_past 0 l.run);
+  tokens : (texts : Bool)
+      → l.out.tokens ++ items_tokens (items_json texts (low_numbers (numbers_left l.number-iterator)) U32)
+      ≡ l.initial.out.tokens ++ items_tokens (items_json texts (low_numbers (run_numbers l.run.bytes.now)) U32);
   before : l.out.before ≡ l.fn.out.before;
 }
-
-abbrev pub decreases-loop-number : goal.decreases-loop-number
-decreases-loop-number l = length l.rest

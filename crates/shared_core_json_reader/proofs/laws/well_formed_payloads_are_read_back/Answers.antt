@@ -1,4 +1,4 @@
-use Rattle.shared_core_json_reader.proofs.Meanings.{well_formed_back, printed_well_formed}
+use Rattle.shared_core_json_reader.proofs.WellFormedBack.{well_formed_back, printed_well_formed}
 use Rattle.shared_core_json_reader.proofs.laws.well_formed_payloads_are_read_back.Goals as goal
 
 pub returns-clause-printed : goal.returns-clause-printed

@@ -4,33 +4,25 @@ use Rattle.json.specs.Token.{key, boolean, end_object}
 use Rattle.json.specs.Json.{Members}
 use Rattle.json.specs.Tree.{json_tokens, members_tokens}
 use Rattle.shared_core_codec.specs.Payloads.{payload_meaning}
-use Rattle.shared_core_json.specs.Form.{byte_string_json, json_with}
-use Rattle.shared_core_json.specs.Payloads.{IsEncoding, WritesJson}
+use Rattle.shared_core_json.specs.Form.{byte_string_json}
 use Rattle.shared_core_json.specs.declared.error.JsonError.TheVariants.{Malformed}
 use Rattle.dump_lines.specs.Canonical.{ReturnsEncoding}
 use Rattle.shared_core_message.specs.Schemas.{schema_at}
-use Rattle.dump_lines.proofs.Tokens.{then_tokens, shown_message, shown_malformed}
+use Rattle.dump_lines.proofs.Tokens.{then_tokens, shown_canonical, shown_malformed}
 use Rattle.dump_lines.proofs.lines.ItemWriter.write_encoded.Goals as goal
 
-pub returns-in_ok-write_encoding-in-Ok-Some-clause-tokens : goal.returns-in_ok-write_encoding-in-Ok-Some-clause-tokens
-returns-in_ok-write_encoding-in-Ok-Some-clause-tokens g c =
+pub returns-in_ok-write_payload-in-Ok-Some-clause-tokens : goal.returns-in_ok-write_payload-in-Ok-Some-clause-tokens
+returns-in_ok-write_payload-in-Ok-Some-clause-tokens g c =
     let s = c.in-Ok-Some.schema in
     let payload = c.args.payload.now in
+    let known = c.known-canonical.result in
     let found : ReturnsEncoding (schema_at c.args.self.now.options.now.version c.args.ty) payload
     c.canonical_of.new.canonical.items (Ok (Some s)) = search rules in
-    let written : WritesJson c.args.self.now.options.now.texts s c.as_slice-canonical.result.now c.key.new.self.tokens
-    c.write_encoding.new.out.tokens = search rules in
-    let name : c.key.new.self.tokens ≡ c.args.out.now.tokens ++ (key (codes "message") ∷ []) = search rules in
-    let encoding : IsEncoding s (payload_meaning s payload) c.as_slice-canonical.result.now = rw
-    c.as_slice-canonical.ensures.value found.2 in
-    let json = json_tokens (json_with c.args.self.now.options.now.texts s (payload_meaning s payload)) in
-    then_tokens c.key.new.self.tokens c.write_encoding.new.out.tokens json (end_object ∷ [])
-    (written (payload_meaning s payload) encoding)
-    ∙ then_tokens c.args.out.now.tokens c.key.new.self.tokens (key (codes "message") ∷ []) (json ++ (end_object ∷ []))
-    name
-    ∙ ap (λ (ms : Members). c.args.out.now.tokens ++ members_tokens ms)
-    (sym (shown_message c.args.self.now.options.now.texts (schema_at c.args.self.now.options.now.version c.args.ty)
-    s payload found.0 found.1))
+    let is : known.bytes.now ≡ c.canonical_of.new.canonical.items = search rules in
+    shown_canonical c.args.self.now.options.now.texts _ s payload known.schema known.bytes.now
+    c.args.out.now.tokens c.key.new.self.tokens c.write_payload.new.out.tokens found.0 found.1
+    c.known-canonical.ensures.same.0 (ap (payload_meaning s) is ∙ found.2.same)
+    (search rules) (search rules)
 
 pub returns-in_ok-write_bytes-in-Err-Malformed-clause-tokens :
     goal.returns-in_ok-write_bytes-in-Err-Malformed-clause-tokens

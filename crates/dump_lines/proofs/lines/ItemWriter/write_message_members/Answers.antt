@@ -1,4 +1,5 @@
 use Rattle.std.proofs.Common.{◌≡◌, [], ◌∷◌, ◌++◌, rules, length, ◌∙◌}
+use Rattle.std.proofs.lemmas.Result.{on_ok_weaker}
 use Rattle.std.specs.Prelude.{codes, decimal}
 use Rattle.json.specs.Token.{key, string, number, end_object}
 use Rattle.json.specs.Json.{no_members}
@@ -7,7 +8,6 @@ use Rattle.shared_core_base.specs.MessageType.{code_of, debug_name_of}
 use Rattle.shared_core_base.specs.MessageHeader.{word_of}
 use Rattle.shared_core_message.specs.Schemas.{schema_at}
 use Rattle.dump_lines.specs.Lines.{ack_tokens, header_tokens, payload_members}
-use Rattle.shared_core_json.proofs.Walk.{if_both}
 use Rattle.dump_lines.proofs.Tokens.{head_with_header}
 use Rattle.dump_lines.proofs.lines.ItemWriter.write_message_members.Goals as goal
 
@@ -26,11 +26,11 @@ returns-then-self-clause-tokens g c =
     (word_of message.header) = search rules in
     let members = payload_members c.args.self.now.options.now.texts
     (schema_at c.args.self.now.options.now.version message.header.ty) message.payload in
-    rw c.if-self.true (if_both c.write_payload.result
-    (λ w e f t. let last : c.write_payload.new.out.tokens ++ (end_object ∷ []) ≡ c.write_header.new.out.tokens ++
-    members_tokens members = search (rules, f t) in last ∙ head_with_header c.args.out.now.tokens _ _ _ _ _ _ _ _
+    rw c.if-self.true (on_ok_weaker c.write_payload.result
+    (λ t. let last : c.write_payload.new.out.tokens ++ (end_object ∷ []) ≡ c.write_header.new.out.tokens ++
+    members_tokens members = search (rules, t) in last ∙ head_with_header c.args.out.now.tokens _ _ _ _ _ _ _ _
     message.header.requested_ack c.args.word (word_of message.header) members ty code len ack head)
-    c.write_payload.ensures.tokens c.write_payload.ensures.tokens)
+    c.write_payload.ensures.tokens)
 
 pub returns-clause-tokens : goal.returns-clause-tokens
 returns-clause-tokens g c =
@@ -45,5 +45,5 @@ returns-clause-tokens g c =
     search rules in
     let head : c.write_header.new.out.tokens ≡ c.write_ack.new.out.tokens ++ header_tokens c.args.word
     (word_of message.header) = search rules in
-    rw c.if-self.false (λ e. head_with_header c.args.out.now.tokens _ _ _ _ _ _ _ _ message.header.requested_ack
+    rw c.if-self.false (head_with_header c.args.out.now.tokens _ _ _ _ _ _ _ _ message.header.requested_ack
     c.args.word (word_of message.header) no_members ty code len ack head)

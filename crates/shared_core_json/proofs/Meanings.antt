@@ -1,7 +1,7 @@
 -- What a well-formed payload means fits its schema, is at most one hundred levels deep, and its bytes are the
 -- payload's.
 use Rattle.std.proofs.Common.{◌≡◌, ℕ, zero, suc, ◌^◌, ◌<◌, ◌≤◌, List, [], ◌∷◌, ◌++◌, Bool, true, false, cond, ◌&&◌}
-use Rattle.std.proofs.Common.{Option, Some, None, option_map, refl, sym, ap, subst, ◌∙◌, append-nil, arith, eqb, eq-eqb}
+use Rattle.std.proofs.Common.{Option, Some, None, refl, sym, ap, subst, ◌∙◌, append-nil, arith, eqb, eq-eqb}
 use Rattle.std.proofs.lemmas.Bool.{eqb-true}
 use Rattle.std.proofs.lemmas.Str.{is_utf8-from_IsUtf8, IsUtf8-nil}
 use Rattle.std.specs.List.{list_all}
@@ -20,25 +20,35 @@ use Rattle.shared_core_wire.specs.Overlay.{NestedOverlay, last, values, joined_c
 use Rattle.shared_core_wire.specs.Overlay.{last_run, number_part, scalar_part, message_in, low_numbers, packed_elements}
 use Rattle.shared_core_wire.specs.Overlay.{with_elements, member_at, singular_of, singular_over, elements_of}
 use Rattle.shared_core_wire.specs.Overlay.{all_elements, row_over, rows_over, or_empty, message_overlay}
-use Rattle.json.specs.Tree.{json_tokens}
-use Rattle.json.specs.Print.{print}
-use Rattle.shared_core_json.specs.Form.{json_with}
-use Rattle.shared_core_wire.specs.Canonical.{canonical_payload, kind_of, part_levels, levels}
+use Rattle.shared_core_wire.specs.Canonical.{kind_of, part_levels, levels}
 use Rattle.shared_core_wire.specs.Fitting.{is_single, has_shape, PartFits, ElementsFit, Fits}
 use Rattle.shared_core_wire.proofs.Merging.{accepts_payload-append}
 use Rattle.shared_core_wire.proofs.RecordLists.{records_reads}
 use Rattle.shared_core_wire.proofs.Runs.{and_split, and_join}
 use Rattle.shared_core_codec.specs.Table.{table}
 use Rattle.shared_core_codec.specs.Payloads.{IsAccepted, payload_meaning}
-use Rattle.shared_core_json_reader.proofs.Fitting.{is_scalar, plain_scalars, have_scalars}
-use Rattle.shared_core_json_reader.specs.Laws.{WellFormedIsReadBack, PrintedIsReadBack}
-use Rattle.shared_core_json_reader.proofs.LawOfJson.{back_bytes, value_low, value_back}
-use Rattle.shared_core_json_reader.proofs.Printed.{printed_back}
-use Rattle.shared_core_json_reader.proofs.PrintedValues.{value_may}
-use Rattle.shared_core_json_reader.proofs.Whole.{text_of_value}
-use Rattle.shared_core_json_reader.proofs.TreeBack.{PartBytes, PartsBytes, message_back}
+use Rattle.shared_core_json.proofs.PlainScalars.{is_scalar, plain_scalars, have_scalars}
+
+-- ---- what the bytes of a value are
+
+abbrev mutual
+  pub PartBytes : Part → Type 0
+  PartBytes Absent = Unit {0}
+  PartBytes (Number n) = Unit {0}
+  PartBytes (Bytes b) = IsBytes b
+  PartBytes (Nested ps) = PartsBytes ps
+  PartBytes (Elements ps) = PartsBytes ps
+  PartBytes (Member n p) = PartBytes p
+
+  pub PartsBytes : Parts → Type 0
+  PartsBytes nil = Unit {0}
+  PartsBytes (cons p ps) = PartBytes p × PartsBytes ps
 
 -- ---- the values of records that are read
+
+pub back_bytes : (a b : List ℕ) → IsBytes (a ++ b) → IsBytes b
+back_bytes [] b h = h
+back_bytes (x ∷ a) b h = back_bytes a b (λ i. h (suc i))
 
 abbrev ValueRead : RecordValue → Type 0
 ValueRead (Varint n) = n < 2 ^ 64
@@ -590,17 +600,3 @@ accepted_means s payload a i =
     let all = bytes_in 100 (message_overlay table 100) (accepts_message table 100) (some_left 100) (join_accepted 100)
     (message_good 100) 100 s (empty_value (table s)) payload (empty_in 100 (table s) (have_scalars s)) a i in
     record { fits = all.fits; low = all.low; bytes = all.bytes }
-
-pub well_formed_back : (texts : Bool) (s : ℕ) → WellFormedIsReadBack texts s
-well_formed_back texts s payload text a i utf8 lexed =
-    let is = accepted_means s payload a i in
-    value_back texts s (payload_meaning s payload) text is.fits is.low is.bytes utf8 lexed
-
-pub printed_well_formed : (texts : Bool) (s : ℕ) → PrintedIsReadBack texts s
-printed_well_formed texts s payload a i =
-    let v = payload_meaning s payload in
-    let is = accepted_means s payload a i in
-    let value = printed_back (json_with texts s v) (value_may texts s v is.fits)
-    (omega (arith, value_low texts s v is.fits, is.low)) in
-    text_of_value s (print (json_tokens (json_with texts s v))) (json_with texts s v) value ∙ ap
-    (option_map (canonical_payload table s)) (message_back texts 100 s v is.fits is.low is.bytes)
