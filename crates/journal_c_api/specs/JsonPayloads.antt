@@ -62,19 +62,19 @@ ReadsText s text (Err TooLong) = MeansTooLong s text
 ReadsText s text (Err OutOfMemory) = Unit {0}
 ReadsText s text (Err failure) = ⊥
 
--- The result for the error of a text that is not JSON.
-abbrev pub SaysNotJson : JsonReadError → Result Reading CallError → Type 0
-SaysNotJson error (Ok (NotJson offset)) =
-    (error.reason ≢ reasons.OutOfMemory) × ((text : List ℕ) → IsPlace text error.offset → IsPlace text (Some offset))
-SaysNotJson error (Ok reading) = ⊥
-SaysNotJson error (Err failure) = failure ≡ OutOfMemory
-
 -- The result for the error of a text that is JSON without a meaning.
 abbrev pub SaysNotTaken : JsonReadError → Result Reading CallError → Type 0
 SaysNotTaken error (Ok (NotTaken kind path)) =
     (error.reason ≢ reasons.OutOfMemory) × (kind ≡ kind_of error.reason) × (string_bytes path ≡ string_bytes error.path)
 SaysNotTaken error (Ok reading) = ⊥
 SaysNotTaken error (Err failure) = failure ≡ OutOfMemory
+
+-- The result for the error of a text that means no value: one that is not JSON has an offset.
+abbrev pub SaysRejected : JsonReadError → Result Reading CallError → Type 0
+SaysRejected error (Ok (NotJson offset)) = (error.reason ≢ reasons.OutOfMemory) × (error.offset ≡ Some offset)
+SaysRejected error (Ok (Payload payload)) = ⊥
+SaysRejected error (Ok (NotTaken kind path)) = (error.offset ≡ None) × SaysNotTaken error (Ok (NotTaken kind path))
+SaysRejected error (Err failure) = failure ≡ OutOfMemory
 
 -- The result is the payload, or that it is too long for a header.
 abbrev pub IsIfShort : List ℕ → Result Reading CallError → Type 0

@@ -42,6 +42,7 @@ pub fn write_next(version: u32, bytes: &[u8], item: &mut [u64]) -> Result<usize,
 ///
 /// Otherwise `TooLong`, as soon as the eight bytes of its header are there: nothing is written. A limit of `u32::MAX`
 /// is none.
+#[tactic(auto, using(crate::proofs::FoundItems::item_found, crate::proofs::FoundItems::item_missing))]
 pub fn write_next_within(
     version: u32,
     limit: u32,
@@ -55,8 +56,12 @@ pub fn write_next_within(
         return Err(CallError::NoRoom);
     }
     match ItemRef::first_within(version, limit, 0, bytes) {
+        Ok((found, _)) => {
+            write_over(&numbers_of(&found), item);
+            Ok(0)
+        }
+        Err(ItemRefError::Missing(missing)) => Ok(missing.count),
         Err(ItemRefError::TooLong(_)) => Err(CallError::TooLong),
-        Ok(_) | Err(ItemRefError::Missing(_)) => Ok(write_item(version, bytes, item)),
     }
 }
 

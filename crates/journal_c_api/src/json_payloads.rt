@@ -1,13 +1,12 @@
 //! JSON texts, read as payloads of any schema.
 
 ghost use Rattle.std.specs.Prelude.{◌≡◌};
-ghost use Rattle.journal_c_api.specs.JsonPayloads.{IsIfShort, ReadsText, SaysNotJson, SaysNotTaken, WritesReading};
+ghost use Rattle.journal_c_api.specs.JsonPayloads.{IsIfShort, ReadsText, SaysNotTaken, SaysRejected, WritesReading};
 ghost use Rattle.journal_c_api.specs.JsonPayloads.{reading_bytes, reading_numbers};
 
 use crate::outcome::{CallError, write_over};
-use json::Scratch;
 use shared_core_codec::check::is_schema;
-use shared_core_json_reader::{JsonReadError, Reason, payload_of_node, table_of_text};
+use shared_core_json_reader::{JsonReadError, Reason, payload_of};
 use std::alloc::Global;
 
 /// The number of numbers that are written for a text.
@@ -75,28 +74,25 @@ fn bytes_of(reading: &Reading) -> &[u8]
 }
 
 /// Reads a text for a schema.
+#[tactic(auto, using(crate::proofs::JsonReadings::rejected_reads))]
 fn read(alloc: Global, schema: u32, json: &[u8]) -> Result<Reading, CallError>
     ensures { ReadsText schema json.now result }
 {
-    let mut scratch = Scratch::new(alloc);
-    let table = match table_of_text(alloc, json, &mut scratch) {
-        Ok(table) => table,
-        Err(error) => return not_json(error),
-    };
-    match payload_of_node(alloc, schema, &table.root()) {
+    match payload_of(alloc, schema, json) {
         Ok(payload) => if_short(payload),
-        Err(error) => not_taken(error),
+        Err(error) => rejected(error),
     }
 }
 
-/// The reading of a text that is not JSON, by the error.
-fn not_json(error: JsonReadError) -> Result<Reading, CallError>
-    ensures { SaysNotJson error result }
+/// The reading of a text that means no value, by the error: one that is not JSON has an offset.
+fn rejected(error: JsonReadError) -> Result<Reading, CallError>
+    ensures { SaysRejected error result }
 {
-    if error.reason == Reason::OutOfMemory {
-        return Err(CallError::OutOfMemory);
+    match (error.reason, error.offset) {
+        (Reason::OutOfMemory, _) => Err(CallError::OutOfMemory),
+        (_, Some(offset)) => Ok(Reading::NotJson(offset)),
+        (_, None) => not_taken(error),
     }
-    Ok(Reading::NotJson(error.offset.unwrap_or(0)))
 }
 
 /// The reading of a payload, if a header can hold its length.
