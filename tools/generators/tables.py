@@ -33,7 +33,7 @@ abbrev pub template_parts : %sParts
 """
 
 FIELDS = """\
--- The numbers of the fields of the messages that have no type of their own, each named after its message and itself.
+-- The numbers of fields that definitions cite, of messages without a type of their own; a name is that of both.
 use Rattle.std.specs.Prelude.{ℕ}
 """
 
@@ -104,14 +104,27 @@ def table():
     return "".join(parts)
 
 
+# The fields of messages without a code whose numbers definitions cite.
+CITED = {
+    "value_content",
+    "failure_code",
+    "failure_message",
+    "header_key",
+    "header_value",
+    "state_keys_keys",
+}
+
+
 def part_fields():
-    """The numbers of the fields of messages without a code, by their names."""
+    """The numbers of those fields, by their names."""
     parts = [FIELDS]
     for message in schemas():
         if message.code is not None:
             continue
         for field in fields_of(message):
             name = f"{schema_name(message.name)}_{field.name}"
+            if name not in CITED:
+                continue
             parts.append(
                 f"\n-- The number of {field.name} of {message.name}.\nabbrev pub {name} : ℕ\n{name} = {field.number}\n"
             )

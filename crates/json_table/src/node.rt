@@ -219,9 +219,10 @@ impl<'t, 'a> Items<'t, 'a> {
         matches!(first, Entry::EndArray)
     }
 
-    /// Returns a number that is not below that of the items: how many entries are left in the table.
+    /// Returns a number that is not below that of the items, for a loop over them. Which one is not promised: it may be
+    /// larger.
     #[inline(always)]
-    pub fn at_most(&self) -> usize
+    pub fn upper_bound(&self) -> usize
         ensures { items_count self.now ≤ result }
     {
         self.entries.len() - self.at

@@ -29,6 +29,9 @@ pub const VARINT: u64 = 0;
 /// The wire type of length-delimited bytes.
 pub const LENGTH: u64 = 2;
 
+/// The field numbers below this one have a key of one byte.
+pub const SHORT_KEYS: u32 = 16;
+
 /// The number of a key: a field number and a wire type (0 to 5).
 #[inline]
 pub fn key(number: u32, wire_type: u64) -> u64

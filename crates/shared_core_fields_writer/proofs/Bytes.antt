@@ -11,7 +11,7 @@ use Rattle.shared_core_codec.specs.Table.{table}
 use Rattle.shared_core_codec.specs.RowEncoding.{length_record}
 use Rattle.shared_core_codec.specs.Canonicity.{Next}
 use Rattle.shared_core_fields.specs.declared.table.FieldEntry.{FieldEntry}
-use Rattle.shared_core_record_writer.specs.Records.{number_record, content_record}
+use Rattle.shared_core_wire.specs.WrittenRecords.{number_record, content_record}
 use Rattle.shared_core_fields_writer.specs.declared.error.Reason.{Reason}
 use Rattle.shared_core_fields_writer.specs.declared.error.Reason.TheVariants.{NotUtf8, WrongLevel}
 use Rattle.shared_core_fields_writer.specs.Given.{Given, Number, Content, Opens, given, value_given}

@@ -11,8 +11,8 @@ use Rattle.std.proofs.lemmas.List.{take-append-drop}
 use Rattle.std.proofs.Math.Seq.{take-add, take-set-lt, paste}
 use Rattle.shared_core_wire.specs.Encoding.{shortest_varint, key_bytes}
 use Rattle.shared_core_wire.proofs.Shortest.{shortest_small, shortest_large}
-use Rattle.shared_core_record_writer.specs.Records.{number_record, content_record, at_most_64_bits}
-use Rattle.shared_core_fields_writer.specs.Room.{Wrote, WroteLength, WroteShortHead}
+use Rattle.shared_core_wire.specs.WrittenRecords.{number_record, content_record, at_most_64_bits}
+use Rattle.shared_core_fields_writer.specs.Room.{Wrote, WroteLength, WroteFewHead}
 use Rattle.shared_core_fields_writer.proofs.ShortRecords.{by_some, short_key, short_put}
 
 pub wrote_byte : (old : List ℕ) (at to byte : ℕ) → length old < 18446744073709551616 → to ≡ at_most_64_bits (at + 1)
@@ -125,11 +125,11 @@ wrote_content plain n content a b c d i j k l e v w x =
     (wrote_both b c d j k l (shortest_varint (length content)) content w x))
     (sym (ap (λ (p : Bool). cond p [] (key_bytes n 2 ++ rest)) e))
 
-pub wrote_short_content : (plain : Bool) (n : ℕ) (content new old : List ℕ) (at to : ℕ) → n < 16 → length content <
+pub wrote_few_bytes : (plain : Bool) (n : ℕ) (content new old : List ℕ) (at to : ℕ) → n < 16 → length content <
     128 → plain && eqb (length content) 0 ≡ false → length old < 18446744073709551616 → length content + 2 ≤ length old
     - at → Wrote (set (set old at (8 * n + 2)) (at + 1) (length content)) (at + 2) new to content → Wrote old at new to
     (content_record plain n content)
-wrote_short_content plain n content new old at to h l k big r third =
+wrote_few_bytes plain n content new old at to h l k big r third =
     let x : ℕ = 8 * n + 2 in
     let m : ℕ = length content in
     let one : List ℕ = set old at x in
@@ -153,12 +153,12 @@ wrote_short_content plain n content new old at to h l k big r third =
 
 -- the same after its key and its length, which are there
 module _ (old head new content : List ℕ) (at n end after : ℕ) (big : length old < 18446744073709551616)
-    (h : WroteShortHead old at n (length content) head end) (w : Wrote head (at + 2) new after content) where
+    (h : WroteFewHead old at n (length content) head end) (w : Wrote head (at + 2) new after content) where
   pub wrote_after_head : (plain : Bool) → Wrote old at new end (content_record plain n content)
   wrote_after_head plain =
       let last : after ≡ end = omega (arith, w.count, h.end, h.room, big) in
       subst (λ (j : ℕ). Wrote old at new j (content_record plain n content)) last
-      (wrote_short_content plain n content new old at after h.key (omega (arith, h.few))
+      (wrote_few_bytes plain n content new old at after h.key (omega (arith, h.few))
       (by_some plain (length content) (omega (arith, h.some))) big (omega (arith, h.end, h.room))
       (subst (λ (xs : List ℕ). Wrote xs (at + 2) new after content) h.written w))
 

@@ -17,8 +17,8 @@ use Rattle.shared_core_fields.specs.declared.table.FieldEntry.{FieldEntry}
 use Rattle.shared_core_fields_writer.specs.declared.error.Reason.{Reason}
 use Rattle.shared_core_fields_writer.specs.declared.error.Reason.TheVariants.{WrongLevel, TooDeep}
 use Rattle.shared_core_fields_writer.specs.Given.{Given, Number, Content, Opens, given, field_next}
-use Rattle.shared_core_record_writer.specs.Records.{number_record, content_record}
-use Rattle.shared_core_record_writer.specs.Records.{at_most_64_bits}
+use Rattle.shared_core_wire.specs.WrittenRecords.{number_record, content_record}
+use Rattle.shared_core_wire.specs.WrittenRecords.{at_most_64_bits}
 use Rattle.shared_core_fields_writer.specs.Room.{Wrote, WroteLength}
 use Rattle.shared_core_fields_writer.proofs.Rooms.{less_stays, wrote_both, wrote_over}
 use Rattle.shared_core_fields_writer.specs.Walk.{Walked, onto, nested_onto, is_packed}

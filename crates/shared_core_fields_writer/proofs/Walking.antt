@@ -13,7 +13,7 @@ use Rattle.shared_core_fields.specs.declared.table.FieldEntry.{FieldEntry}
 use Rattle.shared_core_fields_writer.specs.declared.error.Reason.{Reason}
 use Rattle.shared_core_fields_writer.specs.declared.error.Reason.TheVariants.{WrongLevel, TooDeep}
 use Rattle.shared_core_fields_writer.specs.Given.{Given, Number, Content, Opens, content, given, field_next}
-use Rattle.shared_core_record_writer.specs.Records.{number_record, content_record}
+use Rattle.shared_core_wire.specs.WrittenRecords.{number_record, content_record}
 use Rattle.shared_core_fields_writer.specs.Walk.{Walked, onto, nested_onto, is_packed}
 use Rattle.shared_core_fields_writer.specs.Walk.{More}
 use Rattle.shared_core_fields_writer.specs.Walk.{Nothing, Within, Numbers, run_numbers, varints, rest_of, walk}

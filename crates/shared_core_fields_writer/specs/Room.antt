@@ -1,7 +1,7 @@
 -- Records written into a slice, as far as there is room.
 use Rattle.std.specs.Prelude.{◌≡◌, ◌<◌, ◌≤◌, ℕ, ◌+◌, ◌-◌, ◌*◌, List, ◌++◌, length, take, drop, slice_set}
 use Rattle.shared_core_wire.specs.Encoding.{shortest_varint}
-use Rattle.shared_core_record_writer.specs.Records.{at_most_64_bits}
+use Rattle.shared_core_wire.specs.WrittenRecords.{at_most_64_bits}
 
 -- Bytes come after those before an index, up to another one, if the slice has room for all of them. What is before
 -- stays in any case.
@@ -23,7 +23,7 @@ pub record WroteLength (old : List ℕ) (from start end : ℕ) (new : List ℕ) 
 
 -- The key and the length of a few bytes, a byte each, come from an index on, and there is room for these bytes, up to
 -- another index.
-pub record WroteShortHead (old : List ℕ) (from number len : ℕ) (new : List ℕ) (to : ℕ) : Type 0 where
+pub record WroteFewHead (old : List ℕ) (from number len : ℕ) (new : List ℕ) (to : ℕ) : Type 0 where
   pub key : number < 16
   pub some : 0 < len
   pub few : len ≤ 64

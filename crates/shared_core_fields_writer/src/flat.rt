@@ -3,13 +3,13 @@
 ghost use Rattle.std.specs.Prelude.{◌≡◌, ◌≤◌, ℕ, List, None, Ok, IfSome, true, length, take};
 ghost use Rattle.shared_core_codec.specs.Table.{table};
 ghost use Rattle.shared_core_codec.specs.ProgramRows.{kind_view};
-ghost use Rattle.shared_core_record_writer.specs.Records.{content_record};
+ghost use Rattle.shared_core_wire.specs.WrittenRecords.{content_record};
 ghost use Rattle.shared_core_fields_writer.specs.Given.{Content, given};
 ghost use Rattle.shared_core_fields_writer.specs.Room.{Wrote};
 ghost use Rattle.shared_core_fields_writer.specs.Walk.{Nothing, walk, entries_from, rest_of};
 
 use crate::entry::{content_of_kind, first_plain};
-use crate::room::{write_short_content, write_short_text};
+use crate::room::{write_few_bytes, write_few_text};
 use crate::walk::{Place, Source};
 use shared_core_codec::rows::{Kind, rows_of};
 use shared_core_fields::table::FieldEntry;
@@ -75,11 +75,11 @@ fn write_few_of(
     match kind {
         Kind::Text => {
             let content = content_of_kind(entry, FieldEntry::TEXT, bytes)?;
-            write_short_text(out, at, number, content)
+            write_few_text(out, at, number, content)
         }
         Kind::ByteString => {
             let content = content_of_kind(entry, FieldEntry::BYTE_STRING, bytes)?;
-            write_short_content(out, at, number, content)
+            write_few_bytes(out, at, number, content)
         }
         _ => None,
     }

@@ -8,18 +8,12 @@ ghost use Rattle.std.specs.Prelude.{IfNone};
 ghost use Rattle.std.specs.Str.{is_utf8};
 ghost use Rattle.std.specs.List.{copy_within};
 ghost use Rattle.shared_core_wire.specs.Encoding.{shortest_varint, key_bytes};
-ghost use Rattle.shared_core_record_writer.specs.Records.{number_record, content_record};
-ghost use Rattle.shared_core_fields_writer.specs.Room.{Wrote, WroteLength, WroteShortHead};
+ghost use Rattle.shared_core_wire.specs.WrittenRecords.{number_record, content_record};
+ghost use Rattle.shared_core_fields_writer.specs.Room.{Wrote, WroteLength, WroteFewHead};
 
 use crate::few::{FEW, write_few, write_few_ascii};
-use shared_core_record_writer::LENGTH;
+use shared_core_codec::size::{LENGTH, SHORT_KEYS, VARINT, key};
 use shared_core_wire::varint::varint_len;
-
-/// The wire type of a varint.
-const VARINT: u32 = 0;
-
-/// The field numbers below this one have a key of one byte.
-const SHORT_KEYS: u32 = 16;
 
 /// Writes a byte.
 #[inline(always)]
@@ -61,11 +55,11 @@ fn write_long_varint(out: &mut [u8], at: usize, number: u64) -> usize
 
 /// Writes the key of a record.
 #[inline(always)]
-pub(crate) fn write_key(out: &mut [u8], at: usize, number: u32, wire: u32) -> usize
+pub(crate) fn write_key(out: &mut [u8], at: usize, number: u32, wire: u64) -> usize
     requires { wire < 8 }
     ensures { Wrote out.old at out.new result (key_bytes number wire) }
 {
-    write_varint(out, at, 8 * u64::from(number) + u64::from(wire))
+    write_varint(out, at, key(number, wire))
 }
 
 /// How many bytes there is room for from an index on.
@@ -112,15 +106,16 @@ pub(crate) fn write_content(
 ) -> usize
     ensures { Wrote out.old at out.new result (content_record plain number content.now) }
 {
-    match write_short_content(out, at, number, content) {
+    match write_few_bytes(out, at, number, content) {
         Some(end) => end,
         None => write_long_content(out, at, plain, number, content),
     }
 }
 
-/// Writes the record of a few bytes whose key is a byte, if there is room for it, otherwise nothing.
+/// Writes the record of 1 to 64 bytes (`FEW`) in a field whose number is below 16, if there is room for it, otherwise
+/// nothing.
 #[inline(always)]
-pub(crate) fn write_short_content(
+pub(crate) fn write_few_bytes(
     out: &mut [u8],
     at: usize,
     number: u32,
@@ -131,14 +126,14 @@ pub(crate) fn write_short_content(
     ensures unchanged { IfNone result (out.new ≡ out.old) }
     ensures before { take at out.new ≡ take at out.old }
 {
-    let end = write_short_head(out, at, number, content.len())?;
+    let end = write_few_head(out, at, number, content.len())?;
     write_few(out, at + 2, content);
     Some(end)
 }
 
 /// Writes the same record of a text, if that is ASCII; otherwise the bytes from the index on may be any.
 #[inline(always)]
-pub(crate) fn write_short_text(
+pub(crate) fn write_few_text(
     out: &mut [u8],
     at: usize,
     number: u32,
@@ -149,16 +144,16 @@ pub(crate) fn write_short_text(
     ensures length { length out.new ≡ length out.old }
     ensures before { take at out.new ≡ take at out.old }
 {
-    let end = write_short_head(out, at, number, content.len())?;
+    let end = write_few_head(out, at, number, content.len())?;
     let (_after, is_ascii) = write_few_ascii(out, at + 2, content);
     if is_ascii { Some(end) } else { None }
 }
 
-/// Writes the key and the length of a few bytes, if that is a byte each and there is room for all. Returns the index
-/// after the bytes.
+/// Writes the key and the length of 1 to 64 bytes in a field whose number is below 16, a byte each, if there is room
+/// for all. Returns the index after the bytes.
 #[inline(always)]
-fn write_short_head(out: &mut [u8], at: usize, number: u32, len: usize) -> Option<usize>
-    ensures written { IfSome result (WroteShortHead out.old at number len out.new) }
+fn write_few_head(out: &mut [u8], at: usize, number: u32, len: usize) -> Option<usize>
+    ensures written { IfSome result (WroteFewHead out.old at number len out.new) }
     ensures unchanged { IfNone result (out.new ≡ out.old) }
 {
     if number >= SHORT_KEYS || len == 0 || len > FEW {

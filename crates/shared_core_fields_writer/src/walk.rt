@@ -22,8 +22,8 @@ use crate::flat::write_flat;
 use crate::room::{write_content, write_key, write_length, write_number, write_varint};
 use shared_core_codec::canonical::NextField;
 use shared_core_codec::rows::{Found, Kind, rows_of};
+use shared_core_codec::size::LENGTH;
 use shared_core_fields::table::FieldEntry;
-use shared_core_record_writer::LENGTH;
 use shared_core_wire::records::LEVELS;
 use shared_core_wire::varint::varint_len;
 

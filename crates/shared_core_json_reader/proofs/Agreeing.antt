@@ -28,7 +28,7 @@ use Rattle.shared_core_json_reader.specs.Scalars.{unsigned_read, boolean_read, e
 use Rattle.shared_core_json_reader.specs.Reading.{are_known, given, single_read, field_read, elements_read, list_read}
 use Rattle.shared_core_json_reader.specs.Reading.{or_absent, member_read, oneof_read, row_read, rows_read, members_read}
 use Rattle.shared_core_json_reader.specs.Reading.{object_read, message_read}
-use Rattle.shared_core_record_writer.specs.Records.{number_record, content_record}
+use Rattle.shared_core_wire.specs.WrittenRecords.{number_record, content_record}
 use Rattle.shared_core_json_reader.specs.Appended.{both, single_bytes, field_bytes}
 use Rattle.shared_core_json_reader.specs.Appended.{items_bytes, run_bytes, array_bytes, list_bytes, member_bytes}
 use Rattle.shared_core_json_reader.specs.Appended.{held_after, oneof_bytes, given_bytes, row_bytes, rows_bytes}

@@ -1,3 +1,6 @@
+mod ShortRecords
+mod Varints
+pub mod Contents
 pub mod Numbers
 pub mod Texts
 pub mod NamesApart

@@ -9,8 +9,8 @@ use Rattle.std.proofs.Math.Seq.{take-append_seam}
 use Rattle.json.specs.Json.{Items, no_items, item}
 use Rattle.shared_core_wire.specs.Encoding.{shortest_varint, key_bytes}
 use Rattle.shared_core_wire.proofs.Shortest.{shortest_small, shortest_large}
-use Rattle.shared_core_record_writer.specs.Records.{content_record}
-use Rattle.shared_core_record_writer.proofs.Contents.{content_put}
+use Rattle.shared_core_wire.specs.WrittenRecords.{content_record}
+use Rattle.shared_core_json_reader.proofs.Contents.{content_put}
 use Rattle.shared_core_json_reader.specs.Scalars.{unsigned_read}
 use Rattle.shared_core_json_reader.specs.Appended.{both, run_bytes, after}
 

@@ -5,7 +5,7 @@ use Rattle.json.specs.Json.{Json, null, boolean, number, string, array, object, 
 use Rattle.shared_core_wire.specs.Schema.{Kind, U32, U64, Boolean, Enumeration, Text, ByteString, Message}
 use Rattle.shared_core_wire.specs.Encoding.{shortest_varint}
 use Rattle.shared_core_wire.specs.Canonical.{written_number}
-use Rattle.shared_core_record_writer.specs.Records.{number_record, content_record}
+use Rattle.shared_core_wire.specs.WrittenRecords.{number_record, content_record}
 use Rattle.shared_core_json_reader.specs.declared.error.Reason.{Reason}
 use Rattle.shared_core_json_reader.specs.declared.error.Reason.TheVariants.{OutOfMemory}
 use Rattle.shared_core_json_reader.specs.Rows.{NamedField, NamedRow, Plain, Optional, Repeated, OneOf, named_rows}

@@ -4,17 +4,17 @@ ghost use Rattle.std.specs.Prelude.{◌≡◌, ◌≢◌, ◌&&◌, nat_eq, Some
 ghost use Rattle.std.specs.Result.{result_ok};
 ghost use Rattle.base64.specs.GeneralPurpose.{decode_of};
 ghost use Rattle.base64.specs.Engines.{url_safe_pad_indifferent};
-ghost use Rattle.shared_core_record_writer.specs.Records.{content_record};
+ghost use Rattle.shared_core_wire.specs.WrittenRecords.{content_record};
 ghost use Rattle.shared_core_json_reader.specs.Scalars.{base64_bytes, marked_text, bytes_read};
 ghost use Rattle.shared_core_json_reader.specs.Appended.{Appends};
 ghost use Rattle.shared_core_json_reader.specs.FirstError.{bytes_reason};
 
 use crate::error::Reason;
 use crate::scalars::marked_text;
+use crate::short::{append_content, append_prefix, put_length};
 use base64::DecodeAllocError;
 use base64::engine::general_purpose::{STANDARD_PAD_INDIFFERENT, URL_SAFE_PAD_INDIFFERENT};
 use json_table::Node;
-use shared_core_record_writer::{append_content, append_prefix, put_length};
 use std::alloc::Global;
 
 /// The bytes that a value is: a string is their base64, and an object with the one member `text` has the text that they

@@ -9,12 +9,15 @@ mod bytes;
 mod enum_values;
 mod error;
 pub mod laws;
+mod lengths;
 mod measure;
 mod members;
 mod payload;
 mod read;
+mod records;
 mod rows;
 mod scalars;
+mod short;
 
 pub use bytes::read_bytes;
 pub use error::{JsonReadError, Reason};

@@ -10,12 +10,12 @@
 ghost use Rattle.shared_core_json_reader.specs.Places.{ArePlaces};
 
 use crate::bytes::decoded_len;
+use crate::lengths::{content_len, number_len};
 use crate::members::{PLACES, Place, Places, find_places, likely};
 use crate::rows::{rows_of, values_of};
 use crate::scalars::{extended, marked_text, read_boolean, read_enumeration, read_u32, read_u64};
 use json_table::{Items, Members, Node, Shape};
 use shared_core_codec::rows::{Field, Kind, Row};
-use shared_core_record_writer::{content_len, number_len};
 use shared_core_wire::records::LEVELS;
 use shared_core_wire::varint::varint_len;
 use std::alloc::{AllocError, Global};

@@ -12,7 +12,7 @@ ghost use Rattle.shared_core_codec.specs.ProgramRows as codec;
 ghost use Rattle.shared_core_json_reader.specs.Rows.{in_schema, row_view, named_members, named_rows};
 ghost use Rattle.shared_core_json_reader.specs.Reading.{given};
 ghost use Rattle.shared_core_json_reader.specs.Places.{ArePlaces, IsOf, IsRowOf};
-ghost use Rattle.shared_core_record_writer.specs.Records.{content_record};
+ghost use Rattle.shared_core_wire.specs.WrittenRecords.{content_record};
 ghost use Rattle.shared_core_json_reader.specs.Appended.{field_bytes, items_bytes, run_bytes};
 ghost use Rattle.shared_core_json_reader.specs.Appended.{list_bytes, given_bytes, oneof_bytes, row_bytes, rows_bytes};
 ghost use Rattle.shared_core_json_reader.specs.Appended.{members_bytes, object_bytes, message_bytes, Appends};
@@ -25,14 +25,13 @@ use crate::bytes::append_bytes;
 use crate::error::Reason;
 use crate::measure::Lengths;
 use crate::members::{PLACES, Place, Places, find_places, given, is_absent, lacks};
+use crate::records::append_varint;
 use crate::rows::{rows_of, values_of};
 use crate::scalars::{extended, read_boolean, read_enumeration, read_text, read_u32, read_u64};
+use crate::short::{append_content, append_number, append_prefix, put_length};
 use json_table::{Items, Members, Node, Shape};
 use shared_core_codec::rows::{Field, Kind, Row};
 use shared_core_json::names::name_of;
-use shared_core_record_writer::{
-    append_content, append_number, append_prefix, append_varint, put_length,
-};
 use std::alloc::Global;
 
 /// A step of the path to a value: a member by its name, or an element by its index.
@@ -373,7 +372,7 @@ fn append_items<'a>(
     ensures error { HasError result (items_error (message_error left) (in_schema schema field.now) 0 items.old)
         walk.new.trail.items }
 {
-    for index in 0..items.at_most() {
+    for index in 0..items.upper_bound() {
         let Some(item) = items.next() else {
             return Ok(());
         };
@@ -416,7 +415,7 @@ fn append_numbers<'a>(
     ensures appended { Appends result (run_bytes items.old) out.old.items out.new.items }
     ensures error { HasError result (run_error 0 items.old) walk.new.trail.items }
 {
-    for index in 0..items.at_most() {
+    for index in 0..items.upper_bound() {
         let Some(item) = items.next() else {
             return Ok(());
         };

@@ -5,6 +5,7 @@ pub mod ReadRecords
 pub mod RecordsLeft
 pub mod Places
 pub mod Encoding
+pub mod WrittenRecords
 pub mod Schema
 pub mod Value
 pub mod Acceptance

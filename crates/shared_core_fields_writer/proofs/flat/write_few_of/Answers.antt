@@ -10,7 +10,7 @@ pub returns-in_ok-content-in-Text-clause-written : goal.returns-in_ok-content-in
 returns-in_ok-content-in-Text-clause-written c =
     let own = c.in_ok-content-in-Text in
     let bytes = c.args.bytes.now in
-    IfSome_then c.write_short_text.result c.write_short_text.ensures.written
+    IfSome_then c.write_few_text.result c.write_few_text.ensures.written
     (λ end w. (
       own.content.now,
       ap (λ (k : Kind). given bytes (kind_view k) c.args.entry.now) c.in-Text.is
@@ -22,7 +22,7 @@ pub returns-in_ok-content-in-ByteString-clause-written : goal.returns-in_ok-cont
 returns-in_ok-content-in-ByteString-clause-written c =
     let own = c.in_ok-content-in-ByteString in
     let bytes = c.args.bytes.now in
-    IfSome_then c.write_short_content.result c.write_short_content.ensures.written
+    IfSome_then c.write_few_bytes.result c.write_few_bytes.ensures.written
     (λ end w. (
       own.content.now,
       ap (λ (k : Kind). given bytes (kind_view k) c.args.entry.now) c.in-ByteString.is

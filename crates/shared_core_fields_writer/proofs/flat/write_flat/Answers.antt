@@ -3,7 +3,7 @@ use Rattle.std.proofs.lemmas.List.{drop_more, drop_all}
 use Rattle.shared_core_codec.specs.Table.{table}
 use Rattle.shared_core_codec.specs.ProgramRows.{rows_view}
 use Rattle.shared_core_codec.specs.Canonicity.{next_view}
-use Rattle.shared_core_record_writer.specs.Records.{content_record}
+use Rattle.shared_core_wire.specs.WrittenRecords.{content_record}
 use Rattle.shared_core_fields_writer.specs.Given.{field_next}
 use Rattle.shared_core_fields_writer.specs.Walk.{Nothing, onto, walk, entries_from}
 use Rattle.shared_core_fields_writer.proofs.Rooms.{wrote_both}

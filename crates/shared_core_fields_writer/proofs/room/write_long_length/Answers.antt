@@ -1,6 +1,6 @@
 use Rattle.std.proofs.Common.{◌≡◌, ◌∙◌, ◌+◌, ◌-◌, ℕ, length, drop, subst, arith}
 use Rattle.shared_core_wire.specs.Encoding.{shortest_varint}
-use Rattle.shared_core_record_writer.specs.Records.{at_most_64_bits}
+use Rattle.shared_core_wire.specs.WrittenRecords.{at_most_64_bits}
 use Rattle.shared_core_fields_writer.specs.Room.{Wrote}
 use Rattle.shared_core_fields_writer.proofs.Rooms.{wrote_moved, wrote_counted}
 use Rattle.shared_core_fields_writer.proofs.room.write_long_length.Goals as goal

@@ -4,7 +4,7 @@ use Rattle.shared_core_codec.specs.ProgramRows.{rows_view}
 use Rattle.shared_core_codec.specs.Canonicity.{next_view}
 use Rattle.shared_core_codec.specs.RowEncoding.{length_record}
 use Rattle.shared_core_wire.specs.Encoding.{shortest_varint, key_bytes}
-use Rattle.shared_core_record_writer.specs.Records.{number_record, content_record}
+use Rattle.shared_core_wire.specs.WrittenRecords.{number_record, content_record}
 use Rattle.shared_core_fields_writer.proofs.Rooms.{wrote_both, less_stays}
 use Rattle.shared_core_fields_writer.specs.Walk.{Walked, Goes, Nothing, walk, nested_onto, rest_of, entries_from}
 use Rattle.shared_core_fields_writer.proofs.Stepping.{goes_error, field_fail, field_number, field_content, field_run}

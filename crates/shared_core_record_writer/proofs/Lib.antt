@@ -1,3 +1,0 @@
-mod ShortRecords
-mod Varints
-pub mod Contents
