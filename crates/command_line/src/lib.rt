@@ -10,25 +10,24 @@ mod pipe;
 mod progress;
 mod protocol;
 mod terminal;
-mod terminal_text;
 
 ghost use Rattle.std.specs.Prelude.{◌≡◌};
 ghost use Rattle.std.specs.Process.{exit_status};
 
 pub use crate::arguments::{ArgumentsError, read_arguments};
-pub use crate::colors::{ColorChoice, Style, color_of, has_color, paint};
+pub use crate::colors::{ColorChoice, color_of, has_color};
 pub use crate::definitions::{flag, operand, option};
 pub use crate::input::{Input, OpenError, input_size, is_stdin_open, open};
 pub use crate::max_message::max_message_of;
 pub use crate::pipe::Pipe;
 pub use crate::progress::{Progress, Watched};
 pub use crate::protocol::protocol_of;
-pub use crate::terminal_text::{Escapes, Escaping, is_steering, push_escaped};
 use clap::Error;
 use clap::error::ErrorKind;
 use std::fmt::Display;
 use std::io::{self, IsTerminal, Write};
 use std::process::ExitCode;
+use terminal_text::{Escapes, Escaping};
 
 /// Prints `PROGRAM: TEXT` in a line on the standard error. If that is a terminal, what it may take as commands is
 /// escaped.

@@ -1,7 +1,7 @@
 use Rattle.std.proofs.Common.{◌≡◌, ℕ, List, [], ◌∷◌, ◌++◌, sym, refl, ap, subst, ◌∙◌, append_assoc, append-nil}
 use Rattle.std.proofs.lemmas.Grind.{flat_map-append}
-use Rattle.command_line.specs.declared.colors.Style.{Style}
-use Rattle.command_line.specs.Painting.{IsPainted, Span, painted_part}
+use Rattle.terminal_text.specs.declared.colors.Style.{Style}
+use Rattle.terminal_text.specs.Painting.{IsPainted, Span, painted_part}
 use Rattle.diff_lines.specs.Colors.{PaintsMore}
 
 -- a part in its style is painted

@@ -1,6 +1,6 @@
 -- What is appended to a text with colors.
 use Rattle.std.specs.Prelude.{◌≡◌, ℕ, List, ◌++◌}
-use Rattle.command_line.specs.Painting.{IsPainted}
+use Rattle.terminal_text.specs.Painting.{IsPainted}
 
 -- A part of a text is appended with colors.
 abbrev pub PaintsMore : List ℕ → List ℕ → List ℕ → Type 0

@@ -6,7 +6,7 @@ use Rattle.replay_bench.specs.declared.verdicts.BenchError.TheVariants.{OutOfMem
 use Rattle.replay_bench.specs.declared.verdicts.ReaderError.TheVariants.{Bench}
 use Rattle.replay_bench.specs.Holding.{IsAligned}
 use Rattle.replay_bench.specs.Verdicts.{ComparesKnown}
-use Rattle.command_line.specs.Painting.{IsPainted}
+use Rattle.terminal_text.specs.Painting.{IsPainted}
 use Rattle.diff_lines.specs.declared.journals.DiffError.{DiffError}
 use Rattle.diff_lines.specs.declared.journals.DiffError.TheVariants.{NoVerdict, Faulty, Output}
 use Rattle.diff_lines.specs.declared.journals.Findings.{Findings}

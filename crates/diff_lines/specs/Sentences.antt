@@ -4,8 +4,8 @@ use Rattle.std.specs.Prelude.{if◌then◌else◌, Option, Some, None}
 use Rattle.shared_core_base.specs.declared.header.MessageType.{MessageType}
 use Rattle.shared_core_base.specs.MessageType.{debug_name_of}
 use Rattle.shared_core_stream.specs.declared.encoding.raw_message.RawMessage.{RawMessage}
-use Rattle.command_line.specs.declared.terminal_text.Escapes.TheVariants as escapes
-use Rattle.command_line.specs.TerminalText.{escaped_text}
+use Rattle.terminal_text.specs.declared.texts.Escapes.TheVariants as escapes
+use Rattle.terminal_text.specs.Texts.{escaped_text}
 use Rattle.edit_script.specs.declared.sequences.Change.{Change}
 use Rattle.edit_script.specs.declared.sequences.Change.TheVariants.{Removed, Inserted, Changed}
 use Rattle.edit_script.specs.declared.sequences.Difference.{Difference}

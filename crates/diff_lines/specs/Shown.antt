@@ -2,8 +2,8 @@
 use Rattle.std.specs.Prelude.{ℕ, ◌-◌, List, ◌++◌, codes, flat_map, length, take}
 use Rattle.std.specs.String.{string_bytes}
 use Rattle.shared_core_base.specs.Differences.{diff_line}
-use Rattle.command_line.specs.declared.terminal_text.Escapes.TheVariants as escapes
-use Rattle.command_line.specs.TerminalText.{escaped_text}
+use Rattle.terminal_text.specs.declared.texts.Escapes.TheVariants as escapes
+use Rattle.terminal_text.specs.Texts.{escaped_text}
 use Rattle.replay_bench.specs.declared.fields.FieldDifference.{FieldDifference}
 
 -- The line of a field in the text of a mismatch.

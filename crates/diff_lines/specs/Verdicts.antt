@@ -17,7 +17,7 @@ use Rattle.diff_lines.specs.declared.journals.Findings.{Findings}
 use Rattle.diff_lines.specs.declared.journals.Form.{Form}
 use Rattle.diff_lines.specs.declared.journals.Form.TheVariants.{Text, Terminal, Json}
 use Rattle.diff_lines.specs.declared.passed_over.Trouble.{Trouble}
-use Rattle.command_line.specs.Painting.{IsPainted}
+use Rattle.terminal_text.specs.Painting.{IsPainted}
 use Rattle.diff_lines.specs.Json.{json_line}
 use Rattle.diff_lines.specs.PassedOver.{strict_trouble, trouble_text}
 use Rattle.diff_lines.specs.Shown.{shown_text}

@@ -1,13 +1,13 @@
 //! The colors of a verdict: what is recorded is red, and what is replayed green.
 
 ghost use Rattle.std.specs.Prelude.{◌≡◌, ◌<◌, ◌-◌, ◌++◌, length, IfOk, OnOk};
-ghost use Rattle.command_line.specs.Painting.{IsPainted};
+ghost use Rattle.terminal_text.specs.Painting.{IsPainted};
 ghost use Rattle.diff_lines.specs.Colors.{PaintsMore};
 
-use command_line::{Style, paint};
 use memchr::memchr;
 use memchr::memmem::{find, rfind};
 use std::alloc::{AllocError, Global};
+use terminal_text::{Style, paint};
 
 /// What comes before the recorded command, in the text of a mismatch of types.
 const RECORDED: &[u8] = b" - The previous execution ran and recorded the following: ";

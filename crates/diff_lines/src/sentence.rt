@@ -10,12 +10,12 @@ use crate::entries::{
     count_of, entry_command, entry_of, entry_type, recorded_taken, same_count, stopped_index,
 };
 use crate::journals::commands_word;
-use command_line::{Escapes, push_escaped};
 use edit_script::{Change, Difference};
 use replay_bench::{AlignedComparison, command_key};
 use shared_core_base::header::MessageType;
 use shared_core_stream::encoding::RawMessage;
 use std::alloc::{AllocError, Global};
+use terminal_text::{Escapes, push_escaped};
 
 /// The sentence of two journals that were aligned, without an end of line: what one command moved, how many did, or
 /// that there are more than were looked for. On a terminal what comes from the journals is escaped.

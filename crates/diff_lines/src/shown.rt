@@ -4,9 +4,9 @@ ghost use Rattle.std.specs.Prelude.{◌≡◌, ◌++◌, flat_map, IfOk, OnOk};
 ghost use Rattle.std.specs.String.{string_bytes};
 ghost use Rattle.diff_lines.specs.Shown.{plain_line, shown_line, shown_text};
 
-use command_line::{Escapes, push_escaped};
 use replay_bench::FieldDifference;
 use std::alloc::{AllocError, Global};
+use terminal_text::{Escapes, push_escaped};
 
 /// The text of a mismatch, with the fields of its lines, as a terminal shows it: in what the fields print, characters
 /// that it may take as commands are escaped, line feeds too, so that no value looks like a line of its own.

@@ -9,7 +9,7 @@ mod inputs;
 use crate::call::Call;
 use crate::diff::arguments::{Arguments, parse_arguments};
 use crate::diff::inputs::{Inputs, closed_side, open_both};
-use command_line::{Escapes, Escaping, Pipe, Progress, Watched, has_color};
+use command_line::{Pipe, Progress, Watched, has_color};
 use diff_lines::{
     DiffError, Findings, Form, diff, diff_all, diff_with_colors, no_item_note, rest_note,
     unknown_note,
@@ -19,6 +19,7 @@ use shared_core::encoding::ItemReader;
 use shared_core_base::version::Version;
 use std::io::{IsTerminal, Stdout};
 use std::process::ExitCode;
+use terminal_text::{Escapes, Escaping};
 
 /// The standard output, which a reader may close, and before which a line of JSON is escaped if it is a terminal.
 type Output = Pipe<Escaping<Stdout>>;

@@ -10,11 +10,12 @@ mod suggestions;
 use crate::call::Call;
 use crate::dump::arguments::{Arguments, parse_arguments};
 use crate::dump::canonical::Records;
-use command_line::{Escapes, Escaping, Input, Pipe, Progress, Watched, input_size, note, open};
+use command_line::{Input, Pipe, Progress, Watched, input_size, note, open};
 use dump_lines::{MOST_SHOWN, Options, dump, dump_on_terminal};
 use std::io::IsTerminal;
 use std::process::ExitCode;
 use stream_lines::{PrintError, Report, Trouble};
+use terminal_text::{Escapes, Escaping};
 
 /// Reports the first trouble of the stream and the bytes that are in no item, and returns the status.
 fn end(call: &Call<'_>, options: &Options<'_>, found: &Report) -> ExitCode {

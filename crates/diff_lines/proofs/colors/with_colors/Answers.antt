@@ -1,5 +1,5 @@
 use Rattle.std.proofs.Common.{ℕ, List, ◌++◌, sym, ap, subst, ◌∙◌, append_assoc}
-use Rattle.command_line.specs.Painting.{IsPainted}
+use Rattle.terminal_text.specs.Painting.{IsPainted}
 use Rattle.diff_lines.proofs.Painting.{painted_then}
 use Rattle.diff_lines.proofs.colors.with_colors.Goals as goal
 

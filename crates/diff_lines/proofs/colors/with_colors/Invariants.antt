@@ -1,5 +1,5 @@
 use Rattle.std.proofs.Common.{◌≡◌, ℕ, List, ◌++◌, length}
-use Rattle.command_line.specs.Painting.{IsPainted}
+use Rattle.terminal_text.specs.Painting.{IsPainted}
 use Rattle.diff_lines.proofs.colors.with_colors.Given as goal
 
 abbrev pub invariant-loop-rest : goal.invariant-loop-rest

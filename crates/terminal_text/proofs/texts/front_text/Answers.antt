@@ -1,5 +1,5 @@
-use Rattle.command_line.proofs.Lossy.{front_shown, none_shown, whole_shown}
-use Rattle.command_line.proofs.terminal_text.front_text.Goals as goal
+use Rattle.terminal_text.proofs.Lossy.{front_shown, none_shown, whole_shown}
+use Rattle.terminal_text.proofs.texts.front_text.Goals as goal
 
 pub returns-in-Ok-clause-text : goal.returns-in-Ok-clause-text
 returns-in-Ok-clause-text c = whole_shown _ _ c.in-Ok.ensures.cases

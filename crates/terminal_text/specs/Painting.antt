@@ -1,7 +1,7 @@
 -- Texts with colors.
 use Rattle.std.specs.Prelude.{◌≡◌, ℕ, List, [], ◌∷◌, ◌++◌, codes, flat_map}
-use Rattle.command_line.specs.declared.colors.Style.{Style}
-use Rattle.command_line.specs.declared.colors.Style.TheVariants.{Plain, Bold, Red, Green}
+use Rattle.terminal_text.specs.declared.colors.Style.{Style}
+use Rattle.terminal_text.specs.declared.colors.Style.TheVariants.{Plain, Bold, Red, Green}
 
 -- The bytes of a sequence for a terminal: the character escape, `[`, what the sequence says, and `m`.
 abbrev pub sequence : List ℕ → List ℕ

@@ -3,8 +3,8 @@ use Rattle.std.proofs.lemmas.Iterator.{YieldsList-from_chars}
 use Rattle.std.proofs.lemmas.Iterator.Consumers.{YieldsList-end}
 use Rattle.std.proofs.lemmas.List.{flat_map_more}
 use Rattle.std.specs.Prelude.{flat_map, string_bytes}
-use Rattle.command_line.specs.TerminalText.{written_char}
-use Rattle.command_line.proofs.terminal_text.push_escaped.Goals as goal
+use Rattle.terminal_text.specs.Texts.{written_char}
+use Rattle.terminal_text.proofs.texts.push_escaped.Goals as goal
 
 pub loop-c-preserved : goal.loop-c-preserved
 loop-c-preserved c =

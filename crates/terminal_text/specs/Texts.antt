@@ -4,8 +4,8 @@ use Rattle.std.specs.Prelude.{if◌then◌else◌, ◌==◌, nat_lt, Option, Som
 use Rattle.std.specs.Fmt.{digits}
 use Rattle.std.specs.Char.{is_control}
 use Rattle.std.specs.Int.{is_in_range}
-use Rattle.command_line.specs.declared.terminal_text.Escapes.{Escapes}
-use Rattle.command_line.specs.declared.terminal_text.Escapes.TheVariants.{Text, Lines, Json}
+use Rattle.terminal_text.specs.declared.texts.Escapes.{Escapes}
+use Rattle.terminal_text.specs.declared.texts.Escapes.TheVariants.{Text, Lines, Json}
 
 -- The characters that a terminal may take as commands, or that change how it shows what is beside them: the control
 -- characters, the separators of lines and of paragraphs, and those that set the direction of text.

@@ -4,8 +4,8 @@ ghost use Rattle.std.specs.Prelude.{◌≡◌, ◌≤◌, ◌++◌, length, take
 ghost use Rattle.std.specs.Io.{WritesAtMost};
 ghost use Rattle.std.specs.Io.KnownBytes.{Appends, WriteAppends};
 ghost use Rattle.std.specs.Str.Lossy.{utf8_lossy};
-ghost use Rattle.command_line.specs.TerminalText.{escape, escaped_text, is_steering, known_contents};
-ghost use Rattle.command_line.specs.TerminalText.{leading_zeros, stays, written_char};
+ghost use Rattle.terminal_text.specs.Texts.{escape, escaped_text, is_steering, known_contents};
+ghost use Rattle.terminal_text.specs.Texts.{leading_zeros, stays, written_char};
 
 use std::alloc::{AllocError, Global};
 use std::io::{self, Write};
@@ -23,7 +23,7 @@ pub enum Escapes {
 
 /// Whether a terminal may take a character as a command, or may show what is beside it elsewhere: a control character,
 /// a separator of lines or of paragraphs, or one that sets the direction of text.
-pub fn is_steering(c: char) -> bool
+fn is_steering(c: char) -> bool
     ensures { result ≡ is_steering c }
 {
     let code = u32::from(c);
