@@ -152,6 +152,8 @@ def read_stream(words, path, source, most):
         # what journal dump says of these bytes would say the same once more
         raise Failure(f"view: {path}: no message in it; is it a journal of version {words[3]}?")
     sys.stderr.write(said)
+    if rest is not None and kept.items == 0:
+        print(f"view: {path}: the journal is empty", file=sys.stderr)
     if rest is None:
         raise Failure(f"view: {path}: journal dump ended with the status {dump.returncode}", dump.returncode or 1)
     return kept.journal(shown(path), rest)

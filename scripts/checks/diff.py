@@ -31,6 +31,11 @@ JOURNALS = {
     "unknown_last": RECORDED + UNKNOWN + b"x",
     "rest": RECORDED + b"xyz",
     "bad_start": RECORDED + b"\0\0\0\0\0\0\0\x01\xff",
+    # files that are no journals, and what of a journal is no whole item
+    "text": b"a text of 34 bytes, and no journal",
+    "dump": (STREAMS / "replay.dump").read_bytes(),
+    "brace": b"{",
+    "cut_first": FIRST[:-1],
     # states that are set: a key of two lines, with quotes and ' != ', one of bytes that are not UTF-8, an empty value
     "key_of_lines": after_first(0x403, b'\n\x0ba\n "b": != '),
     "bytes": after_first(0x403, b"\n\x03\xff\x01\0"),
@@ -68,6 +73,18 @@ OTHER_PAYLOAD = other_payload("'1'", "'2'")
 OTHER_TYPE = other_type("'set state' (index '1')", "'handler return'")
 CALL = "CallCommand at offset 39: 27 bytes of payload, more than the limit of 26"
 CUT_SHORT = "8 bytes after its last whole item"
+EMPTY = "the {} journal is empty"
+DUMP = "this is a dump; journal make turns it into a stream"
+
+
+def no_journal(side: str, count: int, version: int = 8) -> tuple[str, str]:
+    """What is said of a journal that has this number of bytes and no whole item."""
+    bytes_ = "1 byte" if count == 1 else f"{count} bytes"
+    return (f"the {side} journal, offset 0: {bytes_} after the last whole item",
+            f"no message in the {side} journal; is it a journal of version {version}?")
+
+
+OF_DUMP = (*no_journal("recorded", len(JOURNALS["dump"])), DUMP)
 
 # Words, the status, the verdict, and what is said on the standard error of which journal.
 CASES: tuple[tuple[str, int, str, *tuple[str, ...]], ...] = (
@@ -79,7 +96,22 @@ CASES: tuple[tuple[str, int, str, *tuple[str, ...]], ...] = (
     ("--ignore-payloads - replayed_other_handler", 1, f"command 2: {OTHER_HANDLER}"),
     ("recorded replayed_other_payload", 1, f"command 1: {OTHER_PAYLOAD}"),
     ("recorded --ignore-payloads replayed_other_payload", 0, "same, 4 commands"),
-    ("recorded /dev/null", 1, "replayed ends at command 0"),
+    ("recorded /dev/null", 1, "replayed ends at command 0", EMPTY.format("replayed")),
+    ("/dev/null first", 1, "recorded ends at command 0", EMPTY.format("recorded")),
+    ("/dev/null /dev/null", 0, "same, 0 commands", EMPTY.format("recorded"), EMPTY.format("replayed")),
+    # bytes and no whole item are no journal, and have no verdict
+    ("text text", 2, "", *no_journal("recorded", 34)),
+    ("--json recorded text", 2, "", *no_journal("replayed", 34)),
+    ("--all --protocol 9 recorded text", 2, "", *no_journal("replayed", 34, 9)),
+    ("--color always text recorded", 2, "", *no_journal("recorded", 34)),
+    ("--strict recorded cut_first", 2, "", *no_journal("replayed", 16)),
+    ("cut_first /dev/null", 2, "", *no_journal("recorded", 16)),
+    ("brace recorded", 2, "", *no_journal("recorded", 1)),
+    ("dump dump", 2, "", *OF_DUMP),
+    ("--all dump recorded", 2, "", *OF_DUMP),
+    ("recorded dump", 2, "", *no_journal("replayed", len(JOURNALS["dump"])), DUMP),
+    ("dump text", 2, "", *OF_DUMP),
+    ("text dump", 2, "", *no_journal("recorded", 34)),
     ("recorded other_type", 1, f"command 1: {OTHER_TYPE}"),
     ("recorded first", 1, "replayed ends at command 1"),
     ("recorded malformed", 2, "", "the replayed command 1 is malformed"),
@@ -114,7 +146,7 @@ CASES: tuple[tuple[str, int, str, *tuple[str, ...]], ...] = (
     ("--color=always recorded other_type", 1, "\x1b[1mcommand 1\x1b[0m: "
      + other_type("\x1b[31m'set state' (index '1')\x1b[0m", "\x1b[32m'handler return'\x1b[0m")),
     ("recorded --color always recorded", 0, "\x1b[32msame, 4 commands\x1b[0m"),
-    ("recorded /dev/null --color always", 1, "\x1b[1mreplayed ends at command 0\x1b[0m"),
+    ("recorded /dev/null --color always", 1, "\x1b[1mreplayed ends at command 0\x1b[0m", EMPTY.format("replayed")),
     ("--color never recorded replayed_other_payload", 1, f"command 1: {OTHER_PAYLOAD}"),
     ("--color auto recorded replayed_other_payload", 1, f"command 1: {OTHER_PAYLOAD}"),
     ("--color always --json recorded recorded", 0, '{"verdict":"same","commands":4}'),
@@ -125,14 +157,14 @@ PLACES = {"index": 1, "recordedAt": 17, "replayedAt": 17}
 # The verdict as a line of JSON: words, the status, the object, and what is said on the standard error.
 JSON: tuple[tuple[str, int, dict[str, object], *tuple[str, ...]], ...] = (
     ("recorded recorded", 0, {"verdict": "same", "commands": 4}),
-    ("recorded /dev/null", 1, {"verdict": "replayedEnded", "index": 0, "recordedAt": 0}),
+    ("recorded /dev/null", 1, {"verdict": "replayedEnded", "index": 0, "recordedAt": 0}, EMPTY.format("replayed")),
     ("first malformed", 1, {"verdict": "recordedEnded", "index": 1, "replayedAt": 17}),
     ("recorded replayed_other_payload", 1,
      {"verdict": "headerMismatch", **PLACES, "text": OTHER_PAYLOAD,
       "fields": [{"name": "value", "recorded": "'1'", "replayed": "'2'"}]}),
     ("recorded other_type", 1, {"verdict": "typeMismatch", **PLACES, "text": OTHER_TYPE}),
     ("/dev/null unknown_first", 1, {"verdict": "recordedEnded", "index": 0, "replayedAt": 8},
-     "the replayed journal has 1 unknown header"),
+     EMPTY.format("recorded"), "the replayed journal has 1 unknown header"),
 )
 
 # The journals, and the name and the values of the field at the end of the line, as the example of docs/PROGRAMS.md has
@@ -150,7 +182,6 @@ ALIGNMENTS = checks.ROOT / "tests" / "vectors" / "alignments.txt"
 # What moved, as a text: the words, the status, and the lines.
 MOVED: tuple[tuple[str, int, str], ...] = (
     ("recorded recorded", 0, "same, 4 commands\n  4 the same, recorded 0, replayed 0\n"),
-    ("/dev/null /dev/null", 0, "same, 0 commands\n"),
     ("first recorded", 1,
      "the replay has 3 commands more, 0 fewer and 0 changed; 1 is the same\n  1 the same, recorded 0, replayed 0\n"
      "+ inserted SetStateCommand, before recorded 1, replayed 1 at offset 17\n"
@@ -188,7 +219,8 @@ def aligned(check: checks.Check, diff: Program) -> None:
                  str(check.work / "replayed"))
         out = [line for line in case if line.startswith("{")]
         status = 0 if '"inserted":0,"removed":0,"changed":0' in out[0] else 1
-        diff.ends(words, "".join(f"{line}\n" for line in out), "", status, what=f"of case {number}")
+        said = "".join(f"journal_diff: {EMPTY.format(side)}\n" for side in ("recorded", "replayed") if not given[side])
+        diff.ends(words, "".join(f"{line}\n" for line in out), said, status, what=f"of case {number}")
     for words, status, text in MOVED:
         diff.ends(f"--all {words}", text, "", status)
     diff.ends("--all recorded malformed", "", "journal_diff: the replayed command 1 is malformed\n", 2)

@@ -25,10 +25,15 @@ STATE = (
     '{"completionId":1,"void":{}}}\n'
 )
 REST = '{"offset":56,"rest":0}\n'
-END = '{"offset":8,"type":"End","code":3,"length":0,"message":{}}\n{"offset":16,"rest":0}\n'
+OF_END = '{"offset":8,"type":"End","code":3,"length":0,"message":{}}\n'
+END = OF_END + '{"offset":16,"rest":0}\n'
 SKIPPED = '{"offset":0,"skipped":true,"code":8,"length":8'
 UNKNOWN = '{"offset":0,"unknown":true,"code":8,"header":"AAgAAAAAAAg="}\n'
 NULS = 6 * r"\u0000"
+PROPOSED = (
+    '{"offset":0,"type":"ProposeRunCompletion","code":5,"length":5,"requestedAck":true,"message":'
+    '{"resultCompletionId":1,"value":"eA=="}}\n'
+)
 CUSTOM = '{"offset":13,"type":"CustomEntry(64513)","code":64513,"length":0'
 CUT = "offset 21: 8 bytes after the last whole item"
 CODE = "offset 0: unknown protocol.message code 0x8"
@@ -74,11 +79,16 @@ MADE = {
     "v6": V6,
     "troubles": (STREAMS / "unknown_type").read_bytes() + V6 + (STREAMS / "cut_short").read_bytes(),
     "cut": (STREAMS / "replay").read_bytes() + b"\0",
+    "empty": b"",
     # of no item: a part of a header, and a header whose payload does not come
     "byte": b"\0",
     "eight": b"\0\0\0\0\0\0\0\x02",
     "nine": b"\0\0\0\0\0\0\0\x02\0",
 }
+
+DUMPED = len((STREAMS / "replay.dump").read_bytes())
+IS_DUMP = "this is a dump; journal make turns it into a stream"
+ANYWAY = "it is dumped all the same; with --strict the status is 2"
 
 
 def no_journal(count: int, version: int = 8) -> tuple[str, str]:
@@ -94,36 +104,35 @@ CASES: tuple[tuple[str, str, *tuple[str, ...]], ...] = (
     ("replay", START + INPUT + STATE + REST),
     ("--protocol 5 replay", START + INPUT + STATE + REST),
     ("--no-payload replay", re.sub(r',"message".*', "}", START + INPUT + STATE) + REST),
-    ("--type InputCommand", INPUT + REST),
-    ("--type GetLazyStateCompletionNotification --type Start replay", START + STATE + REST),
-    ("--type End replay", REST),
+    # with types there is no line of the rest, which the standard error says if there is any
+    ("--type InputCommand", INPUT),
+    ("--type GetLazyStateCompletionNotification --type Start replay", START + STATE),
+    ("--type End replay", ""),
     ("unknown_type", UNKNOWN + END),
-    ("--type End unknown_type", END),
-    ("--protocol 9 --type End unknown_type", '{"offset":16,"rest":0}\n'),
+    ("--type End unknown_type", OF_END),
+    ("--protocol 9 --type End unknown_type", ""),
     ("--protocol 9 unknown_type", f'{SKIPPED},"bytes":"AAMAAAAAAAA="}}\n{{"offset":16,"rest":0}}\n'),
     ("--protocol 9 --no-payload unknown_type", f'{SKIPPED}}}\n{{"offset":16,"rest":0}}\n'),
-    ("--type CustomEntry(64513) cut_short",
-     f'{CUSTOM},"bytes":""}}\n{{"offset":21,"rest":8,"bytes":"BAAAAP////8="}}\n', CUT),
-    ("--type CustomEntry(64513) --no-payload cut_short", f'{CUSTOM}}}\n{{"offset":21,"rest":8}}\n', CUT),
+    ("cut_short", f'{PROPOSED}{CUSTOM},"bytes":""}}\n{{"offset":21,"rest":8,"bytes":"BAAAAP////8="}}\n', CUT),
+    ("--type CustomEntry(64513) cut_short", f'{CUSTOM},"bytes":""}}\n', CUT),
+    ("--type customEntry(64513) --no-payload cut_short", f"{CUSTOM}}}\n", CUT),
     # texts, also the empty ones; other bytes, and those of a header, are base64
     ("--text replay", TEXTS),
     ("--text --protocol 9 unknown_type",
      f'{SKIPPED},"bytes":{{"text":"\\u0000\\u0003{NULS}"}}}}\n{{"offset":16,"rest":0}}\n'),
     ("--text unknown_type", UNKNOWN + END),
-    ("--text --type CustomEntry(64513) cut_short",
-     f'{CUSTOM},"bytes":{{"text":""}}}}\n{{"offset":21,"rest":8,"bytes":"BAAAAP////8="}}\n', CUT),
+    ("--text --type CustomEntry(64513) cut_short", f'{CUSTOM},"bytes":{{"text":""}}}}\n', CUT),
     # each object on several lines
     ("--pretty --no-payload --type CustomEntry(64513) cut_short",
-     '{\n  "offset": 13,\n  "type": "CustomEntry(64513)",\n  "code": 64513,\n  "length": 0\n}\n'
-     '{\n  "offset": 21,\n  "rest": 8\n}\n', CUT),
+     '{\n  "offset": 13,\n  "type": "CustomEntry(64513)",\n  "code": 64513,\n  "length": 0\n}\n', CUT),
     ("--pretty --type End unknown_type",
-     '{\n  "offset": 8,\n  "type": "End",\n  "code": 3,\n  "length": 0,\n  "message": {}\n}\n'
-     '{\n  "offset": 16,\n  "rest": 0\n}\n'),
+     '{\n  "offset": 8,\n  "type": "End",\n  "code": 3,\n  "length": 0,\n  "message": {}\n}\n'),
+    ("--pretty empty", '{\n  "offset": 0,\n  "rest": 0\n}\n'),
     # custom entries
     ("--type CustomEntry(64512) custom",
-     '{"offset":0,"type":"CustomEntry(64512)","code":64512,"length":0,"bytes":""}\n{"offset":16,"rest":0}\n'),
-    ("--type CustomEntry(65535) custom",
-     '{"offset":8,"type":"CustomEntry(65535)","code":65535,"length":0,"bytes":""}\n{"offset":16,"rest":0}\n'),
+     '{"offset":0,"type":"CustomEntry(64512)","code":64512,"length":0,"bytes":""}\n'),
+    ("--type CUSTOMENTRY(65535) custom",
+     '{"offset":8,"type":"CustomEntry(65535)","code":65535,"length":0,"bytes":""}\n'),
     # such a header is shown in base64, also without payloads; and so are the bytes in no item
     (
         "odd",
@@ -149,16 +158,19 @@ CASES: tuple[tuple[str, str, *tuple[str, ...]], ...] = (
     # a malformed payload ends nothing
     ("--protocol 6 v6", OF_V6 + MALFORMED),
     ("--protocol 7 v6", f'{SUSPENSION},"message":{{}}}}\n{MALFORMED}'),
-    ("--no-payload --type End v6", '{"offset":30,"type":"End","code":3,"length":1}\n{"offset":39,"rest":0}\n'),
+    ("--no-payload --type End v6", '{"offset":30,"type":"End","code":3,"length":1}\n'),
     # a type's name may be in any case, and end with Message; several have commas between
-    ("--type inputcommand", INPUT + REST),
-    ("--type GetLazyStateCompletionNotificationMessage,START -", START + STATE + REST),
+    ("--type inputcommand", INPUT),
+    ("--type GetLazyStateCompletionNotificationMessage,START -", START + STATE),
     ("--strict replay", START + INPUT + STATE + REST),
-    ("--strict --type Suspension --protocol 6 v6", OF_V6 + '{"offset":39,"rest":0}\n'),
+    ("--strict --type Suspension --protocol 6 v6", OF_V6),
     # what has no whole item may be no journal, also of a few bytes
-    ("byte", '{"offset":0,"rest":1,"bytes":"AA=="}\n', *no_journal(1)),
-    ("--no-payload eight", '{"offset":0,"rest":8}\n', *no_journal(8)),
-    ("--protocol 9 --no-payload nine", '{"offset":0,"rest":9}\n', *no_journal(9, 9)),
+    ("byte", '{"offset":0,"rest":1,"bytes":"AA=="}\n', *no_journal(1), ANYWAY),
+    ("--no-payload eight", '{"offset":0,"rest":8}\n', *no_journal(8), ANYWAY),
+    ("--protocol 9 --type Start eight", "", *no_journal(8, 9), ANYWAY),
+    ("--no-payload nine", '{"offset":0,"rest":9}\n', *no_journal(9), ANYWAY),
+    ("--no-payload replay.dump", f'{{"offset":0,"rest":{DUMPED}}}\n', *no_journal(DUMPED), IS_DUMP, ANYWAY),
+    ("--type Start replay.dump", "", *no_journal(DUMPED), IS_DUMP, ANYWAY),
 )
 
 # With --strict an unknown code, a malformed payload and bytes in no item are a failure, the first with its offset.
@@ -166,10 +178,11 @@ FAILURES: tuple[tuple[str, str, *tuple[str, ...]], ...] = (
     ("--strict --protocol 6 v6", OF_V6 + MALFORMED, IS_MALFORMED),
     ("--strict --no-payload v6",
      f'{SUSPENSION}}}\n{{"offset":30,"type":"End","code":3,"length":1}}\n{{"offset":39,"rest":0}}\n', IS_MALFORMED),
-    ("--strict --type End unknown_type", END, CODE),
-    ("--strict --protocol 9 --type End unknown_type", '{"offset":16,"rest":0}\n', CODE),
-    ("--strict --type Error --no-payload troubles", '{"offset":76,"rest":8}\n', CODE,
-     "offset 76: 8 bytes after the last whole item"),
+    ("--strict --type End unknown_type", OF_END, CODE),
+    ("--strict --protocol 9 --type End unknown_type", "", CODE),
+    ("--strict --type Error --no-payload troubles", "", CODE, "offset 76: 8 bytes after the last whole item"),
+    ("--strict --no-payload nine", '{"offset":0,"rest":9}\n', *no_journal(9)),
+    ("--strict --type Start replay.dump", "", *no_journal(DUMPED), IS_DUMP),
     ("--strict cut", START + INPUT + STATE + '{"offset":56,"rest":1,"bytes":"AA=="}\n',
      "offset 56: 1 byte after the last whole item"),
 )
@@ -198,6 +211,19 @@ def example() -> str:
     page = (checks.ROOT / "docs" / "PROGRAMS.md").read_text()
     shown = re.search(r"`--pretty --text` .* prints\n((?:.*\n)*?)The status", page)
     return "".join(re.findall(r"(?m)^    (.*\n)", shown[1] if shown else ""))
+
+
+def recipe(dump: Program) -> None:
+    """The command of docs/PROGRAMS.md that writes a value to a file, as it stands there."""
+    if not dump.check.has("jq", "the recipe of docs/PROGRAMS.md"):
+        return
+    page = (checks.ROOT / "docs" / "PROGRAMS.md").read_text()
+    command = re.search(r"(?m)^    journal (dump .* \| base64 -d) > parameter$", page)
+    bytes_said = re.search(r"this writes the bytes `(.*)`:", page)
+    words = f"{dump.path} {command[1]}" if command else "false"
+    run = checks.run(["sh", "-c", words.replace(f"{dump.path} dump", str(dump.path))], cwd=checks.ROOT)
+    is_right = run == checks.Run(0, bytes_said[1].encode() if bytes_said else b"", b"")
+    dump.check.case("the recipe of docs/PROGRAMS.md", is_right, run)
 
 
 def pretty_beside_jq(dump: Program) -> None:
@@ -255,6 +281,7 @@ def main(check: checks.Check) -> None:
         for words, lines, *complaints in cases:
             dump.ends(words, lines, said(*complaints), status)
     dump.ends("--pretty --text --type InputCommand replay", example(), what="in docs/PROGRAMS.md")
+    recipe(dump)
     pretty_beside_jq(dump)
 
     stored = (STORED / "stdin").read_bytes()

@@ -291,6 +291,7 @@ class Programs(Sweep):
             lines = [b'{"offset":0,"rest":%d,"bytes":"%s"}\n' % (len(rest), base64.b64encode(rest))]
             error = b"journal_dump: offset 0: %d bytes after the last whole item\n" % len(rest)
             error += b"journal_dump: no message in it; is it a journal of version 8?\n"
+            error += b"journal_dump: it is dumped all the same; with --strict the status is 2\n"
             self.run_program([DUMP, path], lines, error=error)
         with self.file(*lines) as path:
             self.run_program([MAKE, path], [rest])

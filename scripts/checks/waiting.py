@@ -117,10 +117,9 @@ class Waiting(unittest.TestCase):
         self.wait_by_both([DUMP], self.items, self.dump)
 
     def test_pretty_dump(self):
-        self.assertEqual(self.dump[-1], b'{"offset":56,"rest":0}\n')
         words = [DUMP, "--pretty", "--no-payload", "--type", "InputCommand"]
         item = b'{\n  "offset": 27,\n  "type": "InputCommand",\n  "code": 1024,\n  "length": 9\n}\n'
-        self.wait(words, self.items, [b"", item, b"", b'{\n  "offset": 56,\n  "rest": 0\n}\n'])
+        self.wait(words, self.items, [b"", item, b"", b""])
 
     def test_make(self):
         self.wait_by_both([MAKE], self.dump, [*self.items, b""])

@@ -192,8 +192,9 @@ class Endings(unittest.TestCase):
         self.refused(
             f"{path}: no message in it; is it a journal of version 7?", "--protocol", "7", STREAMS / "replay", path
         )
-        # a journal may be empty
-        self.assertEqual(run(written("empty", b""), "-o", WORK / "empty.html")[0], 0)
+        # a journal may be empty, which is said
+        path, page = written("empty", b""), WORK / "empty.html"
+        self.assertEqual(run(path, "-o", page), (0, f"{page}\n", f"view: {path}: the journal is empty\n"))
 
     def test_a_folder_that_is_not_there(self):
         status, output, error = run(STREAMS / "replay", "-o", WORK / "no folder" / "page.html")

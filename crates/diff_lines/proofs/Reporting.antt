@@ -13,7 +13,7 @@ use Rattle.diff_lines.specs.declared.journals.Findings.{Findings}
 use Rattle.diff_lines.specs.declared.journals.Form.{Form}
 use Rattle.diff_lines.specs.declared.passed_over.Trouble.{Trouble}
 use Rattle.diff_lines.specs.Moved.{ReportsAligned, ReportsMoved, alignment_limit}
-use Rattle.diff_lines.specs.PassedOver.{strict_trouble}
+use Rattle.diff_lines.specs.PassedOver.{found_trouble}
 use Rattle.diff_lines.specs.Verdicts.{IsFaulty, MayFailFor, Reports, ReportsFound, ReportsWithColors, WritesWithColors}
 
 -- an allocation may always fail
@@ -26,7 +26,7 @@ out_of_memory version ignore None b = tt
 -- what is reported is what was found of the two journals
 pub reported : (version : Version) (ignore is_strict : Bool) (form : Form) (a b : Option (List ℕ)) (found : Comparison)
     (result : Result Findings DiffError) (written : List ℕ)
-    → IsComparison version ignore is_strict a b found → strict_trouble is_strict found.recorded found.replayed ≡ None →
+    → IsComparison version ignore is_strict a b found → found_trouble is_strict found.recorded found.replayed ≡ None →
     ReportsFound form found result written
     → Reports version ignore is_strict form a b result written
 reported version ignore is_strict form a b found (Ok findings) written compared none reports =
@@ -89,7 +89,7 @@ reported_text version ignore is_strict form a b findings start items slice text 
 pub reported_moved : (version : Version) (ignore is_strict : Bool) (form : Form) (is_colored : Bool)
     (a b : Option (List ℕ)) (found : AlignedComparison) (result : Result Findings DiffError) (written : List ℕ)
     → IsAligned version ignore is_strict alignment_limit a b found
-    → strict_trouble is_strict found.comparison.recorded found.comparison.replayed ≡ None
+    → found_trouble is_strict found.comparison.recorded found.comparison.replayed ≡ None
     → ReportsAligned ignore form is_colored found result written
     → ReportsMoved version ignore is_strict form is_colored a b result written
 reported_moved version ignore is_strict form is_colored a b found (Ok findings) written aligned none reports =

@@ -15,7 +15,7 @@ use Rattle.diff_lines.specs.declared.journals.Form.TheVariants.{Text, Terminal, 
 use Rattle.diff_lines.specs.declared.passed_over.Trouble.{Trouble}
 use Rattle.diff_lines.specs.EntryLines.{IsText}
 use Rattle.diff_lines.specs.MovedJson.{IsJsonText}
-use Rattle.diff_lines.specs.PassedOver.{strict_trouble}
+use Rattle.diff_lines.specs.PassedOver.{found_trouble}
 use Rattle.diff_lines.specs.Verdicts.{findings_of}
 
 -- How many commands may have moved where the fewest of them are found.
@@ -26,7 +26,7 @@ alignment_limit = 1000
 pub record HasMoved (version : Version) (ignore is_strict : Bool) (recorded replayed : Option (List ℕ))
     (found : AlignedComparison) (trouble : Option Trouble) : Type 0 where
   pub aligned : IsAligned version ignore is_strict alignment_limit recorded replayed found
-  pub trouble_is : strict_trouble is_strict found.comparison.recorded found.comparison.replayed ≡ trouble
+  pub trouble_is : found_trouble is_strict found.comparison.recorded found.comparison.replayed ≡ trouble
 
 -- This text says what moved between two journals, as a text, on a terminal or as JSON.
 abbrev pub IsFormText : Bool → Form → AlignedComparison → List ℕ → Type 0

@@ -7,11 +7,13 @@ use Rattle.replay_bench.specs.declared.verdicts.Side.{Side}
 use Rattle.replay_bench.specs.declared.verdicts.Side.TheVariants.{Recorded, Replayed}
 use Rattle.replay_bench.specs.Texts.{side_text}
 use Rattle.replay_bench.specs.declared.faults.Fault.{Fault}
+use Rattle.replay_bench.specs.declared.faults.FaultReason.{FaultReason}
+use Rattle.replay_bench.specs.declared.faults.FaultReason.TheVariants as reason
 use Rattle.replay_bench.specs.declared.survey.Survey.{Survey}
 use Rattle.replay_bench.specs.Survey.{trouble_of}
 use Rattle.replay_bench.specs.FaultTexts.{fault_text}
 use Rattle.diff_lines.specs.declared.passed_over.Note.{Note}
-use Rattle.diff_lines.specs.declared.passed_over.Note.TheVariants.{UnknownHeaders, Rest, NoItem}
+use Rattle.diff_lines.specs.declared.passed_over.Note.TheVariants.{UnknownHeaders, Rest, Empty, NoItem}
 use Rattle.diff_lines.specs.declared.passed_over.Trouble.{Trouble}
 
 -- The text of what is wrong: the journal, where and why.
@@ -28,11 +30,15 @@ abbrev pub first_trouble : Option Trouble → Option Trouble → Option Trouble
 first_trouble (Some trouble) later = Some trouble
 first_trouble None later = later
 
--- What is wrong with two journals of these surveys, the recorded one first, if the comparison is strict.
-abbrev pub strict_trouble : Bool → Survey → Survey → Option Trouble
-strict_trouble is_strict recorded replayed =
-    if is_strict then first_trouble (on_side Recorded (trouble_of recorded)) (on_side Replayed (trouble_of replayed))
-    else None
+-- What is wrong with a journal: the first of all that may be, if the comparison is strict or the journal has no whole
+-- item; otherwise nothing.
+abbrev pub wrong_with : Bool → Survey → Option Fault
+wrong_with is_strict survey = if is_strict || (survey.size == 0) then trouble_of survey else None
+
+-- What is wrong with two journals of these surveys, the recorded one first.
+abbrev pub found_trouble : Bool → Survey → Survey → Option Trouble
+found_trouble is_strict recorded replayed =
+    first_trouble (on_side Recorded (wrong_with is_strict recorded)) (on_side Replayed (wrong_with is_strict replayed))
 
 -- `header` or `headers`, by their number.
 abbrev pub headers_word : ℕ → List ℕ
@@ -50,6 +56,7 @@ note_text (UnknownHeaders side count) =
 note_text (Rest side count) =
     codes "the " ++ (side_text side ++ (codes " journal has " ++
     (decimal count ++ (codes " " ++ (bytes_word count ++ codes " after its last whole item")))))
+note_text (Empty side) = codes "the " ++ (side_text side ++ codes " journal is empty")
 note_text (NoItem side number) =
     codes "no message in the " ++ (side_text side ++ (codes " journal; is it a journal of version " ++
     (decimal number ++ codes "?")))
@@ -62,7 +69,17 @@ unknown_note side survey = if survey.unknown == 0 then None else Some (UnknownHe
 abbrev pub rest_note : Side → Survey → Option Note
 rest_note side survey = if survey.rest == 0 then None else Some (Rest side survey.rest)
 
--- The note on a journal that has bytes and no whole item: it may be something else, or of another version.
-abbrev pub no_item_note : Side → Version → Survey → Option Note
-no_item_note side version survey =
-    if survey.rest == 0 || nat_lt 0 survey.size then None else Some (NoItem side (version_number version))
+-- The note on a journal without a byte.
+abbrev pub empty_note : Side → Survey → Option Note
+empty_note side survey = if nat_lt 0 survey.size || nat_lt 0 survey.rest then None else Some (Empty side)
+
+-- The note on a journal of which all bytes are after the last whole item, for this reason.
+abbrev pub no_item_for : Version → Side → FaultReason → Option Note
+no_item_for version side (reason.Rest count) = Some (NoItem side (version_number version))
+no_item_for version side reason = None
+
+-- The note on what is wrong with a journal, where it has bytes and no whole item: it may be something else, or of
+-- another version.
+abbrev pub no_item_note : Version → Trouble → Option Note
+no_item_note version trouble =
+    if nat_lt 0 trouble.fault.offset then None else no_item_for version trouble.side trouble.fault.reason

@@ -19,7 +19,7 @@ use Rattle.diff_lines.specs.declared.journals.Form.TheVariants.{Text, Terminal, 
 use Rattle.diff_lines.specs.declared.passed_over.Trouble.{Trouble}
 use Rattle.terminal_text.specs.Painting.{IsPainted}
 use Rattle.diff_lines.specs.Json.{json_line}
-use Rattle.diff_lines.specs.PassedOver.{strict_trouble, trouble_text}
+use Rattle.diff_lines.specs.PassedOver.{found_trouble, trouble_text}
 use Rattle.diff_lines.specs.Shown.{shown_text}
 use Rattle.replay_bench.specs.declared.fields.FieldDifference.{FieldDifference}
 
@@ -77,17 +77,17 @@ ReportsFound form found (Err (NoVerdict why)) written = (why ≡ Bench OutOfMemo
 ReportsFound form found (Err (Faulty trouble)) written = ⊥
 ReportsFound form found (Err Output) written = (rest : List ℕ) × (found_line form found ≡ written ++ rest)
 
--- This error is what is wrong with one of two journals, whose comparison is strict.
+-- This error is what is wrong with one of two journals.
 abbrev pub IsFaulty : Bool → Comparison → DiffError → Type 0
 IsFaulty is_strict found error =
     (trouble : Trouble) × (error ≡ Faulty trouble)
-    × (strict_trouble is_strict found.recorded found.replayed ≡ Some trouble)
+    × (found_trouble is_strict found.recorded found.replayed ≡ Some trouble)
 
 -- Two journals have this comparison, and this is what is wrong with them, if that is an error.
 pub record HasFound (version : Version) (ignore is_strict : Bool) (recorded replayed : Option (List ℕ))
     (found : Comparison) (trouble : Option Trouble) : Type 0 where
   pub compared : IsComparison version ignore is_strict recorded replayed found
-  pub trouble_is : strict_trouble is_strict found.recorded found.replayed ≡ trouble
+  pub trouble_is : found_trouble is_strict found.recorded found.replayed ≡ trouble
 
 -- A read is said to have failed, or a message to be too long, only on a side where it may.
 abbrev pub MayFailFor : Bool → ℕ → Bool → ℕ → Result Findings DiffError → Type 0

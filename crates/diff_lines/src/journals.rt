@@ -4,7 +4,7 @@ ghost use Rattle.std.specs.Prelude.{◌≡◌, ℕ, List, IfErr, IfOk, None, OnO
 ghost use Rattle.std.specs.Io.KnownBytes.{Appends};
 ghost use Rattle.std.specs.String.{string_bytes};
 ghost use Rattle.diff_lines.specs.Moved.{IsFormText, IsShownForm, ReportsAligned, ReportsMoved};
-ghost use Rattle.diff_lines.specs.PassedOver.{strict_trouble};
+ghost use Rattle.diff_lines.specs.PassedOver.{found_trouble};
 ghost use Rattle.diff_lines.specs.Verdicts.{IsFaulty, IsWritten, MayFailFor, Reports, ReportsFound, ReportsWithColors};
 ghost use Rattle.diff_lines.specs.Verdicts.{WritesWithColors};
 ghost use Rattle.diff_lines.specs.Verdicts.{commands_word, findings_of, found_line, is_same, terminal_line};
@@ -14,7 +14,7 @@ use crate::colors::with_colors;
 use crate::entry_json::aligned_json;
 use crate::entry_lines::aligned_text;
 use crate::json_line::json_line;
-use crate::passed_over::{Trouble, strict_trouble};
+use crate::passed_over::{Trouble, found_trouble};
 use crate::shown::shown_text;
 use replay_bench::{
     AlignedComparison, BenchError, Comparison, ComparisonOptions, FieldDifference, Journals,
@@ -46,7 +46,8 @@ pub enum Form {
 pub enum DiffError {
     /// The comparison has no verdict. Nothing is written.
     NoVerdict(ReaderError),
-    /// In a strict comparison something is wrong with a journal. Nothing is written.
+    /// A journal has bytes and no whole item, or in a strict comparison something else is wrong with it. Nothing is
+    /// written.
     Faulty(Trouble),
     /// A write failed, or wrote no byte. A prefix of the verdict's line may be written.
     Output,
@@ -108,9 +109,10 @@ pub struct Findings {
 /// Compares two journals that sources of their version give, writes the verdict in this form, a text in one line or in
 /// several, and returns what the journals have and whether they are the same.
 ///
-/// Both are read to their ends. The line is written only once all of that is known and its whole text is made. If
-/// the comparison is strict, an unknown header, a payload that is not well-formed, or bytes after the last whole item
-/// are an error: the first of them in the recorded journal, or else in the replayed one.
+/// Both are read to their ends. The line is written only once all of that is known and its whole text is made. A
+/// journal that has bytes and no whole item is an error: it may be something else. If the comparison is strict, an
+/// unknown header, a payload that is not well-formed, or bytes after the last whole item are errors too. The error is
+/// the first of these in the recorded journal, or else in the replayed one.
 #[tactic(auto, using(crate::proofs::Reporting::reported, crate::proofs::Reporting::report_fails))]
 pub fn diff<A: Source, B: Source, W: Write>(
     alloc: Global,
@@ -128,7 +130,7 @@ pub fn diff<A: Source, B: Source, W: Write>(
     ensures failed { MayFailFor A.may_fail (A.limit journals.recorded) B.may_fail (B.limit journals.replayed) result }
 {
     let found = survey_sources(alloc, journals, options)?;
-    pass_strictly(options.is_strict, &found)?;
+    fail_if_faulty(options.is_strict, &found)?;
     report(alloc, found, form, output)
 }
 
@@ -155,17 +157,17 @@ pub fn diff_all<A: Source, B: Source, W: Write>(
     ensures failed { MayFailFor A.may_fail (A.limit journals.recorded) B.may_fail (B.limit journals.replayed) result }
 {
     let found = align_sources(alloc, journals, options, ALIGNMENT_LIMIT)?;
-    pass_strictly(options.is_strict, &found.comparison)?;
+    fail_if_faulty(options.is_strict, &found.comparison)?;
     let ignore_payloads = options.ignore_payload_equality;
     report_moved(alloc, &found, ignore_payloads, form, is_colored, output)
 }
 
-/// Fails with what is wrong with one of two journals, if their comparison is strict.
-fn pass_strictly(is_strict: bool, found: &Comparison) -> Result<(), DiffError>
-    ensures passed { OnOk result (strict_trouble is_strict found.now.recorded found.now.replayed ≡ None) }
+/// Fails with what is wrong with one of two journals, if that is an error.
+fn fail_if_faulty(is_strict: bool, found: &Comparison) -> Result<(), DiffError>
+    ensures passed { OnOk result (found_trouble is_strict found.now.recorded found.now.replayed ≡ None) }
     ensures failed { IfErr result (IsFaulty is_strict found.now) }
 {
-    match strict_trouble(is_strict, &found.recorded, &found.replayed) {
+    match found_trouble(is_strict, &found.recorded, &found.replayed) {
         Some(trouble) => Err(DiffError::Faulty(trouble)),
         None => Ok(()),
     }

@@ -14,4 +14,4 @@ mod shown;
 pub use crate::journals::{
     ALIGNMENT_LIMIT, DiffError, Findings, Form, diff, diff_all, diff_with_colors,
 };
-pub use crate::passed_over::{Note, Trouble, no_item_note, rest_note, unknown_note};
+pub use crate::passed_over::{Note, Trouble, empty_note, no_item_note, rest_note, unknown_note};

@@ -1,10 +1,10 @@
 //! What a comparison passes over, and which of it is reported or an error.
 
 ghost use Rattle.std.specs.Prelude.{◌≡◌};
-ghost use Rattle.diff_lines.specs.PassedOver.{headers_word, bytes_word, rest_note, strict_trouble, unknown_note};
-ghost use Rattle.diff_lines.specs.PassedOver.{no_item_note};
+ghost use Rattle.diff_lines.specs.PassedOver.{bytes_word, empty_note, found_trouble, headers_word, no_item_note};
+ghost use Rattle.diff_lines.specs.PassedOver.{rest_note, unknown_note, wrong_with};
 
-use replay_bench::{Fault, Side, Survey};
+use replay_bench::{Fault, FaultReason, Side, Survey};
 use shared_core_base::version::Version;
 use std::fmt;
 
@@ -31,24 +31,33 @@ impl fmt::Display for Trouble {
     }
 }
 
-/// What is wrong with two journals of these surveys, if the comparison is strict.
-pub fn strict_trouble(is_strict: bool, recorded: &Survey, replayed: &Survey) -> Option<Trouble>
-    ensures { result ≡ strict_trouble is_strict recorded.now replayed.now }
+/// What is wrong with two journals of these surveys, the recorded one first: that one has bytes and no whole item, or,
+/// if the comparison is strict, all that may be wrong.
+pub fn found_trouble(is_strict: bool, recorded: &Survey, replayed: &Survey) -> Option<Trouble>
+    ensures { result ≡ found_trouble is_strict recorded.now replayed.now }
 {
-    if !is_strict {
-        return None;
-    }
-    if let Some(fault) = recorded.trouble() {
+    if let Some(fault) = wrong_with(is_strict, recorded) {
         return Some(Trouble {
             side: Side::Recorded,
             fault,
         });
     }
-    let fault = replayed.trouble()?;
+    let fault = wrong_with(is_strict, replayed)?;
     Some(Trouble {
         side: Side::Replayed,
         fault,
     })
+}
+
+/// What is wrong with a journal of this survey.
+fn wrong_with(is_strict: bool, survey: &Survey) -> Option<Fault>
+    ensures { result ≡ wrong_with is_strict survey.now }
+{
+    if is_strict || survey.size == 0 {
+        survey.trouble()
+    } else {
+        None
+    }
 }
 
 /// What is reported of a journal that is compared.
@@ -58,6 +67,8 @@ pub enum Note {
     UnknownHeaders(Side, u128),
     /// This many bytes of it are after the last whole item.
     Rest(Side, u64),
+    /// It has no byte.
+    Empty(Side),
     /// It has bytes and no whole item, as if it were no journal of the version of this number.
     NoItem(Side, u32),
 }
@@ -82,6 +93,7 @@ impl fmt::Display for Note {
                     "the {side} journal has {count} {word} after its last whole item"
                 )
             }
+            Note::Empty(side) => write!(f, "the {side} journal is empty"),
             Note::NoItem(side, number) => {
                 write!(
                     f,
@@ -126,12 +138,25 @@ pub fn rest_note(side: Side, survey: &Survey) -> Option<Note>
     Some(Note::Rest(side, survey.rest))
 }
 
-/// The note on a journal of a side that has bytes and no whole item.
-pub fn no_item_note(side: Side, version: Version, survey: &Survey) -> Option<Note>
-    ensures { result ≡ no_item_note side version survey.now }
+/// The note on the journal of a side that has no byte.
+pub fn empty_note(side: Side, survey: &Survey) -> Option<Note>
+    ensures { result ≡ empty_note side survey.now }
 {
-    if survey.rest == 0 || survey.size > 0 {
+    if survey.size > 0 || survey.rest > 0 {
         return None;
     }
-    Some(Note::NoItem(side, version.number()))
+    Some(Note::Empty(side))
+}
+
+/// The note on what is wrong with a journal of this version, if it is that it has bytes and no whole item.
+pub fn no_item_note(version: Version, trouble: &Trouble) -> Option<Note>
+    ensures { result ≡ no_item_note version trouble.now }
+{
+    if trouble.fault.offset > 0 {
+        return None;
+    }
+    match trouble.fault.reason {
+        FaultReason::Rest(_) => Some(Note::NoItem(trouble.side, version.number())),
+        FaultReason::UnknownHeader(_) | FaultReason::Malformed(_) => None,
+    }
 }

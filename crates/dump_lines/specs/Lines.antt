@@ -124,8 +124,12 @@ rest_members options rest =
     if options.payloads && nat_lt 0 (length rest) then member (codes "bytes") (byte_string_json options.texts rest)
     no_members else no_members
 
--- The last line: the offset of the bytes that are in no item, how many they are, and these bytes.
-abbrev pub rest_line : Options → ℕ → List ℕ → List ℕ
-rest_line options at rest =
+-- The line of the bytes that are in no item: their offset, how many they are, and these bytes.
+abbrev pub unread_line : Options → ℕ → List ℕ → List ℕ
+unread_line options at rest =
     json_line options.pretty (object (number_member (codes "offset") at
     (number_member (codes "rest") (length rest) (rest_members options rest))))
+
+-- The last line, where the options have it: that of the bytes that are in no item.
+abbrev pub rest_line : Options → ℕ → List ℕ → List ℕ
+rest_line options at rest = if options.rest then unread_line options at rest else []

@@ -17,6 +17,8 @@ pub struct Options<'a> {
     pub texts: bool,
     /// Whether an object is on several lines, and not on one.
     pub pretty: bool,
+    /// Whether the bytes that are in no item have a line.
+    pub rest: bool,
     /// Whether the report has the first trouble of an item.
     pub strict: bool,
 }

@@ -7,7 +7,7 @@ ghost use Rattle.json.specs.Print.{print};
 ghost use Rattle.shared_core_message.specs.Schemas.{schema_at};
 ghost use Rattle.shared_core_stream.specs.declared.encoding.item.Item.TheVariants as variant;
 ghost use Rattle.dump_lines.specs.Dump.{is_well_formed_for, wrong_of};
-ghost use Rattle.dump_lines.specs.Lines.{rest_line};
+ghost use Rattle.dump_lines.specs.Lines.{rest_line, unread_line};
 ghost use Rattle.dump_lines.specs.Spread.{AreGood, tokens_text};
 ghost use Rattle.dump_lines.specs.Terminal.{rest_options};
 
@@ -144,8 +144,7 @@ fn is_well_formed_for(schema: Option<u32>, payload: &Bytes) -> bool
     }
 }
 
-/// Appends the last line.
-#[tactic(auto, using(crate::proofs::Good::good_tokens))]
+/// Appends the last line, where the options have one.
 fn append_rest(
     alloc: Global,
     options: &Options<'_>,
@@ -154,6 +153,24 @@ fn append_rest(
     lines: &mut Vec<u8>,
 ) -> Result<(), AllocError>
     ensures { OnOk result (lines.new.items ≡ lines.old.items ++ rest_line options.now offset rest.now.bytes) }
+{
+    if options.rest {
+        append_unread(alloc, options, offset, rest, lines)
+    } else {
+        Ok(())
+    }
+}
+
+/// Appends the line of the bytes that are in no item.
+#[tactic(auto, using(crate::proofs::Good::good_tokens))]
+fn append_unread(
+    alloc: Global,
+    options: &Options<'_>,
+    offset: u128,
+    rest: &Decoder,
+    lines: &mut Vec<u8>,
+) -> Result<(), AllocError>
+    ensures { OnOk result (lines.new.items ≡ lines.old.items ++ unread_line options.now offset rest.now.bytes) }
 {
     let mut out = Writer::new(Vec::new(alloc));
     out.begin_object()?;

@@ -18,7 +18,8 @@ use stream_lines::{PrintError, Report, print_lines};
 /// The number of bytes that are read at a time.
 const CHUNK: usize = 65536;
 
-/// Writes a line for each selected item of a stream, and at its end a line for the bytes that are in no item.
+/// Writes a line for each selected item of a stream, and at its end, where the options have it, a line for the bytes
+/// that are in no item.
 ///
 /// It reads at most 65,536 bytes at a time, and ends as `print_lines` says. `TooLong` comes only if payloads are
 /// printed and one of the items after the written lines is a selected message whose canonical payload has more bytes

@@ -6,54 +6,72 @@ ghost use Rattle.shared_core_base.specs.Version.{version_number};
 mod arguments;
 mod inputs;
 
+use crate::beginning::{Beginning, Begun};
 use crate::call::Call;
 use crate::diff::arguments::{Arguments, parse_arguments};
 use crate::diff::inputs::{Inputs, closed_side, open_both};
 use command_line::{Pipe, Progress, Watched, has_color};
 use diff_lines::{
-    DiffError, Findings, Form, diff, diff_all, diff_with_colors, no_item_note, rest_note,
-    unknown_note,
+    DiffError, Findings, Form, Trouble, diff, diff_all, diff_with_colors, empty_note, no_item_note,
+    rest_note, unknown_note,
 };
 use replay_bench::{ComparisonOptions, Journals, ReaderError, Side};
 use shared_core::encoding::ItemReader;
 use shared_core_base::version::Version;
-use std::io::{IsTerminal, Stdout};
+use std::io::IsTerminal;
 use std::process::ExitCode;
 use terminal_text::{Escapes, Escaping};
 
-/// The standard output, which a reader may close, and before which a line of JSON is escaped if it is a terminal.
-type Output = Pipe<Escaping<Stdout>>;
+/// How both inputs begin.
+#[derive(Drop)]
+struct Beginnings {
+    recorded: Beginning,
+    replayed: Beginning,
+}
 
 /// Reports what the comparison passed over.
-fn tell(call: &Call<'_>, version: Version, found: &Findings) {
+fn tell(call: &Call<'_>, found: &Findings) {
     let notes = [
+        empty_note(Side::Recorded, &found.recorded),
         unknown_note(Side::Recorded, &found.recorded),
         rest_note(Side::Recorded, &found.recorded),
-        no_item_note(Side::Recorded, version, &found.recorded),
+        empty_note(Side::Replayed, &found.replayed),
         unknown_note(Side::Replayed, &found.replayed),
         rest_note(Side::Replayed, &found.replayed),
-        no_item_note(Side::Replayed, version, &found.replayed),
     ];
     for what in notes.into_iter().flatten() {
         call.note(what);
     }
 }
 
-/// Reports how the comparison ended, unless the reader of the output has closed it, and returns the status.
-fn end(
+/// Reports what is wrong with a journal, and if no item is in it, what it may be.
+fn tell_trouble(call: &Call<'_>, version: Version, trouble: &Trouble, beginnings: &Beginnings) {
+    call.note(*trouble);
+    let Some(what) = no_item_note(version, trouble) else {
+        return;
+    };
+    call.note(what);
+    let beginning = match trouble.side {
+        Side::Recorded => &beginnings.recorded,
+        Side::Replayed => &beginnings.replayed,
+    };
+    if beginning.is_dump() {
+        call.note("this is a dump; journal make turns it into a stream");
+    }
+}
+
+/// Reports why there is no verdict, or none on the output, and returns the status.
+fn end_without(
     call: &Call<'_>,
     version: Version,
-    found: Result<Findings, DiffError>,
-    output: &Output,
+    error: DiffError,
+    beginnings: &Beginnings,
 ) -> ExitCode {
-    match found {
-        Ok(found) => {
-            tell(call, version, &found);
-            ExitCode::from(if found.is_same { 0 } else { 1 })
-        }
-        Err(DiffError::Output) if output.is_broken() => ExitCode::from(call.failure),
-        Err(error) => call.fail(error, call.failure),
+    match error {
+        DiffError::Faulty(trouble) => tell_trouble(call, version, &trouble, beginnings),
+        DiffError::NoVerdict(_) | DiffError::Output => call.note(error),
     }
+    ExitCode::from(call.failure)
 }
 
 /// The form in which a verdict is written, to a terminal or not.
@@ -72,6 +90,10 @@ fn run_parsed(call: &Call<'_>, parsed: &Arguments<'_>, inputs: Inputs) -> ExitCo
     requires { 5 ≤ version_number parsed.now.version }
 {
     let progress = Progress::new(call.rt, call.name, inputs.size());
+    let beginnings = Beginnings {
+        recorded: Beginning::new(),
+        replayed: Beginning::new(),
+    };
     let alloc = call.rt.alloc();
     let journals = Journals {
         version: parsed.version,
@@ -79,13 +101,19 @@ fn run_parsed(call: &Call<'_>, parsed: &Arguments<'_>, inputs: Inputs) -> ExitCo
             alloc,
             parsed.version,
             parsed.limit,
-            Watched::new(inputs.recorded, &progress),
+            Begun::new(
+                Watched::new(inputs.recorded, &progress),
+                &beginnings.recorded,
+            ),
         ),
         replayed: ItemReader::with_limit(
             alloc,
             parsed.version,
             parsed.limit,
-            Watched::new(inputs.replayed, &progress),
+            Begun::new(
+                Watched::new(inputs.replayed, &progress),
+                &beginnings.replayed,
+            ),
         ),
     };
     let options = ComparisonOptions {
@@ -109,7 +137,15 @@ fn run_parsed(call: &Call<'_>, parsed: &Arguments<'_>, inputs: Inputs) -> ExitCo
         diff(alloc, journals, options, form, &mut output)
     };
     progress.clear();
-    end(call, parsed.version, found, &output)
+    match found {
+        Ok(found) => {
+            tell(call, &found);
+            ExitCode::from(if found.is_same { 0 } else { 1 })
+        }
+        // the reader has closed the output, so nothing is reported
+        Err(DiffError::Output) if output.is_broken() => ExitCode::from(call.failure),
+        Err(error) => end_without(call, parsed.version, error, &beginnings),
+    }
 }
 
 /// Parses the arguments, compares the journals, and returns the status.

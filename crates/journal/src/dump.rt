@@ -7,6 +7,7 @@ mod arguments;
 mod canonical;
 mod suggestions;
 
+use crate::beginning::{Beginning, Begun};
 use crate::call::Call;
 use crate::dump::arguments::{Arguments, parse_arguments};
 use crate::dump::canonical::Records;
@@ -18,12 +19,15 @@ use stream_lines::{PrintError, Report, Trouble};
 use terminal_text::{Escapes, Escaping};
 
 /// Reports the first trouble of the stream and the bytes that are in no item, and returns the status.
-fn end(call: &Call<'_>, options: &Options<'_>, found: &Report) -> ExitCode {
+fn end(call: &Call<'_>, options: &Options<'_>, beginning: &Beginning, found: &Report) -> ExitCode {
     if let Some((offset, trouble)) = found.trouble {
         report_trouble(call, offset, trouble);
     }
     if found.rest > 0 {
         report_rest(call, options, found);
+        if found.end == 0 {
+            report_no_message(call, options, beginning);
+        }
     }
     if options.strict && (found.trouble.is_some() || found.rest > 0) {
         return ExitCode::from(2);
@@ -50,11 +54,12 @@ fn report_trouble(call: &Call<'_>, offset: u128, trouble: Trouble) {
     }
 }
 
-/// Reports the bytes that are in no item, and if they are all there is, that the stream may be something else.
+/// Reports the bytes that are in no item.
 fn report_rest(call: &Call<'_>, options: &Options<'_>, found: &Report) {
     let (offset, count) = (found.end, found.rest);
     let bytes = if count == 1 { "byte" } else { "bytes" };
-    let is_cut = options.payloads && count > MOST_SHOWN && call.rt.stdout().is_terminal();
+    let is_shown = options.rest && options.payloads;
+    let is_cut = is_shown && count > MOST_SHOWN && call.rt.stdout().is_terminal();
     let shown = if is_cut {
         ", not shown on a terminal"
     } else {
@@ -65,13 +70,21 @@ fn report_rest(call: &Call<'_>, options: &Options<'_>, found: &Report) {
         call.name,
         format_args!("offset {offset}: {count} {bytes} after the last whole item{shown}"),
     );
-    if offset == 0 {
-        let version = options.version.number();
-        note(
-            call.rt,
-            call.name,
-            format_args!("no message in it; is it a journal of version {version}?"),
-        );
+}
+
+/// Reports that no item comes before the bytes that are in none: the stream may be something else.
+fn report_no_message(call: &Call<'_>, options: &Options<'_>, beginning: &Beginning) {
+    let version = options.version.number();
+    note(
+        call.rt,
+        call.name,
+        format_args!("no message in it; is it a journal of version {version}?"),
+    );
+    if beginning.is_dump() {
+        call.note("this is a dump; journal make turns it into a stream");
+    }
+    if !options.strict {
+        call.note("it is dumped all the same; with --strict the status is 2");
     }
 }
 
@@ -86,10 +99,13 @@ fn run_parsed(call: &Call<'_>, parsed: &Arguments<'_>, input: Input) -> ExitCode
         payloads: parsed.payloads,
         texts: parsed.texts,
         pretty: parsed.pretty,
+        // whoever selects messages goes on with what is in them
+        rest: parsed.codes.is_empty(),
         strict: parsed.strict,
     };
     let progress = Progress::beside_output(call.rt, call.name, input_size(&input));
-    let mut input = Watched::new(input, &progress);
+    let beginning = Beginning::new();
+    let mut input = Begun::new(Watched::new(input, &progress), &beginning);
     let is_terminal = call.rt.stdout().is_terminal();
     let mut output = Pipe::new(Escaping::new(
         call.rt.alloc(),
@@ -104,7 +120,7 @@ fn run_parsed(call: &Call<'_>, parsed: &Arguments<'_>, input: Input) -> ExitCode
     };
     progress.clear();
     match dumped {
-        Ok(found) => end(call, &options, &found),
+        Ok(found) => end(call, &options, &beginning, &found),
         // the reader has closed the output, so nothing is reported
         Err(PrintError::Output) if output.is_broken() => ExitCode::from(call.failure),
         Err(error) => call.fail(error, call.failure),

@@ -2,6 +2,7 @@
 //! called by its name, as `journal_dump`.
 #![tactic(auto)]
 
+mod beginning;
 mod call;
 mod definitions;
 mod diff;

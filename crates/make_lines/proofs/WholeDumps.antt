@@ -91,6 +91,9 @@ module _ (options : Options) (whole : IsWhole options) where
   one_line : (json : Json) → json_line options.pretty json ≡ line_text json
   one_line json = ap (λ (b : Bool). json_line b json) whole.one_line
 
+  rest_is_there : (line : List ℕ) → cond options.rest line [] ≡ line
+  rest_is_there line = ap (λ (b : Bool). cond b line []) whole.rest
+
   rest_means : (at : ℕ) (rest : List ℕ) → at < 2 ^ 128 → length rest < 2 ^ 128 → IsBytes rest → Means
       (line_made options.version) (rest_line options at rest) (Some rest)
   rest_means at rest early short small =
@@ -99,7 +102,7 @@ module _ (options : Options) (whole : IsWhole options) where
       let m = made_then options.version json [] (Some rest) (Some []) (rest_line_made at rest early short small)
       (nothing_means (line_made options.version) (empty_line options.version)) in
       subst (λ (text : List ℕ). Means (line_made options.version) text (Some rest))
-      (append-nil (line_text json) ∙ sym (one_line json))
+      (append-nil (line_text json) ∙ sym (one_line json) ∙ sym (rest_is_there (json_line options.pretty json)))
       (subst (λ (bs : List ℕ). Means (line_made options.version) (line_text json ++ []) (Some bs)) (append-nil rest)
       m)
 

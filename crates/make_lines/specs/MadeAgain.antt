@@ -61,11 +61,12 @@ abbrev pub AreKept : Version → List Item → Type 0
 AreKept version [] = Unit {0}
 AreKept version (item ∷ items) = IsKept version item × AreKept version items
 
--- The dump has a line for each item, one alone, with its payload.
+-- The dump has a line for each item, one alone, with its payload, and the line of the bytes that are in no item.
 pub record IsWhole (options : Options) : Type 0 where
   pub all : length options.codes.now ≡ 0
   pub payloads : options.payloads ≡ true
   pub one_line : options.pretty ≡ false
+  pub rest : options.rest ≡ true
 
 -- The line of an item means the item, with its payload as it is made again. (A slice is of bytes.)
 abbrev pub ItemIsMadeAgain : Options → Type 0

@@ -33,7 +33,7 @@ pub struct Arguments<'a> {
     pub strict: bool,
 }
 
-/// The code of the type that has this name: a named type's in any case of letters, with or without `Message` at the
+/// The code of the type that has this name, in any case of letters: a named type's, with or without `Message` at the
 /// end, or that of a custom entry, as `CustomEntry(64513)`.
 fn code_of(alloc: Global, name: &str) -> Result<Option<u16>, AllocError> {
     let short = name.strip_suffix("Message").unwrap_or(name);
@@ -55,13 +55,13 @@ fn custom_code(alloc: Global, name: &str) -> Result<Option<u16>, AllocError> {
     };
     // a number can be written in several ways, of which a name has one
     let printed = ty.debug_name().to_string(alloc)?;
-    let is_name = printed.as_str() == name;
+    let is_name = printed.as_str().eq_ignore_ascii_case(name);
     Ok(is_name.then_some(code))
 }
 
 /// The number in the name of a custom entry.
 fn code_within(name: &str) -> Option<u16> {
-    let digits = name.strip_prefix("CustomEntry(")?.strip_suffix(')')?;
+    let (_, digits) = name.strip_suffix(')')?.split_once('(')?;
     digits.parse().ok()
 }
 

@@ -3,20 +3,20 @@ use Rattle.std.proofs.lemmas.Result.{err_from_is_err_and}
 use Rattle.diff_lines.proofs.Reporting.{faulty_fails, faulty_moved}
 use Rattle.diff_lines.proofs.journals.diff_all.Goals as goal
 
-pub returns-in_err-pass_strictly-clause-reported : goal.returns-in_err-pass_strictly-clause-reported
-returns-in_err-pass_strictly-clause-reported g c =
-    let from = err_from_is_err_and c.from_residual-in_err-pass_strictly.result
-    c.from_residual-in_err-pass_strictly.ensures.1 in (
+pub returns-in_err-fail_if_faulty-clause-reported : goal.returns-in_err-fail_if_faulty-clause-reported
+returns-in_err-fail_if_faulty-clause-reported g c =
+    let from = err_from_is_err_and c.from_residual-in_err-fail_if_faulty.result
+    c.from_residual-in_err-fail_if_faulty.ensures.1 in (
       [],
       search rules,
       rw (from.1, from.2) (faulty_moved _ _ _ _ _ _ _ c.in_ok-found.found _ c.in_ok-found.ensures.aligned
-          c.in_err-pass_strictly.ensures.failed),
+          c.in_err-fail_if_faulty.ensures.failed),
     )
 
-pub returns-in_err-pass_strictly-clause-failed : goal.returns-in_err-pass_strictly-clause-failed
-returns-in_err-pass_strictly-clause-failed g c =
-    let from = err_from_is_err_and c.from_residual-in_err-pass_strictly.result
-    c.from_residual-in_err-pass_strictly.ensures.1 in
+pub returns-in_err-fail_if_faulty-clause-failed : goal.returns-in_err-fail_if_faulty-clause-failed
+returns-in_err-fail_if_faulty-clause-failed g c =
+    let from = err_from_is_err_and c.from_residual-in_err-fail_if_faulty.result
+    c.from_residual-in_err-fail_if_faulty.ensures.1 in
     rw (from.1, from.2)
     (faulty_fails _ _ _ _ c.args.options.is_strict c.in_ok-found.found.comparison _
-    c.in_err-pass_strictly.ensures.failed)
+    c.in_err-fail_if_faulty.ensures.failed)
