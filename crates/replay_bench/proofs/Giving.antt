@@ -98,22 +98,3 @@ module _ (old new : Limited) (gave : List ℕ) (first left : Option (List ℕ)) 
             known_begins old.unread.version old.unread.bytes gave old.limit old.offset message first left consumed
                 front,
           )
-
--- ---- a reader of which nothing was read
-
-module _ (state : Limited) (version : Version) (limit : ℕ)
-    (is : state ≡ record {
-      unread = record { version = version; bytes = [] };
-      limit = limit;
-      offset = 0;
-      rejected = None;
-    }) where
-  pub fresh_coming : (remaining given : Option (List ℕ)) → remaining ≡ given → coming_of state remaining ≡ given
-  fresh_coming remaining given same =
-      ap (λ (s : Limited). coming_of s remaining) is ∙ prepend_known-nil remaining ∙ same
-
-  pub fresh_limit : limit_of state ≡ limit
-  fresh_limit = ap limit_of is
-
-  pub fresh_version : state.unread.version ≡ version
-  fresh_version = ap (λ (s : Limited). s.unread.version) is

@@ -1,7 +1,6 @@
 //! Two journals compared, and aligned from the first difference on.
 
-ghost use Rattle.std.specs.Prelude.{◌≡◌, ◌≤◌, true};
-ghost use Rattle.shared_core_base.specs.Version.{version_number};
+ghost use Rattle.std.specs.Prelude.{◌≡◌};
 ghost use Rattle.replay_bench.specs.Holding.{AlignsKnown};
 ghost use Rattle.replay_bench.specs.Verdicts.{MayFailOn};
 
@@ -13,7 +12,6 @@ use crate::sources::Source;
 use crate::verdicts::{Comparison, ReaderError};
 use edit_script::Alignment;
 use std::alloc::Global;
-use std::io::Read;
 
 /// Two journals, compared, surveyed, and aligned.
 #[derive(Debug, PartialEq, Drop)]
@@ -28,26 +26,11 @@ pub struct AlignedComparison {
     pub alignment: Alignment,
 }
 
-/// Compares and surveys two journals that readers give, as `survey_readers` does, and aligns their commands, as
-/// `align_commands` does with this limit.
+/// Compares and surveys two journals of any sources of their version, as `survey_sources` does, and aligns their
+/// commands, as `align_commands` does with this limit.
 ///
 /// The commands before the index of the verdict are the same, one by one, and are not held. Those from there on are,
 /// with the chunks that their payloads share, and are aligned when both journals were read to their ends.
-pub fn align_readers<A: Read + Drop, B: Read + Drop>(
-    alloc: Global,
-    journals: Journals<A, B>,
-    options: ComparisonOptions,
-    limit: u32,
-) -> Result<AlignedComparison, ReaderError>
-    requires { 5 ≤ version_number journals.version }
-    ensures aligned { AlignsKnown journals.version options.ignore_payload_equality options.is_strict limit
-        (A.remaining journals.recorded) (B.remaining journals.replayed) result }
-    ensures unlimited { MayFailOn true 4294967295 true 4294967295 result }
-{
-    align_sources(alloc, journals.into_sources(alloc), options, limit)
-}
-
-/// Compares, surveys and aligns two journals of any sources of their version, as `align_readers` does.
 pub fn align_sources<A: Source, B: Source>(
     alloc: Global,
     journals: Journals<A, B>,

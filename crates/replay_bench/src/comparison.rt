@@ -21,7 +21,6 @@ use bytes::Bytes;
 use shared_core::encoding::RawMessage;
 use shared_core::version::Version;
 use std::alloc::Global;
-use std::io::Read;
 
 /// Compares two journals of a version, at least V5, each of which is given in chunks, split anywhere.
 ///
@@ -56,29 +55,12 @@ pub fn compare_journals(
     }
 }
 
-/// Compares two journals that readers give, as `compare_journals` does.
-///
-/// A journal is read only as far as the result needs. `Read` says whose read failed; what was returned before is not
-/// lost by it, since the first result ends the comparison.
-pub fn compare_readers<A: Read + Drop, B: Read + Drop>(
-    alloc: Global,
-    journals: Journals<A, B>,
-    ignore_payload_equality: bool,
-) -> Result<Verdict, ReaderError>
-    requires { 5 ≤ version_number journals.version }
-    // the verdict of all that the readers would give, read or not, where they tell it
-    ensures compared { ComparesKnown journals.version ignore_payload_equality
-        (A.remaining journals.recorded) (B.remaining journals.replayed) result }
-    ensures unlimited { MayFailOn true 4294967295 true 4294967295 result }
-{
-    compare_sources(alloc, journals.into_sources(alloc), ignore_payload_equality)
-}
-
 /// Compares two journals of any sources of their version, as `compare_journals` does: one may be given in chunks
 /// (`SliceItems`) and the other by a reader (`ItemReader`), which may have a limit.
 ///
 /// Items are taken from a source only as far as the result needs them. `Read` names a side only where its source may
-/// fail, which a slice does not, and `MessageTooLong` only where it has a limit.
+/// fail, which a slice does not, and `MessageTooLong` only where it has a limit. What was returned before a read that
+/// failed is not lost by it, since the first result ends the comparison.
 pub fn compare_sources<A: Source, B: Source>(
     alloc: Global,
     journals: Journals<A, B>,
@@ -212,27 +194,12 @@ pub(crate) fn find_verdict<A: Source, B: Source>(
     }
 }
 
-/// Compares two journals that readers give, as `compare_readers` does, and surveys both.
+/// Compares two journals of any sources of their version, as `compare_sources` does, and surveys both.
 ///
 /// Both journals are read to their ends, also after the first difference; a read that fails there is `Read` too. The
 /// survey of a journal counts all its items and the bytes after the last one, and, if `is_strict`, the messages whose
 /// payload is not well-formed, with the first fault of an item. A compared command whose payload is not well-formed is
 /// `Malformed`, strict or not.
-pub fn survey_readers<A: Read + Drop, B: Read + Drop>(
-    alloc: Global,
-    journals: Journals<A, B>,
-    options: ComparisonOptions,
-) -> Result<Comparison, ReaderError>
-    requires { 5 ≤ version_number journals.version }
-    ensures surveyed { Surveys journals.version options.ignore_payload_equality options.is_strict
-        (A.remaining journals.recorded) (B.remaining journals.replayed) result }
-    ensures unlimited { MayFailOn true 4294967295 true 4294967295 result }
-{
-    survey_sources(alloc, journals.into_sources(alloc), options)
-}
-
-/// Compares two journals of any sources of their version, as `compare_sources` does, and surveys both, as
-/// `survey_readers` does.
 pub fn survey_sources<A: Source, B: Source>(
     alloc: Global,
     journals: Journals<A, B>,

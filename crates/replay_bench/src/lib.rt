@@ -21,12 +21,10 @@ mod sources;
 mod survey;
 mod verdicts;
 
-pub use crate::aligned::{AlignedComparison, align_readers, align_sources};
+pub use crate::aligned::{AlignedComparison, align_sources};
 pub use crate::alignment::{align_commands, changed_fields};
 pub use crate::commands::HeldCommands;
-pub use crate::comparison::{
-    compare_journals, compare_readers, compare_sources, survey_readers, survey_sources,
-};
+pub use crate::comparison::{compare_journals, compare_sources, survey_sources};
 pub use crate::faults::{Fault, FaultReason};
 pub use crate::fields::FieldDifference;
 pub use crate::journals::{ComparisonOptions, Journals};
