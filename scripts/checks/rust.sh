@@ -88,7 +88,7 @@ unlinked() {
   for words in check 'doc --no-deps' 'build --lib'; do
     # shellcheck disable=SC2086 # the words are split
     cargo $words > "$out" 2> "$err"
-    [ $? -eq 0 ] && grep -qF "warning: $2" "$err"
+    [ $? -eq 0 ] && grep "^warning: " "$err" | grep -qF "$2"
     outcome "$1: cargo $words" $?
   done
   cargo build --example listing > "$out" 2> "$err"
