@@ -1,4 +1,3 @@
 pub mod Good
 pub mod Decimals
 pub mod Tokens
-pub mod Truths

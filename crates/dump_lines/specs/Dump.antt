@@ -3,9 +3,7 @@ use Rattle.std.specs.Prelude.{◌≡◌, ℕ, Bool, true, if◌then◌else◌, L
 use Rattle.shared_core_base.specs.MessageType.{code_of}
 use Rattle.shared_core_stream.specs.declared.encoding.item.Item.{Item}
 use Rattle.shared_core_stream.specs.declared.encoding.item.Item.TheVariants.{Message, Unknown, Skipped}
-use Rattle.shared_core_message.specs.Schemas.{schema_at}
-use Rattle.shared_core_wire.specs.Acceptance.{accepts_payload}
-use Rattle.shared_core_codec.specs.Table as schema
+use Rattle.shared_core_message.specs.Schemas.{schema_at, is_well_formed_at}
 use Rattle.stream_lines.specs.declared.error.PrintError.{PrintError}
 use Rattle.stream_lines.specs.declared.report.Report.{Report}
 use Rattle.stream_lines.specs.declared.report.Trouble.{Trouble}
@@ -26,16 +24,11 @@ HasLongPayload options item = ⊥
 abbrev pub IsLong : Options → Item → Type 0
 IsLong options item = (is_selected options.codes.now (item_code item) ≡ true) × HasLongPayload options item
 
--- Whether a payload is well-formed for a schema; without a schema every payload is.
-abbrev pub is_well_formed_for : Option ℕ → List ℕ → Bool
-is_well_formed_for None payload = true
-is_well_formed_for (Some s) payload = accepts_payload schema.table 100 s payload
-
 -- What is wrong with an item: a code that is no type's, or of a selected message a payload that is not well-formed.
 abbrev pub wrong_of : Options → Item → Option Trouble
 wrong_of options (Message message) =
     if is_selected options.codes.now (code_of message.header.ty)
-    then (if is_well_formed_for (schema_at options.version message.header.ty) message.payload then None else Some
+    then (if is_well_formed_at options.version message.header.ty message.payload then None else Some
     (Malformed message.header.ty))
     else None
 wrong_of options (Unknown code) = Some (UnknownCode code)

@@ -4,9 +4,8 @@ ghost use Rattle.std.specs.Prelude.{◌≡◌, ◌++◌, codes, OnOk};
 ghost use Rattle.std.specs.Str.{IsUtf8};
 ghost use Rattle.json.specs.Lex.{tokens};
 ghost use Rattle.json.specs.Print.{print};
-ghost use Rattle.shared_core_message.specs.Schemas.{schema_at};
 ghost use Rattle.shared_core_stream.specs.declared.encoding.item.Item.TheVariants as variant;
-ghost use Rattle.dump_lines.specs.Dump.{is_well_formed_for, wrong_of};
+ghost use Rattle.dump_lines.specs.Dump.{wrong_of};
 ghost use Rattle.dump_lines.specs.Lines.{rest_line, unread_line};
 ghost use Rattle.dump_lines.specs.Spread.{AreGood, tokens_text};
 ghost use Rattle.dump_lines.specs.Terminal.{rest_options};
@@ -16,11 +15,8 @@ use crate::lines::{ItemWriter, is_selected, item_code, write_rest};
 use crate::options::Options;
 use crate::pretty::pretty_text;
 use crate::scratch::Scratch;
-use bytes::Bytes;
 use json::Writer;
-use shared_core_base::header::MessageType;
-use shared_core_codec::check::is_well_formed;
-use shared_core_message::schemas::schema_at;
+use shared_core_message::well_formed::is_well_formed_at;
 use shared_core_stream::encoding::{Decoder, Item, RawMessage};
 use std::alloc::{AllocError, Global};
 use stream_lines::{LinePrinter, PrintError, Trouble};
@@ -128,20 +124,10 @@ fn message_trouble(options: &Options<'_>, message: &RawMessage) -> Option<Troubl
     if !is_selected(options.codes, u16::from(ty)) {
         return None;
     }
-    if is_well_formed_for(schema_at(options.version, ty), message.payload()) {
+    if is_well_formed_at(options.version, ty, message.payload().as_slice()) {
         return None;
     }
     Some(Trouble::Malformed(ty))
-}
-
-/// Whether a payload is well-formed for a schema. Without a schema every payload is.
-fn is_well_formed_for(schema: Option<u32>, payload: &Bytes) -> bool
-    ensures { result ≡ is_well_formed_for schema payload.now }
-{
-    match schema {
-        Some(schema) => is_well_formed(schema, payload.as_slice()),
-        None => true,
-    }
 }
 
 /// Appends the last line, where the options have one.

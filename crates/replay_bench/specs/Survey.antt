@@ -3,12 +3,10 @@ use Rattle.std.specs.Prelude.{◌≡◌, ℕ, ◌+◌, Bool, true, false, not, i
 use Rattle.std.specs.Prelude.{count_by, Option, Some, None}
 use Rattle.shared_core_base.specs.declared.version.Version.{Version}
 use Rattle.shared_core_base.specs.CommandType.{command_type_of}
-use Rattle.shared_core_wire.specs.Acceptance.{accepts_payload}
-use Rattle.shared_core_codec.specs.Table.{table}
 use Rattle.shared_core_stream.specs.declared.encoding.item.Item.{Item}
 use Rattle.shared_core_stream.specs.declared.encoding.item.Item.TheVariants.{Message, Unknown, Skipped}
 use Rattle.shared_core_stream.specs.Items.{SplitsInto}
-use Rattle.shared_core_message.specs.Schemas.{schema_at}
+use Rattle.shared_core_message.specs.Schemas.{is_well_formed_at}
 use Rattle.replay_bench.specs.declared.faults.Fault.{Fault}
 use Rattle.replay_bench.specs.declared.faults.FaultReason.TheVariants.{UnknownHeader, Malformed, Rest}
 use Rattle.replay_bench.specs.declared.survey.Survey.{Survey}
@@ -42,16 +40,11 @@ is_skipped (Skipped code payload) = true
 
 -- ---- faults
 
--- Whether a payload is well-formed for a schema, if there is one.
-abbrev pub is_well_formed : Option ℕ → List ℕ → Bool
-is_well_formed None payload = true
-is_well_formed (Some s) payload = accepts_payload table 100 s payload
-
 -- Whether an item is found to be malformed, if that is looked for: a message whose payload is not well-formed for the
 -- schema that its type has at the version.
 abbrev pub is_malformed : Version → Bool → Item → Bool
 is_malformed version is_strict (Message message) =
-    if is_strict then not (is_well_formed (schema_at version message.header.ty) message.payload) else false
+    if is_strict then not (is_well_formed_at version message.header.ty message.payload) else false
 is_malformed version is_strict (Unknown code) = false
 is_malformed version is_strict (Skipped code payload) = false
 

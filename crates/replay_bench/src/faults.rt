@@ -1,15 +1,12 @@
 //! What may be wrong with a stream.
 
 ghost use Rattle.std.specs.Prelude.{◌≡◌};
-ghost use Rattle.shared_core_message.specs.Schemas.{schema_at};
-ghost use Rattle.replay_bench.specs.Survey.{fault_at};
-ghost use Rattle.replay_bench.specs.Survey.{is_malformed as found_malformed, is_well_formed as accepts};
+ghost use Rattle.replay_bench.specs.Survey.{fault_at, is_malformed as found_malformed};
 
 use shared_core::encoding::Item;
 use shared_core::header::MessageType;
-use shared_core::messages::schema_at;
 use shared_core::version::Version;
-use shared_core::wire::is_well_formed;
+use shared_core_message::well_formed::is_well_formed_at;
 use std::fmt;
 
 /// Something that is wrong with a stream, and where.
@@ -80,15 +77,5 @@ pub(crate) fn is_malformed(version: Version, is_strict: bool, item: &Item) -> bo
     let Item::Message(message) = item else {
         return false;
     };
-    is_strict && !has_well_formed(version, message.ty(), message.payload().as_slice())
-}
-
-/// Whether a payload is well-formed for a type at a version. That of a custom entry is opaque, and always is.
-fn has_well_formed(version: Version, ty: MessageType, payload: &[u8]) -> bool
-    ensures { result ≡ accepts (schema_at version ty) payload.now }
-{
-    match schema_at(version, ty) {
-        Some(schema) => is_well_formed(schema, payload),
-        None => true,
-    }
+    is_strict && !is_well_formed_at(version, message.ty(), message.payload().as_slice())
 }

@@ -15,7 +15,7 @@ use bytes::Bytes;
 use shared_core::encoding::RawMessage;
 use shared_core::messages::schema_at;
 use shared_core::version::Version;
-use shared_core_codec::canonical::is_canonical;
+use shared_core_fields::fields::CanonicalPayload;
 use std::alloc::{AllocError, Global};
 
 /// The form of a command.
@@ -73,7 +73,7 @@ fn is_canonical_command(command: &RawMessage) -> bool
 {
     // a command has one schema at all versions
     match schema_at(Version::V7, command.ty()) {
-        Some(schema) => is_canonical(schema, command.payload().as_slice()),
+        Some(schema) => CanonicalPayload::check(schema, command.payload().as_slice()).is_some(),
         None => false,
     }
 }

@@ -1,22 +1,18 @@
-//! Checking whether payloads are canonical, by the rows of their schema: without a record and without allocating.
+//! What canonical payloads are made of, by the rows of their schema: which field comes next, and what is written for
+//! it. `shared_core_fields` checks whole payloads by it.
 
-ghost use Rattle.std.specs.Prelude.{◌≡◌, ◌↔◌, IsTrue, map, option_map, length};
+ghost use Rattle.std.specs.Prelude.{◌≡◌, map, option_map, length};
 ghost use Rattle.shared_core_wire.specs.Reader.{Gives};
-ghost use Rattle.shared_core_wire.specs.View.{value_of};
 ghost use Rattle.shared_core_codec.specs.Checking.{field_record_of};
 ghost use Rattle.shared_core_codec.specs.RowEncoding.{length_record};
 ghost use Rattle.shared_core_codec.specs.ProgramRows.{kind_view, found_view, row_view};
-ghost use Rattle.shared_core_codec.specs.Canonicity.{IsCanonical, is_canonical_payload, is_canonical_message};
-ghost use Rattle.shared_core_codec.specs.Canonicity.{next_view, next_field, may_recur};
-ghost use Rattle.shared_core_codec.specs.Canonicity.{is_written_number, is_written_value, low_varint_at};
-ghost use Rattle.shared_core_codec.specs.Canonicity.{is_written_run, is_written_element, is_default_value, is_plain};
-ghost use Rattle.shared_core_codec.specs.Canonicity.{is_written_field, written_size};
+ghost use Rattle.shared_core_codec.specs.Canonicity.{next_view, next_field, is_plain, may_recur, written_size};
+ghost use Rattle.shared_core_codec.specs.Canonicity.{is_written_number, is_written_run, low_varint_at};
 
-use crate::rows::{Found, Kind, Row, find_in_row, rows_of};
-use crate::size::{LENGTH, Size, VARINT, key, varint_size};
-use crate::utf8::is_text;
+use crate::rows::{Found, Kind, Row, find_in_row};
+use crate::size::{LENGTH, VARINT, key, varint_size};
 use shared_core_wire::record::WireValue;
-use shared_core_wire::records::{LEVELS, Record, Records};
+use shared_core_wire::records::Record;
 use shared_core_wire::varint::read_varint;
 
 /// A field of which a record may come next in a canonical payload.
@@ -27,47 +23,6 @@ pub struct NextField<'a> {
     pub is_plain: bool,
     /// The rows of which records may come after that record.
     pub rows: &'a [Row],
-}
-
-/// Whether a payload is canonical: it is well-formed for the schema at an index of the table and the canonical encoding
-/// of what it means, at most one hundred levels deep and at most 4,294,967,295 bytes long. Does not allocate, and makes
-/// one pass over the bytes, up to the first record that is not canonical.
-pub fn is_canonical(schema: u32, payload: &[u8]) -> bool
-    ensures { IsTrue result ↔ IsCanonical schema payload.now }
-{
-    if payload.len() as u64 >= Size::LIMIT {
-        return false;
-    }
-    is_canonical_payload(schema, payload, LEVELS)
-}
-
-/// Whether a payload is canonical for a schema; its records may be nested `left` deep.
-#[cycle(canonical)]
-fn is_canonical_payload(schema: u32, payload: &[u8], left: u32) -> bool
-    ensures { result ≡ is_canonical_payload left schema payload.now }
-{
-    let mut rows = rows_of(schema);
-    let mut room = payload.len() as u64;
-    // a group is never canonical
-    for item in Records::within(payload, 0) {
-        let Ok(found) = item else {
-            return false;
-        };
-        let Some(next) = next_field(rows, found.number) else {
-            return false;
-        };
-        if !is_written_field(next.is_plain, next.field, found.value, left) {
-            return false;
-        }
-        let size = written_size(&found);
-        if room < size {
-            return false;
-        }
-        rows = next.rows;
-        room -= size;
-    }
-    // more bytes than the records take when they are written
-    room == 0
 }
 
 /// The field of the first row that has a number, among the rows that may come next in a canonical payload; `None` if no
@@ -89,49 +44,6 @@ pub fn next_field<'a>(rows: &'a [Row], number: u32) -> Option<NextField<'a>>
     None
 }
 
-/// Whether a field is written as a value of a record.
-#[cycle(canonical)]
-fn is_written_field(plain: bool, field: Found, value: WireValue<'_>, left: u32) -> bool
-    ensures { result ≡ is_written_field (is_canonical_message left) plain (found_view field) (value_of value.entry) }
-{
-    if field.is_repeated {
-        is_written_element(field.kind, value, left)
-    } else {
-        is_written_value(field.kind, value, left) && !(plain && is_default(value))
-    }
-}
-
-/// Whether elements of a repeated field of a kind are written as a value of a record.
-#[cycle(canonical)]
-fn is_written_element(kind: Kind, value: WireValue<'_>, left: u32) -> bool
-    ensures { result ≡ is_written_element (is_canonical_message left) (kind_view kind) (value_of value.entry) }
-{
-    if let Kind::U32 = kind {
-        return match value {
-            WireValue::Length(run) => is_written_run(run),
-            _ => false,
-        };
-    }
-    is_written_value(kind, value, left)
-}
-
-/// Whether a value of a kind is written as a value of a record.
-#[cycle(canonical)]
-fn is_written_value(kind: Kind, value: WireValue<'_>, left: u32) -> bool
-    ensures { result ≡ is_written_value (is_canonical_message left) (kind_view kind) (value_of value.entry) }
-{
-    match value {
-        WireValue::Varint(number) => is_written_number(kind, number),
-        WireValue::Length(bytes) => match kind {
-            Kind::Text => is_text(bytes),
-            Kind::ByteString => true,
-            Kind::Message(schema) => left > 0 && is_canonical_payload(schema, bytes, left - 1),
-            _ => false,
-        },
-        _ => false,
-    }
-}
-
 /// Whether a number is written for a value of a kind: an enum's is that of 32 bits, sign-extended.
 pub fn is_written_number(kind: Kind, number: u64) -> bool
     ensures { result ≡ is_written_number (kind_view kind) number }
@@ -141,17 +53,6 @@ pub fn is_written_number(kind: Kind, number: u64) -> bool
         Kind::U64 => true,
         Kind::Boolean => number < 2,
         Kind::Enumeration => number < 2_147_483_648 || number > 18_446_744_071_562_067_967,
-        _ => false,
-    }
-}
-
-/// Whether a value is a default: 0, false or empty.
-pub fn is_default(value: WireValue<'_>) -> bool
-    ensures { result ≡ is_default_value (value_of value.entry) }
-{
-    match value {
-        WireValue::Varint(number) => number == 0,
-        WireValue::Length(bytes) => bytes.is_empty(),
         _ => false,
     }
 }
@@ -167,7 +68,7 @@ fn is_plain(row: &Row) -> bool
 }
 
 /// Whether a field may be written as more than one record.
-pub fn may_recur(field: Found) -> bool
+fn may_recur(field: Found) -> bool
     ensures { result ≡ may_recur (found_view field) }
 {
     match field.kind {

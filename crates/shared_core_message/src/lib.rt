@@ -5,3 +5,4 @@
 pub mod frame;
 pub mod restate_message;
 pub mod schemas;
+pub mod well_formed;

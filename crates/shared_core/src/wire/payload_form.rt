@@ -2,8 +2,8 @@
 
 ghost use Rattle.shared_core.specs.Forms.{HasForm};
 
-use shared_core_codec::canonical::is_canonical;
 use shared_core_codec::check::is_well_formed;
+use shared_core_fields::fields::CanonicalPayload;
 
 /// Whether a payload is well-formed for a schema, and whether it is canonical as well.
 #[derive(Clone, Copy, Debug, PartialEq, Eq)]
@@ -21,7 +21,7 @@ pub enum PayloadForm {
 pub fn check_payload(schema: u32, payload: &[u8]) -> PayloadForm
     ensures { HasForm schema payload.now result }
 {
-    if is_canonical(schema, payload) {
+    if CanonicalPayload::check(schema, payload).is_some() {
         PayloadForm::Canonical
     } else if is_well_formed(schema, payload) {
         PayloadForm::WellFormed

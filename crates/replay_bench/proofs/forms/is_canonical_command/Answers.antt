@@ -10,4 +10,4 @@ returns-in-Some c = λ yes.
     let own = ap message_schema (sym c.ty.ensures) ∙ sym (at_v7 c.ty.result) ∙ sym c.schema_at.ensures.schema
     ∙ c.in-Some.is in
     subst (λ schema. IsSomeAnd schema (λ s. IsCanonical s c.args.command.now.payload)) (sym own)
-    (rw (c.as_slice.ensures, c.payload.ensures) at (c.is_canonical.ensures.0 yes))
+    (rw (c.as_slice.ensures, c.payload.ensures) at (c.check.ensures.canonical.0 (sym c.is_some.ensures ∙ yes)))
