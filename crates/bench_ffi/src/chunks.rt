@@ -3,7 +3,7 @@
 use crate::chunk_dispatch::frame_of;
 use bytes::Bytes;
 use journal_c_api::outcome::{CallError, version_of, write_over};
-use shared_core::encoding::Encoder;
+use shared_core::encoding::FrameBuffer;
 use shared_core::header::MessageType;
 use shared_core::version::Version;
 use shared_core_chunks::{ChunkMessage, FrameChunks, encode_gathered};
@@ -70,14 +70,13 @@ fn encode_joined<M: ChunkMessage>(
     message: &M,
     rounds: usize,
 ) -> Result<Vec<u8>, CallError> {
-    let encoder = Encoder::new(version);
     let mut frames = FrameChunks::new(alloc);
     for _round in 1..rounds {
         frames.clear();
-        encoder.encode_into(message, &mut frames)?;
+        frames.append_frame(version, message)?;
     }
     frames.clear();
-    encoder.encode_into(message, &mut frames)?;
+    frames.append_frame(version, message)?;
     joined(alloc, &mut frames)
 }
 
