@@ -209,7 +209,7 @@ def said(*lines: str) -> str:
 def example() -> str:
     """The example of --pretty in docs/PROGRAMS.md."""
     page = (checks.ROOT / "docs" / "PROGRAMS.md").read_text()
-    shown = re.search(r"`--pretty --text` .* prints\n((?:.*\n)*?)The status", page)
+    shown = re.search(r"`--pretty --text` .* prints\n\n((?:    .*\n)+)", page)
     return "".join(re.findall(r"(?m)^    (.*\n)", shown[1] if shown else ""))
 
 
