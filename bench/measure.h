@@ -70,10 +70,6 @@ int64_t measure_frame_shared(uint32_t version, uint16_t code, const uint8_t *pay
 int64_t measure_frame_chunks(uint32_t version, uint16_t code, const uint8_t *payload, size_t payload_length,
                              size_t rounds, uint8_t *out, size_t room);
 
-/* As measure_frame_vec, but long bytes are copied into room that is not filled with zeros before. */
-int64_t measure_frame_owned(uint32_t version, uint16_t code, const uint8_t *payload, size_t payload_length,
-                            size_t rounds, uint8_t *out, size_t room);
-
 /* As journal_is_well_formed, but `rounds` times over (0 counts as 1): beside as many calls, it says what one costs. */
 int64_t measure_well_formed(uint32_t schema, const uint8_t *payload, size_t payload_length, size_t rounds);
 

@@ -5252,6 +5252,534 @@ static inline int64_t journal_write_NotificationTemplate(const struct journal_No
     return journal_end_writing_(&writer, JOURNAL_SCHEMA_NOTIFICATION_TEMPLATE, arena, out, room);
 }
 
+/*
+ * Frames.
+ *
+ * journal_frame_NAME writes the frame of a message at a version from 5 to 9: its header, and the canonical payload after
+ * it. It returns the frame's length in bytes, and writes it if `room` is at least as much. A suspension has the record
+ * of its version. The errors are JOURNAL_UNKNOWN_VERSION, and those of journal_write_NAME.
+ */
+
+/* Where the payload of a frame is written, and the room that it has: none if there is none behind a header. */
+static inline uint8_t *journal_payload_(uint8_t *out, size_t room) {
+    return room > 8 ? out + 8 : NULL;
+}
+
+static inline size_t journal_payload_room_(size_t room) {
+    return room > 8 ? room - 8 : 0;
+}
+
+/* Puts the header before a payload of this length, if there is room for both. Of an error it is that error. */
+static inline int64_t journal_framed_(uint32_t version, uint16_t code, int64_t length, uint8_t *out, size_t room) {
+    if (length < 0) {
+        return length;
+    }
+    if ((uint64_t)length + 8 <= room) {
+        (void)journal_header(version, code, (uint32_t)length, out, 8);
+    }
+    return length + 8;
+}
+
+static inline int64_t journal_frame_StartMessage(uint32_t version, const struct journal_StartMessage *record,
+                                                 struct journal_arena *arena, uint8_t *out, size_t room) {
+    int64_t length = journal_header(version, JOURNAL_TYPE_START, 0, NULL, 0);
+
+    if (length > 0) {
+        length = journal_write_StartMessage(record, arena, journal_payload_(out, room), journal_payload_room_(room));
+    }
+    return journal_framed_(version, JOURNAL_TYPE_START, length, out, room);
+}
+
+static inline int64_t journal_frame_SuspensionMessage(uint32_t version, const struct journal_SuspensionMessage *record,
+                                                      struct journal_arena *arena, uint8_t *out, size_t room) {
+    int64_t length = journal_header(version, JOURNAL_TYPE_SUSPENSION, 0, NULL, 0);
+
+    if (length > 0 && version < 7) {
+        length = journal_write_SuspensionMessage(record, arena, NULL, 0);
+        if (length >= 0 && (uint64_t)length > arena->left) {
+            length = journal_lacks_(arena, (size_t)length);
+        } else if (length >= 0) {
+            const size_t taken = (size_t)length;
+
+            arena->left -= taken;
+            length = journal_write_SuspensionMessage(record, arena, arena->memory + arena->left, taken);
+            if (length >= 0) {
+                length = journal_frame(version, JOURNAL_TYPE_SUSPENSION, arena->memory + arena->left, taken, out, room);
+            }
+            arena->left += taken;
+        }
+        return length;
+    }
+    if (length > 0) {
+        length = journal_write_SuspensionMessage(record, arena, journal_payload_(out, room),
+                                                 journal_payload_room_(room));
+    }
+    return journal_framed_(version, JOURNAL_TYPE_SUSPENSION, length, out, room);
+}
+
+static inline int64_t journal_frame_ErrorMessage(uint32_t version, const struct journal_ErrorMessage *record,
+                                                 struct journal_arena *arena, uint8_t *out, size_t room) {
+    int64_t length = journal_header(version, JOURNAL_TYPE_ERROR, 0, NULL, 0);
+
+    if (length > 0) {
+        length = journal_write_ErrorMessage(record, arena, journal_payload_(out, room), journal_payload_room_(room));
+    }
+    return journal_framed_(version, JOURNAL_TYPE_ERROR, length, out, room);
+}
+
+static inline int64_t journal_frame_EndMessage(uint32_t version, const struct journal_EndMessage *record,
+                                               struct journal_arena *arena, uint8_t *out, size_t room) {
+    int64_t length = journal_header(version, JOURNAL_TYPE_END, 0, NULL, 0);
+
+    if (length > 0) {
+        length = journal_write_EndMessage(record, arena, journal_payload_(out, room), journal_payload_room_(room));
+    }
+    return journal_framed_(version, JOURNAL_TYPE_END, length, out, room);
+}
+
+static inline int64_t journal_frame_ProposeRunCompletionMessage(
+    uint32_t version, const struct journal_ProposeRunCompletionMessage *record, struct journal_arena *arena,
+    uint8_t *out, size_t room) {
+    int64_t length = journal_header(version, JOURNAL_TYPE_PROPOSE_RUN_COMPLETION, 0, NULL, 0);
+
+    if (length > 0) {
+        length = journal_write_ProposeRunCompletionMessage(record, arena, journal_payload_(out, room),
+                                                           journal_payload_room_(room));
+    }
+    return journal_framed_(version, JOURNAL_TYPE_PROPOSE_RUN_COMPLETION, length, out, room);
+}
+
+static inline int64_t journal_frame_AwaitingOnMessage(uint32_t version, const struct journal_AwaitingOnMessage *record,
+                                                      struct journal_arena *arena, uint8_t *out, size_t room) {
+    int64_t length = journal_header(version, JOURNAL_TYPE_AWAITING_ON, 0, NULL, 0);
+
+    if (length > 0) {
+        length = journal_write_AwaitingOnMessage(record, arena, journal_payload_(out, room),
+                                                 journal_payload_room_(room));
+    }
+    return journal_framed_(version, JOURNAL_TYPE_AWAITING_ON, length, out, room);
+}
+
+static inline int64_t journal_frame_ProposeRunCompletionAckMessage(
+    uint32_t version, const struct journal_ProposeRunCompletionAckMessage *record, struct journal_arena *arena,
+    uint8_t *out, size_t room) {
+    int64_t length = journal_header(version, JOURNAL_TYPE_PROPOSE_RUN_COMPLETION_ACK, 0, NULL, 0);
+
+    if (length > 0) {
+        length = journal_write_ProposeRunCompletionAckMessage(record, arena, journal_payload_(out, room),
+                                                              journal_payload_room_(room));
+    }
+    return journal_framed_(version, JOURNAL_TYPE_PROPOSE_RUN_COMPLETION_ACK, length, out, room);
+}
+
+static inline int64_t journal_frame_GetStateEphemeralCommandMessage(
+    uint32_t version, const struct journal_GetStateEphemeralCommandMessage *record, struct journal_arena *arena,
+    uint8_t *out, size_t room) {
+    int64_t length = journal_header(version, JOURNAL_TYPE_GET_STATE_EPHEMERAL_COMMAND, 0, NULL, 0);
+
+    if (length > 0) {
+        length = journal_write_GetStateEphemeralCommandMessage(record, arena, journal_payload_(out, room),
+                                                               journal_payload_room_(room));
+    }
+    return journal_framed_(version, JOURNAL_TYPE_GET_STATE_EPHEMERAL_COMMAND, length, out, room);
+}
+
+static inline int64_t journal_frame_GetStateEphemeralNotificationMessage(
+    uint32_t version, const struct journal_GetStateEphemeralNotificationMessage *record, struct journal_arena *arena,
+    uint8_t *out, size_t room) {
+    int64_t length = journal_header(version, JOURNAL_TYPE_GET_STATE_EPHEMERAL_NOTIFICATION, 0, NULL, 0);
+
+    if (length > 0) {
+        length = journal_write_GetStateEphemeralNotificationMessage(record, arena, journal_payload_(out, room),
+                                                                    journal_payload_room_(room));
+    }
+    return journal_framed_(version, JOURNAL_TYPE_GET_STATE_EPHEMERAL_NOTIFICATION, length, out, room);
+}
+
+static inline int64_t journal_frame_InputCommandMessage(uint32_t version,
+                                                        const struct journal_InputCommandMessage *record,
+                                                        struct journal_arena *arena, uint8_t *out, size_t room) {
+    int64_t length = journal_header(version, JOURNAL_TYPE_INPUT_COMMAND, 0, NULL, 0);
+
+    if (length > 0) {
+        length = journal_write_InputCommandMessage(record, arena, journal_payload_(out, room),
+                                                   journal_payload_room_(room));
+    }
+    return journal_framed_(version, JOURNAL_TYPE_INPUT_COMMAND, length, out, room);
+}
+
+static inline int64_t journal_frame_OutputCommandMessage(uint32_t version,
+                                                         const struct journal_OutputCommandMessage *record,
+                                                         struct journal_arena *arena, uint8_t *out, size_t room) {
+    int64_t length = journal_header(version, JOURNAL_TYPE_OUTPUT_COMMAND, 0, NULL, 0);
+
+    if (length > 0) {
+        length = journal_write_OutputCommandMessage(record, arena, journal_payload_(out, room),
+                                                    journal_payload_room_(room));
+    }
+    return journal_framed_(version, JOURNAL_TYPE_OUTPUT_COMMAND, length, out, room);
+}
+
+static inline int64_t journal_frame_GetLazyStateCommandMessage(uint32_t version,
+                                                               const struct journal_GetLazyStateCommandMessage *record,
+                                                               struct journal_arena *arena, uint8_t *out, size_t room) {
+    int64_t length = journal_header(version, JOURNAL_TYPE_GET_LAZY_STATE_COMMAND, 0, NULL, 0);
+
+    if (length > 0) {
+        length = journal_write_GetLazyStateCommandMessage(record, arena, journal_payload_(out, room),
+                                                          journal_payload_room_(room));
+    }
+    return journal_framed_(version, JOURNAL_TYPE_GET_LAZY_STATE_COMMAND, length, out, room);
+}
+
+static inline int64_t journal_frame_SetStateCommandMessage(uint32_t version,
+                                                           const struct journal_SetStateCommandMessage *record,
+                                                           struct journal_arena *arena, uint8_t *out, size_t room) {
+    int64_t length = journal_header(version, JOURNAL_TYPE_SET_STATE_COMMAND, 0, NULL, 0);
+
+    if (length > 0) {
+        length = journal_write_SetStateCommandMessage(record, arena, journal_payload_(out, room),
+                                                      journal_payload_room_(room));
+    }
+    return journal_framed_(version, JOURNAL_TYPE_SET_STATE_COMMAND, length, out, room);
+}
+
+static inline int64_t journal_frame_ClearStateCommandMessage(uint32_t version,
+                                                             const struct journal_ClearStateCommandMessage *record,
+                                                             struct journal_arena *arena, uint8_t *out, size_t room) {
+    int64_t length = journal_header(version, JOURNAL_TYPE_CLEAR_STATE_COMMAND, 0, NULL, 0);
+
+    if (length > 0) {
+        length = journal_write_ClearStateCommandMessage(record, arena, journal_payload_(out, room),
+                                                        journal_payload_room_(room));
+    }
+    return journal_framed_(version, JOURNAL_TYPE_CLEAR_STATE_COMMAND, length, out, room);
+}
+
+static inline int64_t journal_frame_ClearAllStateCommandMessage(
+    uint32_t version, const struct journal_ClearAllStateCommandMessage *record, struct journal_arena *arena,
+    uint8_t *out, size_t room) {
+    int64_t length = journal_header(version, JOURNAL_TYPE_CLEAR_ALL_STATE_COMMAND, 0, NULL, 0);
+
+    if (length > 0) {
+        length = journal_write_ClearAllStateCommandMessage(record, arena, journal_payload_(out, room),
+                                                           journal_payload_room_(room));
+    }
+    return journal_framed_(version, JOURNAL_TYPE_CLEAR_ALL_STATE_COMMAND, length, out, room);
+}
+
+static inline int64_t journal_frame_GetLazyStateKeysCommandMessage(
+    uint32_t version, const struct journal_GetLazyStateKeysCommandMessage *record, struct journal_arena *arena,
+    uint8_t *out, size_t room) {
+    int64_t length = journal_header(version, JOURNAL_TYPE_GET_LAZY_STATE_KEYS_COMMAND, 0, NULL, 0);
+
+    if (length > 0) {
+        length = journal_write_GetLazyStateKeysCommandMessage(record, arena, journal_payload_(out, room),
+                                                              journal_payload_room_(room));
+    }
+    return journal_framed_(version, JOURNAL_TYPE_GET_LAZY_STATE_KEYS_COMMAND, length, out, room);
+}
+
+static inline int64_t journal_frame_GetEagerStateCommandMessage(
+    uint32_t version, const struct journal_GetEagerStateCommandMessage *record, struct journal_arena *arena,
+    uint8_t *out, size_t room) {
+    int64_t length = journal_header(version, JOURNAL_TYPE_GET_EAGER_STATE_COMMAND, 0, NULL, 0);
+
+    if (length > 0) {
+        length = journal_write_GetEagerStateCommandMessage(record, arena, journal_payload_(out, room),
+                                                           journal_payload_room_(room));
+    }
+    return journal_framed_(version, JOURNAL_TYPE_GET_EAGER_STATE_COMMAND, length, out, room);
+}
+
+static inline int64_t journal_frame_GetEagerStateKeysCommandMessage(
+    uint32_t version, const struct journal_GetEagerStateKeysCommandMessage *record, struct journal_arena *arena,
+    uint8_t *out, size_t room) {
+    int64_t length = journal_header(version, JOURNAL_TYPE_GET_EAGER_STATE_KEYS_COMMAND, 0, NULL, 0);
+
+    if (length > 0) {
+        length = journal_write_GetEagerStateKeysCommandMessage(record, arena, journal_payload_(out, room),
+                                                               journal_payload_room_(room));
+    }
+    return journal_framed_(version, JOURNAL_TYPE_GET_EAGER_STATE_KEYS_COMMAND, length, out, room);
+}
+
+static inline int64_t journal_frame_GetPromiseCommandMessage(uint32_t version,
+                                                             const struct journal_GetPromiseCommandMessage *record,
+                                                             struct journal_arena *arena, uint8_t *out, size_t room) {
+    int64_t length = journal_header(version, JOURNAL_TYPE_GET_PROMISE_COMMAND, 0, NULL, 0);
+
+    if (length > 0) {
+        length = journal_write_GetPromiseCommandMessage(record, arena, journal_payload_(out, room),
+                                                        journal_payload_room_(room));
+    }
+    return journal_framed_(version, JOURNAL_TYPE_GET_PROMISE_COMMAND, length, out, room);
+}
+
+static inline int64_t journal_frame_PeekPromiseCommandMessage(uint32_t version,
+                                                              const struct journal_PeekPromiseCommandMessage *record,
+                                                              struct journal_arena *arena, uint8_t *out, size_t room) {
+    int64_t length = journal_header(version, JOURNAL_TYPE_PEEK_PROMISE_COMMAND, 0, NULL, 0);
+
+    if (length > 0) {
+        length = journal_write_PeekPromiseCommandMessage(record, arena, journal_payload_(out, room),
+                                                         journal_payload_room_(room));
+    }
+    return journal_framed_(version, JOURNAL_TYPE_PEEK_PROMISE_COMMAND, length, out, room);
+}
+
+static inline int64_t journal_frame_CompletePromiseCommandMessage(
+    uint32_t version, const struct journal_CompletePromiseCommandMessage *record, struct journal_arena *arena,
+    uint8_t *out, size_t room) {
+    int64_t length = journal_header(version, JOURNAL_TYPE_COMPLETE_PROMISE_COMMAND, 0, NULL, 0);
+
+    if (length > 0) {
+        length = journal_write_CompletePromiseCommandMessage(record, arena, journal_payload_(out, room),
+                                                             journal_payload_room_(room));
+    }
+    return journal_framed_(version, JOURNAL_TYPE_COMPLETE_PROMISE_COMMAND, length, out, room);
+}
+
+static inline int64_t journal_frame_SleepCommandMessage(uint32_t version,
+                                                        const struct journal_SleepCommandMessage *record,
+                                                        struct journal_arena *arena, uint8_t *out, size_t room) {
+    int64_t length = journal_header(version, JOURNAL_TYPE_SLEEP_COMMAND, 0, NULL, 0);
+
+    if (length > 0) {
+        length = journal_write_SleepCommandMessage(record, arena, journal_payload_(out, room),
+                                                   journal_payload_room_(room));
+    }
+    return journal_framed_(version, JOURNAL_TYPE_SLEEP_COMMAND, length, out, room);
+}
+
+static inline int64_t journal_frame_CallCommandMessage(uint32_t version,
+                                                       const struct journal_CallCommandMessage *record,
+                                                       struct journal_arena *arena, uint8_t *out, size_t room) {
+    int64_t length = journal_header(version, JOURNAL_TYPE_CALL_COMMAND, 0, NULL, 0);
+
+    if (length > 0) {
+        length = journal_write_CallCommandMessage(record, arena, journal_payload_(out, room),
+                                                  journal_payload_room_(room));
+    }
+    return journal_framed_(version, JOURNAL_TYPE_CALL_COMMAND, length, out, room);
+}
+
+static inline int64_t journal_frame_OneWayCallCommandMessage(uint32_t version,
+                                                             const struct journal_OneWayCallCommandMessage *record,
+                                                             struct journal_arena *arena, uint8_t *out, size_t room) {
+    int64_t length = journal_header(version, JOURNAL_TYPE_ONE_WAY_CALL_COMMAND, 0, NULL, 0);
+
+    if (length > 0) {
+        length = journal_write_OneWayCallCommandMessage(record, arena, journal_payload_(out, room),
+                                                        journal_payload_room_(room));
+    }
+    return journal_framed_(version, JOURNAL_TYPE_ONE_WAY_CALL_COMMAND, length, out, room);
+}
+
+static inline int64_t journal_frame_SendSignalCommandMessage(uint32_t version,
+                                                             const struct journal_SendSignalCommandMessage *record,
+                                                             struct journal_arena *arena, uint8_t *out, size_t room) {
+    int64_t length = journal_header(version, JOURNAL_TYPE_SEND_SIGNAL_COMMAND, 0, NULL, 0);
+
+    if (length > 0) {
+        length = journal_write_SendSignalCommandMessage(record, arena, journal_payload_(out, room),
+                                                        journal_payload_room_(room));
+    }
+    return journal_framed_(version, JOURNAL_TYPE_SEND_SIGNAL_COMMAND, length, out, room);
+}
+
+static inline int64_t journal_frame_RunCommandMessage(uint32_t version, const struct journal_RunCommandMessage *record,
+                                                      struct journal_arena *arena, uint8_t *out, size_t room) {
+    int64_t length = journal_header(version, JOURNAL_TYPE_RUN_COMMAND, 0, NULL, 0);
+
+    if (length > 0) {
+        length = journal_write_RunCommandMessage(record, arena, journal_payload_(out, room),
+                                                 journal_payload_room_(room));
+    }
+    return journal_framed_(version, JOURNAL_TYPE_RUN_COMMAND, length, out, room);
+}
+
+static inline int64_t journal_frame_AttachInvocationCommandMessage(
+    uint32_t version, const struct journal_AttachInvocationCommandMessage *record, struct journal_arena *arena,
+    uint8_t *out, size_t room) {
+    int64_t length = journal_header(version, JOURNAL_TYPE_ATTACH_INVOCATION_COMMAND, 0, NULL, 0);
+
+    if (length > 0) {
+        length = journal_write_AttachInvocationCommandMessage(record, arena, journal_payload_(out, room),
+                                                              journal_payload_room_(room));
+    }
+    return journal_framed_(version, JOURNAL_TYPE_ATTACH_INVOCATION_COMMAND, length, out, room);
+}
+
+static inline int64_t journal_frame_GetInvocationOutputCommandMessage(
+    uint32_t version, const struct journal_GetInvocationOutputCommandMessage *record, struct journal_arena *arena,
+    uint8_t *out, size_t room) {
+    int64_t length = journal_header(version, JOURNAL_TYPE_GET_INVOCATION_OUTPUT_COMMAND, 0, NULL, 0);
+
+    if (length > 0) {
+        length = journal_write_GetInvocationOutputCommandMessage(record, arena, journal_payload_(out, room),
+                                                                 journal_payload_room_(room));
+    }
+    return journal_framed_(version, JOURNAL_TYPE_GET_INVOCATION_OUTPUT_COMMAND, length, out, room);
+}
+
+static inline int64_t journal_frame_CompleteAwakeableCommandMessage(
+    uint32_t version, const struct journal_CompleteAwakeableCommandMessage *record, struct journal_arena *arena,
+    uint8_t *out, size_t room) {
+    int64_t length = journal_header(version, JOURNAL_TYPE_COMPLETE_AWAKEABLE_COMMAND, 0, NULL, 0);
+
+    if (length > 0) {
+        length = journal_write_CompleteAwakeableCommandMessage(record, arena, journal_payload_(out, room),
+                                                               journal_payload_room_(room));
+    }
+    return journal_framed_(version, JOURNAL_TYPE_COMPLETE_AWAKEABLE_COMMAND, length, out, room);
+}
+
+static inline int64_t journal_frame_GetLazyStateCompletionNotificationMessage(
+    uint32_t version, const struct journal_GetLazyStateCompletionNotificationMessage *record,
+    struct journal_arena *arena, uint8_t *out, size_t room) {
+    int64_t length = journal_header(version, JOURNAL_TYPE_GET_LAZY_STATE_COMPLETION_NOTIFICATION, 0, NULL, 0);
+
+    if (length > 0) {
+        length = journal_write_GetLazyStateCompletionNotificationMessage(record, arena, journal_payload_(out, room),
+                                                                         journal_payload_room_(room));
+    }
+    return journal_framed_(version, JOURNAL_TYPE_GET_LAZY_STATE_COMPLETION_NOTIFICATION, length, out, room);
+}
+
+static inline int64_t journal_frame_GetPromiseCompletionNotificationMessage(
+    uint32_t version, const struct journal_GetPromiseCompletionNotificationMessage *record, struct journal_arena *arena,
+    uint8_t *out, size_t room) {
+    int64_t length = journal_header(version, JOURNAL_TYPE_GET_PROMISE_COMPLETION_NOTIFICATION, 0, NULL, 0);
+
+    if (length > 0) {
+        length = journal_write_GetPromiseCompletionNotificationMessage(record, arena, journal_payload_(out, room),
+                                                                       journal_payload_room_(room));
+    }
+    return journal_framed_(version, JOURNAL_TYPE_GET_PROMISE_COMPLETION_NOTIFICATION, length, out, room);
+}
+
+static inline int64_t journal_frame_PeekPromiseCompletionNotificationMessage(
+    uint32_t version, const struct journal_PeekPromiseCompletionNotificationMessage *record,
+    struct journal_arena *arena, uint8_t *out, size_t room) {
+    int64_t length = journal_header(version, JOURNAL_TYPE_PEEK_PROMISE_COMPLETION_NOTIFICATION, 0, NULL, 0);
+
+    if (length > 0) {
+        length = journal_write_PeekPromiseCompletionNotificationMessage(record, arena, journal_payload_(out, room),
+                                                                        journal_payload_room_(room));
+    }
+    return journal_framed_(version, JOURNAL_TYPE_PEEK_PROMISE_COMPLETION_NOTIFICATION, length, out, room);
+}
+
+static inline int64_t journal_frame_GetInvocationOutputCompletionNotificationMessage(
+    uint32_t version, const struct journal_GetInvocationOutputCompletionNotificationMessage *record,
+    struct journal_arena *arena, uint8_t *out, size_t room) {
+    int64_t length = journal_header(version, JOURNAL_TYPE_GET_INVOCATION_OUTPUT_COMPLETION_NOTIFICATION, 0, NULL, 0);
+
+    if (length > 0) {
+        length = journal_write_GetInvocationOutputCompletionNotificationMessage(record, arena,
+                                                                                journal_payload_(out, room),
+                                                                                journal_payload_room_(room));
+    }
+    return journal_framed_(version, JOURNAL_TYPE_GET_INVOCATION_OUTPUT_COMPLETION_NOTIFICATION, length, out, room);
+}
+
+static inline int64_t journal_frame_CompletePromiseCompletionNotificationMessage(
+    uint32_t version, const struct journal_CompletePromiseCompletionNotificationMessage *record,
+    struct journal_arena *arena, uint8_t *out, size_t room) {
+    int64_t length = journal_header(version, JOURNAL_TYPE_COMPLETE_PROMISE_COMPLETION_NOTIFICATION, 0, NULL, 0);
+
+    if (length > 0) {
+        length = journal_write_CompletePromiseCompletionNotificationMessage(record, arena, journal_payload_(out, room),
+                                                                            journal_payload_room_(room));
+    }
+    return journal_framed_(version, JOURNAL_TYPE_COMPLETE_PROMISE_COMPLETION_NOTIFICATION, length, out, room);
+}
+
+static inline int64_t journal_frame_CallCompletionNotificationMessage(
+    uint32_t version, const struct journal_CallCompletionNotificationMessage *record, struct journal_arena *arena,
+    uint8_t *out, size_t room) {
+    int64_t length = journal_header(version, JOURNAL_TYPE_CALL_COMPLETION_NOTIFICATION, 0, NULL, 0);
+
+    if (length > 0) {
+        length = journal_write_CallCompletionNotificationMessage(record, arena, journal_payload_(out, room),
+                                                                 journal_payload_room_(room));
+    }
+    return journal_framed_(version, JOURNAL_TYPE_CALL_COMPLETION_NOTIFICATION, length, out, room);
+}
+
+static inline int64_t journal_frame_RunCompletionNotificationMessage(
+    uint32_t version, const struct journal_RunCompletionNotificationMessage *record, struct journal_arena *arena,
+    uint8_t *out, size_t room) {
+    int64_t length = journal_header(version, JOURNAL_TYPE_RUN_COMPLETION_NOTIFICATION, 0, NULL, 0);
+
+    if (length > 0) {
+        length = journal_write_RunCompletionNotificationMessage(record, arena, journal_payload_(out, room),
+                                                                journal_payload_room_(room));
+    }
+    return journal_framed_(version, JOURNAL_TYPE_RUN_COMPLETION_NOTIFICATION, length, out, room);
+}
+
+static inline int64_t journal_frame_AttachInvocationCompletionNotificationMessage(
+    uint32_t version, const struct journal_AttachInvocationCompletionNotificationMessage *record,
+    struct journal_arena *arena, uint8_t *out, size_t room) {
+    int64_t length = journal_header(version, JOURNAL_TYPE_ATTACH_INVOCATION_COMPLETION_NOTIFICATION, 0, NULL, 0);
+
+    if (length > 0) {
+        length = journal_write_AttachInvocationCompletionNotificationMessage(record, arena, journal_payload_(out, room),
+                                                                             journal_payload_room_(room));
+    }
+    return journal_framed_(version, JOURNAL_TYPE_ATTACH_INVOCATION_COMPLETION_NOTIFICATION, length, out, room);
+}
+
+static inline int64_t journal_frame_SleepCompletionNotificationMessage(
+    uint32_t version, const struct journal_SleepCompletionNotificationMessage *record, struct journal_arena *arena,
+    uint8_t *out, size_t room) {
+    int64_t length = journal_header(version, JOURNAL_TYPE_SLEEP_COMPLETION_NOTIFICATION, 0, NULL, 0);
+
+    if (length > 0) {
+        length = journal_write_SleepCompletionNotificationMessage(record, arena, journal_payload_(out, room),
+                                                                  journal_payload_room_(room));
+    }
+    return journal_framed_(version, JOURNAL_TYPE_SLEEP_COMPLETION_NOTIFICATION, length, out, room);
+}
+
+static inline int64_t journal_frame_GetLazyStateKeysCompletionNotificationMessage(
+    uint32_t version, const struct journal_GetLazyStateKeysCompletionNotificationMessage *record,
+    struct journal_arena *arena, uint8_t *out, size_t room) {
+    int64_t length = journal_header(version, JOURNAL_TYPE_GET_LAZY_STATE_KEYS_COMPLETION_NOTIFICATION, 0, NULL, 0);
+
+    if (length > 0) {
+        length = journal_write_GetLazyStateKeysCompletionNotificationMessage(record, arena, journal_payload_(out, room),
+                                                                             journal_payload_room_(room));
+    }
+    return journal_framed_(version, JOURNAL_TYPE_GET_LAZY_STATE_KEYS_COMPLETION_NOTIFICATION, length, out, room);
+}
+
+static inline int64_t journal_frame_CallInvocationIdCompletionNotificationMessage(
+    uint32_t version, const struct journal_CallInvocationIdCompletionNotificationMessage *record,
+    struct journal_arena *arena, uint8_t *out, size_t room) {
+    int64_t length = journal_header(version, JOURNAL_TYPE_CALL_INVOCATION_ID_COMPLETION_NOTIFICATION, 0, NULL, 0);
+
+    if (length > 0) {
+        length = journal_write_CallInvocationIdCompletionNotificationMessage(record, arena, journal_payload_(out, room),
+                                                                             journal_payload_room_(room));
+    }
+    return journal_framed_(version, JOURNAL_TYPE_CALL_INVOCATION_ID_COMPLETION_NOTIFICATION, length, out, room);
+}
+
+static inline int64_t journal_frame_SignalNotificationMessage(uint32_t version,
+                                                              const struct journal_SignalNotificationMessage *record,
+                                                              struct journal_arena *arena, uint8_t *out, size_t room) {
+    int64_t length = journal_header(version, JOURNAL_TYPE_SIGNAL_NOTIFICATION, 0, NULL, 0);
+
+    if (length > 0) {
+        length = journal_write_SignalNotificationMessage(record, arena, journal_payload_(out, room),
+                                                         journal_payload_room_(room));
+    }
+    return journal_framed_(version, JOURNAL_TYPE_SIGNAL_NOTIFICATION, length, out, room);
+}
+
 /* Each record, with the name of its schema but for JOURNAL_SCHEMA_. */
 #define JOURNAL_EACH_RECORD_(each) \
     each(Void, VOID) \
@@ -5346,6 +5874,70 @@ static inline int64_t journal_write_record(uint32_t schema, const void *record, 
         JOURNAL_EACH_RECORD_(JOURNAL_WRITE_CASE_)
     default:
         return JOURNAL_UNKNOWN_SCHEMA;
+    }
+}
+
+/* Each message, with the name of its type but for JOURNAL_TYPE_. */
+#define JOURNAL_EACH_MESSAGE_(each) \
+    each(StartMessage, START) \
+    each(SuspensionMessage, SUSPENSION) \
+    each(ErrorMessage, ERROR) \
+    each(EndMessage, END) \
+    each(ProposeRunCompletionMessage, PROPOSE_RUN_COMPLETION) \
+    each(AwaitingOnMessage, AWAITING_ON) \
+    each(ProposeRunCompletionAckMessage, PROPOSE_RUN_COMPLETION_ACK) \
+    each(GetStateEphemeralCommandMessage, GET_STATE_EPHEMERAL_COMMAND) \
+    each(GetStateEphemeralNotificationMessage, GET_STATE_EPHEMERAL_NOTIFICATION) \
+    each(InputCommandMessage, INPUT_COMMAND) \
+    each(OutputCommandMessage, OUTPUT_COMMAND) \
+    each(GetLazyStateCommandMessage, GET_LAZY_STATE_COMMAND) \
+    each(SetStateCommandMessage, SET_STATE_COMMAND) \
+    each(ClearStateCommandMessage, CLEAR_STATE_COMMAND) \
+    each(ClearAllStateCommandMessage, CLEAR_ALL_STATE_COMMAND) \
+    each(GetLazyStateKeysCommandMessage, GET_LAZY_STATE_KEYS_COMMAND) \
+    each(GetEagerStateCommandMessage, GET_EAGER_STATE_COMMAND) \
+    each(GetEagerStateKeysCommandMessage, GET_EAGER_STATE_KEYS_COMMAND) \
+    each(GetPromiseCommandMessage, GET_PROMISE_COMMAND) \
+    each(PeekPromiseCommandMessage, PEEK_PROMISE_COMMAND) \
+    each(CompletePromiseCommandMessage, COMPLETE_PROMISE_COMMAND) \
+    each(SleepCommandMessage, SLEEP_COMMAND) \
+    each(CallCommandMessage, CALL_COMMAND) \
+    each(OneWayCallCommandMessage, ONE_WAY_CALL_COMMAND) \
+    each(SendSignalCommandMessage, SEND_SIGNAL_COMMAND) \
+    each(RunCommandMessage, RUN_COMMAND) \
+    each(AttachInvocationCommandMessage, ATTACH_INVOCATION_COMMAND) \
+    each(GetInvocationOutputCommandMessage, GET_INVOCATION_OUTPUT_COMMAND) \
+    each(CompleteAwakeableCommandMessage, COMPLETE_AWAKEABLE_COMMAND) \
+    each(GetLazyStateCompletionNotificationMessage, GET_LAZY_STATE_COMPLETION_NOTIFICATION) \
+    each(GetLazyStateKeysCompletionNotificationMessage, GET_LAZY_STATE_KEYS_COMPLETION_NOTIFICATION) \
+    each(GetPromiseCompletionNotificationMessage, GET_PROMISE_COMPLETION_NOTIFICATION) \
+    each(PeekPromiseCompletionNotificationMessage, PEEK_PROMISE_COMPLETION_NOTIFICATION) \
+    each(CompletePromiseCompletionNotificationMessage, COMPLETE_PROMISE_COMPLETION_NOTIFICATION) \
+    each(SleepCompletionNotificationMessage, SLEEP_COMPLETION_NOTIFICATION) \
+    each(CallCompletionNotificationMessage, CALL_COMPLETION_NOTIFICATION) \
+    each(CallInvocationIdCompletionNotificationMessage, CALL_INVOCATION_ID_COMPLETION_NOTIFICATION) \
+    each(RunCompletionNotificationMessage, RUN_COMPLETION_NOTIFICATION) \
+    each(AttachInvocationCompletionNotificationMessage, ATTACH_INVOCATION_COMPLETION_NOTIFICATION) \
+    each(GetInvocationOutputCompletionNotificationMessage, GET_INVOCATION_OUTPUT_COMPLETION_NOTIFICATION) \
+    each(SignalNotificationMessage, SIGNAL_NOTIFICATION)
+
+#define JOURNAL_FRAME_CASE_(name, type) \
+    case JOURNAL_TYPE_##type: \
+        return journal_frame_##name(version, (const struct journal_##name *)record, arena, out, room);
+
+/*
+ * Writes the frame of the message of a type, whose struct is given: what journal_frame_NAME does, for a type that is
+ * known at run time. Returns its length in bytes; if `room` is less, nothing is written.
+ *
+ * Its errors: JOURNAL_UNKNOWN_TYPE if the code is that of no named type, JOURNAL_UNKNOWN_VERSION, and those of
+ * journal_write_record.
+ */
+static inline int64_t journal_frame_message(uint32_t version, uint16_t code, const void *record,
+                                            struct journal_arena *arena, uint8_t *out, size_t room) {
+    switch (code) {
+        JOURNAL_EACH_MESSAGE_(JOURNAL_FRAME_CASE_)
+    default:
+        return JOURNAL_UNKNOWN_TYPE;
     }
 }
 

@@ -57,7 +57,7 @@ fi
 
 top=$(cd "$(dirname "$0")/.." && pwd)
 # the headers, of which the first has the version and the calls
-headers='pendratsoa.h pendratsoa_messages.h'
+headers='pendratsoa.h pendratsoa_messages.h pendratsoa_reader.h'
 header=$top/include/${headers%% *}
 . "$top/scripts/up_to_date.sh"
 programs='journal journal_list'

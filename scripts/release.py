@@ -245,7 +245,7 @@ def rust(release: Release) -> None:
     release.archive(folder, f"pendratsoa-rust-{version()}.tar.gz")
 
 
-def go(release: Release) -> None:
+def go_module(release: Release) -> None:
     """The package for Go in source, with the static library, which it links."""
     folder = release.copy("go")
     shutil.copytree(release.prefixes[release.machines[0].name] / "include", folder / "include")
@@ -262,7 +262,7 @@ def go(release: Release) -> None:
 # The kinds of files: those that are made for each processor, in an order in which none takes in what another adds, and
 # those that have the library for all.
 FOR_EACH = (wheel, gem, npm, deb, tarball)
-FOR_ALL = (rust, go)
+FOR_ALL = (rust, go_module)
 
 
 def results(options: argparse.Namespace) -> dict[str, str]:

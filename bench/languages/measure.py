@@ -1,17 +1,21 @@
 """Measures the package for Python beside protobuf's own: measure.py FOLDER, which has journal_pb2, made by protoc.
 
-A line is the record, the work, microseconds here and there, and how many times as fast this package is.
+A line is the record, the work, microseconds here and there, and how many times as fast this package is. Protobuf's has
+no streams; beside it is the framing that a user writes, below.
 """
 
 import pathlib
+import struct
 import sys
 import time
 import timeit
+from typing import NamedTuple
 
 sys.path.insert(0, sys.argv[1])
 
 import journal_pb2  # noqa: E402
-from pendratsoa import COMPILED, messages  # noqa: E402
+from google.protobuf import json_format  # noqa: E402
+from pendratsoa import COMPILED, Stream, from_json, messages, to_json  # noqa: E402
 
 READS = {
     "SetStateCommandMessage": (lambda one: (one.key, one.value.content), lambda one: (one.key, one.value.content)),
@@ -27,10 +31,113 @@ READS = {
 COUNT = 20000
 LANGUAGE = "python" if COMPILED else "python-ctypes"
 
+HEADER = struct.Struct(">HHI")
 
-def measured(work):
+# How many frames a stream has, and how many bytes come at a time.
+FRAMES = 1000
+CHUNK = 1 << 16
+
+
+class PeerItem(NamedTuple):
+    """A message as a framing by hand has it."""
+
+    code: int
+    flags: int
+    payload: bytes
+
+
+def peer_items(chunks, limit=1 << 24):
+    """The messages of a stream that comes in chunks."""
+    rest = b""
+    for chunk in chunks:
+        rest += chunk
+        at = 0
+        while len(rest) - at >= HEADER.size:
+            code, flags, length = HEADER.unpack_from(rest, at)
+            if length > limit:
+                raise ValueError(f"a message of type {code:#06x} has {length} bytes")
+            begin = at + HEADER.size
+            if len(rest) - begin < length:
+                break
+            at = begin + length
+            yield PeerItem(code, flags, rest[begin:at])
+        rest = rest[at:]
+
+
+def peer_frame(code, message):
+    """The frame of a message."""
+    payload = message.SerializeToString()
+    return HEADER.pack(code, 0, len(payload)) + payload
+
+
+def measured(work, count=COUNT, per=1):
     # of processor time, since the machine may be busy
-    return min(timeit.repeat(work, timer=time.process_time, number=COUNT, repeat=9)) / COUNT * 1e6
+    return min(timeit.repeat(work, timer=time.process_time, number=count, repeat=9)) / count / per * 1e6
+
+
+def show(name, work, first, second, count=COUNT, per=1):
+    """Measures a work here and there."""
+    first, second = measured(first, count, per), measured(second, count, per)
+    print(f"{LANGUAGE} {name} {work} {first:.2f} {second:.2f} {second / first:.2f}")
+
+
+def items_of(chunks):
+    """The items of a stream that comes in chunks."""
+    stream = Stream(8)
+    for chunk in chunks:
+        stream.feed(chunk)
+        yield from stream
+
+
+def streams(name, here, there, ours):
+    """Items of a stream, the same with two fields of each read, and frames."""
+    read_here, read_there = READS[name]
+    theirs = there.FromString(ours.encode())
+    assert ours.frame(8) == peer_frame(here.CODE, theirs)
+    whole = ours.frame(8) * FRAMES
+    chunks = [whole[at : at + CHUNK] for at in range(0, len(whole), CHUNK)]
+    classes = {here.CODE: there}
+
+    def drain(items):
+        for _ in items:
+            pass
+
+    def read(items, one):
+        for item in items:
+            one(item)
+
+    turns = COUNT // FRAMES
+    show(name, "items", lambda: drain(items_of(chunks)), lambda: drain(peer_items(chunks)), turns, FRAMES)
+    show(
+        name,
+        "items-read",
+        lambda: read(items_of(chunks), lambda item: read_here(item.message)),
+        lambda: read(peer_items(chunks), lambda item: read_there(classes[item.code].FromString(item.payload))),
+        turns,
+        FRAMES,
+    )
+    show(name, "frame", lambda: ours.frame(8), lambda: peer_frame(here.CODE, theirs))
+
+
+def texts(name, here, there, payload):
+    """A payload as JSON, and JSON as a payload."""
+    text = to_json(name, payload)
+    assert from_json(name, text) == json_format.Parse(text, there()).SerializeToString() == payload
+    turns = COUNT // 10
+    show(
+        name,
+        "to-json",
+        lambda: to_json(here.SCHEMA, payload),
+        lambda: json_format.MessageToJson(there.FromString(payload), indent=None),
+        turns,
+    )
+    show(
+        name,
+        "from-json",
+        lambda: from_json(here.SCHEMA, text),
+        lambda: json_format.Parse(text, there()).SerializeToString(),
+        turns,
+    )
 
 
 def main():
@@ -43,12 +150,10 @@ def main():
         read_here, read_there = READS[name]
         ours, theirs = here.decode(payload), there.FromString(payload)
         assert read_here(ours) == read_there(theirs) and ours.encode() == theirs.SerializeToString() == payload
-        for work, first, second in (
-            ("decode", lambda: read_here(here.decode(payload)), lambda: read_there(there.FromString(payload))),
-            ("encode", ours.encode, theirs.SerializeToString),
-        ):
-            first, second = measured(first), measured(second)
-            print(f"{LANGUAGE} {name} {work} {first:.2f} {second:.2f} {second / first:.2f}")
+        show(name, "decode", lambda: read_here(here.decode(payload)), lambda: read_there(there.FromString(payload)))
+        show(name, "encode", ours.encode, theirs.SerializeToString)
+        streams(name, here, there, ours)
+        texts(name, here, there, payload)
 
 
 if __name__ == "__main__":

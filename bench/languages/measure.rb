@@ -2,7 +2,8 @@
 
 # Measures the gem beside protobuf's own: ruby measure.rb FOLDER, which has journal_pb.rb, made by protoc.
 #
-# A line is the record, the work, microseconds here and there, and how many times as fast this gem is.
+# A line is the record, the work, microseconds here and there, and how many times as fast this gem is. Protobuf's has no
+# streams; beside it is the framing that a user writes, below.
 
 $LOAD_PATH.unshift ARGV.fetch(0)
 require "google/protobuf"
@@ -20,14 +21,51 @@ READS = {
 COUNT = 20000
 LANGUAGE = Pendratsoa::COMPILED ? "ruby" : "ruby-fiddle"
 
+# How many frames a stream has, and how many bytes come at a time.
+FRAMES = 1000
+CHUNK = 1 << 16
+
+# A message as a framing by hand has it.
+PeerItem = Struct.new(:code, :flags, :payload)
+
+# Yields the messages of a stream that comes in chunks.
+def peer_items(chunks, limit: 1 << 24)
+  rest = String.new
+  chunks.each do |chunk|
+    rest << chunk
+    at = 0
+    while rest.bytesize - at >= 8
+      code, flags, length = rest.unpack("nnN", offset: at)
+      raise RangeError, format("a message of type 0x%04x has %d bytes", code, length) if length > limit
+      break if rest.bytesize - at - 8 < length
+
+      yield PeerItem.new(code, flags, rest.byteslice(at + 8, length))
+      at += 8 + length
+    end
+    rest = rest.byteslice(at..)
+  end
+end
+
+# The frame of a message.
+def peer_frame(code, message)
+  payload = message.class.encode(message)
+  [code, 0, payload.bytesize].pack("nnN") << payload
+end
+
+# Yields the items of a stream that comes in chunks.
+def items_of(chunks, &block)
+  stream = Pendratsoa::Stream.new(version: 8)
+  chunks.each { |chunk| stream.feed(chunk).each(&block) }
+end
+
 # Of processor time, since the machine may be busy.
-def measured
+def measured(count, per)
   times = Array.new(9) do
     start = Process.clock_gettime(Process::CLOCK_PROCESS_CPUTIME_ID)
-    COUNT.times { yield }
+    count.times { yield }
     Process.clock_gettime(Process::CLOCK_PROCESS_CPUTIME_ID) - start
   end
-  times.min / COUNT * 1e6
+  times.min / count / per * 1e6
 end
 
 File.foreach(File.join(__dir__, "messages.txt")) do |line|
@@ -40,12 +78,28 @@ File.foreach(File.join(__dir__, "messages.txt")) do |line|
   ours, theirs = here.decode(payload), there.decode(payload)
   raise name unless read_here[ours] == read_there[theirs] && [ours.encode, there.encode(theirs)] == [payload] * 2
 
+  raise name unless ours.frame(8) == peer_frame(here::CODE, theirs)
+
+  whole = ours.frame(8) * FRAMES
+  chunks = (0...whole.bytesize).step(CHUNK).map { |at| whole.byteslice(at, CHUNK).freeze }
+  classes = { here::CODE => there }
+  text = Pendratsoa.to_json(name, payload)
+  raise name unless [Pendratsoa.from_json(name, text), there.encode(there.decode_json(text))] == [payload] * 2
+
   works = {
     "decode" => [-> { read_here[here.decode(payload)] }, -> { read_there[there.decode(payload)] }],
-    "encode" => [-> { ours.encode }, -> { there.encode(theirs) }]
+    "encode" => [-> { ours.encode }, -> { there.encode(theirs) }],
+    "items" => [-> { items_of(chunks) { |item| item } }, -> { peer_items(chunks) { |item| item } }, FRAMES],
+    "items-read" => [
+      -> { items_of(chunks) { |item| read_here[item.message] } },
+      -> { peer_items(chunks) { |item| read_there[classes[item.code].decode(item.payload)] } }, FRAMES
+    ],
+    "frame" => [-> { ours.frame(8) }, -> { peer_frame(here::CODE, theirs) }],
+    "to-json" => [-> { Pendratsoa.to_json(here::SCHEMA, payload) }, -> { there.encode_json(there.decode(payload)) }],
+    "from-json" => [-> { Pendratsoa.from_json(here::SCHEMA, text) }, -> { there.encode(there.decode_json(text)) }]
   }
-  works.each do |work, (first, second)|
-    first, second = measured(&first), measured(&second)
+  works.each do |work, (first, second, per)|
+    first, second = [first, second].map { |one| measured(COUNT / (per || 1), per || 1, &one) }
     puts format("%s %s %s %.2f %.2f %.2f", LANGUAGE, name, work, first, second, second / first)
   end
 end

@@ -144,15 +144,6 @@ mod c {
             out: *mut u8,
             room: usize,
         ) -> i64;
-        pub fn measure_frame_owned(
-            version: u32,
-            code: u16,
-            payload: *const u8,
-            payload_length: usize,
-            rounds: usize,
-            out: *mut u8,
-            room: usize,
-        ) -> i64;
         pub fn measure_well_formed(
             schema: u32,
             payload: *const u8,
@@ -385,17 +376,6 @@ pub fn frame_chunks(
     out: &mut [u8],
 ) -> Result<usize, Refusal> {
     frame_by(c::measure_frame_chunks, version, code, payload, rounds, out)
-}
-
-/// A frame in a `Vec` for each round, into which long bytes are copied once.
-pub fn frame_owned(
-    version: u32,
-    code: u16,
-    payload: &[u8],
-    rounds: usize,
-    out: &mut [u8],
-) -> Result<usize, Refusal> {
-    frame_by(c::measure_frame_owned, version, code, payload, rounds, out)
 }
 
 /// A frame for which the frames of all rounds share the blocks of one buffer; the last 1,024 are held.

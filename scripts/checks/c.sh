@@ -113,6 +113,7 @@ else
   message_structs 1000000
 fi
 later_library
+stream_reader
 message_example "$prefix/lib/libpendratsoa.a" "$library"
 
 # The examples in C, without a warning of any compiler that is there, and the listing with each library.
@@ -123,7 +124,7 @@ for compiler in 'cc -std=c99' 'cc -std=c17' 'c++ -x c++ -std=c++11' 'clang -std=
     without "$compiler $example" "${compiler%% *}"
     continue
   fi
-  for file in $example examples/c/messages.c tests/c/test_messages.c; do
+  for file in $example examples/c/messages.c tests/c/test_messages.c tests/c/test_reader.c; do
     # shellcheck disable=SC2086 # the flags are split
     case_of "$compiler $file" $compiler $strict -I "$prefix/include" -c $file -o "$work/example.o"
   done

@@ -88,6 +88,17 @@ later_library() {
   case_of 'a later library' $emulator "$work/later_library"
 }
 
+# stream_reader: the functions of pendratsoa_reader.h, by streams of each kind
+stream_reader() {
+  compiled 'test_reader.c' -std=c99 -Wpedantic -Wconversion tests/c/test_reader.c "$prefix/lib/libpendratsoa.a" \
+    -o "$work/test_reader"
+  for version in 8 9; do
+    # shellcheck disable=SC2086 # the words are split
+    counted "the reader at $version" $emulator "$work/test_reader" $version examples/streams/recorded \
+      examples/streams/cut_short examples/streams/three_unknown_types examples/streams/unknown_type
+  done
+}
+
 # message_example LIBRARY..: the example of the structs, with each library
 message_example() {
   # a state that is set, an end, and a byte that is no item

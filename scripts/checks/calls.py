@@ -62,11 +62,18 @@ def calls(check: checks.Check) -> None:
     symbols = [call.symbol() for call in calls_data.calls()]
     names = [call.call for call in calls_data.calls()]
     in_go = {call.symbol(): calls_data.camel(call.symbol(), False) for call in calls_data.calls()}
+    in_python = {call.name_in("Python"): call.symbol() for call in calls_data.calls()}
+    by_name = re.findall(r"\bnamed\.(\w+)\(", read("python/pendratsoa/_calls.py"))
+    by_place = re.findall(r"\bNamed::([A-Z_]+)\b", read("ruby/lib/pendratsoa/functions.rb"))
     uses = {
-        "python/pendratsoa": re.findall(r"\blibrary\.(journal_\w+)", together("python/pendratsoa/*.py")),
-        "ruby/lib": re.findall(
-            r":(journal_\w+)", together("ruby/lib/pendratsoa/f*.rb", "ruby/lib/pendratsoa/stream.rb")
-        ),
+        "python/pendratsoa": [
+            *re.findall(r"\blibrary\.(journal_\w+)", together("python/pendratsoa/*.py")),
+            *(in_python.get(name, name) for name in by_name),
+        ],
+        "ruby/lib": [
+            *re.findall(r":(journal_\w+)", together("ruby/lib/pendratsoa/fields.rb", "ruby/lib/pendratsoa/pending.rb")),
+            *(f"journal_{name.lower()}" for name in by_place),
+        ],
         "tests/ffi": re.findall(r"\b(journal_\w+)\(", together("tests/ffi/*.rt.in")),
         "docs/PROOFS.md": re.findall(
             r"`(journal_\w+)`", read("docs/PROOFS.md").partition("\n## journal_ffi:")[2].partition("\n## ")[0]

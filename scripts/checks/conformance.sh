@@ -19,12 +19,13 @@ esac
 
 # input: the lines to be checked
 input() {
-  if [ "$lines" = - ]; then cat; else find conformance -maxdepth 1 -name '*.txt' ! -name 'random_*' -exec cat {} +; fi
+  if [ "$lines" = - ]; then cat; return; fi
+  find conformance conformance/replays -maxdepth 1 -name '*.txt' ! -name 'random_*' -exec cat {} +
 }
 
 input > "$work/lines"
 unproved_crate vectors \
-  shared_core shared_core_fields shared_core_fields_writer shared_core_codec shared_core_base bytes hex
+  shared_core shared_core_fields shared_core_fields_writer shared_core_codec shared_core_base replay_bench bytes hex
 sources tests/vectors "$crate/src"
 keeping_kit "$work"
 # the program is kept; here it is run without input

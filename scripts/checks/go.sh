@@ -2,7 +2,7 @@
 # The package for Go: gofmt and go vet, its tests and examples, the test vectors, goroutines with the race detector.
 #
 # It is built in a copy, over the installed library and without a network. It takes the proved static library, as
-# scripts/checks/c.sh does.
+# scripts/checks/c.sh does. Where staticcheck is on the path, it runs with all of its checks.
 set -u
 cd "$(dirname "$0")/../.." || exit 1
 . scripts/checks/lib.sh
@@ -27,6 +27,13 @@ gofmt -l -d . > "$out" 2> "$err"
 [ ! -s "$out" ] && [ ! -s "$err" ]
 outcome 'gofmt' $?
 case_of 'go vet' go vet ./...
+# Debian gives it another name
+staticcheck=$(command -v staticcheck || command -v go-staticcheck)
+if [ -n "$staticcheck" ]; then
+  case_of 'staticcheck' env "XDG_CACHE_HOME=$work/cache" "$staticcheck" -checks all ./...
+else
+  left_out 'staticcheck' 'there is none; the Debian package go-staticcheck has it'
+fi
 
 # tests: runs all tests and shows what is not that one has passed
 tests() {
@@ -52,11 +59,12 @@ listed unknown_type 9
 case_of 'the proxy is built' go build -o "$work/proxy_program" ./examples/proxy
 counted 'the proxy' python3 -B "$top/scripts/checks/proxied.py" "$work/proxy_program"
 
-# The page: its program, its part of the proxy, and the program that compares.
+# The page: its program, its part of the proxy, the program that compares, and its part of the example of errors.
 mkdir "$work/go/page" "$work/go/compare"
-awk -v page="$work/go/page/main.go" -v part="$work/part" -v compare="$work/go/compare/main.go" '
+awk -v page="$work/go/page/main.go" -v part="$work/part" -v compare="$work/go/compare/main.go" \
+  -v errors="$work/errors" '
   /^## / { section = $2 }
-  /^```go$/ { file = section == "Compare" ? compare : blocks++ ? part : page; next }
+  /^```go$/ { file = section == "Compare" ? compare : section == "Errors" ? errors : blocks++ ? part : page; next }
   /^```$/ { file = "" }
   file != "" { print > file }' README.md
 sed -n '/^Of `examples/,/^[A-Z] /s/^    //p' README.md > "$work/wanted"
@@ -66,6 +74,7 @@ sed -n '/^Of `recorded/,/^|/s/^    //p' README.md > "$work/wanted"
 go run ./compare "$work/examples/streams/recorded" "$work/examples/streams/replayed_other_payload" > "$out" 2> "$err"
 same 'the program of go/README.md that compares' "$work/wanted" "$out"
 case_of 'the proxy of go/README.md' python3 -B "$top/scripts/checks/is_part.py" "$work/part" examples/proxy/main.go
+case_of 'the errors of go/README.md' python3 -B "$top/scripts/checks/is_part.py" "$work/errors" example_test.go
 
 if go test -race -run '^$' . > "$work/race" 2>&1; then
   case_of 'goroutines with the race detector' go test -race -run Goroutines .

@@ -101,7 +101,9 @@ cp examples/typescript/listing.mts "$user/"
 if command -v tsc > /dev/null; then
   case_of 'the types' tsc -p "$tree/node"
   case_of 'the example in TypeScript' \
-    tsc --strict --noImplicitReturns --target es2022 --module node16 "$user/listing.mts"
+    tsc --strict --noFallthroughCasesInSwitch --noImplicitOverride --noImplicitReturns --noUncheckedIndexedAccess \
+    --noPropertyAccessFromIndexSignature --noUnusedLocals --noUnusedParameters --exactOptionalPropertyTypes \
+    --target es2022 --module node16 "$user/listing.mts"
   case_of 'the example in C' cc -std=c99 -I "$prefix/include" examples/c/listing.c "$prefix/lib/libpendratsoa.a" \
     -o "$work/listing"
   for stream in replay:8 recorded:8 cut_short:8 three_unknown_types:8 unknown_type:9; do

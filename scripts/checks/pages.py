@@ -135,7 +135,7 @@ def tables() -> Found:
 
 
 def decisions() -> Found:
-    """Each section of the decisions is in the index, and each decision says what was rejected."""
+    """Each section of the decisions is in the index, and each decision has a list of what was rejected."""
     page = "docs/DECISIONS.md"
     index, *sections = re.split("^## ", text(page), flags=re.MULTILINE)
     for section in sections:
@@ -143,7 +143,7 @@ def decisions() -> Found:
         yield page, f"the index lacks {name.strip()}", f"[{name.strip()}](#" in " ".join(index.split())
         for entry in entries:
             title = entry.partition("\n")[0]
-            yield page, f"{title}: nothing begins with 'Rejected: '", "\n\nRejected: " in entry
+            yield page, f"{title}: no list is below 'Rejected:'", "\n\nRejected:\n\n- " in entry
 
 
 def worked_lines() -> Found:

@@ -55,6 +55,9 @@ else
     nm -D --defined-only "$site/pendratsoa/$compiled" | awk '{ print $3 }' > "$out"
     echo PyInit__compiled > "$work/wanted"
     same 'the names that the compiled module shows' "$work/wanted" "$out"
+    headers=$("$python" -c 'import sysconfig; print(sysconfig.get_path("include"))')
+    case_of 'the compiled module without a warning' cc -std=gnu11 -O2 -Wall -Wextra -Wshadow -Wconversion \
+      -Wsign-conversion -Werror -fsyntax-only -isystem "$headers" python/src/*.c
   fi
 fi
 

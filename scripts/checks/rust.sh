@@ -115,7 +115,7 @@ unlinked 'no pkg-config' \
   "pendratsoa: nothing can be linked, since PENDRATSOA_PREFIX is not set, and $PKG_CONFIG cannot be run: "
 unset PKG_CONFIG PENDRATSOA_STATIC
 
-# layout, lints and pages; unsafe code is in src/ffi.rs alone
+# layout, lints (src/lib.rs asks for the pedantic ones) and pages; unsafe code is only in src/ffi.rs
 CARGO_TARGET_DIR=$work/target-lints
 case_of 'the pages of cargo doc' cargo doc --quiet --no-deps
 if cargo fmt --version > "$out" 2> "$err"; then
@@ -127,6 +127,20 @@ if cargo clippy --version > "$out" 2> "$err"; then
   case_of 'the lints' cargo clippy --quiet --all-targets -- -D warnings
 else
   left_out 'the lints' 'there is no clippy; the Debian package rust-clippy has it'
+fi
+# the codec of tokio_util, over the crates that Debian has
+registry=/usr/share/cargo/registry
+CARGO_TARGET_DIR=$work/target-tokio
+if ls -d $registry/tokio-util-0.7* > "$out" 2> "$err"; then
+  cp -R "$top/rust/tokio" "$work/rust/"
+  printf '[source.crates-io]\nreplace-with = "debian"\n\n[source.debian]\ndirectory = "%s"\n' $registry \
+    > "$CARGO_HOME/config.toml"
+  case_of 'the codec of tokio' cargo test --quiet --manifest-path tokio/Cargo.toml
+  if cargo clippy --version > "$out" 2> "$err"; then
+    case_of 'the lints of the codec' cargo clippy --quiet --manifest-path tokio/Cargo.toml --all-targets -- -D warnings
+  fi
+else
+  left_out 'the codec of tokio' 'there is no tokio_util; the Debian package librust-tokio-util-dev has it'
 fi
 grep -rl 'allow(unsafe_code)' src build.rs examples tests > "$work/allowed"
 echo src/ffi.rs > "$work/wanted"

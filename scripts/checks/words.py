@@ -2,9 +2,10 @@
 """Comments and pages use the field's words, and not the dialect of earlier versions; pages have short sentences.
 
 Each phrase below is searched in pages, comments and docstrings, code in backquotes left out, also where it goes over
-the end of a line. A word with honest other uses is here only in the wrong phrase. A page is plain if it has none of the
-phrases of DIALECT either, and of a hundred sentences fewer than five with more than 30 words. Each page has to be,
-except those of EARLIER, which are reported with their numbers.
+the end of a line. A word with honest other uses is here only in the wrong phrase. Each page is plain: it has none of
+the phrases of DIALECT either, and of a hundred sentences fewer than five with more than 30 words. So are the help texts
+and the texts of the man pages, in the description of the programs. The long sentences of comments of public items and
+of headers are counted and reported.
 """
 from __future__ import annotations
 
@@ -89,7 +90,7 @@ DIALECT = (
     (r"\b[Bb]eside\b", "compared with, next to, in addition to"),
     (r"\balone\b", "only"),
     (r", of which |[.:;] Of (the|its|an?|all|these|those|two|both) ", "split the sentence; name the subject first"),
-    (r"\b(is|are) no (?!longer\b|more\b|less\b|such\b)[a-z]+", "is not a"),
+    (r"(?<![Tt]here )\b(is|are) no (?!longer\b|more\b|less\b|such\b)[a-z]+", "is not a"),
     (r"\bsays (how|what|which|whether|why)\b", "documents, reports, specifies"),
     (r"\b[Ww]hoever\b", "Audience:, anyone who"),
     (r"\b[Tt]he kit\b", "Rattle's standard library, or the toolchain"),
@@ -113,23 +114,11 @@ DIALECT_PATTERNS = [(re.compile(pattern), better) for pattern, better in DIALECT
 # How many words a sentence may have, and how many of a hundred may have more.
 WORDS, LONG = 30, 5
 
-# The pages that are not plain yet. One that becomes so is taken off.
-EARLIER = (
-    "crates/README.md",
-    "docs/ARCHITECTURE.md",
-    "docs/C.md",
-    "docs/CHANGING.md",
-    "docs/DECISIONS.md",
-    "docs/DIFFERENCES.md",
-    "docs/LANGUAGES.md",
-    "docs/PROGRAMS.md",
-    "docs/PROOFS.md",
-    "go/README.md",
-    "node/README.md",
-    "python/README.md",
-    "ruby/README.md",
-    "rust/README.md",
-)
+# The description of the programs, whose texts are those of the help and of the man pages.
+PROGRAMS = "proto/programs.toml"
+
+# The comments whose sentences are counted: those of public items of Rattle, and those of the headers.
+COUNTED = {".rt": ("comments of public items", "///"), ".h": ("comments of headers", r"(?:/\*+|\*)")}
 
 # What a comment begins with, by the end of a file's name; a page is text from its first line.
 SLASHES, DASHES, HASHES, STARS = "//[/!]?", "--+", "#+", r"(?:/\*+|\*|//)"
@@ -181,6 +170,16 @@ def comment_lines(lines: list[str], marks: str, is_python: bool) -> collections.
         in_docstring ^= quotes % 2 == 1
 
 
+def described_lines(lines: list[str]) -> collections.abc.Iterator[Line]:
+    """The texts of the description of the programs, each a paragraph."""
+    for number, line in enumerate(lines, 1):
+        if not re.match(r"[#\[]|(value|values|crate|default|completed|required|repeated) =", line):
+            begins = re.match(r'\w+ = ("""\\?|")', line)
+            if begins:
+                yield number, None
+            yield number, re.sub(r'("""|"|\\)$', "", line.removeprefix(begins[0] if begins else ""))
+
+
 def found(
     lines: collections.abc.Iterable[Line], patterns: list[tuple[re.Pattern[str], str]]
 ) -> list[tuple[int, str, str]]:
@@ -216,23 +215,26 @@ def sentences(lines: collections.abc.Iterable[Line]) -> list[str]:
     return [part for part in found if len(part.split()) > 2]
 
 
+def too_long(all_of_page: list[str]) -> list[str]:
+    """The sentences that have too many words."""
+    return [sentence for sentence in all_of_page if len(sentence.split()) > WORDS]
+
+
 def plain(check: checks.Check, page: str, lines: list[Line]) -> None:
-    """Counts a case: a page is plain, or one of those that are not yet, which is reported."""
+    """Counts a case: a page is plain."""
     all_of_page = sentences(lines)
-    long = [sentence for sentence in all_of_page if len(sentence.split()) > WORDS]
+    long = too_long(all_of_page)
     phrases = found(lines, DIALECT_PATTERNS)
     is_plain = not phrases and 100 * len(long) < LONG * max(len(all_of_page), 20)
     said = f"{page}: {len(long)} of {len(all_of_page)} sentences have more than {WORDS} words, {len(phrases)} phrases"
-    if page in EARLIER:
-        print(f"words: {said}{'; it is plain, and no longer one of EARLIER' if is_plain else ''}")
-        return
     shown = [f"\n  {number}: {phrase.strip()} (better: {better})" for number, phrase, better in phrases]
     shown += [f"\n  {sentence.strip()}" for sentence in long]
     check.case(said, is_plain, "".join(shown))
 
 
 def main(check: checks.Check) -> None:
-    endings = (PAGE, *MARKS)
+    endings = (PAGE, *MARKS, PROGRAMS)
+    counted = {what: [0, 0] for what, _ in COUNTED.values()}
     listed = subprocess.run(["git", "ls-files", "-z"], stdout=subprocess.PIPE, check=True, encoding="utf-8").stdout
     for file in listed.rstrip("\0").split("\0"):
         ending = next((ending for ending in endings if file.endswith(ending)), None)
@@ -241,14 +243,25 @@ def main(check: checks.Check) -> None:
             continue
         lines = [] if file == SELF else pathlib.Path(file).read_text(encoding="utf-8").split("\n")
         lines = [line if "@generated" not in line else "" for line in lines]
-        texts = list(page_lines(lines) if ending == PAGE else comment_lines(lines, MARKS[ending], ending == ".py"))
-        phrases = [f"{file}:{number}: {phrase} (better: {better})" for number, phrase, better in found(texts, PATTERNS)]
         if ending == PAGE:
+            texts = list(page_lines(lines))
+        elif ending == PROGRAMS:
+            texts = list(described_lines(lines))
+        else:
+            texts = list(comment_lines(lines, MARKS[ending], ending == ".py"))
+        phrases = [f"{file}:{number}: {phrase} (better: {better})" for number, phrase, better in found(texts, PATTERNS)]
+        if ending in (PAGE, PROGRAMS):
             plain(check, file, texts)
+        if ending in COUNTED:
+            what, mark = COUNTED[ending]
+            said = sentences(comment_lines(lines, mark, False))
+            counted[what] = [counted[what][0] + len(too_long(said)), counted[what][1] + len(said)]
         for phrase in phrases:
             check.case(phrase, False)
         if not phrases:
             check.case(file, True)
+    for what, (long, all_of_them) in counted.items():
+        print(f"words: {what}: {long} of {all_of_them} sentences have more than {WORDS} words")
 
 
 if __name__ == "__main__":

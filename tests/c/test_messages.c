@@ -3,8 +3,10 @@
  *
  * SCHEMAS is a file with the names of the schemas, one a line, in the order of their numbers. Of each line of the kinds
  * `payload`, `record`, `fields` and `json` the payload is read into its struct, and that is written as the canonical
- * payload; a malformed one has to be rejected. Of a record the struct is printed too, by the names of its members. The
- * arena begins with nothing, and grows by what it lacks. The last line is 'N passed, M failed'.
+ * payload; a malformed one has to be rejected. Of a record the struct is printed too, by the names of its members. Of a
+ * message its frame is written from the struct at each version, which is that of journal_frame; of one that is written
+ * without room nothing is. The arena begins with nothing, and grows by what it lacks. The last line is 'N passed, M
+ * failed'.
  */
 #define _POSIX_C_SOURCE 200809L
 #include <pendratsoa_messages.h>
@@ -126,6 +128,68 @@ static uint8_t *written(uint32_t schema, const union journal_record *record, int
     return out;
 }
 
+/* The code of the type whose messages have a schema from the last version on, or -1. */
+static int code_of(uint32_t schema) {
+    for (int code = 0; code < 0x10000; code++) {
+        if (journal_schema(JOURNAL_LAST_VERSION, (uint16_t)code) == (int64_t)schema) {
+            return code;
+        }
+    }
+    return -1;
+}
+
+/* Whether the frame of a message at a version is that of its canonical payload. The arena begins with nothing. */
+static int is_framed(uint32_t version, uint16_t code, const union journal_record *record, const uint8_t *payload,
+                     size_t length) {
+    struct journal_arena arena = journal_arena_of(NULL, 0);
+    int64_t wanted_length = journal_frame(version, code, payload, length, NULL, 0), found = -1;
+    size_t room = wanted_length < 0 ? 0 : (size_t)wanted_length;
+    uint8_t *wanted = (uint8_t *)malloc(room + 1), *out = (uint8_t *)malloc(room + 1);
+    int is_same;
+
+    if (wanted == NULL || out == NULL) {
+        fail("out of memory");
+    }
+    memset(out, 0x5A, room + 1);
+    for (int tries = 0; tries < 3; tries++) {
+        size_t size = arena.left + arena.lacking;
+
+        free(arena.memory);
+        arena = journal_arena_of(size == 0 ? NULL : malloc(size), size);
+        /* with a byte too little nothing is written */
+        found = journal_frame_message(version, code, record, &arena, out, room == 0 ? 0 : room - 1);
+        if (found != JOURNAL_NO_ROOM) {
+            break;
+        }
+    }
+    is_same = found == wanted_length && out[0] == 0x5A && out[room] == 0x5A && arena.lacking == 0;
+    found = journal_frame_message(version, code, record, &arena, out, room);
+    journal_frame(version, code, payload, length, wanted, room);
+    is_same = is_same && found == wanted_length && memcmp(out, wanted, room) == 0 && out[room] == 0x5A;
+    free(arena.memory);
+    free(wanted);
+    free(out);
+    return is_same;
+}
+
+/* Whether the frames of a record are those of its payload at all versions, and an error at another one. */
+static int has_frames(uint32_t schema, const union journal_record *record, const uint8_t *payload, size_t length) {
+    struct journal_arena arena = journal_arena_of(NULL, 0);
+    static int codes[JOURNAL_SCHEMAS];
+    int code = codes[schema] == 0 ? code_of(schema) : codes[schema] - 1, is_same = 1;
+
+    codes[schema] = code + 1;
+    if (code < 0) {
+        return 1;
+    }
+    for (uint32_t version = JOURNAL_FIRST_VERSION; version <= JOURNAL_LAST_VERSION; version++) {
+        is_same = is_same && is_framed(version, (uint16_t)code, record, payload, length);
+    }
+    return is_same &&
+           journal_frame_message(4, (uint16_t)code, record, &arena, NULL, 0) == JOURNAL_UNKNOWN_VERSION &&
+           journal_frame_message(8, 0x7FFF, record, &arena, NULL, 0) == JOURNAL_UNKNOWN_TYPE;
+}
+
 /* Whether a payload is read and written as the canonical payload of its schema, and as what is expected of a line. */
 static int is_right(uint32_t schema, const char *kind, const struct buffer *payload, const char *expected) {
     union journal_record record;
@@ -141,7 +205,8 @@ static int is_right(uint32_t schema, const char *kind, const struct buffer *payl
     if (result == 0 && canonical >= 0) {
         journal_canonical(schema, payload->bytes, payload->length, wanted, (size_t)canonical);
         out = written(schema, &record, &length);
-        is_same = length == canonical && memcmp(out, wanted, (size_t)length) == 0;
+        is_same = length == canonical && memcmp(out, wanted, (size_t)length) == 0 &&
+                  has_frames(schema, &record, wanted, (size_t)canonical);
         printed.length = 0;
         print_record(schema, &record);
         if (strcmp(kind, "record") == 0) {

@@ -35,7 +35,7 @@ NAMES = (
     "calls",
     "records",
     "borrowed",
-    "chunks",
+    "frames",
     "numbered",
     "dispatch",
     "commands",

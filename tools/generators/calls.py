@@ -8,6 +8,7 @@ from . import ROOT, laid_out
 from . import missing_rt as missing  # noqa: F401
 from .calls_data import BITS, PATH, calls, camel, comment, constants, described, errors, kinds
 from .calls_data import paragraphs, returned_errors, structs
+from . import compiled
 from .bindings import snake
 from .proto import schemas, typed
 from .versions import library_version
@@ -158,6 +159,23 @@ KIND_OF_ERROR = """\
 #define JOURNAL_KIND_OF_ERROR(result) ((result) % 16)
 """
 
+ERROR_TEXT = """\
+/*
+ * What an error says, as "malformed payload", in a text that stays and ends with a zero byte. Of an error that this
+ * header does not know it is the text of its kind, and of a result that is no error "no error".
+ */
+static inline const char *journal_error_text(int64_t result) {
+    if (result >= 0) {
+        return "no error";
+    }
+    switch (result) {
+CASES    default:
+        return result < -16 && JOURNAL_KIND_OF_ERROR(result) < 0 ? journal_error_text(JOURNAL_KIND_OF_ERROR(result))
+                                                                 : "unknown error";
+    }
+}
+"""
+
 END = "\n#ifdef __cplusplus\n}\n#endif\n\n#endif\n"
 
 
@@ -165,7 +183,7 @@ def header():
     text = PREAMBLE
     for error in errors():
         text += f"/* {error['comment']} */\n#define JOURNAL_{error['name']} ({error['number']})\n"
-    text += f"\n{KIND_OF_ERROR}"
+    text += f"\n{KIND_OF_ERROR}\n{c_error_text()}"
     for section in described()["sections"]:
         said = [" ".join([section["title"], *section.get("comment", [])])]
         text += "\n/*\n" + commented(said, " * ") + " */\n"
@@ -173,6 +191,12 @@ def header():
         if any("schemas" in entry for entry in section["has"]):
             text += "\n" + c_protocol()
     return text + END
+
+
+def c_error_text():
+    """The function that says what an error is, with a case for each."""
+    cases = "".join(f'    case JOURNAL_{error["name"]}:\n        return "{error["text"]}";\n' for error in errors())
+    return ERROR_TEXT.replace("CASES", cases)
 
 
 def c_protocol():
@@ -311,18 +335,73 @@ def python_tuple(values):
     return f'({", ".join(values)}{"," if len(values) == 1 else ""})'
 
 
+# What an argument may be in Python, where it is no number.
+PYTHON_TYPES = {"schema": "Schema", "name": "str", "json": "Union[str, BytesLike]", "ignore_payloads": "bool"}
+
+PYTHON_NAMED = '''\
+class NamedCall(NamedTuple):
+    """A call that is made by its name: its function, its name in this package, what it takes of its caller, what its
+    code has to be that of, how many numbers it writes, whether it writes bytes, and the room for them that is tried
+    first: a multiple of the bytes that it reads, and more."""
+
+    function: str
+    name: str
+    takes: Tuple[str, ...]
+    kind: str
+    numbers: int
+    writes: bool
+    times: int
+    more: int
+'''
+
+
+def python_named(call):
+    """A call that is made by its name."""
+    numbers = len(structs()[call.numbers]["fields"]) if call.numbers else 0
+    times, more = compiled.first_room(call)
+    takes = python_tuple([quoted(name) for name in compiled.parameters(call)])
+    words = [quoted(call.symbol()), quoted(call.name_in("Python")), takes, quoted(call.kind_of_code()), str(numbers),
+             str(bool(call.writes)), str(times), str(more)]
+    line = f"    NamedCall({', '.join(words)}),\n"
+    if len(line) > WIDTH + 1:
+        line = "    NamedCall(\n" + "".join(f"        {word},\n" for word in words) + "    ),\n"
+    return line
+
+
+def python_method(call):
+    """A call by its name, as a method of what has all."""
+    taken = [
+        f"{name}: {PYTHON_TYPES.get(name, 'int' if name in BITS else 'BytesLike')}" for name in
+        compiled.parameters(call)
+    ]
+    result = "bytes" if call.writes else "int"
+    result = f"Tuple[{result}, Tuple[int, ...]]" if call.numbers else result
+    start = f"    def {call.name_in('Python')}("
+    line = f"{start}{', '.join(['self', *taken, '/'] if taken else ['self'])}) -> {result}: ...\n"
+    if len(line) > WIDTH + 1:
+        line = f"{start}\n        {', '.join(['self', *taken, '/'])}\n    ) -> {result}: ...\n"
+    return line
+
+
 def python():
     text = '"""What the library for C declares: its calls, the numbers that they write, and their errors."""\n\n'
-    text += "from typing import Dict, Tuple\n\nfrom ._kinds import Kind\n\n"
+    text += "from typing import Dict, NamedTuple, Protocol, Tuple, Union\n\n"
+    text += "from ._kinds import BytesLike, Kind, Schema\n\n"
     first, last = described()["versions"]
     text += f"FIRST_VERSION = {first}\nLAST_VERSION = {last}\n\n"
     text += "# the parameters of each call: the bits of a number, a slice, or the struct that is written\n"
     text += "CALLS: Dict[str, Tuple[str, ...]] = {\n"
     for call in calls():
         text += f'    "{call.symbol()}": {python_tuple([quoted(word) for word in shapes(call)])},\n'
-    text += "}\n\n# how many numbers each struct has\n"
+    text += "}\n\n\n" + PYTHON_NAMED + "\n\n# in the order in which the compiled module has them\n"
+    text += "NAMED_CALLS: Tuple[NamedCall, ...] = (\n" + "".join(map(python_named, compiled.by_name())) + ")\n"
+    text += '\n\nclass NamedCalls(Protocol):\n    """All of them, by their names."""\n\n'
+    text += "\n".join(map(python_method, compiled.by_name()))
+    text += "\n\n# how many numbers each struct has\n"
     for entry in structs().values():
         text += f"{entry['constant']} = {len(entry['fields'])}\n"
+    text += "\n# the kinds of fields\n"
+    text += "".join(f"{name} = {number}\n" for number, name, _, _ in constants(field_kinds()))
     text += "\n# the class of each error, and the names of the arguments one of which it is about\n"
     text += "ERRORS: Dict[int, Tuple[str, Tuple[str, ...]]] = {\n"
     for error in returned_errors():
@@ -337,6 +416,11 @@ def python():
             text += f'\n\nclass {entry["python"]}(Kind):\n    """{said}"""\n\n'
             text += "".join(f'    {name} = "{name.lower()}", {number}\n' for number, name in numbered(entry))
     return text
+
+
+def field_kinds():
+    """The kinds of fields."""
+    return next(entry for entry in kinds() if entry["kinds"] == "field")
 
 
 def quoted(word):
@@ -357,6 +441,26 @@ def shapes(call):
 
 
 # Ruby.
+
+RUBY_NAMED = '''
+  # A call that is made by its name: its function, its name in this gem, what it takes of its caller, what its code has
+  # to be that of, how many numbers it writes, whether it writes bytes, and the room for them that is tried first: a
+  # multiple of the bytes that it reads, and more.
+  NamedCall = Struct.new(:function, :name, :takes, :kind, :numbers, :writes, :times, :more)
+
+  # In the order in which the compiled module has them.
+  NAMED_CALLS = [
+'''
+
+
+def ruby_named(call):
+    """A call that is made by its name."""
+    numbers = len(structs()[call.numbers]["fields"]) if call.numbers else 0
+    times, more = compiled.first_room(call)
+    words = [f":{call.symbol()}", quoted(call.name_in("Ruby")), f"%i[{' '.join(compiled.parameters(call))}]",
+             quoted(call.kind_of_code()), str(numbers), str(bool(call.writes)).lower(), str(times), str(more)]
+    return filled(f"NamedCall.new({', '.join(words)})", "    ", "      ")
+
 
 def ruby():
     text = (
@@ -382,13 +486,15 @@ def ruby():
         text += f"  {entry['constant']} = {len(entry['fields'])}\n"
     text += "  CALLS = {\n" + ",\n".join(f"    {call.symbol()}: %i[{' '.join(shapes(call))}]" for call in calls())
     text += "\n  }.freeze\n"
+    text += RUBY_NAMED + ",\n".join(map(ruby_named, compiled.by_name())) + "\n  ].freeze\n"
     text += "\n  # The class of each error, and the arguments one of which it is about.\n  ERRORS = {\n"
     rows = [
         f"    {error['number']} => [:{class_name(error)}, %i[{' '.join(error['about'])}]]"
         for error in returned_errors()
     ]
     text += ",\n".join(rows) + "\n  }.freeze\n"
-    hidden = [entry["constant"] for entry in structs().values()] + ["CALLS", "ERRORS"]
+    hidden = [entry["constant"] for entry in structs().values()]
+    hidden += ["CALLS", "NamedCall", "NAMED_CALLS", "ERRORS"]
     return text + filled("private_constant " + ", ".join(f":{name}" for name in hidden), "  ", "    ") + "\nend\n"
 
 
@@ -813,6 +919,7 @@ def files():
     return {
         # the compiled modules are packed with one of their own
         **{path: header() for path in HEADERS},
+        **compiled.files(),
         **ffi(),
         "python/pendratsoa/_declared.py": python(),
         "ruby/lib/pendratsoa/declared.rb": ruby(),
@@ -827,6 +934,7 @@ def files():
 def paths():
     return [
         *HEADERS,
+        *compiled.PATHS,
         "go/library.go",
         "node/lib/declared.js",
         "node/src/calls.h",

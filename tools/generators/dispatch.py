@@ -13,6 +13,7 @@ FOLDER = "crates/shared_core/src"
 
 MESSAGES = """\
 //! The records of the protocol: one struct a message, with the enums of its oneofs in a module named as the message.
+//! `Value` and `Header` are records here; at the root are those of the SDK state machine.
 
 mod command_dispatch;
 mod command_visitor;
@@ -25,7 +26,8 @@ pub use shared_core_base::error::ErrorBehavior;
 pub use shared_core_compare::difference::{CommandMessageHeaderDiff, DifferenceForm};
 pub use shared_core_compare::equality::CommandMessageHeaderEq;
 pub use shared_core_compare::name::NamedCommandMessage;
-pub use shared_core_message::restate_message::{RestateEncodableMessage, RestateMessage};
+pub use shared_core_frames::encodable_message::RestateEncodableMessage;
+pub use shared_core_message::restate_message::RestateMessage;
 pub use shared_core_message::schemas::schema_at;
 pub use shared_core_parts::notification::{
     CANCEL_SIGNAL_ID, CompletionId, Notification, NotificationId, NotificationResult,

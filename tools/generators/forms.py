@@ -67,7 +67,7 @@ PARTS_CRATE = "shared_core_parts"
 # Modules that are written by hand, those that other crates see and those that they do not.
 BY_HAND = {
     PARTS_CRATE: ["conversions", "laws", "notification", "texts"],
-    "shared_core_runtime": ["flat_suspension", "versions"],
+    "shared_core_runtime": ["flat_suspension"],
 }
 INNER = {PARTS_CRATE: ["escape"]}
 

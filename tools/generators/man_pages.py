@@ -11,11 +11,12 @@ ABOUT = "The man pages of the programs and of the library for C."
 SOURCE = "proto/programs.toml, docs/PROGRAMS.md, docs/C.md and include/pendratsoa.h"
 
 # The day on which the text of the pages last changed.
-DATE = "2026-11-27"
+DATE = "2026-11-28"
 
 # What docs/C.md says that belongs into the page of the library: the heading there, and the section's name here.
 LIBRARY_SECTIONS = (
     ("Structs of messages", "STRUCTS OF MESSAGES"),
+    ("Streams in chunks", "STREAMS IN CHUNKS"),
     ("Memory and threads", "MEMORY AND THREADS"),
     ("Errors", "ERRORS"),
     ("What may change, and when", "COMPATIBILITY"),
@@ -24,7 +25,7 @@ LIBRARY_SECTIONS = (
 
 HEADER = "include/pendratsoa.h"
 
-INCLUDED = "#include <pendratsoa.h>\n#include <pendratsoa_messages.h>"
+INCLUDED = "#include <pendratsoa.h>\n#include <pendratsoa_messages.h>\n#include <pendratsoa_reader.h>"
 
 # What roff reads as more than the character itself.
 ESCAPED = {"\\": "\\e", "-": "\\-", "'": "\\(aq", "`": "\\(ga", "^": "\\(ha", "~": "\\(ti"}
@@ -156,9 +157,9 @@ def program_page(program):
         if kind == "item":
             # the list of the arguments
             continue
-        if kind == "code":
+        if kind in ("code", "table"):
             # it belongs to the paragraph before it
-            parts[part] += example(block)
+            parts[part] += example(block) if kind == "code" else table(block)
             continue
         part = "DESCRIPTION"
         if block.startswith("The status "):

@@ -453,8 +453,7 @@ def write_record(source, crate, message, shared):
 
 
 def write_message(source, message):
-    """The impls that say a record's type and what it is written as. What is written otherwise at some versions is in
-    versions.rt."""
+    """The impl that says a record's type."""
     name = message.name
     ty = TYPE_OF.get(name, name.removesuffix("Message"))
     result = source.result()
@@ -470,26 +469,6 @@ def write_message(source, message):
         f"    fn ty() -> MessageType {{\n        MessageType::{ty}\n    }}\n\n"
         "    ghost named = { tt };\n\n"
         f"    ghost own_schema = {{ {own_schema} }};\n}}\n"
-    )
-    if message.differs_by_version:
-        return
-    source.ghosts.add("Rattle.shared_core_message.specs.Frames.{plain_form}")
-    source.uses |= {
-        "bytes::BytesMut",
-        "shared_core_message::frame::{encode_frame_into, encode_frame_into_bytes}",
-        "shared_core_message::restate_message::{RestateEncodableMessage, RestateMessage}",
-        "shared_core_base::version::Version",
-        "shared_core_codec::error::EncodingError",
-    }
-    source.uses.discard("shared_core_message::restate_message::RestateMessage")
-    source.body.append(
-        f"\nimpl RestateEncodableMessage for {name} {{\n"
-        f"    ghost wire_form = {{ λ message _. plain_form tables.{schema_name(name)} "
-        f"(⟦<{name} as WireRecord>⟧.parts message) }};\n\n"
-        f"    fn encode_into(&self, _version: Version, out: &mut Vec<u8>) -> {result}<(), EncodingError> {{\n"
-        "        encode_frame_into(self, None, out)\n    }\n\n"
-        f"    fn encode_into_bytes(&self, _version: Version, out: &mut BytesMut) -> {result}<(), EncodingError> {{\n"
-        "        encode_frame_into_bytes(self, None, out)\n    }\n}\n"
     )
 
 

@@ -18,6 +18,16 @@ SCHEMAS = """\
 
 use crate::rows::{Field, Kind, Row};
 
+/// A field by its number and its kind. It is a macro, since the value of a static calls no function.
+macro_rules! field {
+    ($number:literal, $kind:expr) => {
+        Field {
+            number: $number,
+            kind: $kind,
+        }
+    };
+}
+
 /// The rows of each schema: of each field its number and its kind, by its presence.
 """
 
@@ -25,7 +35,7 @@ use crate::rows::{Field, Kind, Row};
 def field_text(field, places):
     """A field: its number and its kind."""
     kind = f"Kind::Message({places[field.message]})" if field.kind == "message" else f"Kind::{KINDS[field.kind]}"
-    return f"Field({field.number}, {kind})"
+    return f"field!({field.number}, {kind})"
 
 
 def row_text(row, places):

@@ -70,6 +70,7 @@ impl MessageType {{
 {listed}    ];
 
     /// The code of the type in headers.
+    #[must_use]
     pub const fn code(self) -> u16 {{
         match self {{
 {codes}            MessageType::CustomEntry(code) => code,
@@ -79,6 +80,7 @@ impl MessageType {{
     /// The name of the type, as `SleepCommand`; that of every custom entry is `CustomEntry`.
     ///
     /// A type displays as its name, but a custom entry with its code, as `CustomEntry(64513)`.
+    #[must_use]
     pub const fn name(self) -> &'static str {{
         match self {{
 {names}            MessageType::CustomEntry(_) => "CustomEntry",
@@ -86,6 +88,7 @@ impl MessageType {{
     }}
 
     /// The type that has the code, or `None` if no type has it.
+    #[must_use]
     pub const fn from_code(code: u16) -> Option<MessageType> {{
         Some(match code {{
 {read}            _ if code & 0x{CUSTOM_ENTRY_BITS:04X} != 0 => MessageType::CustomEntry(code),
@@ -94,6 +97,7 @@ impl MessageType {{
     }}
 
     /// The named type that has the name, or `None` if none has.
+    #[must_use]
     pub fn from_name(name: &str) -> Option<MessageType> {{
         MessageType::NAMED
             .into_iter()
@@ -101,11 +105,13 @@ impl MessageType {{
     }}
 
     /// Whether it is a command, by its code. Custom entries count by their codes too.
+    #[must_use]
     pub fn is_command(self) -> bool {{
         {within(COMMANDS)}
     }}
 
     /// Whether it is a notification, by its code. Custom entries count by their codes too.
+    #[must_use]
     pub fn is_notification(self) -> bool {{
         {within(NOTIFICATIONS)}
     }}
@@ -170,22 +176,26 @@ impl Schema {{
 {listed}    ];
 
     /// The number of the schema, from 0 on.
+    #[must_use]
     pub const fn number(self) -> u32 {{
         self as u32
     }}
 
     /// The name of the schema, as `SleepCommandMessage`. A schema displays as its name.
+    #[must_use]
     pub const fn name(self) -> &'static str {{
         match self {{
 {texts}        }}
     }}
 
     /// The schema that has the number, or `None` if none has it.
+    #[must_use]
     pub fn from_number(number: u32) -> Option<Schema> {{
         Schema::ALL.get(usize::try_from(number).ok()?).copied()
     }}
 
     /// The schema that has the name, or `None` if none has it.
+    #[must_use]
     pub fn from_name(name: &str) -> Option<Schema> {{
         Schema::ALL.into_iter().find(|schema| schema.name() == name)
     }}

@@ -5,6 +5,7 @@ import textwrap
 
 from . import Refused
 from .model import camel, snake
+from .proto import earlier, typed
 from .typed_model import KINDS, TypedOneOf, enumerations, records
 
 TEMPLATE = pathlib.Path(__file__).with_name("messages.h.in")
@@ -353,6 +354,53 @@ def functions():
     return text
 
 
+def framers():
+    """The functions that write the frames of messages from their structs."""
+    coded = {message.name: message for message in typed()}
+    before = {last.name: first.before_version for first, last in earlier()}
+    return "".join(framer(record, coded[record.name], before.get(record.name))
+                   for record in records() if record.name in coded)
+
+
+def each_message():
+    """The words of a macro that has each message, with the name of its type but for JOURNAL_TYPE_."""
+    return " \\\n".join(f"    each({message.name}, {upper(message.type_name())})" for message in typed()) + "\n"
+
+
+def framer(record, message, before):
+    name, code = record.name, f"JOURNAL_TYPE_{upper(message.type_name())}"
+    words = ["uint32_t version", f"const struct journal_{name} *record", "struct journal_arena *arena"]
+    text = declared(f"static inline int64_t journal_frame_{name}(", [*words, "uint8_t *out", "size_t room"], ") {")
+    text += f"    int64_t length = journal_header(version, {code}, 0, NULL, 0);\n\n"
+    text += earlier_frame(name, code, before) if before else ""
+    text += "    if (length > 0) {\n"
+    text += filled(f"        length = journal_write_{name}(",
+                   ["record", "arena", "journal_payload_(out, room)", "journal_payload_room_(room)"], ");")
+    return text + f"    }}\n    return journal_framed_(version, {code}, length, out, room);\n}}\n\n"
+
+
+def earlier_frame(name, code, before):
+    """The branch of a version at which the type has another record: the payload of this one is at the arena's end for
+    as long as the frame is made of it."""
+    write = filled(f"            length = journal_write_{name}(",
+                   ["record", "arena", "arena->memory + arena->left", "taken"], ");")
+    frame = filled("                length = journal_frame(",
+                   ["version", code, "arena->memory + arena->left", "taken", "out", "room"], ");")
+    return (
+        f"    if (length > 0 && version < {before}) {{\n"
+        f"        length = journal_write_{name}(record, arena, NULL, 0);\n"
+        "        if (length >= 0 && (uint64_t)length > arena->left) {\n"
+        "            length = journal_lacks_(arena, (size_t)length);\n"
+        "        } else if (length >= 0) {\n"
+        "            const size_t taken = (size_t)length;\n\n"
+        "            arena->left -= taken;\n"
+        f"{write}"
+        f"            if (length >= 0) {{\n{frame}            }}\n"
+        "            arena->left += taken;\n"
+        "        }\n        return length;\n    }\n"
+    )
+
+
 def encoders():
     """The calls that write the payloads of records, which the library has of those that are not within themselves."""
     return "".join(
@@ -406,6 +454,8 @@ def header():
         "WRITERS": writers(),
         "EACH_RECORD": each_record(),
         "FUNCTIONS": functions().rstrip("\n") + "\n",
+        "EACH_MESSAGE": each_message(),
+        "FRAMERS": framers().rstrip("\n") + "\n",
     }
     text = TEMPLATE.read_text()
     for word, said in words.items():

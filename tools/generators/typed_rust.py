@@ -358,8 +358,8 @@ def all_records():
 
 
 STRUCTS = """\
-//! The records as the library takes them: the structs of pendratsoa_messages.h, each made of a record, and the calls
-//! that write their payloads. A record within itself has none, nor has one that holds such a record.
+//! The records as the library takes them: the structs of `pendratsoa_messages.h`, each made of a record, and the
+//! calls that write their payloads. A record within itself has none, nor has one that holds such a record.
 
 use super::lists::{List, Lists, Slice, Struct};
 use crate::messages;

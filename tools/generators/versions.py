@@ -32,6 +32,7 @@ PLACES = {
     "ruby/lib/pendratsoa/version.rb": [r'VERSION = "'],
     "rust/Cargo.toml": [r'^version = "'],
     "rust/README.md": [r"pendratsoa-rust-"],
+    "rust/tokio/Cargo.toml": [r'^version = "'],
     "rust/src/calls.rs": [r"The version of the library, as `"],
     "tests/ffi/names.rt.in": [r'writes\(Ok\(&b"(?=[^"]*"\[\.\.\]\), \|out\| journal_library_version)'],
 }

@@ -1,6 +1,6 @@
 //! Measures the library and the peer side by side, and prints a table in Markdown: speed [--check] [--only WORKLOAD]
 //! [--side ours|peer]
-//! [--what items|item_refs|messages|encode|encode_to_vec|encode_owned|encode_into|encode_spare|encode_shared|
+//! [--what items|item_refs|messages|encode|encode_to_vec|encode_into|encode_spare|encode_shared|
 //! encode_held|encode_chunks|payloads|headers]
 //! [--chunk N] [--row NAME] [--size N] [--rounds N] [--protocol 5..9]
 //!
@@ -85,8 +85,6 @@ enum What {
     Encode,
     /// Each frame is a `Vec` of its own; the peer's too.
     EncodeVec,
-    /// The same, but the library copies long bytes into room that is not filled before.
-    EncodeOwned,
     /// Frames are made in one buffer that is used again.
     EncodeInto,
     EncodeSpare,
@@ -104,13 +102,12 @@ enum What {
 
 impl What {
     /// What is done to a stream of messages.
-    const STREAM: [What; 11] = [
+    const STREAM: [What; 10] = [
         What::Items,
         What::ItemRefs,
         What::Messages,
         What::Encode,
         What::EncodeVec,
-        What::EncodeOwned,
         What::EncodeInto,
         What::EncodeSpare,
         What::EncodeShared,
@@ -119,10 +116,9 @@ impl What {
     ];
 
     /// What is done to messages that are only written.
-    const FRAMES: [What; 8] = [
+    const FRAMES: [What; 7] = [
         What::Encode,
         What::EncodeVec,
-        What::EncodeOwned,
         What::EncodeInto,
         What::EncodeSpare,
         What::EncodeShared,
@@ -144,7 +140,6 @@ impl What {
             What::Items | What::ItemRefs | What::Messages => 1,
             What::Encode
             | What::EncodeVec
-            | What::EncodeOwned
             | What::EncodeInto
             | What::EncodeSpare
             | What::EncodeShared
@@ -161,7 +156,6 @@ impl What {
             What::Messages => "messages",
             What::Encode => "encode",
             What::EncodeVec => "encode_to_vec",
-            What::EncodeOwned => "encode_owned",
             What::EncodeInto => "encode_into",
             What::EncodeSpare => "encode_spare",
             What::EncodeShared => "encode_shared",
@@ -346,9 +340,6 @@ impl<'a> Bench<'a> {
                 (Side::Ours, What::EncodeVec) => {
                     ours::frame_vec(version, *code, payload, rounds, &mut self.out)?;
                 }
-                (Side::Ours, What::EncodeOwned) => {
-                    ours::frame_owned(version, *code, payload, rounds, &mut self.out)?;
-                }
                 (Side::Ours, What::EncodeInto) => {
                     ours::frame_into(version, *code, payload, rounds, &mut self.out)?;
                 }
@@ -364,7 +355,7 @@ impl<'a> Bench<'a> {
                 (Side::Ours, _) => {
                     ours::frame_to(version, *code, payload, rounds, &mut self.out)?;
                 }
-                (Side::Peer, What::EncodeVec | What::EncodeOwned) => {
+                (Side::Peer, What::EncodeVec) => {
                     let frame = peer::frame_vec(version, *code, payload, rounds)?;
                     self.out[..frame.len()].copy_from_slice(&frame);
                 }
@@ -997,7 +988,7 @@ fn main() -> ExitCode {
     let Some(options) = Options::read(env::args().skip(1)) else {
         eprintln!(
             "usage: speed [--check] [--only WORKLOAD] [--side ours|peer] [--what items|item_refs|messages\
-             |encode|encode_to_vec|encode_owned|encode_into|encode_spare|encode_shared|encode_held\
+             |encode|encode_to_vec|encode_into|encode_spare|encode_shared|encode_held\
              |encode_chunks|payloads|headers] [--chunk N] [--row NAME] [--size N] [--rounds N] [--protocol 5..9]"
         );
         return ExitCode::from(2);

@@ -24,7 +24,7 @@ pub fn compare(
     push(&mut decoder, Bytes::copy_from_slice(alloc, stream)?)?;
     let mut count: usize = 0;
     for item in decoder.items() {
-        let Item::Message(message) = item? else {
+        let Item::Message(message) = item.or(Err(CallError::OutOfMemory))? else {
             continue;
         };
         let equal = compare_message(alloc, &message, ignore_payloads, rounds)?;

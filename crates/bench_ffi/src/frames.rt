@@ -2,7 +2,7 @@
 
 use bytes::{Bytes, BytesMut};
 use journal_c_api::outcome::{CallError, version_of, write_over};
-use shared_core::encoding::Encoder;
+use shared_core::encoding::{Encoder, FrameChunks};
 use shared_core::header::MessageType;
 use shared_core::messages::{MessageVisitor, RestateEncodableMessage, visit_message};
 use std::alloc::Global;
@@ -30,6 +30,8 @@ pub enum Buffer {
     Spare,
     /// One for many rounds, whose frames share its block; the last 1,024 of them are held.
     Shared,
+    /// The list of chunks of the round before, cleared.
+    Chunks,
 }
 
 /// The bytes of the block that frames share.
@@ -103,6 +105,7 @@ impl<'a> MessageVisitor for Framing<'a> {
             Buffer::Reused => encode_reused(self.alloc, self.encoder, &message, self.rounds.count),
             Buffer::Spare => encode_spare(self.alloc, self.encoder, &message, self.rounds.count),
             Buffer::Shared => encode_shared(self.alloc, self.encoder, &message, self.rounds.count),
+            Buffer::Chunks => encode_chunks(self.alloc, self.encoder, &message, self.rounds.count),
         }
     }
 }
@@ -207,4 +210,31 @@ fn shared_frame<M: RestateEncodableMessage>(
     block.clear();
     encoder.encode_into(message, block)?;
     Ok(block.freeze_to(block.len())?)
+}
+
+/// The frame of a message, for which all rounds have one list of chunks. The chunks of the last round are joined.
+fn encode_chunks<M: RestateEncodableMessage>(
+    alloc: Global,
+    encoder: Encoder,
+    message: &M,
+    rounds: usize,
+) -> Result<Bytes, CallError> {
+    let mut frames = FrameChunks::new(alloc);
+    for _round in 1..rounds {
+        frames.clear();
+        encoder.encode_into(message, &mut frames)?;
+    }
+    frames.clear();
+    encoder.encode_into(message, &mut frames)?;
+    let mut bytes = Vec::new(alloc);
+    for _ in 0..u64::MAX {
+        let Some(chunk) = frames.pop()? else {
+            break;
+        };
+        bytes.extend_from_slice(chunk.as_slice())?;
+    }
+    let Ok(frame) = Bytes::from_vec(bytes) else {
+        return Err(CallError::OutOfMemory);
+    };
+    Ok(frame)
 }

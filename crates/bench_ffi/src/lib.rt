@@ -2,8 +2,6 @@
 //! library of their own, so that the library for C holds none of them.
 #![tactic(auto)]
 
-mod chunk_dispatch;
-mod chunks;
 mod commands;
 mod fields;
 mod frames;
@@ -12,7 +10,6 @@ mod messages;
 mod payloads;
 mod streams;
 
-use crate::chunks::Form;
 use crate::frames::{Buffer, Rounds};
 use journal_c_api::outcome::outcome_of;
 use std::alloc::Global;
@@ -174,22 +171,11 @@ pub extern "C" fn measure_frame_chunks(
     rounds: usize,
     out: &mut [u8],
 ) -> i64 {
-    let form = Form::Chunks;
-    outcome_of(chunks::write_frame(alloc, version, code, payload, rounds, form, out))
-}
-
-/// As `measure_frame_vec`, but long bytes are copied into room that is not filled with zeros before.
-#[unsafe(no_mangle)]
-pub extern "C" fn measure_frame_owned(
-    alloc: Global,
-    version: u32,
-    code: u16,
-    payload: &[u8],
-    rounds: usize,
-    out: &mut [u8],
-) -> i64 {
-    let form = Form::Owned;
-    outcome_of(chunks::write_frame(alloc, version, code, payload, rounds, form, out))
+    let rounds = Rounds {
+        count: rounds,
+        buffer: Buffer::Chunks,
+    };
+    outcome_of(frames::write_frame(alloc, version, code, payload, rounds, out))
 }
 
 /// As `journal_is_well_formed`, but repeated `rounds` times (0 counts as 1).

@@ -54,7 +54,8 @@ fn write_words(
             let Some(word) = words.get_mut(count) else {
                 return Err(CallError::NoRoom);
             };
-            *word = word_of(item?);
+            // a decoder without a limit has no other error
+            *word = word_of(item.or(Err(CallError::OutOfMemory))?);
             count += 1;
         }
     }
@@ -83,7 +84,7 @@ fn decode_all(
     for _chunk in 0..chunks_of(stream, chunk_size) {
         push_chunk(&mut decoder, &mut unpushed, chunk_size)?;
         for item in decoder.items() {
-            let Item::Message(message) = item? else {
+            let Item::Message(message) = item.or(Err(CallError::OutOfMemory))? else {
                 continue;
             };
             let records = decode(alloc, &message)?;

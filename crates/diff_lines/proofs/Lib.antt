@@ -1,6 +1,6 @@
-pub mod Decimals
 pub mod Members
 pub mod Painting
+pub mod Parts
 pub mod Places
+pub mod PlainLines
 pub mod Reporting
-pub mod ShownLines

@@ -1,42 +1,88 @@
-use Rattle.std.proofs.Common.{◌≡◌, ℕ, List, [], ◌∷◌, ◌++◌, sym, refl, ap, subst, ◌∙◌, append_assoc, append-nil}
+-- A line in colors has the parts of the line without them.
+use Rattle.std.proofs.Common.{◌≡◌, ℕ, Bool, true, false, List, [], ◌∷◌, ◌++◌, Option, sym, refl, ◌∙◌, append-nil}
 use Rattle.std.proofs.lemmas.Grind.{flat_map-append}
+use Rattle.std.specs.Prelude.{codes, decimal, flat_map}
+use Rattle.std.specs.String.{string_bytes}
+use Rattle.shared_core_base.specs.declared.header.MessageType.{MessageType}
+use Rattle.shared_core_errors.specs.Mismatch.{mismatch_head}
 use Rattle.terminal_text.specs.declared.colors.Style.{Style}
+use Rattle.terminal_text.specs.declared.colors.Style.TheVariants.{Plain, Bold, Red, Green}
 use Rattle.terminal_text.specs.Painting.{IsPainted, Span, painted_part}
-use Rattle.diff_lines.specs.Colors.{PaintsMore}
+use Rattle.replay_bench.specs.declared.fields.FieldDifference.{FieldDifference}
+use Rattle.replay_bench.specs.declared.verdicts.Verdict.{Verdict}
+use Rattle.replay_bench.specs.declared.verdicts.Verdict.TheVariants.{Same, RecordedEnded, ReplayedEnded, TypeMismatch}
+use Rattle.replay_bench.specs.declared.verdicts.Verdict.TheVariants.{HeaderMismatch}
+use Rattle.diff_lines.specs.Sentences.{same_sentence}
+use Rattle.diff_lines.specs.Shown.{field_line, has_colors, line_in, shown_value}
+use Rattle.diff_lines.specs.VerdictLines.{index_text, look_of, shown_verdict, type_text}
 
--- a part in its style is painted
-pub one_painted : (style : Style) (part : List ℕ) → IsPainted part (painted_part style part)
-one_painted style part =
+-- a part in its style
+in_style : (style : Style) (part : List ℕ) → IsPainted part (painted_part style part)
+in_style style part =
     (record { style = style; part = part } ∷ [], sym (append-nil part), sym (append-nil (painted_part style part)))
 
--- a text and one after it, painted
-pub painted_then : (a b x y : List ℕ) → IsPainted a x → IsPainted b y → IsPainted (a ++ b) (x ++ y)
-painted_then a b x y (before, a_is, x_is) (after, b_is, y_is) = (
+-- a part without one
+as_it_is : (part : List ℕ) → IsPainted part part
+as_it_is [] = ([], refl, refl)
+as_it_is (byte ∷ bytes) = (
+  record { style = Plain; part = byte ∷ bytes } ∷ [],
+  sym (append-nil (byte ∷ bytes)),
+  sym (append-nil ((byte ∷ bytes) ++ []) ∙ append-nil (byte ∷ bytes)),
+)
+
+-- a text and one after it
+then : (a b x y : List ℕ) → IsPainted a x → IsPainted b y → IsPainted (a ++ b) (x ++ y)
+then a b x y (before, a_is, x_is) (after, b_is, y_is) = (
   before ++ after,
   rw (a_is, b_is) (sym (flat_map-append (λ (span : Span). span.part) before after)),
   rw (x_is, y_is) (sym (flat_map-append (λ (span : Span). painted_part span.style span.part) before after)),
 )
 
--- a part in its style is appended
-pub paints_one : (old new part : List ℕ) (style : Style) → new ≡ old ++ painted_part style part → PaintsMore old new
-    part
-paints_one old new part style is = (painted_part style part, is, one_painted style part)
+-- the same, where the first one has no style
+after : (a b y : List ℕ) → IsPainted b y → IsPainted (a ++ b) (a ++ y)
+after a b y is = then a b a y (as_it_is a) is
 
--- a part is appended, and one after it
-pub paints_then : (a b c p q : List ℕ) → PaintsMore a b p → PaintsMore b c q → PaintsMore a c (p ++ q)
-paints_then a b c p q (x, b_is, p_is) (y, c_is, q_is) =
-    (x ++ y, c_is ∙ ap (λ (xs : List ℕ). xs ++ y) b_is ∙ append_assoc a x y, painted_then p q x y p_is q_is)
+module _ (is_escaped : Bool) where
+  painted_line : (is_colored : Bool) (field : FieldDifference)
+      → IsPainted (line_in false is_escaped field) (line_in is_colored is_escaped field)
+  painted_line false field = as_it_is (line_in false is_escaped field)
+  painted_line true field =
+      let recorded = shown_value is_escaped (string_bytes field.recorded) in
+      let replayed = shown_value is_escaped (string_bytes field.replayed) in
+      after (10 ∷ []) _ _ (after (codes "   ") _ _ (after field.name.now _ _ (after (codes ": ") _ _
+      (then recorded _ _ _ (in_style Red recorded) (after (codes " != ") _ _ (in_style Green replayed))))))
 
--- the five parts of a line are appended
-pub paints_five : (line p q r s t after_p after_q after_r a b c d e f : List ℕ)
-    → line ≡ p ++ after_p → after_p ≡ q ++ after_q → after_q ≡ r ++ after_r → after_r ≡ s ++ t
-    → PaintsMore a b p → PaintsMore b c q → PaintsMore c d r → PaintsMore d e s → PaintsMore e f t
-    → PaintsMore a f line
-paints_five line p q r s t after_p after_q after_r a b c d e f line_is p_is q_is r_is one two three four five =
-    let last : PaintsMore d f after_r = subst (λ (xs : List ℕ). PaintsMore d f xs) (sym r_is)
-    (paints_then d e f s t four five) in
-    let more : PaintsMore c f after_q = subst (λ (xs : List ℕ). PaintsMore c f xs) (sym q_is)
-    (paints_then c d f r after_r three last) in
-    let most : PaintsMore b f after_p = subst (λ (xs : List ℕ). PaintsMore b f xs) (sym p_is)
-    (paints_then b c f q after_q two more) in
-    subst (λ (xs : List ℕ). PaintsMore a f xs) (sym line_is) (paints_then a b f p after_p one most)
+  painted_lines : (fields : List FieldDifference)
+      → IsPainted (flat_map (field_line (look_of is_escaped false)) fields)
+      (flat_map (field_line (look_of is_escaped true)) fields)
+  painted_lines [] = as_it_is []
+  painted_lines (field ∷ fields) =
+      then _ _ _ _ (painted_line (has_colors (look_of is_escaped true) field) field) (painted_lines fields)
+
+  painted_index : (index : ℕ) → IsPainted (index_text false index) (index_text true index)
+  painted_index index =
+      then (codes "command " ++ decimal index) _ _ _ (in_style Bold (codes "command " ++ decimal index))
+      (as_it_is (codes ": " ++ mismatch_head))
+
+  painted_verdict : (verdict : Verdict) (recorded replayed : Option MessageType) (fields : List FieldDifference)
+      → IsPainted (shown_verdict (look_of is_escaped false) verdict recorded replayed fields)
+      (shown_verdict (look_of is_escaped true) verdict recorded replayed fields)
+  painted_verdict (Same count) recorded replayed fields = in_style Green (same_sentence count)
+  painted_verdict (RecordedEnded index) recorded replayed fields = in_style Bold _
+  painted_verdict (ReplayedEnded index) recorded replayed fields = in_style Bold _
+  painted_verdict (TypeMismatch index text) recorded replayed fields =
+      let one = codes "'" ++ (type_text recorded ++ (codes "' (index '" ++ (decimal index ++ codes "')"))) in
+      let other = codes "'" ++ (type_text replayed ++ codes "'") in
+      then _ _ _ _ (painted_index index) (after (codes " - The previous execution ran and recorded the following: ") _ _
+      (then one _ _ _ (in_style Red one)
+      (after (codes "\n - The current execution attempts to perform the following: ") _ _ (in_style Green other))))
+  painted_verdict (HeaderMismatch index text) recorded replayed fields =
+      let head = codes "- The mismatch happened while executing '" ++ (type_text recorded ++ (codes "' (index '" ++
+      (decimal index ++ codes "')\n- Difference:"))) in
+      then _ _ _ _ (painted_index index) (after head _ _ (painted_lines fields))
+
+  pub painted_text_line : (verdict : Verdict) (recorded replayed : Option MessageType) (fields : List FieldDifference)
+      → IsPainted (shown_verdict (look_of is_escaped false) verdict recorded replayed fields ++ codes "\n")
+      (shown_verdict (look_of is_escaped true) verdict recorded replayed fields ++ codes "\n")
+  painted_text_line verdict recorded replayed fields =
+      then _ _ _ _ (painted_verdict verdict recorded replayed fields) (as_it_is (codes "\n"))

@@ -1,6 +1,6 @@
 -- The entries of two journals that are aligned: runs of commands that are the same, and the differences between them.
 use Rattle.std.specs.Prelude.{ℕ, ◌+◌, ◌-◌, ◌^◌, Bool, true, false, List, [], ◌∷◌, ◌++◌, length, nat_eq, nat_lt}
-use Rattle.std.specs.Prelude.{if◌then◌else◌, Option, Some, None, option_map, slice_get}
+use Rattle.std.specs.Prelude.{if◌then◌else◌, Option, Some, None, slice_get}
 use Rattle.shared_core_base.specs.declared.header.MessageType.{MessageType}
 use Rattle.shared_core_stream.specs.declared.encoding.raw_message.RawMessage.{RawMessage}
 use Rattle.edit_script.specs.declared.sequences.Change.{Change}
@@ -8,6 +8,7 @@ use Rattle.edit_script.specs.declared.sequences.Change.TheVariants.{Removed, Ins
 use Rattle.edit_script.specs.declared.sequences.Difference.{Difference}
 use Rattle.edit_script.specs.Scripts.{recorded_taken, replayed_taken}
 use Rattle.replay_bench.specs.declared.aligned.AlignedComparison.{AlignedComparison}
+use Rattle.replay_bench.specs.Journals.{type_of}
 use Rattle.replay_bench.specs.Verdicts.{stopped_index}
 use Rattle.diff_lines.specs.declared.entries.Entry.{Entry}
 use Rattle.diff_lines.specs.declared.entries.EntryKind.{EntryKind}
@@ -98,10 +99,6 @@ kind_command found (Differs Changed) recorded replayed =
 -- The command that an entry is of.
 abbrev pub entry_command : AlignedComparison → Entry → Option RawMessage
 entry_command found entry = kind_command found entry.kind entry.recorded entry.replayed
-
--- The type of a command, if there is one.
-abbrev pub type_of : Option RawMessage → Option MessageType
-type_of command = option_map (λ message. message.header.ty) command
 
 -- The type of the command that an entry is of.
 abbrev pub entry_type : AlignedComparison → Entry → Option MessageType

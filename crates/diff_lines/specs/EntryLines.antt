@@ -1,9 +1,12 @@
 -- The text of two journals that are aligned.
-use Rattle.std.specs.Prelude.{◌≡◌, ℕ, Bool, List, [], ◌∷◌, ◌++◌, codes, decimal, if◌then◌else◌}
+use Rattle.std.specs.Prelude.{◌≡◌, ◌⊎◌, ℕ, Bool, true, false, IsTrue, ◌&&◌, List, [], ◌∷◌, ◌++◌, codes, decimal, nat_eq}
 use Rattle.std.specs.Prelude.{Option, Some, None, flat_map}
 use Rattle.std.specs.Option.{option_flatten}
 use Rattle.shared_core_stream.specs.declared.encoding.raw_message.RawMessage.{RawMessage}
+use Rattle.terminal_text.specs.declared.colors.Style.{Style}
+use Rattle.terminal_text.specs.declared.colors.Style.TheVariants.{Bold, Green}
 use Rattle.edit_script.specs.declared.sequences.Change.TheVariants.{Removed, Inserted, Changed}
+use Rattle.edit_script.specs.declared.sequences.Difference.{Difference}
 use Rattle.replay_bench.specs.declared.aligned.AlignedComparison.{AlignedComparison}
 use Rattle.replay_bench.specs.declared.fields.FieldDifference.{FieldDifference}
 use Rattle.replay_bench.specs.Alignments.{HasChangedFields}
@@ -11,9 +14,10 @@ use Rattle.replay_bench.specs.Verdicts.{stopped_index}
 use Rattle.diff_lines.specs.declared.entries.Entry.{Entry}
 use Rattle.diff_lines.specs.declared.entries.EntryKind.{EntryKind}
 use Rattle.diff_lines.specs.declared.entries.EntryKind.TheVariants.{Same, Differs}
+use Rattle.diff_lines.specs.declared.look.Look.{Look}
 use Rattle.diff_lines.specs.Entries.{at_index, entries_of, entry_type}
 use Rattle.diff_lines.specs.Sentences.{IsSentence, name_text}
-use Rattle.diff_lines.specs.Shown.{plain_line, shown_line}
+use Rattle.diff_lines.specs.Shown.{field_line, shown_part}
 
 -- What an entry is.
 abbrev pub head_text : EntryKind → List ℕ
@@ -60,41 +64,64 @@ AreFieldsOfBoth ignore None replayed fields = fields ≡ []
 AreFieldsOfBoth ignore (Some recorded) None fields = fields ≡ []
 AreFieldsOfBoth ignore (Some recorded) (Some replayed) fields = HasChangedFields ignore recorded replayed fields
 
--- The fields in which the commands of an entry of this kind differ: none, unless it is a change.
-abbrev pub HasFieldsOf : Bool → EntryKind → Option RawMessage → Option RawMessage → List FieldDifference → Type 0
-HasFieldsOf ignore (Same count) recorded replayed fields = fields ≡ []
-HasFieldsOf ignore (Differs Inserted) recorded replayed fields = fields ≡ []
-HasFieldsOf ignore (Differs Removed) recorded replayed fields = fields ≡ []
-HasFieldsOf ignore (Differs Changed) recorded replayed fields = AreFieldsOfBoth ignore recorded replayed fields
+-- Whether an entry is of the commands at the index of the verdict.
+abbrev pub is_of_verdict : AlignedComparison → Entry → Bool
+is_of_verdict found entry =
+    nat_eq entry.recorded (stopped_index found.comparison.verdict)
+    && nat_eq entry.replayed (stopped_index found.comparison.verdict)
 
--- The fields in which the commands of an entry differ.
-abbrev pub HasFields : Bool → AlignedComparison → Entry → List FieldDifference → Type 0
-HasFields ignore found entry fields =
-    HasFieldsOf ignore entry.kind
+-- The fields in which the commands of a change differ: those that came with the verdict, where it is of these commands,
+-- or those that are found of both.
+abbrev pub AreChanged : Bool → AlignedComparison → Entry → List FieldDifference → Type 0
+AreChanged ignore found entry fields =
+    (IsTrue (is_of_verdict found entry) × (fields ≡ found.comparison.fields.items))
+    ⊎ AreFieldsOfBoth ignore
     (at_index found.recorded.commands.items (stopped_index found.comparison.verdict) entry.recorded)
     (at_index found.replayed.commands.items (stopped_index found.comparison.verdict) entry.replayed) fields
 
--- The lines of fields, on a terminal or not.
-abbrev pub field_lines : Bool → List FieldDifference → List ℕ
-field_lines is_terminal fields =
-    if is_terminal then flat_map shown_line fields else flat_map plain_line fields
+-- The fields in which the commands of an entry of this kind differ: none, unless it is a change.
+abbrev pub HasFieldsOf : EntryKind → Bool → AlignedComparison → Entry → List FieldDifference → Type 0
+HasFieldsOf (Same count) ignore found entry fields = fields ≡ []
+HasFieldsOf (Differs Inserted) ignore found entry fields = fields ≡ []
+HasFieldsOf (Differs Removed) ignore found entry fields = fields ≡ []
+HasFieldsOf (Differs Changed) ignore found entry fields = AreChanged ignore found entry fields
+
+-- The fields in which the commands of an entry differ.
+abbrev pub HasFields : Bool → AlignedComparison → Entry → List FieldDifference → Type 0
+HasFields ignore found entry fields = HasFieldsOf entry.kind ignore found entry fields
+
+-- The line of an entry and the lines of its fields.
+abbrev pub entry_text : Look → AlignedComparison → Entry → List FieldDifference → List ℕ
+entry_text look found entry fields =
+    entry_line found entry ++ (flat_map (field_line look) fields ++ codes "\n")
 
 -- A text goes on with the line of an entry and the lines of its fields.
-pub record IsEntryText (ignore is_terminal : Bool) (found : AlignedComparison) (entry : Entry) (old new : List ℕ)
+pub record IsEntryText (ignore : Bool) (look : Look) (found : AlignedComparison) (entry : Entry) (old new : List ℕ)
     : Type 0 where
   pub fields : List FieldDifference
   pub has_fields : HasFields ignore found entry fields
-  pub is : new ≡ old ++ (entry_line found entry ++ (field_lines is_terminal fields ++ codes "\n"))
+  pub is : new ≡ old ++ entry_text look found entry fields
 
 -- A text goes on with the lines of entries, one after the other.
-abbrev pub GoesOn : Bool → Bool → AlignedComparison → List Entry → List ℕ → List ℕ → Type 0
-GoesOn ignore is_terminal found [] old new = new ≡ old
-GoesOn ignore is_terminal found (entry ∷ entries) old new =
-    (text : List ℕ) × IsEntryText ignore is_terminal found entry old text
-    × GoesOn ignore is_terminal found entries text new
+abbrev pub GoesOn : Bool → Look → AlignedComparison → List Entry → List ℕ → List ℕ → Type 0
+GoesOn ignore look found [] old new = new ≡ old
+GoesOn ignore look found (entry ∷ entries) old new =
+    (text : List ℕ) × IsEntryText ignore look found entry old text × GoesOn ignore look found entries text new
+
+-- The style of a sentence: green if the journals are the same.
+abbrev pub style_of : Bool → List Difference → Style
+style_of true [] = Green
+style_of true (difference ∷ differences) = Bold
+style_of false differences = Bold
+
+-- The line of a sentence.
+abbrev pub sentence_line : Look → AlignedComparison → List ℕ → List ℕ
+sentence_line look found sentence =
+    shown_part look.is_colored (style_of found.alignment.is_least found.alignment.differences.items) sentence
+    ++ codes "\n"
 
 -- This is the text of two journals that were aligned with this limit: their sentence, and the lines of their entries.
-pub record IsText (ignore is_terminal : Bool) (limit : ℕ) (found : AlignedComparison) (text : List ℕ) : Type 0 where
+pub record IsText (ignore : Bool) (look : Look) (limit : ℕ) (found : AlignedComparison) (text : List ℕ) : Type 0 where
   pub sentence : List ℕ
-  pub is_sentence : IsSentence is_terminal limit found sentence
-  pub goes_on : GoesOn ignore is_terminal found (entries_of found) (sentence ++ codes "\n") text
+  pub is_sentence : IsSentence look.is_escaped limit found sentence
+  pub goes_on : GoesOn ignore look found (entries_of found) (sentence_line look found sentence) text

@@ -1,4 +1,3 @@
-pub mod Colors
 pub mod Entries
 pub mod EntryLines
 pub mod MovedJson
@@ -7,4 +6,5 @@ pub mod Moved
 pub mod PassedOver
 pub mod Sentences
 pub mod Shown
+pub mod VerdictLines
 pub mod Verdicts

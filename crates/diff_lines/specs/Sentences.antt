@@ -4,8 +4,6 @@ use Rattle.std.specs.Prelude.{if◌then◌else◌, Option, Some, None}
 use Rattle.shared_core_base.specs.declared.header.MessageType.{MessageType}
 use Rattle.shared_core_base.specs.MessageType.{debug_name_of}
 use Rattle.shared_core_stream.specs.declared.encoding.raw_message.RawMessage.{RawMessage}
-use Rattle.terminal_text.specs.declared.texts.Escapes.TheVariants as escapes
-use Rattle.terminal_text.specs.Texts.{escaped_text}
 use Rattle.edit_script.specs.declared.sequences.Change.{Change}
 use Rattle.edit_script.specs.declared.sequences.Change.TheVariants.{Removed, Inserted, Changed}
 use Rattle.edit_script.specs.declared.sequences.Difference.{Difference}
@@ -15,11 +13,15 @@ use Rattle.replay_bench.specs.Keys.{HasKey}
 use Rattle.replay_bench.specs.Verdicts.{stopped_index}
 use Rattle.diff_lines.specs.declared.entries.Entry.{Entry}
 use Rattle.diff_lines.specs.Entries.{count_of, entry_command, entry_of, entry_type, same_count}
-use Rattle.diff_lines.specs.Verdicts.{commands_word}
+use Rattle.diff_lines.specs.Shown.{shown_value}
 
 -- `is` or `are`, by the number of what is.
 abbrev pub are_word : ℕ → List ℕ
 are_word count = if nat_eq count 1 then codes "is" else codes "are"
+
+-- `command` or `commands`, by their number.
+abbrev pub commands_word : ℕ → List ℕ
+commands_word count = if nat_eq count 1 then codes "command" else codes "commands"
 
 -- The sentence of journals that are the same.
 abbrev pub same_sentence : ℕ → List ℕ
@@ -52,10 +54,6 @@ after_text count =
 abbrev pub after_count : AlignedComparison → Difference → ℕ
 after_count found difference =
     length found.recorded.commands.items - (difference.recorded + recorded_taken difference.change)
-
--- What comes from a journal, on a terminal or not.
-abbrev pub shown_value : Bool → List ℕ → List ℕ
-shown_value is_terminal value = if is_terminal then escaped_text escapes.Text value else value
 
 -- A space and what says which of its type a command is, if there is anything.
 abbrev pub key_text : Bool → Option (List ℕ) → List ℕ

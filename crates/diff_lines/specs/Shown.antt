@@ -1,25 +1,42 @@
--- The text of a mismatch on a terminal.
-use Rattle.std.specs.Prelude.{ℕ, ◌-◌, List, ◌++◌, codes, flat_map, length, take}
+-- How texts are shown: what comes from the journals, and colors.
+use Rattle.std.specs.Prelude.{ℕ, Bool, true, false, List, [], ◌∷◌, codes, nat_eq, ◌||◌, if◌then◌else◌}
+use Rattle.std.specs.List.{starts_with}
 use Rattle.std.specs.String.{string_bytes}
 use Rattle.shared_core_base.specs.Differences.{diff_line}
+use Rattle.terminal_text.specs.declared.colors.Style.{Style}
+use Rattle.terminal_text.specs.declared.colors.Style.TheVariants.{Red, Green}
 use Rattle.terminal_text.specs.declared.texts.Escapes.TheVariants as escapes
+use Rattle.terminal_text.specs.Painting.{painted_part}
 use Rattle.terminal_text.specs.Texts.{escaped_text}
 use Rattle.replay_bench.specs.declared.fields.FieldDifference.{FieldDifference}
+use Rattle.diff_lines.specs.declared.look.Look.{Look}
 
--- The line of a field in the text of a mismatch.
-abbrev pub plain_line : FieldDifference → List ℕ
-plain_line field = diff_line (codes "   ") field.name.now (string_bytes field.recorded) (string_bytes field.replayed)
+-- A part of a text, in this style or as it is.
+abbrev pub shown_part : Bool → Style → List ℕ → List ℕ
+shown_part is_colored style part = if is_colored then painted_part style part else part
 
--- The same on a terminal: what the field prints in each command is escaped.
-abbrev pub shown_line : FieldDifference → List ℕ
-shown_line field =
+-- What comes from a journal, escaped as on a terminal or as it is.
+abbrev pub shown_value : Bool → List ℕ → List ℕ
+shown_value is_escaped value = if is_escaped then escaped_text escapes.Text value else value
+
+-- Whether a text has ` != `.
+abbrev pub has_unequal : List ℕ → Bool
+has_unequal [] = false
+has_unequal (byte ∷ bytes) = starts_with nat_eq (byte ∷ bytes) (codes " != ") || has_unequal bytes
+
+-- Whether the values of a field have colors: if there are colors, and none of them has ` != ` itself.
+abbrev pub has_colors : Look → FieldDifference → Bool
+has_colors look field =
+    if look.is_colored then (if has_unequal (string_bytes field.recorded) then false else
+    (if has_unequal (string_bytes field.replayed) then false else true)) else false
+
+-- The line of a field, whose values have colors or not, and are escaped or not.
+abbrev pub line_in : Bool → Bool → FieldDifference → List ℕ
+line_in is_colored is_escaped field =
     diff_line (codes "   ") field.name.now
-    (escaped_text escapes.Text (string_bytes field.recorded)) (escaped_text escapes.Text (string_bytes field.replayed))
+    (shown_part is_colored Red (shown_value is_escaped (string_bytes field.recorded)))
+    (shown_part is_colored Green (shown_value is_escaped (string_bytes field.replayed)))
 
--- The text of a mismatch before the lines of its fields, in which nothing comes from the journals.
-abbrev pub head_of : List ℕ → List FieldDifference → List ℕ
-head_of text fields = take (length text - length (flat_map plain_line fields)) text
-
--- The text of a mismatch with these fields, on a terminal.
-abbrev pub shown_text : List ℕ → List FieldDifference → List ℕ
-shown_text text fields = head_of text fields ++ flat_map shown_line fields
+-- The line of a field in a look.
+abbrev pub field_line : Look → FieldDifference → List ℕ
+field_line look field = line_in (has_colors look field) look.is_escaped field

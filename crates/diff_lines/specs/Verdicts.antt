@@ -1,11 +1,8 @@
 -- What is printed for two compared journals.
-use Rattle.std.specs.Prelude.{◌≡◌, ℕ, Bool, true, false, List, [], ◌++◌, codes, decimal, nat_eq, if◌then◌else◌, Option}
-use Rattle.std.specs.Prelude.{Some, None, Result, Ok, Err}
-use Rattle.std.specs.String.{string_bytes}
+use Rattle.std.specs.Prelude.{◌≡◌, ℕ, Bool, true, false, List, [], ◌++◌, codes, Option, Some, None, Result, Ok, Err}
 use Rattle.shared_core_base.specs.declared.version.Version.{Version}
 use Rattle.replay_bench.specs.declared.verdicts.Verdict.{Verdict}
-use Rattle.replay_bench.specs.declared.verdicts.Verdict.TheVariants.{Same, RecordedEnded, ReplayedEnded, TypeMismatch}
-use Rattle.replay_bench.specs.declared.verdicts.Verdict.TheVariants.{HeaderMismatch}
+use Rattle.replay_bench.specs.declared.verdicts.Verdict.TheVariants.{Same}
 use Rattle.replay_bench.specs.declared.verdicts.BenchError.TheVariants.{OutOfMemory}
 use Rattle.replay_bench.specs.declared.verdicts.ReaderError.TheVariants.{Bench}
 use Rattle.replay_bench.specs.Texts.{reader_error_text}
@@ -13,40 +10,18 @@ use Rattle.replay_bench.specs.declared.verdicts.Comparison.{Comparison}
 use Rattle.replay_bench.specs.Verdicts.{ComparesKnown, FailsOn, IsComparison}
 use Rattle.diff_lines.specs.declared.journals.DiffError.{DiffError}
 use Rattle.diff_lines.specs.declared.journals.DiffError.TheVariants.{NoVerdict, Faulty, Output}
+use Rattle.diff_lines.specs.declared.journals.DiffOptions.{DiffOptions}
 use Rattle.diff_lines.specs.declared.journals.Findings.{Findings}
 use Rattle.diff_lines.specs.declared.journals.Form.{Form}
-use Rattle.diff_lines.specs.declared.journals.Form.TheVariants.{Text, Terminal, Json}
+use Rattle.diff_lines.specs.declared.journals.Form.TheVariants.{Text, Json}
 use Rattle.diff_lines.specs.declared.passed_over.Trouble.{Trouble}
-use Rattle.terminal_text.specs.Painting.{IsPainted}
 use Rattle.diff_lines.specs.Json.{json_line}
 use Rattle.diff_lines.specs.PassedOver.{found_trouble, trouble_text}
-use Rattle.diff_lines.specs.Shown.{shown_text}
-use Rattle.replay_bench.specs.declared.fields.FieldDifference.{FieldDifference}
-
--- `command` or `commands`, by their number.
-abbrev pub commands_word : ℕ → List ℕ
-commands_word count = if nat_eq count 1 then codes "command" else codes "commands"
-
--- The line of a verdict; a mismatch's text may have lines of its own.
-abbrev pub verdict_line : Verdict → List ℕ
-verdict_line (Same count) = codes "same, " ++ (decimal count ++ (codes " " ++ (commands_word count ++ codes "\n")))
-verdict_line (RecordedEnded index) = codes "recorded ends at command " ++ (decimal index ++ codes "\n")
-verdict_line (ReplayedEnded index) = codes "replayed ends at command " ++ (decimal index ++ codes "\n")
-verdict_line (TypeMismatch index text) = codes "command " ++
-    (decimal index ++ (codes ": " ++ (string_bytes text ++ codes "\n")))
-verdict_line (HeaderMismatch index text) = codes "command " ++
-    (decimal index ++ (codes ": " ++ (string_bytes text ++ codes "\n")))
-
--- The line of a verdict on a terminal, with the fields of the lines of its text.
-abbrev pub terminal_line : Verdict → List FieldDifference → List ℕ
-terminal_line (HeaderMismatch index text) fields =
-    codes "command " ++ (decimal index ++ (codes ": " ++ (shown_text (string_bytes text) fields ++ codes "\n")))
-terminal_line verdict fields = verdict_line verdict
+use Rattle.diff_lines.specs.VerdictLines.{text_line}
 
 -- The line of a comparison, in its form.
 abbrev pub found_line : Form → Comparison → List ℕ
-found_line Text found = verdict_line found.verdict
-found_line Terminal found = terminal_line found.verdict found.fields.items
+found_line (Text look) found = text_line look found
 found_line Json found = json_line found
 
 -- Whether a verdict is that the journals are the same.
@@ -95,37 +70,15 @@ MayFailFor recorded limit replayed other_limit (Err (NoVerdict why)) =
     FailsOn recorded limit replayed other_limit why
 MayFailFor recorded limit replayed other_limit result = Unit {0}
 
--- What a comparison of two sources' journals writes and returns: their verdict is reported, if nothing is wrong that is
--- an error; or else nothing is written, and the error is what is wrong, or why there is no verdict.
-abbrev pub Reports : Version → Bool → Bool → Form → Option (List ℕ) → Option (List ℕ) → Result Findings DiffError → List
-    ℕ → Type 0
-Reports version ignore is_strict form recorded replayed (Err (NoVerdict why)) written =
-    ComparesKnown version ignore recorded replayed (Err why) × (written ≡ [])
-Reports version ignore is_strict form recorded replayed (Err (Faulty trouble)) written =
-    (found : Comparison) × HasFound version ignore is_strict recorded replayed found (Some trouble) × (written ≡ [])
-Reports version ignore is_strict form recorded replayed result written =
-    (found : Comparison) × HasFound version ignore is_strict recorded replayed found None × ReportsFound form found
-    result written
-
--- What is written and returned for a text with colors: the text in parts with their colors, and the findings; nothing,
--- if an allocation fails; or a prefix of these parts, if the output failed.
-abbrev pub WritesWithColors : Findings → List ℕ → Result Findings DiffError → List ℕ → Type 0
-WritesWithColors findings text (Ok found) written = (found ≡ findings) × IsPainted text written
-WritesWithColors findings text (Err (NoVerdict why)) written = (why ≡ Bench OutOfMemory) × (written ≡ [])
-WritesWithColors findings text (Err (Faulty trouble)) written = ⊥
-WritesWithColors findings text (Err Output) written = (rest : List ℕ) × IsPainted text (written ++ rest)
-
--- What a comparison with colors writes and returns: what it would write without them, with colors, and what it would
--- return.
-abbrev pub ReportsWithColors : Version → Bool → Bool → Form → Option (List ℕ) → Option (List ℕ) → Result Findings
-    DiffError → List ℕ → Type 0
-ReportsWithColors version ignore is_strict form recorded replayed (Ok findings) written =
-    (text : List ℕ) × Reports version ignore is_strict form recorded replayed (Ok findings) text × IsPainted text
-    written
-ReportsWithColors version ignore is_strict form recorded replayed (Err Output) written =
-    (findings : Findings) × (text rest : List ℕ)
-    × Reports version ignore is_strict form recorded replayed (Ok findings) text × IsPainted text (written ++ rest)
-ReportsWithColors version ignore is_strict form recorded replayed (Err (NoVerdict why)) written =
-    Reports version ignore is_strict form recorded replayed (Err (NoVerdict why)) written
-ReportsWithColors version ignore is_strict form recorded replayed (Err (Faulty trouble)) written =
-    Reports version ignore is_strict form recorded replayed (Err (Faulty trouble)) written
+-- What is written and returned of two sources' journals, where their verdict is wanted: it is reported, if nothing is
+-- wrong that is an error; or else nothing is written, and the error is what is wrong, or why there is no verdict.
+abbrev pub ReportsVerdict : Version → DiffOptions → Option (List ℕ) → Option (List ℕ) → Result Findings DiffError
+    → List ℕ → Type 0
+ReportsVerdict version options recorded replayed (Err (NoVerdict why)) written =
+    ComparesKnown version options.comparison.ignore_payload_equality recorded replayed (Err why) × (written ≡ [])
+ReportsVerdict version options recorded replayed (Err (Faulty trouble)) written =
+    (found : Comparison) × HasFound version options.comparison.ignore_payload_equality options.comparison.is_strict
+    recorded replayed found (Some trouble) × (written ≡ [])
+ReportsVerdict version options recorded replayed result written =
+    (found : Comparison) × HasFound version options.comparison.ignore_payload_equality options.comparison.is_strict
+    recorded replayed found None × ReportsFound options.form found result written

@@ -6,13 +6,13 @@ ghost use Rattle.json.specs.Token.{end_object, key};
 ghost use Rattle.json.specs.Token as token;
 ghost use Rattle.json.specs.Tree.{json_tokens, members_tokens};
 ghost use Rattle.diff_lines.specs.MovedJson.{change_word, changed_members, count_tokens, counts_members, entry_json};
-ghost use Rattle.diff_lines.specs.MovedJson.{entry_member, IsEntryJson, IsJsonText, IsWholeLine};
+ghost use Rattle.diff_lines.specs.MovedJson.{entry_member, IsEntryJson, IsJsonText, IsWholeLine, line_of};
 ghost use Rattle.diff_lines.specs.MovedJson.{place_tokens, said_member, type_tokens, whole_json};
 
 use crate::entries::{
     Entry, EntryKind, count_of, entries, entry_type, offset_at, same_count, stopped_index,
 };
-use crate::entry_lines::fields_of;
+use crate::entry_fields::{listed_fields, verdict_fields};
 use crate::json_line::{write_fields, write_number, write_offset, write_text, write_wide};
 use crate::sentence::sentence;
 use edit_script::Change;
@@ -141,9 +141,24 @@ fn entry_line(
 ) -> Result<Vec<u8>, AllocError>
     ensures { IfOk result (λ line. IsEntryJson ignore_payloads found.now entry.now line.items) }
 {
-    let fields = fields_of(alloc, found, entry, ignore_payloads)?;
+    if let Some(fields) = verdict_fields(found, entry) {
+        return line_of(alloc, found, entry, fields);
+    }
+    let fields = listed_fields(alloc, found, entry, ignore_payloads)?;
+    line_of(alloc, found, entry, fields.as_slice())
+}
+
+/// The line of an entry with these fields.
+fn line_of(
+    alloc: Global,
+    found: &AlignedComparison,
+    entry: &Entry,
+    fields: &[FieldDifference],
+) -> Result<Vec<u8>, AllocError>
+    ensures { IfOk result (λ line. line.items ≡ line_of (entry_json found.now entry.now fields.now)) }
+{
     let mut out = Writer::new(Vec::new(alloc));
-    write_entry(alloc, found, entry, fields.as_slice(), &mut out)?;
+    write_entry(alloc, found, entry, fields, &mut out)?;
     let mut line = out.into_inner();
     line.extend_from_slice(b"\n")?;
     Ok(line)

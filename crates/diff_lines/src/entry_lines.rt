@@ -2,91 +2,91 @@
 
 ghost use Rattle.std.specs.Prelude.{◌≡◌, ◌++◌, IfOk, OnOk};
 ghost use Rattle.std.specs.String.{string_bytes};
-ghost use Rattle.diff_lines.specs.EntryLines.{entry_line, field_lines, head_text, HasFields, IsEntryText, IsText};
-ghost use Rattle.diff_lines.specs.EntryLines.{place_text, recorded_label, replayed_label};
+ghost use Rattle.diff_lines.specs.EntryLines.{entry_line, entry_text, head_text, IsEntryText, IsText};
+ghost use Rattle.diff_lines.specs.EntryLines.{place_text, recorded_label, replayed_label, style_of};
 
-use crate::entries::{Entry, EntryKind, command_at, entries, entry_type, offset_at, stopped_index};
+use crate::entries::{Entry, EntryKind, entries, entry_type, offset_at, stopped_index};
+use crate::entry_fields::{listed_fields, verdict_fields};
+use crate::look::Pen;
 use crate::sentence::{push_name, sentence};
-use crate::shown::{plain_lines, shown_lines};
-use edit_script::Change;
-use replay_bench::{AlignedComparison, FieldDifference, changed_fields};
-use std::alloc::{AllocError, Global};
+use edit_script::{Change, Difference};
+use replay_bench::{AlignedComparison, FieldDifference};
+use std::alloc::AllocError;
+use terminal_text::Style;
 
 /// The sentence of two journals that were aligned, and a line for each entry: a run of commands that are the same, or a
-/// command that was inserted, removed or changed, with a line for each field in which it was. On a terminal what comes
-/// from the journals is escaped.
+/// command that was inserted, removed or changed, with a line for each field in which it was. All of it is in the look
+/// of this pen.
 pub(crate) fn aligned_text(
-    alloc: Global,
+    pen: Pen,
     found: &AlignedComparison,
     ignore_payloads: bool,
     limit: u32,
-    is_terminal: bool,
 ) -> Result<Vec<u8>, AllocError>
-    ensures { IfOk result (λ text. IsText ignore_payloads is_terminal limit found.now text.items) }
+    ensures { IfOk result (λ text. IsText ignore_payloads pen.look limit found.now text.items) }
 {
-    let mut text = sentence(alloc, found, limit, is_terminal)?;
-    text.push_str("\n")?;
-    let entries = entries(alloc, found)?;
+    let sentence = sentence(pen.alloc, found, limit, pen.look.is_escaped)?;
+    let mut text = Vec::new(pen.alloc);
+    let style = style_of(
+        found.alignment.is_least,
+        found.alignment.differences.as_slice(),
+    );
+    pen.push(&mut text, style, sentence.as_str())?;
+    text.extend_from_slice(b"\n")?;
+    let entries = entries(pen.alloc, found)?;
     let mut left = entries.as_slice();
     while let [entry, rest @ ..] = left {
-        push_entry(alloc, &mut text, found, entry, ignore_payloads, is_terminal)?;
+        push_entry(pen, &mut text, found, entry, ignore_payloads)?;
         left = rest;
     }
-    Ok(text.into_bytes())
+    Ok(text)
+}
+
+/// The style of the sentence on these differences, of which there are no fewer or there may be.
+fn style_of(is_least: bool, differences: &[Difference]) -> Style
+    ensures { result ≡ style_of is_least differences.now }
+{
+    if !is_least {
+        return Style::Bold;
+    }
+    let [_first, ..] = differences else {
+        return Style::Green;
+    };
+    Style::Bold
 }
 
 /// Appends the line of an entry, and the lines of its fields.
 fn push_entry(
-    alloc: Global,
-    text: &mut String,
+    pen: Pen,
+    text: &mut Vec<u8>,
     found: &AlignedComparison,
     entry: &Entry,
     ignore_payloads: bool,
-    is_terminal: bool,
 ) -> Result<(), AllocError>
-    ensures { OnOk result (IsEntryText ignore_payloads is_terminal found.now entry.now
-        (string_bytes text.old) (string_bytes text.new)) }
+    ensures { OnOk result (IsEntryText ignore_payloads pen.look found.now entry.now text.old.items text.new.items) }
 {
-    let fields = fields_of(alloc, found, entry, ignore_payloads)?;
-    push_line(text, found, entry)?;
-    text.push_str(field_lines(alloc, is_terminal, fields.as_slice())?.as_str())?;
-    text.push_str("\n")
-}
-
-/// The lines of fields, on a terminal or not.
-fn field_lines(
-    alloc: Global,
-    is_terminal: bool,
-    fields: &[FieldDifference],
-) -> Result<String, AllocError>
-    ensures { IfOk result (λ lines. string_bytes lines ≡ field_lines is_terminal fields.now) }
-{
-    if is_terminal {
-        return shown_lines(alloc, fields);
+    if let Some(fields) = verdict_fields(found, entry) {
+        return push_with_fields(pen, text, found, entry, fields);
     }
-    plain_lines(alloc, fields)
+    let fields = listed_fields(pen.alloc, found, entry, ignore_payloads)?;
+    push_with_fields(pen, text, found, entry, fields.as_slice())
 }
 
-/// The fields in which the commands of an entry differ, if it is a change.
-pub(crate) fn fields_of(
-    alloc: Global,
+/// Appends the line of an entry, and the lines of these fields.
+fn push_with_fields(
+    pen: Pen,
+    text: &mut Vec<u8>,
     found: &AlignedComparison,
     entry: &Entry,
-    ignore_payloads: bool,
-) -> Result<Vec<FieldDifference>, AllocError>
-    ensures { IfOk result (λ fields. HasFields ignore_payloads found.now entry.now fields.items) }
+    fields: &[FieldDifference],
+) -> Result<(), AllocError>
+    ensures { OnOk result (text.new.items ≡ text.old.items ++ entry_text pen.look found.now entry.now fields.now) }
 {
-    let EntryKind::Differs(Change::Changed) = entry.kind else {
-        return Ok(Vec::new(alloc));
-    };
-    let start = stopped_index(&found.comparison.verdict);
-    let Some(recorded) = command_at(&found.recorded, start, entry.recorded) else {
-        return Ok(Vec::new(alloc));
-    };
-    let Some(replayed) = command_at(&found.replayed, start, entry.replayed) else {
-        return Ok(Vec::new(alloc));
-    };
-    changed_fields(alloc, recorded, replayed, ignore_payloads)
+    let mut line = String::new(pen.alloc);
+    push_line(&mut line, found, entry)?;
+    text.extend_from_slice(line.as_bytes())?;
+    pen.push_fields(text, fields)?;
+    text.extend_from_slice(b"\n")
 }
 
 /// Appends the line of an entry without its end.

@@ -2,23 +2,20 @@
 
 ghost use Rattle.std.specs.Prelude.{◌≡◌, ℕ, List, IfErr, IfOk, None, OnOk};
 ghost use Rattle.std.specs.Io.KnownBytes.{Appends};
-ghost use Rattle.std.specs.String.{string_bytes};
-ghost use Rattle.diff_lines.specs.Moved.{IsFormText, IsShownForm, ReportsAligned, ReportsMoved};
+ghost use Rattle.diff_lines.specs.Moved.{IsMovedText, Reports, ReportsAligned, ReportsMoved};
 ghost use Rattle.diff_lines.specs.PassedOver.{found_trouble};
-ghost use Rattle.diff_lines.specs.Verdicts.{IsFaulty, IsWritten, MayFailFor, Reports, ReportsFound, ReportsWithColors};
-ghost use Rattle.diff_lines.specs.Verdicts.{WritesWithColors};
-ghost use Rattle.diff_lines.specs.Verdicts.{commands_word, findings_of, found_line, is_same, terminal_line};
-ghost use Rattle.diff_lines.specs.Verdicts.{verdict_line};
+ghost use Rattle.diff_lines.specs.Verdicts.{IsFaulty, IsWritten, MayFailFor, ReportsFound, ReportsVerdict};
+ghost use Rattle.diff_lines.specs.Verdicts.{findings_of, found_line, is_same};
 
-use crate::colors::with_colors;
 use crate::entry_json::aligned_json;
 use crate::entry_lines::aligned_text;
 use crate::json_line::json_line;
+use crate::look::{Look, Pen};
 use crate::passed_over::{Trouble, found_trouble};
-use crate::shown::shown_text;
+use crate::verdict_line::text_line;
 use replay_bench::{
-    AlignedComparison, BenchError, Comparison, ComparisonOptions, FieldDifference, Journals,
-    ReaderError, Source, Survey, Verdict, align_sources, survey_sources,
+    AlignedComparison, BenchError, Comparison, ComparisonOptions, Journals, ReaderError, Source,
+    Survey, Verdict, align_sources, survey_sources,
 };
 use std::alloc::{AllocError, Global};
 use std::error::Error;
@@ -30,15 +27,24 @@ use stream_lines::output::{OutputFailed, write_whole};
 /// of 40 bytes for each pair of them.
 pub const ALIGNMENT_LIMIT: u32 = 1000;
 
-/// How a verdict is written.
+/// The form in which two journals are compared.
 #[derive(Debug, Clone, Copy, PartialEq, Eq, Drop)]
 pub enum Form {
-    /// As a text, as the journals and the error of an SDK have it.
-    Text,
-    /// As a text for a terminal, in which what comes from the journals is escaped.
-    Terminal,
-    /// As a line of JSON.
+    /// A text in this look.
+    Text(Look),
+    /// JSON, an object a line, which has no colors.
     Json,
+}
+
+/// What is compared, and what is written of it.
+#[derive(Debug, Clone, Copy, PartialEq, Eq, Drop)]
+pub struct DiffOptions {
+    /// How the journals are compared.
+    pub comparison: ComparisonOptions,
+    /// In which form the result is written.
+    pub form: Form,
+    /// Whether all that moved is written, and not only the verdict.
+    pub is_all: bool,
 }
 
 /// Why the verdict on two journals was not printed, or not whole.
@@ -106,60 +112,77 @@ pub struct Findings {
     pub replayed: Survey,
 }
 
-/// Compares two journals that sources of their version give, writes the verdict in this form, a text in one line or in
-/// several, and returns what the journals have and whether they are the same.
+/// Compares two journals that sources of their version give, writes what was found in this form, and returns what the
+/// journals have and whether they are the same.
 ///
-/// Both are read to their ends. The line is written only once all of that is known and its whole text is made. A
-/// journal that has bytes and no whole item is an error: it may be something else. If the comparison is strict, an
-/// unknown header, a payload that is not well-formed, or bytes after the last whole item are errors too. The error is
-/// the first of these in the recorded journal, or else in the replayed one.
-#[tactic(auto, using(crate::proofs::Reporting::reported, crate::proofs::Reporting::report_fails))]
+/// That is their verdict, in one line or with the lines of a mismatch, or what moved between them. Then a sentence is
+/// first, and a line follows for each run of commands that are the same and for each command that was removed, inserted
+/// or changed. As JSON the first line is that of the whole alignment, and the sentence a member of it. Where more than
+/// `ALIGNMENT_LIMIT` commands moved the journals are compared index by index, and the sentence says so.
+///
+/// Both are read to their ends. The text is written only once all of it is made. A journal that has bytes and no whole
+/// item is an error: it may be something else. If the comparison is strict, an unknown header, a payload that is not
+/// well-formed, or bytes after the last whole item are errors too. The error is the first of these in the recorded
+/// journal, or else in the replayed one.
 pub fn diff<A: Source, B: Source, W: Write>(
     alloc: Global,
     journals: Journals<A, B>,
-    options: ComparisonOptions,
-    form: Form,
+    options: DiffOptions,
     output: &mut W,
 ) -> Result<Findings, DiffError>
     requires recorded { A.version journals.recorded ≡ journals.version }
     requires replayed { B.version journals.replayed ≡ journals.version }
     ensures reported { (written : List ℕ)
         × Appends (W.contents output.old) (W.contents output.new) written
-        × Reports journals.version options.ignore_payload_equality options.is_strict form
-        (A.coming journals.recorded) (B.coming journals.replayed) result written }
+        × Reports journals.version options (A.coming journals.recorded) (B.coming journals.replayed) result written }
     ensures failed { MayFailFor A.may_fail (A.limit journals.recorded) B.may_fail (B.limit journals.replayed) result }
 {
-    let found = survey_sources(alloc, journals, options)?;
-    fail_if_faulty(options.is_strict, &found)?;
-    report(alloc, found, form, output)
+    if options.is_all {
+        return diff_all(alloc, journals, options, output);
+    }
+    diff_verdict(alloc, journals, options, output)
 }
 
-/// Compares two journals as `diff` does, and writes what moved between them: a sentence first, and then a line for each
-/// run of commands that are the same and for each command that was removed, inserted or changed. As JSON the first line
-/// is that of the whole alignment, and the sentence a member of it.
-///
-/// Where more than `ALIGNMENT_LIMIT` commands moved the journals are compared index by index, and the sentence says so.
-#[tactic(auto, using(crate::proofs::Reporting::reported_moved, crate::proofs::Reporting::moved_fails))]
-pub fn diff_all<A: Source, B: Source, W: Write>(
+/// Compares two journals and writes their verdict.
+#[tactic(auto, using(crate::proofs::Reporting::reported, crate::proofs::Reporting::report_fails))]
+fn diff_verdict<A: Source, B: Source, W: Write>(
     alloc: Global,
     journals: Journals<A, B>,
-    options: ComparisonOptions,
-    form: Form,
-    is_colored: bool,
+    options: DiffOptions,
     output: &mut W,
 ) -> Result<Findings, DiffError>
     requires recorded { A.version journals.recorded ≡ journals.version }
     requires replayed { B.version journals.replayed ≡ journals.version }
     ensures reported { (written : List ℕ)
         × Appends (W.contents output.old) (W.contents output.new) written
-        × ReportsMoved journals.version options.ignore_payload_equality options.is_strict form is_colored
-        (A.coming journals.recorded) (B.coming journals.replayed) result written }
+        × ReportsVerdict journals.version options (A.coming journals.recorded) (B.coming journals.replayed) result
+        written }
     ensures failed { MayFailFor A.may_fail (A.limit journals.recorded) B.may_fail (B.limit journals.replayed) result }
 {
-    let found = align_sources(alloc, journals, options, ALIGNMENT_LIMIT)?;
-    fail_if_faulty(options.is_strict, &found.comparison)?;
-    let ignore_payloads = options.ignore_payload_equality;
-    report_moved(alloc, &found, ignore_payloads, form, is_colored, output)
+    let found = survey_sources(alloc, journals, options.comparison)?;
+    fail_if_faulty(options.comparison.is_strict, &found)?;
+    report(alloc, found, options.form, output)
+}
+
+/// Compares two journals and writes what moved between them.
+#[tactic(auto, using(crate::proofs::Reporting::reported_moved, crate::proofs::Reporting::moved_fails))]
+fn diff_all<A: Source, B: Source, W: Write>(
+    alloc: Global,
+    journals: Journals<A, B>,
+    options: DiffOptions,
+    output: &mut W,
+) -> Result<Findings, DiffError>
+    requires recorded { A.version journals.recorded ≡ journals.version }
+    requires replayed { B.version journals.replayed ≡ journals.version }
+    ensures reported { (written : List ℕ)
+        × Appends (W.contents output.old) (W.contents output.new) written
+        × ReportsMoved journals.version options (A.coming journals.recorded) (B.coming journals.replayed) result
+        written }
+    ensures failed { MayFailFor A.may_fail (A.limit journals.recorded) B.may_fail (B.limit journals.replayed) result }
+{
+    let found = align_sources(alloc, journals, options.comparison, ALIGNMENT_LIMIT)?;
+    fail_if_faulty(options.comparison.is_strict, &found.comparison)?;
+    report_moved(alloc, &found, options, output)
 }
 
 /// Fails with what is wrong with one of two journals, if that is an error.
@@ -177,97 +200,37 @@ fn fail_if_faulty(is_strict: bool, found: &Comparison) -> Result<(), DiffError>
 fn report_moved<W: Write>(
     alloc: Global,
     found: &AlignedComparison,
-    ignore_payloads: bool,
-    form: Form,
-    is_colored: bool,
+    options: DiffOptions,
     output: &mut W,
 ) -> Result<Findings, DiffError>
     ensures { (written : List ℕ)
         × Appends (W.contents output.old) (W.contents output.new) written
-        × ReportsAligned ignore_payloads form is_colored found.now result written }
+        × ReportsAligned options found.now result written }
 {
-    let text = shown_form(alloc, found, ignore_payloads, form, is_colored)?;
+    let text = moved_text(alloc, found, options)?;
     write_text(output, text.as_slice())?;
     Ok(findings_of(&found.comparison))
 }
 
-/// What moved between two journals in a form, with colors or without.
-fn shown_form(
+/// What moved between two journals, in its form.
+fn moved_text(
     alloc: Global,
     found: &AlignedComparison,
-    ignore_payloads: bool,
-    form: Form,
-    is_colored: bool,
+    options: DiffOptions,
 ) -> Result<Vec<u8>, AllocError>
-    ensures { IfOk result (λ shown. IsShownForm ignore_payloads form is_colored found.now shown.items) }
+    ensures { IfOk result (λ text. IsMovedText options.comparison.ignore_payload_equality options.form found.now
+        text.items) }
 {
-    let text = form_text(alloc, found, ignore_payloads, form)?;
-    if is_colored {
-        return with_colors(alloc, text.as_slice());
-    }
-    Ok(text)
-}
-
-/// What moved between two journals in a form.
-fn form_text(
-    alloc: Global,
-    found: &AlignedComparison,
-    ignore_payloads: bool,
-    form: Form,
-) -> Result<Vec<u8>, AllocError>
-    ensures { IfOk result (λ text. IsFormText ignore_payloads form found.now text.items) }
-{
-    match form {
-        Form::Text => aligned_text(alloc, found, ignore_payloads, ALIGNMENT_LIMIT, false),
-        Form::Terminal => aligned_text(alloc, found, ignore_payloads, ALIGNMENT_LIMIT, true),
+    let ignore_payloads = options.comparison.ignore_payload_equality;
+    match options.form {
+        Form::Text(look) => aligned_text(
+            Pen { alloc, look },
+            found,
+            ignore_payloads,
+            ALIGNMENT_LIMIT,
+        ),
         Form::Json => aligned_json(alloc, found, ignore_payloads, ALIGNMENT_LIMIT),
     }
-}
-
-/// The same with the verdict in colors: its text is made whole, then painted, and then written.
-#[tactic(auto, using(crate::proofs::Reporting::reported_text, crate::proofs::Reporting::out_of_memory, crate::proofs::Reporting::colored_fails))]
-pub fn diff_with_colors<A: Source, B: Source, W: Write>(
-    alloc: Global,
-    journals: Journals<A, B>,
-    options: ComparisonOptions,
-    form: Form,
-    output: &mut W,
-) -> Result<Findings, DiffError>
-    requires recorded { A.version journals.recorded ≡ journals.version }
-    requires replayed { B.version journals.replayed ≡ journals.version }
-    ensures reported { (written : List ℕ)
-        × Appends (W.contents output.old) (W.contents output.new) written
-        × ReportsWithColors journals.version options.ignore_payload_equality options.is_strict form
-        (A.coming journals.recorded) (B.coming journals.replayed) result written }
-    ensures failed { MayFailFor A.may_fail (A.limit journals.recorded) B.may_fail (B.limit journals.replayed) result }
-{
-    let mut text = Vec::new(alloc);
-    let compared = diff(alloc, journals, options, form, &mut text);
-    match compared {
-        Ok(findings) => write_with_colors(alloc, findings, text.as_slice(), output),
-        // a vector takes all, unless an allocation fails
-        Err(DiffError::Output) => {
-            Err(DiffError::NoVerdict(ReaderError::Bench(BenchError::OutOfMemory)))
-        }
-        Err(DiffError::NoVerdict(why)) => Err(DiffError::NoVerdict(why)),
-        Err(DiffError::Faulty(trouble)) => Err(DiffError::Faulty(trouble)),
-    }
-}
-
-/// Writes the text of a verdict with colors, and returns what was found.
-fn write_with_colors<W: Write>(
-    alloc: Global,
-    findings: Findings,
-    text: &[u8],
-    output: &mut W,
-) -> Result<Findings, DiffError>
-    ensures { (written : List ℕ)
-        × Appends (W.contents output.old) (W.contents output.new) written
-        × WritesWithColors findings text.now result written }
-{
-    let painted = with_colors(alloc, text)?;
-    write_text(output, painted.as_slice())?;
-    Ok(findings)
 }
 
 /// Writes the line of a comparison, and returns what was found.
@@ -291,27 +254,9 @@ fn found_line(alloc: Global, form: Form, found: &Comparison) -> Result<Vec<u8>, 
     ensures { IfOk result (λ line. line.items ≡ found_line form found.now) }
 {
     match form {
-        Form::Text => Ok(line_of(alloc, &found.verdict)?.into_bytes()),
-        Form::Terminal => terminal_line(alloc, &found.verdict, found.fields.as_slice()),
+        Form::Text(look) => text_line(Pen { alloc, look }, found),
         Form::Json => json_line(alloc, found),
     }
-}
-
-/// The line of a verdict on a terminal, with the fields of the lines of its text.
-fn terminal_line(
-    alloc: Global,
-    verdict: &Verdict,
-    fields: &[FieldDifference],
-) -> Result<Vec<u8>, AllocError>
-    ensures { IfOk result (λ line. line.items ≡ terminal_line verdict.now fields.now) }
-{
-    let Verdict::HeaderMismatch { index, text } = verdict else {
-        return Ok(line_of(alloc, verdict)?.into_bytes());
-    };
-    let mut line = format!(in alloc; "command {index}: ")?.into_bytes();
-    line.extend_from_slice(shown_text(alloc, text.as_str(), fields)?.as_slice())?;
-    line.extend_from_slice(b"\n")?;
-    Ok(line)
 }
 
 /// What is returned of a comparison.
@@ -330,31 +275,6 @@ fn is_same(verdict: &Verdict) -> bool
     ensures { result ≡ is_same verdict.now }
 {
     matches!(verdict, Verdict::Same(_))
-}
-
-/// `command` or `commands`, by their number.
-pub(crate) fn commands_word(count: u128) -> &'static str
-    ensures { result.now ≡ commands_word count }
-{
-    if count == 1 { "command" } else { "commands" }
-}
-
-/// The line of a verdict.
-fn line_of(alloc: Global, verdict: &Verdict) -> Result<String, AllocError>
-    ensures { IfOk result (λ line. string_bytes line ≡ verdict_line verdict.now) }
-{
-    match verdict {
-        Verdict::Same(count) => {
-            let word = commands_word(*count as u128);
-            format!(in alloc; "same, {count} {word}\n")
-        }
-        Verdict::RecordedEnded(index) => { format!(in alloc; "recorded ends at command {index}\n") }
-        Verdict::ReplayedEnded(index) => { format!(in alloc; "replayed ends at command {index}\n") }
-        Verdict::TypeMismatch { index, text } => { format!(in alloc; "command {index}: {text}\n") }
-        Verdict::HeaderMismatch { index, text } => {
-            format!(in alloc; "command {index}: {text}\n")
-        }
-    }
 }
 
 /// Writes a text whole.

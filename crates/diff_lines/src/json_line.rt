@@ -201,7 +201,7 @@ pub(crate) fn write_offset(
 }
 
 /// Writes a number of 128 bits.
-#[tactic(auto, using(crate::proofs::Decimals::wide_is_number))]
+#[tactic(auto, using(json_table::proofs::Decimals::wide_is_number))]
 pub(crate) fn write_wide(alloc: Global, out: &mut Writer, number: u128) -> Result<(), AllocError>
     ensures tokens { OnOk result (out.new.tokens ≡ out.old.tokens ++ token.number (decimal number) ∷ []) }
     ensures before { out.new.before ≡ out.old.before }

@@ -3,13 +3,13 @@
 ghost use Rattle.std.specs.Prelude.{◌≡◌, ◌++◌, IfOk, OnOk, option_copied, option_map};
 ghost use Rattle.std.specs.String.{string_bytes};
 ghost use Rattle.diff_lines.specs.Sentences.{after_text, are_word, counts_text, HasKeyOf, IsMovedSentence, IsSentence};
-ghost use Rattle.diff_lines.specs.Sentences.{key_text, limit_sentence, moved_sentence, moved_words, name_text};
-ghost use Rattle.diff_lines.specs.Sentences.{place_words, same_sentence, same_text, several_sentence, shown_value};
+ghost use Rattle.diff_lines.specs.Sentences.{commands_word, key_text, limit_sentence, moved_sentence, moved_words};
+ghost use Rattle.diff_lines.specs.Sentences.{name_text, place_words, same_sentence, same_text, several_sentence};
+ghost use Rattle.diff_lines.specs.Shown.{shown_value};
 
 use crate::entries::{
     count_of, entry_command, entry_of, entry_type, recorded_taken, same_count, stopped_index,
 };
-use crate::journals::commands_word;
 use edit_script::{Change, Difference};
 use replay_bench::{AlignedComparison, command_key};
 use shared_core_base::header::MessageType;
@@ -40,8 +40,15 @@ pub(crate) fn sentence(
     several_sentence(alloc, found.alignment.differences.as_slice(), same)
 }
 
+/// `command` or `commands`, by their number.
+fn commands_word(count: u128) -> &'static str
+    ensures { result.now ≡ commands_word count }
+{
+    if count == 1 { "command" } else { "commands" }
+}
+
 /// The sentence of journals that are the same.
-fn same_sentence(alloc: Global, count: u128) -> Result<String, AllocError>
+pub(crate) fn same_sentence(alloc: Global, count: u128) -> Result<String, AllocError>
     ensures { IfOk result (λ text. string_bytes text ≡ same_sentence count) }
 {
     let word = commands_word(count);

@@ -302,7 +302,7 @@ fn write_type(out: &mut Writer, ty: MessageType, text: &mut String) -> Result<()
 }
 
 /// Writes an offset, as the member `offset`.
-#[tactic(auto, using(crate::proofs::Decimals::wide_is_number))]
+#[tactic(auto, using(json_table::proofs::Decimals::wide_is_number))]
 fn write_offset(out: &mut Writer, offset: u128, text: &mut String) -> Result<(), AllocError>
     ensures tokens { OnOk result (out.new.tokens ≡ out.old.tokens ++ (key (codes "offset") ∷ token.number (decimal offset) ∷ [])) }
     ensures before { out.new.before ≡ out.old.before }

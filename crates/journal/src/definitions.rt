@@ -12,18 +12,18 @@ const VERSION: &str = "0.2.0";
 pub fn dump<'a>(alloc: Global, name: &'a str) -> Result<Command<'a>, AllocError> {
     Command::new(alloc, name)
         .version(VERSION)
-        .about("Prints a stream as JSON, one object a line for each of its items.")
+        .about("Prints a stream as JSON, one object per item.")
         .arg(option(
             alloc,
             "max-message",
             "SIZE",
             "Ends with an error at a message whose payload has\nmore than this number of bytes",
         ))?
-        .arg(flag(alloc, "no-payload", "Leaves out what is in messages"))?
+        .arg(flag(alloc, "no-payload", "Omits the contents of messages"))?
         .arg(flag(
             alloc,
             "pretty",
-            "Prints each object on several lines, indented, for\npeople to read",
+            "Prints each object on several lines, indented",
         ))?
         .arg(
             option(
@@ -40,18 +40,18 @@ pub fn dump<'a>(alloc: Global, name: &'a str) -> Result<Command<'a>, AllocError>
         .arg(flag(
             alloc,
             "strict",
-            "Ends with status 2 if there is an unknown code, a\nmalformed payload or a rest",
+            "Treats unknown codes, malformed payloads and\ntrailing bytes as errors",
         ))?
         .arg(flag(
             alloc,
             "text",
-            "Prints bytes that are UTF-8 as an object with their\ntext, and not in base64",
+            "Prints bytes that are UTF-8 as an object with their\ntext, not in base64",
         ))?
         .arg(option(
             alloc,
             "type",
             "NAME",
-            "Shows messages of this type alone, or of several,\nwith commas between",
+            "Prints only messages of these types, separated by\ncommas",
         )
         .action(ArgAction::Append))?
         .arg(
@@ -70,7 +70,7 @@ pub fn dump<'a>(alloc: Global, name: &'a str) -> Result<Command<'a>, AllocError>
 pub fn make<'a>(alloc: Global, name: &'a str) -> Result<Command<'a>, AllocError> {
     Command::new(alloc, name)
         .version(VERSION)
-        .about("Makes a stream of JSON, one object a line for each of its items.")
+        .about("Makes a stream of JSON, one object per item.")
         .arg(
             option(
                 alloc,
@@ -101,14 +101,14 @@ pub fn diff<'a>(alloc: Global, name: &'a str) -> Result<Command<'a>, AllocError>
         .version(VERSION)
         .about("Compares two journals, command by command.")
         .after_help(
-            "Ends with 0 where they are the same, 1 where they differ, and 2 where there is\ntrouble.",
+            "The status is 0 if they are the same, 1 if they differ, and 2 if there is no\nverdict.",
         )
         .arg(flag(
             alloc,
             "all",
-            "Says what moved: which commands were inserted,\nremoved or changed",
+            "Shows what moved: commands inserted, removed or\nchanged",
         ))?
-        .arg(flag(alloc, "ignore-payloads", "Compares all but payloads"))?
+        .arg(flag(alloc, "ignore-payloads", "Ignores payloads"))?
         .arg(option(
             alloc,
             "max-message",
@@ -118,12 +118,12 @@ pub fn diff<'a>(alloc: Global, name: &'a str) -> Result<Command<'a>, AllocError>
         .arg(flag(
             alloc,
             "strict",
-            "Unknown headers, malformed payloads and bytes after\nthe last whole item are trouble",
+            "Treats unknown headers, malformed payloads and\ntrailing bytes as errors",
         ))?
         .arg(flag(
             alloc,
             "json",
-            "Prints the verdict as a line of JSON, or with --all\nlines",
+            "Prints the verdict as a line of JSON; with --all, as\nlines",
         ))?
         .arg(
             option(

@@ -12,7 +12,7 @@ use crate::diff::arguments::{Arguments, parse_arguments};
 use crate::diff::inputs::{Inputs, closed_side, open_both};
 use command_line::{Pipe, Progress, Watched, has_color};
 use diff_lines::{
-    DiffError, Findings, Form, Trouble, diff, diff_all, diff_with_colors, empty_note, no_item_note,
+    DiffError, DiffOptions, Findings, Form, Look, Trouble, diff, empty_note, no_item_note,
     rest_note, unknown_note,
 };
 use replay_bench::{ComparisonOptions, Journals, ReaderError, Side};
@@ -74,14 +74,23 @@ fn end_without(
     ExitCode::from(call.failure)
 }
 
-/// The form in which a verdict is written, to a terminal or not.
-fn form_of(is_json: bool, is_terminal: bool) -> Form {
-    if is_json {
-        Form::Json
-    } else if is_terminal {
-        Form::Terminal
-    } else {
-        Form::Text
+/// What is compared, and what is written of it, to a terminal or not.
+fn options_of(call: &Call<'_>, parsed: &Arguments<'_>, is_terminal: bool) -> DiffOptions {
+    let look = Look {
+        is_escaped: is_terminal,
+        is_colored: has_color(call.rt, parsed.color),
+    };
+    DiffOptions {
+        comparison: ComparisonOptions {
+            ignore_payload_equality: parsed.ignore_payloads,
+            is_strict: parsed.is_strict,
+        },
+        form: if parsed.is_json {
+            Form::Json
+        } else {
+            Form::Text(look)
+        },
+        is_all: parsed.is_all,
     }
 }
 
@@ -116,26 +125,15 @@ fn run_parsed(call: &Call<'_>, parsed: &Arguments<'_>, inputs: Inputs) -> ExitCo
             ),
         ),
     };
-    let options = ComparisonOptions {
-        ignore_payload_equality: parsed.ignore_payloads,
-        is_strict: parsed.is_strict,
-    };
     let is_terminal = call.rt.stdout().is_terminal();
-    let form = form_of(parsed.is_json, is_terminal);
+    let options = options_of(call, parsed, is_terminal);
     let mut output = Pipe::new(Escaping::new(
         alloc,
         call.rt.stdout(),
         Escapes::Json,
         is_terminal && parsed.is_json,
     ));
-    let is_colored = !parsed.is_json && has_color(call.rt, parsed.color);
-    let found = if parsed.is_all {
-        diff_all(alloc, journals, options, form, is_colored, &mut output)
-    } else if is_colored {
-        diff_with_colors(alloc, journals, options, form, &mut output)
-    } else {
-        diff(alloc, journals, options, form, &mut output)
-    };
+    let found = diff(alloc, journals, options, &mut output);
     progress.clear();
     match found {
         Ok(found) => {

@@ -5,7 +5,7 @@ ghost use Rattle.shared_core_stream.specs.Borrowed.{item_borrowed};
 ghost use Rattle.journal_c_api.specs.Items.{FindsItem, WritesNext, WritesNextWithin, item_ack, item_code, item_kind};
 
 use crate::outcome::{CallError, version_of, write_over};
-use shared_core::encoding::{ItemKind, ItemRef, ItemRefError};
+use shared_core::encoding::{ItemKind, ItemRef, ItemRefs};
 use shared_core::header::MessageHeader;
 use shared_core::version::Version;
 
@@ -55,14 +55,15 @@ pub fn write_next_within(
     if item.len() < ITEM_NUMBERS {
         return Err(CallError::NoRoom);
     }
-    match ItemRef::first_within(version, limit, 0, bytes) {
-        Ok((found, _)) => {
-            write_over(&numbers_of(&found), item);
-            Ok(0)
-        }
-        Err(ItemRefError::Missing(missing)) => Ok(missing.count),
-        Err(ItemRefError::TooLong(_)) => Err(CallError::TooLong),
+    let mut items = ItemRefs::with_limit(version, limit, bytes);
+    if let Some(found) = items.next() {
+        write_over(&numbers_of(&found), item);
+        return Ok(0);
     }
+    if let Some(_) = items.rejected() {
+        return Err(CallError::TooLong);
+    }
+    Ok(write_item(version, bytes, item))
 }
 
 /// Writes the numbers of the item that the bytes begin with, or returns the number of missing bytes.

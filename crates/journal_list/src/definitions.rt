@@ -12,7 +12,7 @@ const VERSION: &str = "0.2.0";
 pub fn list<'a>(alloc: Global, name: &'a str) -> Result<Command<'a>, AllocError> {
     Command::new(alloc, name)
         .version(VERSION)
-        .about("Lists a stream of the protocol, a line for each of its items.")
+        .about("Lists a stream of the protocol, one line per item.")
         .arg(option(
             alloc,
             "max-message",
@@ -24,7 +24,7 @@ pub fn list<'a>(alloc: Global, name: &'a str) -> Result<Command<'a>, AllocError>
                 alloc,
                 "protocol",
                 "VERSION",
-                "The version of the protocol of the stream, which is\n8 without it [possible values: 5, 6, 7, 8, 9]",
+                "The version of the protocol of the stream; the\ndefault is 8 [possible values: 5, 6, 7, 8, 9]",
             )
             .value_parser(Version::supported_numbers())
             .hide_possible_values(true),

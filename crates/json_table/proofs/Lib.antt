@@ -5,3 +5,5 @@ mod Seen
 mod Turns
 mod Closing
 pub mod Tails
+pub mod Decimals
+pub mod Placing

@@ -7,3 +7,4 @@ pub mod Shapes
 pub mod Tails
 pub mod Reads
 pub mod Tables
+pub mod Places

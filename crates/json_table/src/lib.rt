@@ -7,8 +7,10 @@
 #![tactic(auto)]
 
 mod node;
+mod places;
 mod read;
 mod table;
 
 pub use node::{Items, Members, Node, Shape};
+pub use places::{Names, Place, find_places, first_present, present};
 pub use table::Table;

@@ -5,7 +5,7 @@ use Rattle.std.specs.Prelude.{codes, ok_or}
 use Rattle.std.specs.Option.{is_none}
 use Rattle.json.specs.Json.{Json, boolean, number, string, object, Members, member, no_members}
 use Rattle.shared_core_base.specs.declared.version.Version.{Version}
-use Rattle.shared_core_json_reader.specs.Reading.{present}
+use Rattle.json_table.specs.Places.{present}
 use Rattle.shared_core_json_reader.specs.FirstError.{number_reason}
 use Rattle.shared_core_json_reader.proofs.ScalarsBack.{number_back}
 use Rattle.dump_lines.specs.Lines.{ack_members}

@@ -36,7 +36,7 @@ use Rattle.make_lines.specs.Made.{has_newline}
 use Rattle.std.specs.Int.{w64, to_be_bytes}
 use Rattle.make_lines.proofs.ItemsBack.{header_text}
 use Rattle.make_lines.proofs.Taking.{newline_append}
-use Rattle.dump_lines.proofs.Decimals.{wide_is_number}
+use Rattle.json_table.proofs.Decimals.{wide_is_number}
 use Rattle.make_lines.proofs.LineMembers.{header_if, message_line, unknown_line, skipped_line, rest_line}
 
 -- ---- newlines

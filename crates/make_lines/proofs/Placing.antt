@@ -1,33 +1,25 @@
 -- The places of a line's names, as its members are gone over.
-use Rattle.std.proofs.Common.{◌≡◌, ◌≢◌, ℕ, zero, suc, ◌+◌, ◌-◌, ◌<◌, ◌≤◌, ◌⊎◌, List, [], ◌∷◌, length, get_or, map}
-use Rattle.std.proofs.Common.{drop, replicate, slice_set}
-use Rattle.std.proofs.Common.{Bool, true, false, cond, Option, Some, None}
-use Rattle.std.proofs.Common.{refl, sym, ap, ◌∙◌, inl, inr, arith, ltb, ◌||◌}
-use Rattle.std.proofs.lemmas.Bool.{cases_eq, ltb-true, ne_eqb}
-use Rattle.std.proofs.lemmas.List.{length-set, length-map, get_or-set_same, get_or-set_other}
-use Rattle.std.proofs.lemmas.List.{drop_more, get_or-replicate}
+use Rattle.std.proofs.Common.{◌≡◌, ◌≢◌, ℕ, zero, suc, ◌+◌, ◌-◌, ◌<◌, ◌≤◌, List, [], ◌∷◌, length, get_or, map, drop}
+use Rattle.std.proofs.Common.{Bool, true, false, cond, not, Option, Some, None, ◌||◌}
+use Rattle.std.proofs.Common.{refl, sym, ap, ap₂, ◌∙◌, arith, ltb, eqb, eq-eqb}
+use Rattle.std.proofs.lemmas.Bool.{eqb-true, ltb-true}
+use Rattle.std.proofs.lemmas.List.{length-map, drop_more}
 use Rattle.std.proofs.lemmas.Slice.Eq.{bytes_eq-Decides}
 use Rattle.std.specs.Borrow.{Bor}
-use Rattle.std.specs.Prelude.{is_some, IfSome}
+use Rattle.std.specs.Prelude.{is_some, IsTrue, MatchBool}
 use Rattle.std.specs.Str.{bytes_eq}
-use Rattle.json.specs.Json.{Json, Members, member}
+use Rattle.json.specs.Json.{Json, Members, no_members, member}
 use Rattle.json.specs.Find.{get_member, later_or}
-use Rattle.json_table.specs.Entries.{members_len}
-use Rattle.json_table.specs.Tails.{last_members, IsTail}
-use Rattle.json_table.proofs.Tails.{last_whole, last_next}
+use Rattle.json_table.specs.Tails.{last_members}
+use Rattle.json_table.specs.Places.{is_place, values_at, first_unknown, unknown_or, first_value, Says, Say}
+use Rattle.json_table.specs.Places.{is_several, has_several}
+use Rattle.json_table.specs.declared.places.Place.{Place}
+use Rattle.json_table.specs.declared.places.Place.TheVariants.{Absent, Once, Several}
 use Rattle.shared_core_json_reader.specs.declared.error.Reason.TheVariants.{UnknownMember, RepeatedMember}
 use Rattle.make_lines.specs.declared.error.LineReason.TheVariants.{Json as Wrong}
 use Rattle.make_lines.specs.Errors.{at}
 use Rattle.make_lines.specs.Members.{is_known, has_key, members_fault}
-use Rattle.make_lines.specs.Places.{names, name_at, place_count, index_in, place_of, first_value, value_at}
-
--- The places of the members before `rest`, which are at the end of all.
-pub record ArePlacesSoFar (ms rest : Members) (places : List ℕ) : Type 0 where
-  pub many : length places ≡ place_count
-  pub at_end : last_members (members_len rest) ms ≡ rest
-  pub tails : (place n : ℕ) → place < place_count → get_or places place 0 ≡ n → n ≢ 0 → IsTail n ms
-  pub values : (place : ℕ) → place < place_count → get_member (name_at place) ms ≡ later_or (get_member (name_at place)
-      rest) (value_at ms (get_or places place 0))
+use Rattle.make_lines.specs.Places.{names, name_at, place_count, index_in, place_of, ArePlaces}
 
 -- ---- keys and places
 
@@ -174,127 +166,111 @@ past_place xs i d key e h so_far is =
     (drop_more names i [] within) ∙ rw here refl in
     ap (λ n. index_in (drop (i + 1) names) n key) (sym next) ∙ sym past ∙ so_far
 
--- A key that is the name of a place has this place.
-pub place_here : (xs : List (Bor (List ℕ))) (i : ℕ) (d : Bor (List ℕ)) (key : List ℕ) → map (λ s. s.now) xs ≡ names → i
-    < length xs → bytes_eq key (get_or xs i d).now ≡ true → (i < place_count) × (place_of key ≡ Some i)
-place_here xs i d key e h is =
-    let within : i < place_count = omega (arith, h, many_names xs e) in
-    (within, named_place key i within (ap (bytes_eq key) (sym (name_here xs i d e h)) ∙ is))
-
-pub within_places : (o : Option ℕ) (key : List ℕ) → o ≡ place_of key → IfSome o (λ place. place < place_count)
-within_places None key e = tt
-within_places (Some i) key e = (found_place key i (sym e)).0
+-- The name at an index has this place.
+pub place_here : (xs : List (Bor (List ℕ))) (i : ℕ) (d : Bor (List ℕ)) → map (λ s. s.now) xs ≡ names → i < place_count →
+    place_of (get_or xs i d).now ≡ Some i
+place_here xs i d e h = ap place_of (name_here xs i d e (omega (arith, h, many_names xs e))) ∙ own_place i h
 
 pub known_if : (o : Option ℕ) (key : List ℕ) → o ≡ place_of key → is_some o ≡ is_known key
 known_if None key e = sym (unknown_place key (sym e))
 known_if (Some i) key e = sym (known_place key i (sym e))
 
--- ---- going over the members
+-- Whether a key is the name of a place is whether this is its place.
+key_is : (key : List ℕ) (i : ℕ) → i < place_count → bytes_eq key (name_at i) ≡ is_place (place_of key) i
+key_is key i h = by_place (place_of key) refl
+  where
+    by_test : (j : ℕ) → place_of key ≡ Some j → (b : Bool) → eqb j i ≡ b → bytes_eq key (name_at i) ≡ eqb j i
+    by_test j e true q =
+        ap (λ n. bytes_eq key (name_at n)) (sym (eqb-true j i q)) ∙ (found_place key j e).1 ∙ sym q
+    by_test j e false q =
+        other_name key j i h e (λ w. absurd (let t : eqb j i ≡ true = eq-eqb j i w in cc)) ∙ sym q
 
-none_later : (o : Option Json) → later_or o None ≡ o
-none_later None = refl
-none_later (Some j) = refl
+    by_place : (o : Option ℕ) → place_of key ≡ o → bytes_eq key (name_at i) ≡ is_place o i
+    by_place None e = no_name key i h e
+    by_place (Some j) e = by_test j e (eqb j i) refl
 
-some_later : (o p : Option Json) (j : Json) → later_or (later_or o (Some j)) p ≡ later_or o (Some j)
-some_later None p j = refl
-some_later (Some i) p j = refl
+-- ---- the value of a name
 
--- No place is known.
-abbrev pub nones : List ℕ
-nones = replicate place_count 0
+-- The last of some values.
+abbrev pub last_of : List Json → Option Json
+last_of [] = None
+last_of (j ∷ js) = later_or (last_of js) (Some j)
 
-none_at : (i : ℕ) → i < place_count → get_or nones i 0 ≡ 0
-none_at i h = get_or-replicate place_count i 0 0 h
+later_none : (o : Option Json) → later_or o None ≡ o
+later_none None = refl
+later_none (Some j) = refl
 
--- A member has entries.
-pub some_left : (k : List ℕ) (j : Json) (rest : Members) → members_len (member k j rest) ≢ 0
-unfolding members_len
-some_left k j rest e = absurd (omega (arith, e))
+named_last : (i : ℕ) → i < place_count → (ms : Members) → get_member (name_at i) ms ≡ last_of (values_at place_of i ms)
+named_last i h no_members = refl
+named_last i h (member k j ms) =
+    ap₂ (λ (o : Option Json) (b : Bool). later_or o (cond b (Some j) None)) (named_last i h ms) (key_is k i h)
+    ∙ by_test (is_place (place_of k) i)
+  where
+    by_test : (b : Bool) → later_or (last_of (values_at place_of i ms)) (cond b (Some j) None) ≡ last_of
+        (cond b (j ∷ values_at place_of i ms) (values_at place_of i ms))
+    by_test true = refl
+    by_test false = later_none (last_of (values_at place_of i ms))
 
--- The value at a place that is taken.
-value_is : (ms : Members) (n : ℕ) → n ≢ 0 → value_at ms n ≡ first_value (last_members n ms)
-value_is ms n ne = ap (λ (b : Bool). cond b None (first_value (last_members n ms))) (ne_eqb n 0 ne)
+-- What a place says when all was seen.
+abbrev pub place_value : Members → Place → Option Json
+place_value ms Absent = None
+place_value ms (Once n) = Some (first_value (last_members n ms))
+place_value ms Several = None
 
--- At first no member was seen.
-pub no_places : (ms : Members) → ArePlacesSoFar ms ms nones
-no_places ms = record {
-  many = refl;
-  at_end = last_whole ms;
-  tails = λ i n h e ne. absurd (ne (sym e ∙ none_at i h));
-  values = λ i h. sym (ap (λ n. later_or (get_member (name_at i) ms) (value_at ms n)) (none_at i h)
-      ∙ none_later (get_member (name_at i) ms));
-}
+said : (ms : Members) (p : Place) (all : List Json) → Says ms p [] all → is_several p ≡ false → last_of all ≡
+    place_value ms p
+said ms Absent all h q = ap last_of (sym h)
+said ms (Once n) all h q = ap last_of (sym h.1)
+said ms Several all h q = absurd cc
 
-module _ (ms rest : Members) (k : List ℕ) (j : Json) (places : List ℕ) (so_far : ArePlacesSoFar ms (member k j rest)
-    places) where
-  -- A member whose key has a place is the last one of its name so far.
-  pub placed : (place : ℕ) → place_of k ≡ Some place → ArePlacesSoFar ms rest (slice_set places place (members_len
-      (member k j rest)))
-  placed place found = record {
-    many = length-set places place left ∙ so_far.many;
-    at_end = last_next ms rest k j so_far.at_end;
-    tails = λ i n h e ne. tail i n h (cases_eq i place) e ne;
-    values = λ i h. value i h (cases_eq i place);
-  }
-    where
-      left : ℕ
-      left = members_len (member k j rest)
+pub not_once : (ms : Members) (p : Place) → ((n : ℕ) → p ≡ Once n → ⊥) → place_value ms p ≡ None
+not_once ms Absent h = refl
+not_once ms (Once n) h = absurd (h n refl)
+not_once ms Several h = refl
 
-      here : place < place_count
-      here = (found_place k place found).0
+or_false : (a b : Bool) → (a || b) ≡ false → (a ≡ false) × (b ≡ false)
+or_false true b h = absurd cc
+or_false false b h = (refl, h)
 
-      set_here : (i : ℕ) → i ≡ place → get_or (slice_set places place left) i 0 ≡ left
-      set_here i same = ap (λ x. get_or (slice_set places place left) x 0) same ∙ get_or-set_same places place left 0
-          (omega (arith, so_far.many, here))
+-- Where no place has several values, none at an index has.
+not_several : (places : List Place) (i : ℕ) → has_several places ≡ false → is_several (get_or places i Absent) ≡ false
+not_several [] i h = refl
+not_several (p ∷ places) zero h = (or_false (is_several p) (has_several places) h).0
+not_several (p ∷ places) (suc i) h = not_several places i (or_false (is_several p) (has_several places) h).1
 
-      tail : (i n : ℕ) → i < place_count → (i ≡ place) ⊎ (i ≢ place) → get_or (slice_set places place left) i 0 ≡ n →
-          n ≢ 0 → IsTail n ms
-      tail i n h (inl same) e ne =
-          let is : left ≡ n = sym (set_here i same) ∙ e in
-          record { len = ap (λ x. members_len (last_members x ms)) (sym is) ∙ ap members_len so_far.at_end ∙ is }
-      tail i n h (inr other) e ne = so_far.tails i n h (sym (get_or-set_other places place i left 0 other) ∙ e) ne
-
-      value : (i : ℕ) → i < place_count → (i ≡ place) ⊎ (i ≢ place) → get_member (name_at i) ms ≡ later_or (get_member
-          (name_at i) rest) (value_at ms (get_or (slice_set places place left) i 0))
-      value i h (inl same) =
-          let is : bytes_eq k (name_at i) ≡ true = ap (λ x. bytes_eq k (name_at x)) same ∙ (found_place k place
-          found).1 in
-          so_far.values i h
-          ∙ ap (λ b. later_or (later_or (get_member (name_at i) rest) (cond b (Some j) None)) (value_at ms (get_or
-          places i 0))) is
-          ∙ some_later (get_member (name_at i) rest) (value_at ms (get_or places i 0)) j
-          ∙ ap (λ o. later_or (get_member (name_at i) rest) o) (sym (ap first_value so_far.at_end))
-          ∙ ap (λ o. later_or (get_member (name_at i) rest) o) (sym (value_is ms left (some_left k j rest)))
-          ∙ ap (λ n. later_or (get_member (name_at i) rest) (value_at ms n)) (sym (set_here i same))
-      value i h (inr other) =
-          so_far.values i h
-          ∙ ap (λ b. later_or (later_or (get_member (name_at i) rest) (cond b (Some j) None)) (value_at ms (get_or
-          places i 0))) (other_name k place i h found (λ e. other (sym e)))
-          ∙ ap (λ o. later_or o (value_at ms (get_or places i 0))) (none_later (get_member (name_at i) rest))
-          ∙ ap (λ n. later_or (get_member (name_at i) rest) (value_at ms n)) (sym (get_or-set_other places place i left
-          0 other))
+pub given_at : (ms : Members) (places : List Place) (i : ℕ) → ArePlaces ms places → i < place_count → get_member
+    (name_at i) ms ≡ place_value ms (get_or places i Absent)
+given_at ms places i a h = named_last i h ms
+    ∙ said ms (get_or places i Absent) (values_at place_of i ms) (a.say i h) (not_several places i a.once)
 
 -- ---- the fault of the members
 
--- The rest has none of the keys that have a place.
-abbrev pub HasNoneOf : List ℕ → Members → Type 0
-HasNoneOf places rest = (place : ℕ) → place < place_count → get_or places place 0 ≢ 0 → has_key (name_at place) rest ≡
-    false
+-- Whether there are values.
+abbrev pub are_some : List Json → Bool
+are_some [] = false
+are_some (j ∷ js) = true
 
--- The members before `rest` are known and differ, and have these places.
-pub record AreWellSoFar (ms rest : Members) (places : List ℕ) : Type 0 where
-  pub well : members_fault rest ≡ None → HasNoneOf places rest → members_fault ms ≡ None
-  pub fault : members_fault rest ≢ None → members_fault ms ≢ None
-  pub repeated : (place : ℕ) → place < place_count → get_or places place 0 ≢ 0 → has_key (name_at place) rest ≡ true →
-      members_fault ms ≢ None
+key_held : (i : ℕ) → i < place_count → (ms : Members) → has_key (name_at i) ms ≡ are_some (values_at place_of i ms)
+key_held i h no_members = refl
+key_held i h (member k j ms) =
+    ap₂ (λ (b o : Bool). cond b true o) (key_is k i h) (key_held i h ms) ∙ by_test (is_place (place_of k) i)
+  where
+    by_test : (b : Bool) → cond b true (are_some (values_at place_of i ms)) ≡ are_some
+        (cond b (j ∷ values_at place_of i ms) (values_at place_of i ms))
+    by_test true = refl
+    by_test false = refl
 
--- At first no member was seen.
-pub no_keys : (ms : Members) → AreWellSoFar ms ms nones
-no_keys ms = record {
-  well = λ e none. e;
-  fault = λ ne. ne;
-  repeated = λ i h ne. absurd (ne (none_at i h));
-}
+none_some : (vs : List Json) → length vs ≡ 0 → are_some vs ≡ false
+none_some [] e = refl
+none_some (v ∷ vs) e = absurd (omega (arith, e))
+
+some_none : (vs : List Json) → are_some vs ≡ false → length vs ≡ 0
+some_none [] e = refl
+some_none (v ∷ vs) e = absurd cc
+
+fewer : (b : Bool) (j : Json) (vs : List Json) → length vs ≤ length (cond b (j ∷ vs) vs)
+fewer true j vs = omega arith
+fewer false j vs = omega arith
 
 unknown_is : (k : List ℕ) (j : Json) (rest : Members) → is_known k ≡ false → members_fault (member k j rest) ≡ Some
     (at k (Wrong UnknownMember))
@@ -308,59 +284,106 @@ next_is : (k : List ℕ) (j : Json) (rest : Members) → is_known k ≡ true →
     (member k j rest) ≡ members_fault rest
 next_is k j rest e f = rw (e, f) refl
 
--- A key that has no place is a fault.
-pub no_place_fault : (ms rest : Members) (k : List ℕ) (j : Json) (places : List ℕ) → AreWellSoFar ms
-    (member k j rest) places → place_of k ≡ None → members_fault ms ≢ None
-no_place_fault ms rest k j places so_far none = so_far.fault (λ e. absurd (let t = sym (unknown_is k j rest
-    (unknown_place k none)) ∙ e in cc))
+-- No place has more than one value.
+abbrev pub AreSingle : Members → Type 0
+AreSingle ms = (i : ℕ) → i < place_count → length (values_at place_of i ms) ≤ 1
 
-module _ (ms rest : Members) (k : List ℕ) (j : Json) (places : List ℕ) (place : ℕ) (many : length places ≡
-    place_count) (found : place_of k ≡ Some place) (so_far : AreWellSoFar ms (member k j rest) places) where
-  here : place < place_count
-  here = (found_place k place found).0
+module _ (k : List ℕ) (j : Json) (ms : Members) (i : ℕ) (e : place_of k ≡ Some i) where
+  here : values_at place_of i (member k j ms) ≡ j ∷ values_at place_of i ms
+  here =
+      ap (λ (o : Option ℕ). cond (is_place o i) (j ∷ values_at place_of i ms) (values_at place_of i ms)) e
+      ∙ ap (λ (b : Bool). cond b (j ∷ values_at place_of i ms) (values_at place_of i ms)) (eq-eqb i i refl)
 
-  is : bytes_eq k (name_at place) ≡ true
-  is = (found_place k place found).1
+  later_unknown : first_unknown place_of (member k j ms) ≡ first_unknown place_of ms
+  later_unknown = ap (unknown_or k (first_unknown place_of ms)) e
 
-  name_is : k ≡ name_at place
-  name_is = (bytes_eq-Decides k (name_at place)).0 is
+  held : has_key k ms ≡ are_some (values_at place_of i ms)
+  held = ap (λ x. has_key x ms) ((bytes_eq-Decides k (name_at i)).0 (found_place k i e).1)
+      ∙ key_held i (found_place k i e).0 ms
 
-  known : is_known k ≡ true
-  known = known_place k place found
+-- Members whose keys are known and differ have no fault.
+well : (ms : Members) → first_unknown place_of ms ≡ None → AreSingle ms → members_fault ms ≡ None
+well no_members u s = refl
+well (member k j ms) u s = by_place (well ms) (place_of k) refl
+  where
+    by_place : (first_unknown place_of ms ≡ None → AreSingle ms → members_fault ms ≡ None) → (o : Option ℕ) → place_of k
+        ≡ o → members_fault (member k j ms) ≡ None
+    by_place later None e = absurd
+        (let t : Some k ≡ None = sym (ap (unknown_or k (first_unknown place_of ms)) e) ∙ u in cc)
+    by_place later (Some i) e =
+        let none : length (values_at place_of i ms) ≡ 0 =
+        omega (arith, ap length (here k j ms i e), s i (found_place k i e).0) in
+        next_is k j ms (known_place k i e) (held k j ms i e ∙ none_some (values_at place_of i ms) none)
+        ∙ later (sym (later_unknown k j ms i e) ∙ u)
+        (λ n h. let low : length (values_at place_of n ms) ≤ length (values_at place_of n (member k j ms)) =
+        fewer (is_place (place_of k) n) j (values_at place_of n ms) in omega (arith, low, s n h))
 
-  -- A key whose place is taken is a fault.
-  pub taken_fault : get_or places place 0 ≢ 0 → members_fault ms ≢ None
-  taken_fault ne = so_far.repeated place here ne (rw is refl)
+-- Members without a fault are known and differ.
+known_and_single : (ms : Members) → members_fault ms ≡ None → (first_unknown place_of ms ≡ None) × AreSingle ms
+known_and_single no_members e = (refl, λ i h. omega arith)
+known_and_single (member k j ms) e = by_place (known_and_single ms) (place_of k) refl
+  where
+    count : (i n : ℕ) → place_of k ≡ Some i → are_some (values_at place_of i ms) ≡ false → AreSingle ms → n <
+        place_count → (b : Bool) → eqb i n ≡ b → length (values_at place_of n (member k j ms)) ≤ 1
+    count i n q none single h true s =
+        let same : length (values_at place_of n (member k j ms)) ≡ length (values_at place_of i (member k j ms)) =
+        ap (λ x. length (values_at place_of x (member k j ms))) (sym (eqb-true i n s)) in
+        omega (arith, same, ap length (here k j ms i q), some_none (values_at place_of i ms) none)
+    count i n q none single h false s =
+        let past : values_at place_of n (member k j ms) ≡ values_at place_of n ms =
+        ap (λ (o : Option ℕ). cond (is_place o n) (j ∷ values_at place_of n ms) (values_at place_of n ms)) q
+        ∙ ap (λ (b : Bool). cond b (j ∷ values_at place_of n ms) (values_at place_of n ms)) s in
+        omega (arith, ap length past, single n h)
 
-  repeated_fault : has_key k rest ≡ true → members_fault (member k j rest) ≢ None
-  repeated_fault f e = absurd (let t = sym (repeated_is k j rest known f) ∙ e in cc)
+    by_key : (i : ℕ) → place_of k ≡ Some i → (members_fault ms ≡ None → (first_unknown place_of ms ≡ None) × AreSingle
+        ms) → (b : Bool) → has_key k ms ≡ b → (first_unknown place_of (member k j ms) ≡ None) × AreSingle
+        (member k j ms)
+    by_key i q later true f = absurd (let t = sym (repeated_is k j ms (known_place k i q) f) ∙ e in cc)
+    by_key i q later false f =
+        let rest = later (sym (next_is k j ms (known_place k i q) f) ∙ e) in
+        (later_unknown k j ms i q ∙ rest.0, λ n h. count i n q (sym (held k j ms i q) ∙ f) rest.1 h (eqb i n) refl)
 
-  -- A key whose place is free takes it.
-  pub taken : (left : ℕ) → left ≢ 0 → get_or places place 0 ≡ 0 → AreWellSoFar ms rest (slice_set places place left)
-  taken left some free = record {
-    well = λ e none. so_far.well (next_is k j rest known (absent none) ∙ e) (λ i h ne. others none i h ne (cases_eq i
-        place));
-    fault = λ ne. so_far.fault (λ e. by_test (has_key k rest) refl ne e);
-    repeated = λ i h ne g. again i h ne g (cases_eq i place);
-  }
-    where
-      absent : HasNoneOf (slice_set places place left) rest → has_key k rest ≡ false
-      absent none = ap (λ x. has_key x rest) name_is ∙ none place here (λ e. some (sym (get_or-set_same places place
-          left 0 (omega (arith, many, here))) ∙ e))
+    by_place : (members_fault ms ≡ None → (first_unknown place_of ms ≡ None) × AreSingle ms) → (o : Option ℕ) → place_of
+        k ≡ o → (first_unknown place_of (member k j ms) ≡ None) × AreSingle (member k j ms)
+    by_place later None q = absurd (let t = sym (unknown_is k j ms (unknown_place k q)) ∙ e in cc)
+    by_place later (Some i) q = by_key i q later (has_key k ms) refl
 
-      others : HasNoneOf (slice_set places place left) rest → (i : ℕ) → i < place_count → get_or places i 0 ≢ 0 →
-          (i ≡ place) ⊎ (i ≢ place) → has_key (name_at i) (member k j rest) ≡ false
-      others none i h ne (inl same) = absurd (ne (ap (λ x. get_or places x 0) same ∙ free))
-      others none i h ne (inr other) = rw (other_name k place i h found (λ e. other (sym e))) (none i h
-          (λ e. ne (sym (get_or-set_other places place i left 0 other) ∙ e)))
+single : (ms : Members) (p : Place) (all : List Json) → Says ms p [] all → is_several p ≡ false → length all ≤ 1
+single ms Absent all h q = omega (arith, ap length h)
+single ms (Once n) all h q = omega (arith, ap length h.1)
+single ms Several all h q = absurd cc
 
-      by_test : (b : Bool) → has_key k rest ≡ b → members_fault rest ≢ None → members_fault (member k j rest) ≡ None → ⊥
-      by_test true f ne e = repeated_fault f e
-      by_test false f ne e = ne (sym (next_is k j rest known f) ∙ e)
+unlike : (ms : Members) (p : Place) (all : List Json) → Says ms p [] all → length all ≤ 1 → is_several p ≡ false
+unlike ms Absent all h few = refl
+unlike ms (Once n) all h few = refl
+unlike ms Several all h few = absurd (omega (arith, h, few))
 
-      again : (i : ℕ) → i < place_count → get_or (slice_set places place left) i 0 ≢ 0 → has_key (name_at i) rest ≡
-          true → (i ≡ place) ⊎ (i ≢ place) → members_fault ms ≢ None
-      again i h ne g (inl same) = so_far.fault (repeated_fault (ap (λ x. has_key x rest)
-          (name_is ∙ ap name_at (sym same)) ∙ g))
-      again i h ne g (inr other) = so_far.repeated i h (λ e. ne (get_or-set_other places place i left 0 other ∙ e))
-          (rw (other_name k place i h found (λ e. other (sym e))) g)
+none_has : (places : List Place) → ((i : ℕ) → i < length places → is_several (get_or places i Absent) ≡ false) →
+    has_several places ≡ false
+none_has [] h = refl
+none_has (p ∷ places) h = none_of _ _ (h 0 (omega arith)) (none_has places (λ i l. h (suc i) (omega (arith, l))))
+
+module _ (ms : Members) (places : List Place) (say : Say place_of place_count ms no_members places) where
+  no_fault : first_unknown place_of ms ≡ None → has_several places ≡ false → members_fault ms ≡ None
+  no_fault u once = well ms u (λ i h. single ms (get_or places i Absent) (values_at place_of i ms) (say i h)
+      (not_several places i once))
+
+  several_fault : length places ≡ place_count → has_several places ≡ true → members_fault ms ≢ None
+  several_fault many some e =
+      let none : has_several places ≡ false =
+      none_has places (λ i l. let h : i < place_count = omega (arith, l, many) in
+      unlike ms (get_or places i Absent) (values_at place_of i ms) (say i h) ((known_and_single ms e).1 i h)) in
+      absurd cc
+
+  -- What is known of the members, by whether a place has several values.
+  pub places_if : (b : Bool) → b ≡ has_several places → IsTrue (not b) → ArePlaces ms places
+  places_if true e t = absurd cc
+  places_if false e t = record { say = say; once = sym e }
+
+  pub fault_if : (b : Bool) → b ≡ has_several places → length places ≡ place_count → first_unknown place_of ms ≡ None
+      → MatchBool (not b) (members_fault ms ≡ None) (members_fault ms ≢ None)
+  fault_if true e many u = several_fault many (sym e)
+  fault_if false e many u = no_fault u (sym e)
+
+pub unknown_fault : (ms : Members) (k : List ℕ) → first_unknown place_of ms ≡ Some k → members_fault ms ≢ None
+unknown_fault ms k u e = absurd (let t : None ≡ Some k = sym (known_and_single ms e).0 ∙ u in cc)

@@ -6,7 +6,7 @@ use Rattle.std.specs.Str.{bytes_eq}
 use Rattle.json.specs.Json.{Json, null, boolean, number, string, array, object, Members, no_members, member}
 use Rattle.json.specs.Find.{get}
 use Rattle.shared_core_json_reader.specs.declared.error.Reason.TheVariants.{UnknownMember, RepeatedMember, WrongKind}
-use Rattle.shared_core_json_reader.specs.Reading.{present}
+use Rattle.json_table.specs.Places.{present}
 use Rattle.make_lines.specs.declared.error.LineReason.TheVariants.{Json as Wrong, SeveralPayloads}
 use Rattle.make_lines.specs.Errors.{LineFault, at}
 

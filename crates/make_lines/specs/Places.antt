@@ -1,10 +1,9 @@
 -- The members of a line by the places of their names.
-use Rattle.std.specs.Prelude.{◌≡◌, ◌≢◌, ℕ, suc, ◌<◌, ◌==◌, List, [], ◌∷◌, get_or, codes, if◌then◌else◌, Option, Some}
-use Rattle.std.specs.Prelude.{None}
+use Rattle.std.specs.Prelude.{◌≡◌, ℕ, suc, false, List, [], ◌∷◌, get_or, codes, if◌then◌else◌, Option, Some, None}
 use Rattle.std.specs.Str.{bytes_eq}
-use Rattle.json.specs.Json.{Json, Members, no_members, member}
-use Rattle.json.specs.Find.{get_member}
-use Rattle.json_table.specs.Tails.{last_members, IsTail}
+use Rattle.json.specs.Json.{Members, no_members}
+use Rattle.json_table.specs.Places.{Say, has_several}
+use Rattle.json_table.specs.declared.places.Place.{Place}
 
 -- The names of the members that a line may have, by their places.
 abbrev pub names : List (List ℕ)
@@ -30,16 +29,7 @@ index_in (name ∷ names) n key = if bytes_eq key name then Some n else index_in
 unfoldable pub place_of : List ℕ → Option ℕ
 place_of key = index_in names 0 key
 
--- The value of the first member.
-abbrev pub first_value : Members → Option Json
-first_value no_members = None
-first_value (member k j ms) = Some j
-
--- The value with which those of the members begin, at the end, that have this many entries; none if that is 0.
-abbrev pub value_at : Members → ℕ → Option Json
-value_at ms n = if n == 0 then None else first_value (last_members n ms)
-
--- Each place says where the last member of its name is; 0 if there is none.
-pub record ArePlaces (ms : Members) (places : List ℕ) : Type 0 where
-  pub tails : (place n : ℕ) → place < place_count → get_or places place 0 ≡ n → n ≢ 0 → IsTail n ms
-  pub values : (place : ℕ) → place < place_count → get_member (name_at place) ms ≡ value_at ms (get_or places place 0)
+-- Each place says where the member of its name is, and no name comes twice.
+pub record ArePlaces (ms : Members) (places : List Place) : Type 0 where
+  pub say : Say place_of place_count ms no_members places
+  pub once : has_several places ≡ false

@@ -15,7 +15,7 @@ use crate::payload::{bytes_of, bytes_place, payload_of};
 use crate::reject::{Fault, ItemFault, item_error, out_of_memory, reject, reject_text};
 use crate::text::is_blank;
 use json::Scratch;
-use json_table::{Node, Shape};
+use json_table::{Node, Place, Shape};
 use shared_core_base::version::Version;
 use shared_core_json_reader::{Reason, read_u64, short_table, table_of_text};
 use std::alloc::Global;
@@ -117,7 +117,7 @@ fn append_said(
     let Shape::Object(members) = value.shape() else {
         return Err(reject(alloc, LineReason::Json(Reason::WrongKind), ""));
     };
-    let mut places = [0; PLACES];
+    let mut places = [Place::Absent; PLACES];
     if !find_places(&members, &mut places) {
         return Err(first_fault(alloc, &members));
     }

@@ -2,19 +2,17 @@
 //!
 //! A line is gone over once: each name has a place (`Line`), and only a line with a fault is gone over again.
 
-ghost use Rattle.std.specs.Prelude.{◌≡◌, ◌≢◌, ◌<◌, None, map, replicate, IfSome, IsTrue, MatchBool};
-ghost use Rattle.std.specs.Prelude.{option_map, option_and_then};
+ghost use Rattle.std.specs.Prelude.{◌≡◌, ◌≢◌, ◌<◌, None, map, option_map, replicate, IsTrue, MatchBool};
 ghost use Rattle.json.specs.Json.{object};
-ghost use Rattle.json_table.specs.Tails.{last_members, IsTail};
-ghost use Rattle.shared_core_json_reader.specs.Reading.{present};
+ghost use Rattle.json_table.specs.declared.places.Place.TheVariants.{Absent};
 ghost use Rattle.make_lines.specs.Appending.{said_of, HasFault};
 ghost use Rattle.make_lines.specs.Members.{is_known, has_key, members_fault, pairs_fault};
 ghost use Rattle.make_lines.specs.Members.{given, given_either, gives_both};
-ghost use Rattle.make_lines.specs.Places.{names, place_of, name_at, place_count, first_value, ArePlaces};
+ghost use Rattle.make_lines.specs.Places.{names, place_of, name_at, place_count, ArePlaces};
 
 use crate::error::{LineError, LineReason};
 use crate::reject::{Fault, reject};
-use json_table::{Members, Node};
+use json_table::{Members, Names, Node, Place, first_present};
 use shared_core_json_reader::Reason;
 use std::alloc::Global;
 use std::marker::Model;
@@ -69,8 +67,8 @@ pub const LINE: u8 = 14;
 #[derive(Drop)]
 pub struct Line<'t, 'a> {
     members: Members<'t, 'a>,
-    /// With how many entries the members end that begin with the one of a place's name; 0 if there is none.
-    places: &'t [usize; PLACES],
+    /// Where the member of each name is.
+    places: &'t [Place; PLACES],
 }
 
 impl<'t, 'a> Model for Line<'t, 'a> {
@@ -121,31 +119,30 @@ fn place_of(key: &str) -> Option<usize>
     None
 }
 
-/// The first place, from one on, whose name has this many bytes; the number of places if there is none.
-#[inline(always)]
-fn place_as_long(from: usize, len: usize) -> usize {
-    let names = names();
-    let mut place = from;
-    while place < names.len() && names[place].len() != len {
-        place += 1;
-    }
-    place
-}
+/// The names of the members that a line may have, each with its index as its place.
+#[derive(Drop)]
+struct LineNames;
 
-/// The place of a key, if it is a name. That from `next` on which is as long is tried first, and `next` is set after
-/// it: most lines have their members in the order of a dump.
-#[inline(always)]
-fn next_place(next: &mut usize, key: &str) -> Option<usize>
-    ensures value { result ≡ place_of key.now }
-    ensures within { IfSome result (λ place. place < place_count) }
-{
-    let names = names();
-    let place = place_as_long(*next, key.len());
-    if place < names.len() && key == names[place] {
-        *next = place + 1;
-        return Some(place);
+impl Names for LineNames {
+    ghost use Rattle.make_lines.specs.Places.{place_of, place_count};
+
+    ghost finds = { λ _. place_of };
+
+    ghost count = { λ _. place_count };
+
+    #[inline(always)]
+    fn len(&self) -> usize {
+        PLACES
     }
-    place_of(key)
+
+    #[inline(always)]
+    fn name_at(&self, index: usize) -> (&'static str, usize) {
+        (names()[index], index)
+    }
+
+    fn place_of(&self, key: &str) -> Option<usize> {
+        place_of(key)
+    }
 }
 
 /// Whether a line may have a member with this key.
@@ -189,41 +186,21 @@ pub fn first_fault(alloc: Global, members: &Members<'_, '_>) -> LineError
 
 /// Finds where the member of each name is, and returns whether there are no other members and none twice.
 #[inline(always)]
-pub fn find_places(members: &Members<'_, '_>, places: &mut [usize; PLACES]) -> bool
-    requires { places.old ≡ replicate place_count 0 }
+pub fn find_places(members: &Members<'_, '_>, places: &mut [Place; PLACES]) -> bool
+    requires { places.old ≡ replicate place_count Absent }
     ensures places { IsTrue result → ArePlaces members.now places.new }
     ensures fault { MatchBool result (members_fault members.now ≡ None) (members_fault members.now ≢ None) }
 {
-    let mut rest = members.copy();
-    let mut next = 0;
-    loop {
-        let left = rest.left();
-        let Some((key, _)) = rest.next() else {
-            return true;
-        };
-        let Some(place) = next_place(&mut next, key) else {
-            return false;
-        };
-        if places[place] != 0 {
-            return false;
-        }
-        places[place] = left;
+    match json_table::find_places(&LineNames, members, places) {
+        Ok(are_several) => !are_several,
+        Err(_) => false,
     }
-}
-
-/// The value of the first of those of the members, at the end, that have this many entries, unless it is null.
-fn first_present<'t, 'a>(members: &Members<'t, 'a>, left: usize) -> Option<Node<'t, 'a>>
-    requires { IsTail left members.now }
-    ensures { result ≡ option_and_then present (first_value (last_members left members.now)) }
-{
-    let (_, value) = members.last(left).next()?;
-    if value.is_null() { None } else { Some(value) }
 }
 
 impl<'t, 'a> Line<'t, 'a> {
     /// The line of these members, by where those of each name are.
     #[inline(always)]
-    pub fn new(members: Members<'t, 'a>, places: &'t [usize; PLACES]) -> Line<'t, 'a>
+    pub fn new(members: Members<'t, 'a>, places: &'t [Place; PLACES]) -> Line<'t, 'a>
         requires { ArePlaces members places.now }
         ensures { result ≡ object members.entry }
     {
@@ -250,11 +227,10 @@ impl<'t, 'a> Line<'t, 'a> {
         requires { place < place_count }
         ensures { result ≡ given (name_at place) self.now }
     {
-        let left = self.places[usize::from(place)];
-        if left == 0 {
-            return None;
+        match self.places[usize::from(place)] {
+            Place::Once(left) => first_present(&self.members, left),
+            _ => None,
         }
-        first_present(&self.members, left)
     }
 
     /// The value of a member by either of its names.

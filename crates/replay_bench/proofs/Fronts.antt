@@ -1,5 +1,6 @@
 -- Commands at the front of a journal.
 use Rattle.std.proofs.Common.{◌≡◌, ℕ, List, [], ◌∷◌, Option, Some, None, refl, sym, ap, subst}
+use Rattle.std.specs.Io.KnownBytes.{Keeps}
 use Rattle.shared_core_base.specs.declared.version.Version.{Version}
 use Rattle.shared_core_stream.specs.declared.encoding.item.Item.{Item}
 use Rattle.shared_core_stream.specs.declared.encoding.raw_message.RawMessage.{RawMessage}
@@ -50,6 +51,13 @@ module _ (version : Version) where
   takes_after (Some old) (Some between) None first before taken = absurd taken
   takes_after (Some old) (Some between) (Some new) first before taken =
       λ commands is. before (with_first first commands) (taken commands is)
+
+  -- nothing is taken of what is kept
+  pub takes_kept : (old new : Option (List ℕ)) → Keeps old new → TakesFirst version old None new
+  takes_kept None new kept = tt
+  takes_kept (Some old) None kept = absurd kept
+  takes_kept (Some old) (Some new) kept = λ commands is.
+      subst (λ (bytes : List ℕ). IsJournal version bytes commands) kept is
 
   -- no item begins what is left
   pub nothing_left : (left : Option (List ℕ)) (rest : ℕ) → EndsKnown version left rest → HasNoCommand version left

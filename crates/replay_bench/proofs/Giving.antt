@@ -3,19 +3,21 @@ use Rattle.std.proofs.Common.{◌≡◌, ℕ, List, [], ◌∷◌, ◌++◌, len
 use Rattle.std.proofs.Common.{ap, ◌∙◌, subst, arith, append-nil, append_assoc}
 use Rattle.std.specs.List.{concat}
 use Rattle.std.specs.Prelude.{IfSome}
-use Rattle.std.specs.Io.KnownBytes.{prepend_known, Consumes, IsAtEnd}
+use Rattle.std.specs.Io.KnownBytes.{prepend_known, Consumes, IsAtEnd, Keeps}
 use Rattle.std.proofs.KnownBytes.{prepend_known-nil}
 use Rattle.shared_core_base.specs.declared.version.Version.{Version}
 use Rattle.shared_core_stream.specs.declared.encoding.item.Item.{Item}
 use Rattle.shared_core_stream.specs.declared.encoding.limit_error.MessageTooLong.{MessageTooLong as LongMessage}
 use Rattle.shared_core_stream.specs.Items.{NoItemBegins, TakesItem}
-use Rattle.shared_core_stream.specs.Limits.{Limited, too_long_at}
+use Rattle.shared_core_stream.specs.Limits.{too_long_at}
+use Rattle.shared_core_stream.specs.Unread.{Unread}
 use Rattle.shared_core_stream.proofs.Items.{takes_more}
 use Rattle.shared_core_stream.proofs.Limits.{accepted, front_more, rejected_front}
 use Rattle.shared_core_stream.proofs.LongMessages.{limit_below}
 use Rattle.shared_core_io.specs.Reading.{with_more, IsRead}
 use Rattle.shared_core_io.specs.declared.error.ReadError.TheVariants as read
-use Rattle.replay_bench.specs.Sources.{coming_of, limit_of, BeginsTooLong, EndsKnown, RejectsNext, TakesKnown}
+use Rattle.replay_bench.specs.Sources.{coming_of, known_unless, limit_of, BeginsTooLong, EndsKnown, RejectsNext}
+use Rattle.replay_bench.specs.Sources.{TakesKnown}
 use Rattle.replay_bench.specs.declared.sources.SourceError.TheVariants as source
 
 -- ---- chunks in memory
@@ -69,32 +71,47 @@ module _ (version : Version) (held gave : List ℕ) where
 
 -- ---- readers of items
 
-module _ (old new : Limited) (gave : List ℕ) (first left : Option (List ℕ)) (consumed : Consumes first left gave) where
+module _ (old new : Unread) (gave : List ℕ) (first left : Option (List ℕ)) (consumed : Consumes first left gave) where
   pub item_given : (item : Item) → IsRead (with_more old gave) left (Ok (Some item)) new
-      → TakesKnown old.unread.version (coming_of old first) item (coming_of new left)
+      → TakesKnown old.version (coming_of old first) item (coming_of new left)
   item_given item (accepts, (taken, fits), after) =
       let none : old.rejected ≡ None = (accepted (with_more old gave) accepts).0 in
-      let still : new.rejected ≡ None = ap (λ (s : Limited). s.rejected) after ∙ none in
+      let still : new.rejected ≡ None = ap (λ (s : Unread). s.rejected) after ∙ none in
       rw (none, still)
-      (known_takes old.unread.version old.unread.bytes gave new.unread.bytes item first left consumed taken)
+      (known_takes old.version old.bytes gave new.bytes item first left consumed taken)
 
   pub rest_given : (count : ℕ) → IsRead (with_more old gave) left (Err (read.Truncated count)) new
-      → EndsKnown old.unread.version (coming_of old first) count
+      → EndsKnown old.version (coming_of old first) count
   rest_given count (end, accepts, nothing, counted, some, same) =
       let none : old.rejected ≡ None = (accepted (with_more old gave) accepts).0 in
-      rw none (known_ends old.unread.version old.unread.bytes gave count first left consumed end nothing counted)
+      rw none (known_ends old.version old.bytes gave count first left consumed end nothing counted)
 
   pub long_given : (message : LongMessage) → IsRead (with_more old gave) left (Err (read.TooLong message)) new
-      → RejectsNext old.unread.version (limit_of old) true (coming_of old first) (source.MessageTooLong message)
+      → RejectsNext old.version (limit_of old) true (coming_of old first) (source.MessageTooLong message)
   long_given message (some, after) = by_rejected old.rejected refl
     where
       by_rejected : (rejected : Option LongMessage) → old.rejected ≡ rejected
-          → RejectsNext old.unread.version (limit_of old) true (coming_of old first) (source.MessageTooLong message)
+          → RejectsNext old.version (limit_of old) true (coming_of old first) (source.MessageTooLong message)
       by_rejected (Some other) is = rw is (omega arith, tt)
       by_rejected None is =
           let front = rejected_front (with_more old gave) message is some in
           rw is (
-            limit_below old.unread.version old.limit old.offset (old.unread.bytes ++ gave) message front,
-            known_begins old.unread.version old.unread.bytes gave old.limit old.offset message first left consumed
+            limit_below old.version old.limit old.offset (old.bytes ++ gave) message front,
+            known_begins old.version old.bytes gave old.limit old.offset message first left consumed
                 front,
           )
+
+  -- an allocation failed
+  pub kept_given : IsRead (with_more old gave) left (Err read.OutOfMemory) new
+      → (new.version ≡ old.version) × (limit_of new ≡ limit_of old)
+      × Keeps (coming_of old first) (coming_of new left)
+  kept_given is = rw is (refl, refl, keeps old.rejected old.bytes first left consumed)
+    where
+      keeps : (rejected : Option LongMessage) (bytes : List ℕ) (first left : Option (List ℕ)) → Consumes first left gave
+          → Keeps (known_unless rejected (prepend_known bytes first))
+          (known_unless rejected (prepend_known (bytes ++ gave) left))
+      keeps (Some message) bytes first left consumed = tt
+      keeps None bytes None left consumed = tt
+      keeps None bytes (Some all) None consumed = absurd consumed
+      keeps None bytes (Some all) (Some more) consumed =
+          append_assoc bytes gave more ∙ ap (λ (b : List ℕ). bytes ++ b) (sym consumed)

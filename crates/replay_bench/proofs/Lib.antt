@@ -9,7 +9,9 @@ pub mod Pairs
 pub mod Places
 pub mod Readings
 pub mod Rejections
+pub mod Saying
 pub mod Seen
 pub mod Stops
 pub mod Endings
 pub mod OneOutcome
+pub mod Replays

@@ -20,8 +20,10 @@ use Rattle.replay_bench.specs.declared.fields.FieldDifference.{FieldDifference}
 use Rattle.replay_bench.specs.declared.verdicts.Side.TheVariants.{Recorded, Replayed}
 use Rattle.replay_bench.specs.declared.verdicts.Verdict.TheVariants.{TypeMismatch, HeaderMismatch}
 use Rattle.replay_bench.specs.declared.verdicts.BenchError.TheVariants.{OutOfMemory}
-use Rattle.replay_bench.specs.Fields.{listed_texts}
-use Rattle.replay_bench.specs.Verdicts.{ReturnsPair, IsMalformedOn, IsPair, MeanOthers, MeanTheSame, bench_error_of}
+use Rattle.replay_bench.specs.Fields.{AreFieldsOf, listed_texts}
+use Rattle.replay_bench.specs.Outcomes.{OtherCommand}
+use Rattle.replay_bench.specs.Verdicts.{IsFound, ReturnsPair, IsMalformedOn, IsPair, MeanOthers, MeanTheSame}
+use Rattle.replay_bench.specs.Verdicts.{bench_error_of}
 
 -- Two commands of the type of a record with this schema, at an index.
 pub record AreTyped (recorded replayed : RawMessage) (s : ℕ) : Type 0 where
@@ -35,6 +37,41 @@ are_typed index recorded replayed ty s pair own = record {
   schema = ap message_schema pair.is ∙ own;
 }
 
+module _ (recorded replayed : RawMessage) (s : ℕ) (typed : AreTyped recorded replayed s) where
+  by_schema : (holds : ℕ → Type 0) → holds s → IsSomeAnd (message_schema recorded.header.ty) holds
+  by_schema holds is = subst (λ schema. IsSomeAnd schema holds) (sym typed.schema) is
+
+  module _ (one other : Parts) (means : MeansParts s recorded.payload one)
+      (means_other : MeansParts s replayed.payload other) where
+    -- fields that were listed of what both mean
+    pub fields_of : (fields : List FieldDifference) → listed_texts fields ≡ differing_fields s one other
+        → AreFieldsOf recorded replayed fields
+    fields_of fields listed =
+        by_schema (λ s. listed_texts fields ≡ differing_fields s (payload_meaning s recorded.payload)
+        (payload_meaning s replayed.payload))
+        (listed ∙ ap (λ v. differing_fields s v other) means.1
+        ∙ ap (λ v. differing_fields s (payload_meaning s recorded.payload) v) means_other.1)
+
+-- two commands do not mean the same, and this text has their difference
+pub differs_by : (ignore : Bool) (index : ℕ) (recorded replayed : RawMessage) (s : ℕ)
+    (typed : AreTyped recorded replayed s) (one other : Parts)
+    → MeansParts s recorded.payload one → MeansParts s replayed.payload other
+    → ¬ (erased s ignore one ≡ erased s ignore other)
+    → IsFound ignore index recorded replayed (OtherCommand index (command_mismatch_text recorded.header.ty (pos index)
+    (difference s (codes "   ") (payload_meaning s recorded.payload) (payload_meaning s replayed.payload))))
+differs_by ignore index recorded replayed s typed one other means means_other differ = (
+  typed.one_type,
+  refl,
+  by_schema recorded replayed s typed (MeanOthers ignore index recorded.header.ty recorded.payload replayed.payload
+      (command_mismatch_text recorded.header.ty (pos index)
+      (difference s (codes "   ") (payload_meaning s recorded.payload) (payload_meaning s replayed.payload)))) (
+        means.0,
+        means_other.0,
+        (λ same. differ (ap (erased s ignore) means.1 ∙ same ∙ ap (erased s ignore) (sym means_other.1))),
+        refl,
+      ),
+)
+
 module _ (ignore is_listed : Bool) (index : ℕ) (recorded replayed : RawMessage) where
   -- an allocation may fail
   pub pair_out_of_memory : ReturnsPair ignore is_listed index recorded replayed (Err OutOfMemory)
@@ -46,12 +83,12 @@ module _ (ignore is_listed : Bool) (index : ℕ) (recorded replayed : RawMessage
       → IsSomeAnd (message_schema recorded.header.ty) (λ s. IsAccepted s recorded.payload) → ReturnsPair ignore
       is_listed index recorded replayed (Ok None)
   unfolding ReturnsPair
-  pair_same_bytes typed same accepted = (typed, by_schema (message_schema recorded.header.ty) accepted)
+  pair_same_bytes typed same accepted = (typed, of_each (message_schema recorded.header.ty) accepted)
     where
-      by_schema : (schema : Option ℕ) → IsSomeAnd schema (λ s. IsAccepted s recorded.payload) → IsSomeAnd schema
+      of_each : (schema : Option ℕ) → IsSomeAnd schema (λ s. IsAccepted s recorded.payload) → IsSomeAnd schema
           (MeanTheSame ignore recorded.payload replayed.payload)
-      by_schema None h = h
-      by_schema (Some s) h = subst (λ (other : List ℕ). MeanTheSame ignore recorded.payload other s) same (h, h, refl)
+      of_each None h = h
+      of_each (Some s) h = subst (λ (other : List ℕ). MeanTheSame ignore recorded.payload other s) same (h, h, refl)
 
   -- the types differ
   pub pair_types : (text : String Global) (fields : Vec FieldDifference Global) → fields.items ≡ [] → recorded.header.ty
@@ -62,16 +99,17 @@ module _ (ignore is_listed : Bool) (index : ℕ) (recorded replayed : RawMessage
   pair_types text fields none differ says = ((refl, differ, says), none)
 
   module _ (s : ℕ) (typed : AreTyped recorded replayed s) where
-    of_schema : (holds : ℕ → Type 0) → holds s → IsSomeAnd (message_schema recorded.header.ty) holds
-    of_schema holds is = subst (λ schema. IsSomeAnd schema holds) (sym typed.schema) is
-
     -- the recorded command is not decoded
     pub pair_recorded : (error : WireError) → (error ≡ wire.Malformed → ¬ (IsAccepted s recorded.payload)) → ReturnsPair
         ignore is_listed index recorded replayed (Err (bench_error_of Recorded index error))
     unfolding ReturnsPair
     pair_recorded wire.OutOfMemory rejected = tt
-    pair_recorded wire.Malformed rejected =
-        (typed.one_type, refl, of_schema (IsMalformedOn Recorded recorded.payload replayed.payload) (rejected refl))
+    pair_recorded wire.Malformed rejected = (
+      typed.one_type,
+      refl,
+      by_schema recorded replayed s typed
+          (IsMalformedOn Recorded recorded.payload replayed.payload) (rejected refl),
+    )
 
     -- the replayed one is not
     pub pair_replayed : (one : Parts) (error : WireError) → MeansParts s recorded.payload one →
@@ -82,7 +120,7 @@ module _ (ignore is_listed : Bool) (index : ℕ) (recorded replayed : RawMessage
     pair_replayed one wire.Malformed means rejected = (
       typed.one_type,
       refl,
-      of_schema (IsMalformedOn Replayed recorded.payload replayed.payload)
+      by_schema recorded replayed s typed (IsMalformedOn Replayed recorded.payload replayed.payload)
           (means.0, rejected refl),
     )
 
@@ -94,7 +132,7 @@ module _ (ignore is_listed : Bool) (index : ℕ) (recorded replayed : RawMessage
       unfolding ReturnsPair
       pair_alike same = (
         typed.one_type,
-        of_schema (MeanTheSame ignore recorded.payload replayed.payload)
+        by_schema recorded replayed s typed (MeanTheSame ignore recorded.payload replayed.payload)
             (means.0, means_other.0, ap (erased s ignore) (sym means.1) ∙ same ∙ ap (erased s ignore) means_other.1),
       )
 
@@ -111,20 +149,8 @@ module _ (ignore is_listed : Bool) (index : ℕ) (recorded replayed : RawMessage
           says
           ∙ ap (λ v. command_mismatch_text recorded.header.ty (pos index) (difference s (codes "   ") v other)) means.1
           ∙ ap (λ v. command_mismatch_text recorded.header.ty (pos index)
-          (difference s (codes "   ") (payload_meaning s recorded.payload) v)) means_other.1 in
-          let not_same : ¬ (AreSame s ignore (payload_meaning s recorded.payload) (payload_meaning s replayed.payload))
-          =
-          λ same. differ (ap (erased s ignore) means.1 ∙ same ∙ ap (erased s ignore) (sym means_other.1)) in
-          let fields_of : IsTrue is_listed → listed_texts fields.items ≡ differing_fields s
-          (payload_meaning s recorded.payload) (payload_meaning s replayed.payload) =
-          λ is. listed is ∙ ap (λ v. differing_fields s v other) means.1 ∙ ap
-          (λ v. differing_fields s (payload_meaning s recorded.payload) v) means_other.1 in (
-            (
-              typed.one_type,
-              refl,
-              of_schema (MeanOthers ignore index recorded.header.ty recorded.payload
-                  replayed.payload (string_bytes text)) (means.0, means_other.0, not_same, as_read),
-            ),
-            λ is. of_schema (λ s. listed_texts fields.items ≡ differing_fields s (payload_meaning s recorded.payload)
-                (payload_meaning s replayed.payload)) (fields_of is),
+          (difference s (codes "   ") (payload_meaning s recorded.payload) v)) means_other.1 in (
+            subst (λ (t : List ℕ). IsFound ignore index recorded replayed (OtherCommand index t)) (sym as_read)
+                (differs_by ignore index recorded replayed s typed one other means means_other differ),
+            λ is. fields_of recorded replayed s typed one other means means_other fields.items (listed is),
           )

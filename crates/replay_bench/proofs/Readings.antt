@@ -2,6 +2,8 @@
 use Rattle.std.proofs.Common.{◌≡◌, ℕ, ◌+◌, ◌≤◌, ◌<◌, ◌^◌, Bool, true, false, cond, List, [], ◌∷◌, ◌++◌, length, Option}
 use Rattle.std.proofs.Common.{Some, None, refl, sym, ap, ◌∙◌, subst, arith}
 use Rattle.std.specs.Prelude.{is_some, IfSome}
+use Rattle.std.specs.Io.KnownBytes.{Keeps}
+use Rattle.shared_core_stream.specs.Items.{IsItemsThen}
 use Rattle.shared_core_base.specs.declared.version.Version.{Version}
 use Rattle.shared_core_base.specs.declared.command_type.CommandType.{CommandType}
 use Rattle.shared_core_base.specs.CommandType.{command_type_of}
@@ -44,8 +46,9 @@ module _ (version : Version) (is_strict : Bool) where
   known_start None = tt
   known_start (Some stream) = then_start version stream
 
-  known_next : (first old new : Option (List ℕ)) (items : List Item) (item : Item) → IsKnownThen version first items old
-      → TakesKnown version old item new → IsKnownThen version first (items ++ item ∷ []) new
+  pub known_next : (first old new : Option (List ℕ)) (items : List Item) (item : Item)
+      → IsKnownThen version first items old → TakesKnown version old item new
+      → IsKnownThen version first (items ++ item ∷ []) new
   known_next None old new items item before taken = tt
   known_next (Some stream) None new items item before taken = absurd before
   known_next (Some stream) (Some old) None items item before taken = absurd taken
@@ -152,6 +155,23 @@ module _ (version : Version) (is_strict : Bool) where
         (refl, is.0, longer_by_rest first left read.items limit message read.items_then is.1)
     rejects side may limit source.TooLong is = long_by_rest first left read.items read.items_then is
     rejects side may limit source.OutOfMemory is = tt
+
+  -- a journal is kept
+  pub kept_read : (first old new : Option (List ℕ)) (survey : Survey) → Keeps old new
+      → HasRead version is_strict first old 0 survey → HasRead version is_strict first new 0 survey
+  kept_read first old new survey kept read = record {
+    items = read.items;
+    items_then = kept_then first old new read.items kept read.items_then;
+    is = read.is;
+  }
+    where
+      kept_then : (first old new : Option (List ℕ)) (items : List Item) → Keeps old new
+          → IsKnownThen version first items old → IsKnownThen version first items new
+      kept_then None old new items kept then = tt
+      kept_then (Some stream) None new items kept then = absurd then
+      kept_then (Some stream) (Some bytes) None items kept then = absurd kept
+      kept_then (Some stream) (Some bytes) (Some same) items kept then =
+          subst (λ (b : List ℕ). IsItemsThen version stream items b) (sym kept) then
 
   -- ---- a journal that was read on
 

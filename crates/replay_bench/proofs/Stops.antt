@@ -10,9 +10,11 @@ use Rattle.replay_bench.specs.declared.commands.HeldCommands.{HeldCommands}
 use Rattle.replay_bench.specs.declared.survey.Survey.{Survey}
 use Rattle.replay_bench.specs.Held.{HasAfter, HasOffsets, IsHeld, IsStopped}
 use Rattle.replay_bench.specs.Holding.{IsHeldOf}
-use Rattle.replay_bench.specs.Journals.{IsCommand}
+use Rattle.replay_bench.specs.Fields.{IsKnownCommandAt, IsTypeAt}
+use Rattle.replay_bench.specs.Journals.{IsCommand, type_of}
 use Rattle.replay_bench.specs.Reading.{HasReadOn, IsKnownLast}
 use Rattle.replay_bench.specs.Taking.{HasNoCommand, TakesFirst}
+use Rattle.replay_bench.proofs.Fronts.{journal_of}
 use Rattle.replay_bench.proofs.Places.{IsKnownAfter}
 
 module _ (version : Version) (index : ℕ) where
@@ -51,6 +53,24 @@ module _ (version : Version) (index : ℕ) where
   stops (Some found) has_ended first left now after takes command is =
       subst (λ ended. IsStopped version first index ended (Some found) now) is
       (stops_at found first left now after takes command)
+
+  -- the type of the command at which it stopped
+  pub type_at : (has_ended : Bool) (next : Option RawMessage) (first left : Option (List ℕ))
+      → IsStopped version first index has_ended next left → IsTypeAt version first has_ended index (type_of next)
+  type_at has_ended None first left stopped =
+      subst (λ ended. IsTypeAt version first ended index None) stopped.ended refl
+  type_at has_ended (Some command) first left stopped =
+      subst (λ ended. IsTypeAt version first ended index (Some command.header.ty)) stopped.ended
+      (command, is_at first left stopped.held, refl)
+    where
+      is_at : (first left : Option (List ℕ)) → IsHeld version first index [] (Some command) left
+          → IsKnownCommandAt version first index command
+      is_at None left held = tt
+      is_at (Some journal) None held = absurd held
+      is_at (Some journal) (Some left) held =
+          let (commands, is) = journal_of version left in
+          let after = held commands is in
+          record { before = after.before; after = commands; is = after.is; place = after.place }
 
   -- one more is held, and the next one is taken
   pub holds_more : (held : List RawMessage) (command : RawMessage) (next : Option RawMessage)

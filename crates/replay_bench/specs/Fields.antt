@@ -1,11 +1,13 @@
 -- The fields in which two commands differ, in a list.
-use Rattle.std.specs.Prelude.{◌≡◌, ℕ, List, ◌∷◌, ◌++◌, map, length, Option, IfSome}
+use Rattle.std.specs.Prelude.{◌≡◌, ℕ, Bool, true, false, List, ◌∷◌, ◌++◌, codes, flat_map, map, length}
+use Rattle.std.specs.Prelude.{Option, Some, None, IfSome}
 use Rattle.std.specs.Option.{IsSomeAnd}
 use Rattle.std.specs.String.{string_bytes}
+use Rattle.shared_core_base.specs.declared.header.MessageType.{MessageType}
 use Rattle.shared_core_base.specs.declared.version.Version.{Version}
 use Rattle.shared_core_codec.specs.Payloads.{payload_meaning}
 use Rattle.shared_core_message.specs.Messages.{message_schema}
-use Rattle.shared_core_compare.specs.Differences.{FieldTexts, differing_fields, field_texts}
+use Rattle.shared_core_compare.specs.Differences.{FieldTexts, differing_fields, field_line, field_texts}
 use Rattle.shared_core_stream.specs.declared.encoding.raw_message.RawMessage.{RawMessage}
 use Rattle.replay_bench.specs.declared.fields.FieldDifference.{FieldDifference}
 use Rattle.replay_bench.specs.Journals.{IsJournal}
@@ -17,6 +19,10 @@ texts_of field = field_texts field.name.now (string_bytes field.recorded) (strin
 -- The same of each field of a list.
 abbrev pub listed_texts : List FieldDifference → List FieldTexts
 listed_texts fields = map texts_of fields
+
+-- The lines of fields, as the text of a mismatch has them.
+abbrev pub lines_of : List FieldDifference → List ℕ
+lines_of fields = flat_map (field_line (codes "   ")) (listed_texts fields)
 
 -- These are the fields in which two commands of one type differ: those of the lines of their difference, in order.
 abbrev pub AreFieldsOf : RawMessage → RawMessage → List FieldDifference → Type 0
@@ -41,3 +47,9 @@ AreFieldsAt version recorded replayed index fields =
     (one other : RawMessage) × IsKnownCommandAt version recorded index one × IsKnownCommandAt version replayed index
     other
     × AreFieldsOf one other fields
+
+-- The type of the command at an index of a journal, unless it has ended there.
+abbrev pub IsTypeAt : Version → Option (List ℕ) → Bool → ℕ → Option MessageType → Type 0
+IsTypeAt version known true index ty = ty ≡ None
+IsTypeAt version known false index ty =
+    (command : RawMessage) × IsKnownCommandAt version known index command × (ty ≡ Some command.header.ty)

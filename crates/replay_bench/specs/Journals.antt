@@ -1,6 +1,7 @@
 -- The commands of a journal.
-use Rattle.std.specs.Prelude.{◌≡◌, ℕ, List, [], ◌∷◌, Option, Some, None, IsSome}
+use Rattle.std.specs.Prelude.{◌≡◌, ℕ, List, [], ◌∷◌, Option, Some, None, option_map, IsSome}
 use Rattle.shared_core_base.specs.declared.command_type.CommandType.{CommandType}
+use Rattle.shared_core_base.specs.declared.header.MessageType.{MessageType}
 use Rattle.shared_core_base.specs.declared.version.Version.{Version}
 use Rattle.shared_core_base.specs.CommandType.{command_type_of}
 use Rattle.shared_core_stream.specs.declared.encoding.item.Item.{Item}
@@ -11,6 +12,10 @@ use Rattle.shared_core_stream.specs.Items.{SplitsInto}
 -- A message of a type that has a command type.
 abbrev pub IsCommand : RawMessage → Type 0
 IsCommand message = IsSome (command_type_of message.header.ty)
+
+-- The type of a command, if there is one.
+abbrev pub type_of : Option RawMessage → Option MessageType
+type_of command = option_map (λ message. message.header.ty) command
 
 -- A message, where its type has a command type.
 abbrev pub if_command : Option CommandType → RawMessage → Option RawMessage

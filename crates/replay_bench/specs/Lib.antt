@@ -11,5 +11,6 @@ pub mod Texts
 pub mod Alignments
 pub mod Forms
 pub mod Keys
+pub mod Replays
 pub mod Held
 pub mod Holding

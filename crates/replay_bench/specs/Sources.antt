@@ -6,7 +6,8 @@ use Rattle.shared_core_base.specs.declared.version.Version.{Version}
 use Rattle.shared_core_stream.specs.declared.encoding.item.Item.{Item as AnyItem}
 use Rattle.shared_core_stream.specs.declared.encoding.limit_error.MessageTooLong.{MessageTooLong as LongMessage}
 use Rattle.shared_core_stream.specs.Items.{IsItemsThen, NoItemBegins, TakesItem}
-use Rattle.shared_core_stream.specs.Limits.{Limited, too_long_at}
+use Rattle.shared_core_stream.specs.Limits.{too_long_at}
+use Rattle.shared_core_stream.specs.Unread.{Unread}
 use Rattle.replay_bench.specs.declared.sources.Next.{Next}
 use Rattle.replay_bench.specs.declared.sources.Next.TheVariants.{Item, End}
 use Rattle.replay_bench.specs.declared.sources.SourceError.{SourceError}
@@ -46,6 +47,11 @@ IsNext version limit may_fail old (Ok (Item item)) new = TakesKnown version old 
 IsNext version limit may_fail old (Ok (End rest)) new = EndsKnown version old rest
 IsNext version limit may_fail old (Err error) new = RejectsNext version limit may_fail old error
 
+-- If no item was given since an allocation failed, this holds.
+abbrev pub WithoutMemory : Result Next SourceError → Type 0 → Type 0
+WithoutMemory (Err source.OutOfMemory) holds = holds
+WithoutMemory result holds = Unit {0}
+
 -- Why a decoder does not take a chunk with which it would hold these bytes.
 abbrev pub RejectsBytes : List ℕ → SourceError → Type 0
 RejectsBytes bytes source.TooLong = 2 ^ 64 ≤ length bytes
@@ -60,8 +66,8 @@ known_unless None known = known
 known_unless (Some message) known = None
 
 -- The bytes that are in no item of a reader of items, where these are known.
-abbrev pub coming_of : Limited → Option (List ℕ) → Option (List ℕ)
-coming_of state remaining = known_unless state.rejected (prepend_known state.unread.bytes remaining)
+abbrev pub coming_of : Unread → Option (List ℕ) → Option (List ℕ)
+coming_of state remaining = known_unless state.rejected (prepend_known state.bytes remaining)
 
 -- A limit, unless a message was too long: then no other one is taken.
 abbrev pub limit_unless : Option LongMessage → ℕ → ℕ
@@ -69,7 +75,7 @@ limit_unless None limit = limit
 limit_unless (Some message) limit = 0
 
 -- The greatest length that a reader of items takes.
-abbrev pub limit_of : Limited → ℕ
+abbrev pub limit_of : Unread → ℕ
 limit_of state = limit_unless state.rejected state.limit
 
 -- ---- why a journal was not read
@@ -80,6 +86,11 @@ reader_error side source.Failed = Read side
 reader_error side (source.MessageTooLong message) = MessageTooLong side message
 reader_error side source.TooLong = Bench TooLong
 reader_error side source.OutOfMemory = Bench OutOfMemory
+
+-- If a journal was not read on since an allocation failed, this holds.
+abbrev pub UnreadWithoutMemory : {T : Type 0} → Result T ReaderError → Type 0 → Type 0
+UnreadWithoutMemory (Err (Bench OutOfMemory)) holds = holds
+UnreadWithoutMemory result holds = Unit {0}
 
 -- A journal has this message after some of its items, and it is longer than its limit.
 pub record HasLonger (version : Version) (message : LongMessage) (stream : List ℕ) : Type 0 where

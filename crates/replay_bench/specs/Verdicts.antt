@@ -2,6 +2,7 @@
 use Rattle.std.specs.Prelude.{IsTrue, ◌≡◌, ◌≢◌, ◌⊎◌, ℕ, ◌+◌, ◌^◌, ◌<◌, ◌≤◌, pos, Bool, true, false, List, [], ◌∷◌}
 use Rattle.std.specs.Prelude.{length, codes, Option, Some, None, Result, Ok, Err, IfErr}
 use Rattle.std.specs.Option.{IsSomeAnd}
+use Rattle.std.specs.String.{string_bytes}
 use Rattle.shared_core_base.specs.declared.header.MessageType.{MessageType}
 use Rattle.shared_core_base.specs.declared.version.Version.{Version}
 use Rattle.shared_core_wire.specs.declared.error.WireError.{WireError}
@@ -28,7 +29,7 @@ use Rattle.replay_bench.specs.declared.verdicts.ReaderError.{ReaderError}
 use Rattle.replay_bench.specs.declared.verdicts.ReaderError.TheVariants.{Read, Bench, MessageTooLong}
 use Rattle.replay_bench.specs.Outcomes.{Outcome, SameCommands, RecordedEnds, ReplayedEnds, OtherType, OtherCommand}
 use Rattle.replay_bench.specs.Outcomes.{NotWellFormed, outcome_of}
-use Rattle.replay_bench.specs.Fields.{AreFieldsAt, AreFieldsOf}
+use Rattle.replay_bench.specs.Fields.{AreFieldsAt, AreFieldsOf, IsTypeAt, lines_of}
 use Rattle.replay_bench.specs.Journals.{IsCommand, IsJournal}
 use Rattle.replay_bench.specs.Reading.{IsKnownLast, IsKnownSurvey}
 use Rattle.replay_bench.specs.Sources.{HasLonger}
@@ -187,6 +188,19 @@ HasFieldsOn version recorded replayed (HeaderMismatch index text) fields = AreFi
     fields
 HasFieldsOn version recorded replayed verdict fields = fields ≡ []
 
+-- What a verdict says, by the types of the commands at its index and the fields in which they differ: there is no
+-- command where a journal has ended, and the text of a mismatch is made of nothing but these and the index.
+abbrev pub IsSaid : Verdict → Option MessageType → Option MessageType → List FieldDifference → Type 0
+IsSaid (Same count) recorded replayed fields = (recorded ≡ None) × (replayed ≡ None)
+IsSaid (RecordedEnded index) recorded replayed fields = recorded ≡ None
+IsSaid (ReplayedEnded index) recorded replayed fields = replayed ≡ None
+IsSaid (TypeMismatch index text) recorded replayed fields =
+    (one other : MessageType) × (recorded ≡ Some one) × (replayed ≡ Some other)
+    × (string_bytes text ≡ command_type_mismatch_text (pos index) one other)
+IsSaid (HeaderMismatch index text) recorded replayed fields =
+    (ty : MessageType) × (recorded ≡ Some ty) × (replayed ≡ Some ty)
+    × (string_bytes text ≡ command_mismatch_text ty (pos index) (lines_of fields))
+
 -- An error says that a read has failed only on a side where it may, and that a message is too long only on one whose
 -- limit is below the greatest length of a message.
 abbrev pub FailsOn : Bool → ℕ → Bool → ℕ → ReaderError → Type 0
@@ -239,11 +253,16 @@ stopped_index (TypeMismatch index text) = index
 stopped_index (HeaderMismatch index text) = index
 
 -- Two journals, as far as their bytes are known, have this verdict, these fields in which its commands differ, these
--- surveys, and at these offsets the last commands that the verdict has seen.
+-- types of the commands at its index, these surveys, and at these offsets the last commands that the verdict has seen.
 pub record IsComparison (version : Version) (ignore is_strict : Bool) (recorded replayed : Option (List ℕ))
     (found : Comparison) : Type 0 where
   pub verdict : ComparesKnown version ignore recorded replayed (Ok found.verdict)
   pub fields : HasFieldsOn version recorded replayed found.verdict found.fields.items
+  pub said : IsSaid found.verdict found.recorded_type found.replayed_type found.fields.items
+  pub recorded_typed : IsTypeAt version recorded (recorded_ended found.verdict) (stopped_index found.verdict)
+      found.recorded_type
+  pub replayed_typed : IsTypeAt version replayed (replayed_ended found.verdict) (stopped_index found.verdict)
+      found.replayed_type
   pub recorded_survey : IsKnownSurvey version is_strict recorded found.recorded
   pub replayed_survey : IsKnownSurvey version is_strict replayed found.replayed
   pub recorded_last : IsKnownLast version recorded (recorded_seen found.verdict) found.recorded_at

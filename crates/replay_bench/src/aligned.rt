@@ -6,7 +6,7 @@ ghost use Rattle.replay_bench.specs.Verdicts.{MayFailOn};
 
 use crate::alignment::align_commands;
 use crate::commands::HeldCommands;
-use crate::comparison::find_verdict;
+use crate::comparison::{find_verdict, type_of};
 use crate::journals::{ComparisonOptions, Journals};
 use crate::sources::Source;
 use crate::verdicts::{Comparison, ReaderError};
@@ -46,6 +46,8 @@ pub fn align_sources<A: Source, B: Source>(
     let stopped = find_verdict(alloc, journals, options, true)?;
     let recorded_at = stopped.recorded.last_command();
     let replayed_at = stopped.replayed.last_command();
+    let recorded_type = type_of(&stopped.recorded_next);
+    let replayed_type = type_of(&stopped.replayed_next);
     let (recorded_held, recorded) = stopped.recorded.hold(alloc, stopped.recorded_next)?;
     let (replayed_held, replayed) = stopped.replayed.hold(alloc, stopped.replayed_next)?;
     let alignment = align_commands(
@@ -61,6 +63,8 @@ pub fn align_sources<A: Source, B: Source>(
             fields: stopped.found.fields,
             recorded,
             replayed,
+            recorded_type,
+            replayed_type,
             recorded_at,
             replayed_at,
         },

@@ -5,15 +5,16 @@
 
 ghost use Rattle.std.specs.Prelude.{◌≡◌, ◌+◌, ◌≤◌, ◌<◌, ◌^◌, ◌++◌, ◌∷◌, ℕ, Bool, List, Option, []};
 ghost use Rattle.std.specs.Prelude.{is_none, is_some, if◌then◌else◌};
-ghost use Rattle.std.specs.Prelude.{false, length, IfErr, IfOk, IfSome, MatchOption, OnOk};
+ghost use Rattle.std.specs.Prelude.{false, length, IfErr, IfOk, IfSome, MatchOption, None, OnOk};
 ghost use Rattle.std.specs.List.{All};
+ghost use Rattle.std.specs.Io.KnownBytes.{Keeps};
 ghost use Rattle.std.specs.Option.{option_map_or};
 ghost use Rattle.replay_bench.specs.Held.{HasAfter, HasOffsets, IsHeld};
 ghost use Rattle.replay_bench.specs.Journals.{command_of, IsCommand};
 ghost use Rattle.replay_bench.specs.Reading.{HasRead, HasReadOn, HasReadSome, IsKnownSurvey, IsReading};
-ghost use Rattle.replay_bench.specs.Sources.{reader_error, EndsKnown, MayReject, TakesKnown};
+ghost use Rattle.replay_bench.specs.Sources.{reader_error, EndsKnown, MayReject, TakesKnown, UnreadWithoutMemory};
 ghost use Rattle.replay_bench.specs.Survey.{is_command};
-ghost use Rattle.replay_bench.specs.Taking.{HasNoCommand, TakesFirst};
+ghost use Rattle.replay_bench.specs.Taking.{HasNoCommand, IsStill, TakesFirst};
 
 use crate::sources::{Next, Source, SourceError};
 use crate::survey::Survey;
@@ -98,6 +99,12 @@ impl<S: Source> Commands<S> {
             → HasRead self.old.version is_strict first (S.coming self.old.source) 0 self.old.survey
             → HasReadOn self.old.version is_strict first (is_none found)
             (S.coming self.new.source) self.new.survey) }
+        // a failed allocation loses nothing but items that are no commands
+        ensures kept { UnreadWithoutMemory result (IsStill self.old.version (S.coming self.old.source)
+            (S.version self.old.source) (S.limit self.old.source) self.old.survey (S.coming self.new.source)
+            (S.version self.new.source) (S.limit self.new.source) self.new.survey) }
+        ensures kept_side { UnreadWithoutMemory result ((self.new.side ≡ self.old.side)
+            × (self.new.version ≡ self.old.version)) }
     {
         while let Some(item) = self.next_item()? {
             if let Some(command) = as_command(item) {
@@ -132,6 +139,11 @@ impl<S: Source> Commands<S> {
             → HasRead self.old.version is_strict first (S.coming self.old.source) 0 self.old.survey
             → HasReadOn self.old.version is_strict first (is_none found)
             (S.coming self.new.source) self.new.survey) }
+        // a failed allocation loses nothing
+        ensures kept { UnreadWithoutMemory result ((S.version self.new.source ≡ S.version self.old.source)
+            × (S.limit self.new.source ≡ S.limit self.old.source)
+            × Keeps (S.coming self.old.source) (S.coming self.new.source)
+            × (self.new ≡ record self.old { source = self.new.source })) }
     {
         match self.source.next() {
             Ok(Next::Item(item)) => {
@@ -221,7 +233,7 @@ impl<S: Source> Commands<S> {
 }
 
 /// Why the journal on a side was not read, as its source says.
-fn reader_error(side: Side, error: SourceError) -> ReaderError
+pub(crate) fn reader_error(side: Side, error: SourceError) -> ReaderError
     ensures { result ≡ reader_error side error }
 {
     match error {

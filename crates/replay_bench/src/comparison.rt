@@ -6,20 +6,22 @@ ghost use Rattle.shared_core_base.specs.Version.{version_number};
 ghost use Rattle.replay_bench.specs.declared.verdicts.Side.TheVariants.{Recorded, Replayed};
 ghost use Rattle.replay_bench.specs.Reading.{IsReading};
 ghost use Rattle.replay_bench.specs.Held.{IsStopped};
-ghost use Rattle.replay_bench.specs.Journals.{IsCommand};
+ghost use Rattle.replay_bench.specs.Journals.{IsCommand, type_of};
 ghost use Rattle.replay_bench.specs.Verdicts.{Compares, ComparesKnown, HasFieldsOn, MayFailOn, Surveys, verdict_alone};
 ghost use Rattle.replay_bench.specs.Verdicts.{recorded_ended, recorded_seen, replayed_ended, replayed_seen};
-ghost use Rattle.replay_bench.specs.Verdicts.{stopped_index, ReturnsNext};
+ghost use Rattle.replay_bench.specs.Verdicts.{stopped_index, IsSaid, ReturnsNext};
 
-use crate::commands::Commands;
+use crate::commands::{Commands, reader_error};
+use crate::following::Following;
 use crate::journals::{ComparisonOptions, Journals};
 use crate::mismatches::{Found, Pair, compare_commands};
 use crate::slice_items::SliceItems;
-use crate::sources::Source;
+use crate::sources::{Next, Source};
 use crate::verdicts::{BenchError, Comparison, ReaderError, Side, Verdict};
 use bytes::Bytes;
 use shared_core::encoding::RawMessage;
 use shared_core::version::Version;
+use shared_core_base::header::MessageType;
 use std::alloc::Global;
 
 /// Compares two journals of a version, at least V5, each of which is given in chunks, split anywhere.
@@ -72,12 +74,23 @@ pub fn compare_sources<A: Source, B: Source>(
         (A.coming journals.recorded) (B.coming journals.replayed) result }
     ensures failed { MayFailOn A.may_fail (A.limit journals.recorded) B.may_fail (B.limit journals.replayed) result }
 {
-    let options = ComparisonOptions {
-        ignore_payload_equality,
-        is_strict: false,
-    };
-    let stopped = find_verdict(alloc, journals, options, false)?;
-    Ok(stopped.found.verdict)
+    let version = journals.version;
+    let mut replayed = journals.replayed;
+    let mut following = Following::new(alloc, version, journals.recorded, ignore_payload_equality);
+    loop {
+        // of both journals the recorded one is read first
+        following.read_ahead()?;
+        let item = match replayed.next() {
+            Ok(Next::Item(item)) => item,
+            Ok(Next::End(_)) => return following.finish(),
+            Err(error) => return Err(reader_error(Side::Replayed, error)),
+        };
+        if let Some(mismatch) = following.check(&item)? {
+            return Ok(mismatch.verdict);
+        }
+        // the item goes before the next one is read
+        drop(item);
+    }
 }
 
 /// A verdict, and the journals as they were read for it.
@@ -90,6 +103,16 @@ pub(crate) struct Stopped<A, B> {
     pub recorded_next: Option<RawMessage>,
     /// The replayed one.
     pub replayed_next: Option<RawMessage>,
+}
+
+/// The type of a command, if there is one.
+pub(crate) fn type_of(command: &Option<RawMessage>) -> Option<MessageType>
+    ensures { result ≡ type_of command.now }
+{
+    match command {
+        Some(command) => Some(command.ty()),
+        None => None,
+    }
 }
 
 /// The commands of two journals at the same index, each unless its journal has ended.
@@ -151,6 +174,8 @@ pub(crate) fn find_verdict<A: Source, B: Source>(
     ensures other_limit { IfOk result (λ stopped. B.limit stopped.replayed.source ≡ B.limit journals.replayed) }
     ensures fields { IfOk result (λ stopped. IsTrue is_listed → HasFieldsOn journals.version
         (A.coming journals.recorded) (B.coming journals.replayed) stopped.found.verdict stopped.found.fields.items) }
+    ensures said { IfOk result (λ stopped. IsTrue is_listed → IsSaid stopped.found.verdict
+        (type_of stopped.recorded_next) (type_of stopped.replayed_next) stopped.found.fields.items) }
     ensures recorded { IfOk result (λ stopped. IsReading journals.version Recorded options.is_strict
         (A.coming journals.recorded) (recorded_ended stopped.found.verdict) (recorded_seen stopped.found.verdict)
         stopped.recorded.side stopped.recorded.version (A.version stopped.recorded.source)
@@ -214,6 +239,8 @@ pub fn survey_sources<A: Source, B: Source>(
     let stopped = find_verdict(alloc, journals, options, true)?;
     let recorded_at = stopped.recorded.last_command();
     let replayed_at = stopped.replayed.last_command();
+    let recorded_type = type_of(&stopped.recorded_next);
+    let replayed_type = type_of(&stopped.replayed_next);
     let recorded = stopped
         .recorded
         .finish(stopped.found.verdict.has_recorded_ended())?;
@@ -225,6 +252,8 @@ pub fn survey_sources<A: Source, B: Source>(
         fields: stopped.found.fields,
         recorded,
         replayed,
+        recorded_type,
+        replayed_type,
         recorded_at,
         replayed_at,
     })

@@ -1,5 +1,5 @@
-//! Two journals compared, what was recorded with what is replayed, command by command, and each surveyed: a crate above
-//! `shared_core`, over its public calls and their contracts alone.
+//! Two journals compared, what was recorded with what is replayed, command by command, and each surveyed; nothing is
+//! measured, in spite of the name. The crate is above `shared_core`, over its public calls and their contracts alone.
 #![tactic(auto)]
 
 mod aligned;
@@ -10,12 +10,14 @@ mod erase;
 mod erasures;
 mod faults;
 mod fields;
+mod following;
 mod forms;
 mod journals;
 mod keys;
 pub mod laws;
 mod mismatches;
 mod reader_items;
+mod replay;
 mod slice_items;
 mod sources;
 mod survey;
@@ -27,8 +29,10 @@ pub use crate::commands::HeldCommands;
 pub use crate::comparison::{compare_journals, compare_sources, survey_sources};
 pub use crate::faults::{Fault, FaultReason};
 pub use crate::fields::FieldDifference;
+pub use crate::following::{Ahead, Following, Mismatch};
 pub use crate::journals::{ComparisonOptions, Journals};
 pub use crate::keys::command_key;
+pub use crate::replay::Replay;
 pub use crate::slice_items::SliceItems;
 pub use crate::sources::{Next, Source, SourceError};
 pub use crate::survey::Survey;

@@ -9,7 +9,7 @@ impl<R: Read + Drop> Source for ItemReader<R> {
     ghost use Rattle.shared_core_io.specs.Buffered.{held_in};
     ghost use Rattle.replay_bench.specs.Sources.{coming_of, limit_of};
 
-    ghost version = { λ source. (held_in source.items).unread.version };
+    ghost version = { λ source. (held_in source.items).version };
 
     ghost limit = { λ source. limit_of (held_in source.items) };
 

@@ -2,7 +2,8 @@
 
 ghost use Rattle.std.specs.Prelude.{◌≡◌, ℕ, Bool, List, Option, OnOk};
 ghost use Rattle.shared_core_base.specs.declared.version.Version.{Version as AnyVersion};
-ghost use Rattle.replay_bench.specs.Sources.{IsNext};
+ghost use Rattle.std.specs.Io.KnownBytes.{Keeps};
+ghost use Rattle.replay_bench.specs.Sources.{IsNext, WithoutMemory};
 
 use shared_core::encoding::{Item, MessageTooLong};
 use std::alloc::AllocError;
@@ -18,7 +19,7 @@ pub enum Next {
     End(u64),
 }
 
-/// Why a source gave no item. It is not read again.
+/// Why a source gave no item. It is not read again, unless an allocation failed: then nothing was lost.
 #[derive(Clone, Copy, Debug, PartialEq, Eq, Drop)]
 pub enum SourceError {
     /// It could not be read, for another reason than that a read was interrupted.
@@ -75,5 +76,8 @@ pub trait Source: Drop {
         ensures next { IsNext (version self.old) (limit self.old) may_fail
             (coming self.old) result (coming self.new) }
         ensures version { OnOk result (version self.new ≡ version self.old) }
-        ensures limit { OnOk result (limit self.new ≡ limit self.old) };
+        ensures limit { OnOk result (limit self.new ≡ limit self.old) }
+        // a failed allocation loses nothing
+        ensures kept { WithoutMemory result ((version self.new ≡ version self.old) × (limit self.new ≡ limit self.old)
+            × Keeps (coming self.old) (coming self.new)) };
 }

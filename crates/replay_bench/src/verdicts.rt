@@ -6,6 +6,7 @@ ghost use Rattle.replay_bench.specs.Verdicts.{recorded_ended, replayed_ended};
 use crate::fields::FieldDifference;
 use crate::survey::Survey;
 use shared_core::encoding::MessageTooLong;
+use shared_core_base::header::MessageType;
 use std::alloc::AllocError;
 use std::error::Error;
 use std::fmt;
@@ -85,6 +86,10 @@ pub struct Comparison {
     pub recorded: Survey,
     /// What the replayed journal has.
     pub replayed: Survey,
+    /// The type of the recorded command at the index of the verdict, unless this journal has ended.
+    pub recorded_type: Option<MessageType>,
+    /// The same of the replayed command.
+    pub replayed_type: Option<MessageType>,
     /// The offset in the recorded journal, in bytes, of the last command that the verdict has seen: of that at its
     /// index, unless this journal has ended.
     pub recorded_at: Option<u128>,

@@ -1,4 +1,4 @@
-//! Typed and constant errors, which convert to the error of an invocation.
+//! Typed and constant errors, which convert to the error of an invocation, that of `error`.
 
 ghost use Rattle.std.specs.Prelude.{◌≡◌, IfOk, Some, codes};
 ghost use Rattle.shared_core_base.specs.Error.{IsErrorOf};

@@ -16,7 +16,7 @@ pub(crate) fn measure<V: PlainValue>(measure: &mut Measure, number: u32, field: 
     ensures fit { measure.new.fits ≡ row_fits (schema.Plain number V.kind) (V.part field.now) measure.old.fits }
 {
     let _ = measure.size.total();
-    if !field.is_empty() {
+    if !field.is_default() {
         field.measure_value(measure, number);
     }
 }
@@ -31,7 +31,7 @@ pub(crate) fn write<V: PlainValue>(out: &mut [u8], end: usize, number: u32, fiel
     ensures written { drop result out.new ≡ before_row (schema.Plain number V.kind) (V.part field.now)
         (drop end out.old) }
 {
-    if field.is_empty() {
+    if field.is_default() {
         return end;
     }
     field.write_value(out, end, number)

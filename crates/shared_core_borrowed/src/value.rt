@@ -58,7 +58,7 @@ pub trait FieldValue: Sized + Drop {
 /// A value that a plain field may have, which is not written if it is the default: any but a record.
 pub trait PlainValue: FieldValue {
     /// Whether the value is the default of its kind: 0, false or empty.
-    fn is_empty(&self) -> bool
+    fn is_default(&self) -> bool
         ensures default { result ≡ is_default (Self.part self.now) }
         // the default is one of the kind
         ensures fit { result ≡ true → value_fits Self.kind (Self.part self.now) ≡ true };
@@ -95,7 +95,7 @@ impl<'a> FieldValue for Content<'a> {
 impl<'a> PlainValue for Content<'a> {
     #[inline(always)]
     #[tactic(auto, using(crate::proofs::Fitting::content_fits))]
-    fn is_empty(&self) -> bool {
+    fn is_default(&self) -> bool {
         self.bytes.is_empty()
     }
 }
@@ -132,7 +132,7 @@ impl<'a> FieldValue for Text<'a> {
 impl<'a> PlainValue for Text<'a> {
     #[inline(always)]
     #[tactic(auto, using(crate::proofs::Fitting::no_text_fits))]
-    fn is_empty(&self) -> bool {
+    fn is_default(&self) -> bool {
         self.bytes.is_empty()
     }
 }
@@ -167,8 +167,8 @@ impl FieldValue for u32 {
 impl PlainValue for u32 {
     #[inline(always)]
     #[tactic(auto, using(crate::proofs::Fitting::fits_so))]
-    fn is_empty(&self) -> bool {
-        self.is_default()
+    fn is_default(&self) -> bool {
+        Scalar::is_default(self)
     }
 }
 
@@ -196,8 +196,8 @@ impl FieldValue for u64 {
 impl PlainValue for u64 {
     #[inline(always)]
     #[tactic(auto, using(crate::proofs::Fitting::fits_so))]
-    fn is_empty(&self) -> bool {
-        self.is_default()
+    fn is_default(&self) -> bool {
+        Scalar::is_default(self)
     }
 }
 
@@ -225,8 +225,8 @@ impl FieldValue for bool {
 impl PlainValue for bool {
     #[inline(always)]
     #[tactic(auto, using(crate::proofs::Fitting::fits_so))]
-    fn is_empty(&self) -> bool {
-        self.is_default()
+    fn is_default(&self) -> bool {
+        Scalar::is_default(self)
     }
 }
 
@@ -254,7 +254,7 @@ impl FieldValue for i32 {
 impl PlainValue for i32 {
     #[inline(always)]
     #[tactic(auto, using(crate::proofs::Fitting::fits_so))]
-    fn is_empty(&self) -> bool {
-        self.is_default()
+    fn is_default(&self) -> bool {
+        Scalar::is_default(self)
     }
 }

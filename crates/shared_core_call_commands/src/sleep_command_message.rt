@@ -4,22 +4,17 @@
 ghost use Rattle.std.specs.Prelude.{refl};
 ghost use Rattle.shared_core_wire.specs.Value.{Number, cons, nil};
 ghost use Rattle.shared_core_base.specs.declared.header.MessageType.TheVariants as types;
-ghost use Rattle.shared_core_message.specs.Frames.{plain_form};
 ghost use Rattle.std.proofs.Common.{inl};
 ghost use Rattle.shared_core_codec.specs.Table as tables;
 ghost use Rattle.shared_core_codec.specs.FieldParts.{text_part};
 ghost use Rattle.shared_core_codec.specs.EqualityRules.{equality_rules};
 
-use bytes::BytesMut;
 use shared_core_base::header::MessageType;
-use shared_core_base::version::Version;
-use shared_core_codec::error::EncodingError;
 use shared_core_codec::occurrence::Occurrence;
 use shared_core_codec::plain;
 use shared_core_codec::record::WireRecord;
 use shared_core_codec::size::Size;
-use shared_core_message::frame::{encode_frame_into, encode_frame_into_bytes};
-use shared_core_message::restate_message::{RestateEncodableMessage, RestateMessage};
+use shared_core_message::restate_message::RestateMessage;
 use shared_core_wire::error::WireError;
 use std::alloc::Global;
 
@@ -85,21 +80,4 @@ impl RestateMessage for SleepCommandMessage {
     ghost named = { tt };
 
     ghost own_schema = { inl refl };
-}
-
-impl RestateEncodableMessage for SleepCommandMessage {
-    ghost wire_form = { λ message _. plain_form tables.sleep_command
-        (⟦<SleepCommandMessage as WireRecord>⟧.parts message) };
-
-    fn encode_into(&self, _version: Version, out: &mut Vec<u8>) -> Result<(), EncodingError> {
-        encode_frame_into(self, None, out)
-    }
-
-    fn encode_into_bytes(
-        &self,
-        _version: Version,
-        out: &mut BytesMut,
-    ) -> Result<(), EncodingError> {
-        encode_frame_into_bytes(self, None, out)
-    }
 }

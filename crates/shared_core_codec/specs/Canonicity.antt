@@ -5,7 +5,8 @@ use Rattle.shared_core_wire.specs.Grammar.{RecordValue, Varint, Length, FieldRec
 use Rattle.shared_core_wire.specs.Reader.{◌>>=◌, varint_at, sequence_past, record_list}
 use Rattle.shared_core_wire.specs.ReadRecords.{PlacedRecord}
 use Rattle.shared_core_wire.specs.Encoding.{shortest_varint}
-use Rattle.shared_core_wire.specs.Schema.{Kind, Row, U32, U64, Boolean, Enumeration, Plain}
+use Rattle.shared_core_wire.specs.Schema.{Kind, Row, U32, U64, Boolean, Enumeration, Text, ByteString}
+use Rattle.shared_core_wire.specs.Schema.{Message, Plain}
 use Rattle.shared_core_wire.specs.Acceptance.{NestedAcceptance, accepts_bytes, some_passes}
 use Rattle.shared_core_wire.specs.Canonical.{canonical_payload, levels}
 use Rattle.shared_core_wire.specs.Fitting.{Fits}
@@ -72,6 +73,16 @@ is_plain row = false
 abbrev pub is_written_field : NestedAcceptance → Bool → Kind × Bool → RecordValue → Bool
 is_written_field nested plain (k, true) w = is_written_element nested k w
 is_written_field nested plain (k, false) w = is_written_value nested k w && not (plain && is_default_value w)
+
+-- Whether a field is a repeated uint32, which is packed.
+abbrev pub is_packed : Kind × Bool → Bool
+is_packed (U32, repeated) = repeated
+is_packed (U64, repeated) = false
+is_packed (Boolean, repeated) = false
+is_packed (Enumeration, repeated) = false
+is_packed (Text, repeated) = false
+is_packed (ByteString, repeated) = false
+is_packed (Message s, repeated) = false
 
 -- Whether a field may be written as more than one record.
 abbrev pub may_recur : Kind × Bool → Bool

@@ -22,13 +22,13 @@ kind_view (kind.Message s) = schema.Message s
 
 -- The number and the kind of a field of the program.
 abbrev pub field_view : Field → ℕ × schema.Kind
-field_view f = (f.0, kind_view f.1)
+field_view f = (f.number, kind_view f.kind)
 
 -- The row of a row of the program.
 abbrev pub row_view : Row → schema.Row
-row_view (row.Plain f) = schema.Plain f.0 (kind_view f.1)
-row_view (row.Optional f) = schema.Optional f.0 (kind_view f.1)
-row_view (row.Repeated f) = schema.Repeated f.0 (kind_view f.1)
+row_view (row.Plain f) = schema.Plain f.number (kind_view f.kind)
+row_view (row.Optional f) = schema.Optional f.number (kind_view f.kind)
+row_view (row.Repeated f) = schema.Repeated f.number (kind_view f.kind)
 row_view (row.OneOf fs) = schema.OneOf (map field_view fs.now)
 
 -- The rows of a list of the program.

@@ -5,8 +5,8 @@ ghost use Rattle.std.specs.Prelude.{◌≡◌, map, option_map, length};
 ghost use Rattle.shared_core_wire.specs.Reader.{Gives};
 ghost use Rattle.shared_core_codec.specs.Checking.{field_record_of};
 ghost use Rattle.shared_core_codec.specs.RowEncoding.{length_record};
-ghost use Rattle.shared_core_codec.specs.ProgramRows.{kind_view, found_view, row_view};
-ghost use Rattle.shared_core_codec.specs.Canonicity.{next_view, next_field, is_plain, may_recur, written_size};
+ghost use Rattle.shared_core_codec.specs.ProgramRows.{kind_view, row_view};
+ghost use Rattle.shared_core_codec.specs.Canonicity.{next_view, next_field, is_plain, written_size};
 ghost use Rattle.shared_core_codec.specs.Canonicity.{is_written_number, is_written_run, low_varint_at};
 
 use crate::rows::{Found, Kind, Row, find_in_row};
@@ -36,7 +36,7 @@ pub fn next_field<'a>(rows: &'a [Row], number: u32) -> Option<NextField<'a>>
             return Some(NextField {
                 field,
                 is_plain: is_plain(row),
-                rows: if may_recur(field) { rest } else { after },
+                rows: if field.may_recur() { rest } else { after },
             });
         }
         rest = after;
@@ -64,16 +64,6 @@ fn is_plain(row: &Row) -> bool
     match row {
         Row::Plain(_) => true,
         _ => false,
-    }
-}
-
-/// Whether a field may be written as more than one record.
-fn may_recur(field: Found) -> bool
-    ensures { result ≡ may_recur (found_view field) }
-{
-    match field.kind {
-        Kind::U32 => false,
-        _ => field.is_repeated,
     }
 }
 

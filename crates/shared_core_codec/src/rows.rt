@@ -4,6 +4,7 @@ ghost use Rattle.std.specs.Prelude.{◌≡◌, map, nat_lt, option_map};
 ghost use Rattle.shared_core_codec.specs.Table.{table, schemas, schema_count};
 ghost use Rattle.shared_core_codec.specs.ProgramRows.{row_view, rows_view, field_view, found_view};
 ghost use Rattle.shared_core_codec.specs.ProgramRows.{if_numbered, member_numbered, field_in_row, field_numbered};
+ghost use Rattle.shared_core_codec.specs.Canonicity.{is_packed, may_recur};
 
 use crate::schemas::SCHEMAS;
 
@@ -20,9 +21,12 @@ pub enum Kind {
     Message(u32),
 }
 
-/// A field of a schema: its number and its kind.
+/// A field of a schema.
 #[derive(Clone, Copy)]
-pub struct Field(pub u32, pub Kind);
+pub struct Field {
+    pub number: u32,
+    pub kind: Kind,
+}
 
 /// A row of a schema: a field by its presence, or a oneof with its members.
 #[derive(Clone, Copy)]
@@ -38,6 +42,27 @@ pub enum Row {
 pub struct Found {
     pub kind: Kind,
     pub is_repeated: bool,
+}
+
+impl Found {
+    /// Whether it may be written as more than one record: whether it is repeated, and not packed.
+    #[inline(always)]
+    pub fn may_recur(self) -> bool
+        ensures { result ≡ may_recur (found_view self) }
+    {
+        self.is_repeated && !self.is_packed()
+    }
+
+    /// Whether it is a repeated uint32, which is packed.
+    #[inline(always)]
+    pub fn is_packed(self) -> bool
+        ensures { result ≡ is_packed (found_view self) }
+    {
+        match self.kind {
+            Kind::U32 => self.is_repeated,
+            _ => false,
+        }
+    }
 }
 
 /// The rows of each schema, in the order of the table.
@@ -72,9 +97,9 @@ pub fn rows_of(schema: u32) -> &'static [Row]
 fn if_numbered(field: &Field, is_repeated: bool, number: u32) -> Option<Found>
     ensures { option_map found_view result ≡ if_numbered (field_view field.now) is_repeated number }
 {
-    if field.0 == number {
+    if field.number == number {
         Some(Found {
-            kind: field.1,
+            kind: field.kind,
             is_repeated,
         })
     } else {

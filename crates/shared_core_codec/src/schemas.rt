@@ -3,345 +3,355 @@
 
 use crate::rows::{Field, Kind, Row};
 
+/// A field by its number and its kind. It is a macro, since the value of a static calls no function.
+macro_rules! field {
+    ($number:literal, $kind:expr) => {
+        Field {
+            number: $number,
+            kind: $kind,
+        }
+    };
+}
+
 /// The rows of each schema: of each field its number and its kind, by its presence.
 pub static SCHEMAS: [&[Row]; 53] = [
     // Void
     &[],
     // Value
-    &[Row::Plain(Field(1, Kind::ByteString))],
+    &[Row::Plain(field!(1, Kind::ByteString))],
     // Failure
     &[
-        Row::Plain(Field(1, Kind::U32)),
-        Row::Plain(Field(2, Kind::Text)),
-        Row::Repeated(Field(3, Kind::Message(3))),
+        Row::Plain(field!(1, Kind::U32)),
+        Row::Plain(field!(2, Kind::Text)),
+        Row::Repeated(field!(3, Kind::Message(3))),
     ],
     // FailureMetadata
     &[
-        Row::Plain(Field(1, Kind::Text)),
-        Row::Plain(Field(2, Kind::Text)),
+        Row::Plain(field!(1, Kind::Text)),
+        Row::Plain(field!(2, Kind::Text)),
     ],
     // Header
     &[
-        Row::Plain(Field(1, Kind::Text)),
-        Row::Plain(Field(2, Kind::Text)),
+        Row::Plain(field!(1, Kind::Text)),
+        Row::Plain(field!(2, Kind::Text)),
     ],
     // StateKeys
-    &[Row::Repeated(Field(1, Kind::ByteString))],
+    &[Row::Repeated(field!(1, Kind::ByteString))],
     // StateEntry
     &[
-        Row::Plain(Field(1, Kind::ByteString)),
-        Row::Plain(Field(2, Kind::ByteString)),
+        Row::Plain(field!(1, Kind::ByteString)),
+        Row::Plain(field!(2, Kind::ByteString)),
     ],
     // Future
     &[
-        Row::Repeated(Field(1, Kind::U32)),
-        Row::Repeated(Field(2, Kind::U32)),
-        Row::Repeated(Field(3, Kind::Text)),
-        Row::Repeated(Field(4, Kind::Message(7))),
-        Row::Plain(Field(5, Kind::Enumeration)),
+        Row::Repeated(field!(1, Kind::U32)),
+        Row::Repeated(field!(2, Kind::U32)),
+        Row::Repeated(field!(3, Kind::Text)),
+        Row::Repeated(field!(4, Kind::Message(7))),
+        Row::Plain(field!(5, Kind::Enumeration)),
     ],
     // WorkflowTarget
     &[
-        Row::Plain(Field(1, Kind::Text)),
-        Row::Plain(Field(2, Kind::Text)),
-        Row::Optional(Field(3, Kind::Text)),
+        Row::Plain(field!(1, Kind::Text)),
+        Row::Plain(field!(2, Kind::Text)),
+        Row::Optional(field!(3, Kind::Text)),
     ],
     // IdempotentRequestTarget
     &[
-        Row::Plain(Field(1, Kind::Text)),
-        Row::Optional(Field(2, Kind::Text)),
-        Row::Plain(Field(3, Kind::Text)),
-        Row::Plain(Field(4, Kind::Text)),
-        Row::Optional(Field(5, Kind::Text)),
+        Row::Plain(field!(1, Kind::Text)),
+        Row::Optional(field!(2, Kind::Text)),
+        Row::Plain(field!(3, Kind::Text)),
+        Row::Plain(field!(4, Kind::Text)),
+        Row::Optional(field!(5, Kind::Text)),
     ],
     // StartMessage
     &[
-        Row::Plain(Field(1, Kind::ByteString)),
-        Row::Plain(Field(2, Kind::Text)),
-        Row::Plain(Field(3, Kind::U32)),
-        Row::Repeated(Field(4, Kind::Message(6))),
-        Row::Plain(Field(5, Kind::Boolean)),
-        Row::Plain(Field(6, Kind::Text)),
-        Row::Plain(Field(7, Kind::U32)),
-        Row::Plain(Field(8, Kind::U64)),
-        Row::Plain(Field(9, Kind::U64)),
-        Row::Optional(Field(10, Kind::Text)),
-        Row::Optional(Field(11, Kind::Text)),
-        Row::Optional(Field(12, Kind::Text)),
+        Row::Plain(field!(1, Kind::ByteString)),
+        Row::Plain(field!(2, Kind::Text)),
+        Row::Plain(field!(3, Kind::U32)),
+        Row::Repeated(field!(4, Kind::Message(6))),
+        Row::Plain(field!(5, Kind::Boolean)),
+        Row::Plain(field!(6, Kind::Text)),
+        Row::Plain(field!(7, Kind::U32)),
+        Row::Plain(field!(8, Kind::U64)),
+        Row::Plain(field!(9, Kind::U64)),
+        Row::Optional(field!(10, Kind::Text)),
+        Row::Optional(field!(11, Kind::Text)),
+        Row::Optional(field!(12, Kind::Text)),
     ],
     // SuspensionMessage
-    &[Row::Optional(Field(4, Kind::Message(7)))],
+    &[Row::Optional(field!(4, Kind::Message(7)))],
     // SuspensionMessageV6
     &[
-        Row::Repeated(Field(1, Kind::U32)),
-        Row::Repeated(Field(2, Kind::U32)),
-        Row::Repeated(Field(3, Kind::Text)),
+        Row::Repeated(field!(1, Kind::U32)),
+        Row::Repeated(field!(2, Kind::U32)),
+        Row::Repeated(field!(3, Kind::Text)),
     ],
     // ErrorMessage
     &[
-        Row::Plain(Field(1, Kind::U32)),
-        Row::Plain(Field(2, Kind::Text)),
-        Row::Plain(Field(3, Kind::Text)),
-        Row::Optional(Field(4, Kind::U32)),
-        Row::Optional(Field(5, Kind::Text)),
-        Row::Optional(Field(6, Kind::U32)),
-        Row::Optional(Field(8, Kind::U64)),
-        Row::Plain(Field(9, Kind::Enumeration)),
+        Row::Plain(field!(1, Kind::U32)),
+        Row::Plain(field!(2, Kind::Text)),
+        Row::Plain(field!(3, Kind::Text)),
+        Row::Optional(field!(4, Kind::U32)),
+        Row::Optional(field!(5, Kind::Text)),
+        Row::Optional(field!(6, Kind::U32)),
+        Row::Optional(field!(8, Kind::U64)),
+        Row::Plain(field!(9, Kind::Enumeration)),
     ],
     // EndMessage
     &[],
     // ProposeRunCompletionMessage
     &[
-        Row::Plain(Field(1, Kind::U32)),
-        Row::OneOf(&[Field(14, Kind::ByteString), Field(15, Kind::Message(2))]),
+        Row::Plain(field!(1, Kind::U32)),
+        Row::OneOf(&[field!(14, Kind::ByteString), field!(15, Kind::Message(2))]),
     ],
     // AwaitingOnMessage
     &[
-        Row::Optional(Field(1, Kind::Message(7))),
-        Row::Plain(Field(2, Kind::Boolean)),
+        Row::Optional(field!(1, Kind::Message(7))),
+        Row::Plain(field!(2, Kind::Boolean)),
     ],
     // ProposeRunCompletionAckMessage
-    &[Row::Plain(Field(1, Kind::U32))],
+    &[Row::Plain(field!(1, Kind::U32))],
     // GetStateEphemeralCommandMessage
     &[
-        Row::Plain(Field(1, Kind::ByteString)),
-        Row::Plain(Field(2, Kind::U32)),
+        Row::Plain(field!(1, Kind::ByteString)),
+        Row::Plain(field!(2, Kind::U32)),
     ],
     // GetStateEphemeralNotificationMessage
     &[
-        Row::Plain(Field(1, Kind::U32)),
-        Row::OneOf(&[Field(4, Kind::Message(0)), Field(5, Kind::Message(1))]),
+        Row::Plain(field!(1, Kind::U32)),
+        Row::OneOf(&[field!(4, Kind::Message(0)), field!(5, Kind::Message(1))]),
     ],
     // InputCommandMessage
     &[
-        Row::Repeated(Field(1, Kind::Message(4))),
-        Row::Plain(Field(12, Kind::Text)),
-        Row::Optional(Field(14, Kind::Message(1))),
+        Row::Repeated(field!(1, Kind::Message(4))),
+        Row::Plain(field!(12, Kind::Text)),
+        Row::Optional(field!(14, Kind::Message(1))),
     ],
     // OutputCommandMessage
     &[
-        Row::Plain(Field(12, Kind::Text)),
-        Row::OneOf(&[Field(14, Kind::Message(1)), Field(15, Kind::Message(2))]),
+        Row::Plain(field!(12, Kind::Text)),
+        Row::OneOf(&[field!(14, Kind::Message(1)), field!(15, Kind::Message(2))]),
     ],
     // GetLazyStateCommandMessage
     &[
-        Row::Plain(Field(1, Kind::ByteString)),
-        Row::Plain(Field(11, Kind::U32)),
-        Row::Plain(Field(12, Kind::Text)),
+        Row::Plain(field!(1, Kind::ByteString)),
+        Row::Plain(field!(11, Kind::U32)),
+        Row::Plain(field!(12, Kind::Text)),
     ],
     // SetStateCommandMessage
     &[
-        Row::Plain(Field(1, Kind::ByteString)),
-        Row::Optional(Field(3, Kind::Message(1))),
-        Row::Plain(Field(12, Kind::Text)),
+        Row::Plain(field!(1, Kind::ByteString)),
+        Row::Optional(field!(3, Kind::Message(1))),
+        Row::Plain(field!(12, Kind::Text)),
     ],
     // ClearStateCommandMessage
     &[
-        Row::Plain(Field(1, Kind::ByteString)),
-        Row::Plain(Field(12, Kind::Text)),
+        Row::Plain(field!(1, Kind::ByteString)),
+        Row::Plain(field!(12, Kind::Text)),
     ],
     // ClearAllStateCommandMessage
-    &[Row::Plain(Field(12, Kind::Text))],
+    &[Row::Plain(field!(12, Kind::Text))],
     // GetLazyStateKeysCommandMessage
     &[
-        Row::Plain(Field(11, Kind::U32)),
-        Row::Plain(Field(12, Kind::Text)),
+        Row::Plain(field!(11, Kind::U32)),
+        Row::Plain(field!(12, Kind::Text)),
     ],
     // GetEagerStateCommandMessage
     &[
-        Row::Plain(Field(1, Kind::ByteString)),
-        Row::Plain(Field(12, Kind::Text)),
-        Row::OneOf(&[Field(13, Kind::Message(0)), Field(14, Kind::Message(1))]),
+        Row::Plain(field!(1, Kind::ByteString)),
+        Row::Plain(field!(12, Kind::Text)),
+        Row::OneOf(&[field!(13, Kind::Message(0)), field!(14, Kind::Message(1))]),
     ],
     // GetEagerStateKeysCommandMessage
     &[
-        Row::Plain(Field(12, Kind::Text)),
-        Row::Optional(Field(14, Kind::Message(5))),
+        Row::Plain(field!(12, Kind::Text)),
+        Row::Optional(field!(14, Kind::Message(5))),
     ],
     // GetPromiseCommandMessage
     &[
-        Row::Plain(Field(1, Kind::Text)),
-        Row::Plain(Field(11, Kind::U32)),
-        Row::Plain(Field(12, Kind::Text)),
+        Row::Plain(field!(1, Kind::Text)),
+        Row::Plain(field!(11, Kind::U32)),
+        Row::Plain(field!(12, Kind::Text)),
     ],
     // PeekPromiseCommandMessage
     &[
-        Row::Plain(Field(1, Kind::Text)),
-        Row::Plain(Field(11, Kind::U32)),
-        Row::Plain(Field(12, Kind::Text)),
+        Row::Plain(field!(1, Kind::Text)),
+        Row::Plain(field!(11, Kind::U32)),
+        Row::Plain(field!(12, Kind::Text)),
     ],
     // CompletePromiseCommandMessage
     &[
-        Row::Plain(Field(1, Kind::Text)),
-        Row::OneOf(&[Field(2, Kind::Message(1)), Field(3, Kind::Message(2))]),
-        Row::Plain(Field(11, Kind::U32)),
-        Row::Plain(Field(12, Kind::Text)),
+        Row::Plain(field!(1, Kind::Text)),
+        Row::OneOf(&[field!(2, Kind::Message(1)), field!(3, Kind::Message(2))]),
+        Row::Plain(field!(11, Kind::U32)),
+        Row::Plain(field!(12, Kind::Text)),
     ],
     // SleepCommandMessage
     &[
-        Row::Plain(Field(1, Kind::U64)),
-        Row::Plain(Field(11, Kind::U32)),
-        Row::Plain(Field(12, Kind::Text)),
+        Row::Plain(field!(1, Kind::U64)),
+        Row::Plain(field!(11, Kind::U32)),
+        Row::Plain(field!(12, Kind::Text)),
     ],
     // CallCommandMessage
     &[
-        Row::Plain(Field(1, Kind::Text)),
-        Row::Plain(Field(2, Kind::Text)),
-        Row::Plain(Field(3, Kind::ByteString)),
-        Row::Repeated(Field(4, Kind::Message(4))),
-        Row::Plain(Field(5, Kind::Text)),
-        Row::Optional(Field(6, Kind::Text)),
-        Row::Optional(Field(7, Kind::Text)),
-        Row::Optional(Field(8, Kind::Text)),
-        Row::Plain(Field(10, Kind::U32)),
-        Row::Plain(Field(11, Kind::U32)),
-        Row::Plain(Field(12, Kind::Text)),
+        Row::Plain(field!(1, Kind::Text)),
+        Row::Plain(field!(2, Kind::Text)),
+        Row::Plain(field!(3, Kind::ByteString)),
+        Row::Repeated(field!(4, Kind::Message(4))),
+        Row::Plain(field!(5, Kind::Text)),
+        Row::Optional(field!(6, Kind::Text)),
+        Row::Optional(field!(7, Kind::Text)),
+        Row::Optional(field!(8, Kind::Text)),
+        Row::Plain(field!(10, Kind::U32)),
+        Row::Plain(field!(11, Kind::U32)),
+        Row::Plain(field!(12, Kind::Text)),
     ],
     // OneWayCallCommandMessage
     &[
-        Row::Plain(Field(1, Kind::Text)),
-        Row::Plain(Field(2, Kind::Text)),
-        Row::Plain(Field(3, Kind::ByteString)),
-        Row::Plain(Field(4, Kind::U64)),
-        Row::Repeated(Field(5, Kind::Message(4))),
-        Row::Plain(Field(6, Kind::Text)),
-        Row::Optional(Field(7, Kind::Text)),
-        Row::Optional(Field(8, Kind::Text)),
-        Row::Optional(Field(9, Kind::Text)),
-        Row::Plain(Field(10, Kind::U32)),
-        Row::Plain(Field(12, Kind::Text)),
+        Row::Plain(field!(1, Kind::Text)),
+        Row::Plain(field!(2, Kind::Text)),
+        Row::Plain(field!(3, Kind::ByteString)),
+        Row::Plain(field!(4, Kind::U64)),
+        Row::Repeated(field!(5, Kind::Message(4))),
+        Row::Plain(field!(6, Kind::Text)),
+        Row::Optional(field!(7, Kind::Text)),
+        Row::Optional(field!(8, Kind::Text)),
+        Row::Optional(field!(9, Kind::Text)),
+        Row::Plain(field!(10, Kind::U32)),
+        Row::Plain(field!(12, Kind::Text)),
     ],
     // SendSignalCommandMessage
     &[
-        Row::Plain(Field(1, Kind::Text)),
-        Row::OneOf(&[Field(2, Kind::U32), Field(3, Kind::Text)]),
+        Row::Plain(field!(1, Kind::Text)),
+        Row::OneOf(&[field!(2, Kind::U32), field!(3, Kind::Text)]),
         Row::OneOf(&[
-            Field(4, Kind::Message(0)),
-            Field(5, Kind::Message(1)),
-            Field(6, Kind::Message(2)),
+            field!(4, Kind::Message(0)),
+            field!(5, Kind::Message(1)),
+            field!(6, Kind::Message(2)),
         ]),
-        Row::Plain(Field(12, Kind::Text)),
+        Row::Plain(field!(12, Kind::Text)),
     ],
     // RunCommandMessage
     &[
-        Row::Plain(Field(11, Kind::U32)),
-        Row::Plain(Field(12, Kind::Text)),
+        Row::Plain(field!(11, Kind::U32)),
+        Row::Plain(field!(12, Kind::Text)),
     ],
     // AttachInvocationCommandMessage
     &[
         Row::OneOf(&[
-            Field(1, Kind::Text),
-            Field(3, Kind::Message(9)),
-            Field(4, Kind::Message(8)),
+            field!(1, Kind::Text),
+            field!(3, Kind::Message(9)),
+            field!(4, Kind::Message(8)),
         ]),
-        Row::Plain(Field(11, Kind::U32)),
-        Row::Plain(Field(12, Kind::Text)),
+        Row::Plain(field!(11, Kind::U32)),
+        Row::Plain(field!(12, Kind::Text)),
     ],
     // GetInvocationOutputCommandMessage
     &[
         Row::OneOf(&[
-            Field(1, Kind::Text),
-            Field(3, Kind::Message(9)),
-            Field(4, Kind::Message(8)),
+            field!(1, Kind::Text),
+            field!(3, Kind::Message(9)),
+            field!(4, Kind::Message(8)),
         ]),
-        Row::Plain(Field(11, Kind::U32)),
-        Row::Plain(Field(12, Kind::Text)),
+        Row::Plain(field!(11, Kind::U32)),
+        Row::Plain(field!(12, Kind::Text)),
     ],
     // CompleteAwakeableCommandMessage
     &[
-        Row::Plain(Field(1, Kind::Text)),
-        Row::OneOf(&[Field(2, Kind::Message(1)), Field(3, Kind::Message(2))]),
-        Row::Plain(Field(12, Kind::Text)),
+        Row::Plain(field!(1, Kind::Text)),
+        Row::OneOf(&[field!(2, Kind::Message(1)), field!(3, Kind::Message(2))]),
+        Row::Plain(field!(12, Kind::Text)),
     ],
     // GetLazyStateCompletionNotificationMessage
     &[
-        Row::Plain(Field(1, Kind::U32)),
-        Row::OneOf(&[Field(4, Kind::Message(0)), Field(5, Kind::Message(1))]),
+        Row::Plain(field!(1, Kind::U32)),
+        Row::OneOf(&[field!(4, Kind::Message(0)), field!(5, Kind::Message(1))]),
     ],
     // GetPromiseCompletionNotificationMessage
     &[
-        Row::Plain(Field(1, Kind::U32)),
+        Row::Plain(field!(1, Kind::U32)),
         Row::OneOf(&[
-            Field(4, Kind::Message(0)),
-            Field(5, Kind::Message(1)),
-            Field(6, Kind::Message(2)),
+            field!(4, Kind::Message(0)),
+            field!(5, Kind::Message(1)),
+            field!(6, Kind::Message(2)),
         ]),
     ],
     // PeekPromiseCompletionNotificationMessage
     &[
-        Row::Plain(Field(1, Kind::U32)),
+        Row::Plain(field!(1, Kind::U32)),
         Row::OneOf(&[
-            Field(4, Kind::Message(0)),
-            Field(5, Kind::Message(1)),
-            Field(6, Kind::Message(2)),
+            field!(4, Kind::Message(0)),
+            field!(5, Kind::Message(1)),
+            field!(6, Kind::Message(2)),
         ]),
     ],
     // GetInvocationOutputCompletionNotificationMessage
     &[
-        Row::Plain(Field(1, Kind::U32)),
+        Row::Plain(field!(1, Kind::U32)),
         Row::OneOf(&[
-            Field(4, Kind::Message(0)),
-            Field(5, Kind::Message(1)),
-            Field(6, Kind::Message(2)),
+            field!(4, Kind::Message(0)),
+            field!(5, Kind::Message(1)),
+            field!(6, Kind::Message(2)),
         ]),
     ],
     // CompletePromiseCompletionNotificationMessage
     &[
-        Row::Plain(Field(1, Kind::U32)),
-        Row::OneOf(&[Field(4, Kind::Message(0)), Field(6, Kind::Message(2))]),
+        Row::Plain(field!(1, Kind::U32)),
+        Row::OneOf(&[field!(4, Kind::Message(0)), field!(6, Kind::Message(2))]),
     ],
     // CallCompletionNotificationMessage
     &[
-        Row::Plain(Field(1, Kind::U32)),
-        Row::OneOf(&[Field(5, Kind::Message(1)), Field(6, Kind::Message(2))]),
+        Row::Plain(field!(1, Kind::U32)),
+        Row::OneOf(&[field!(5, Kind::Message(1)), field!(6, Kind::Message(2))]),
     ],
     // RunCompletionNotificationMessage
     &[
-        Row::Plain(Field(1, Kind::U32)),
-        Row::OneOf(&[Field(5, Kind::Message(1)), Field(6, Kind::Message(2))]),
+        Row::Plain(field!(1, Kind::U32)),
+        Row::OneOf(&[field!(5, Kind::Message(1)), field!(6, Kind::Message(2))]),
     ],
     // AttachInvocationCompletionNotificationMessage
     &[
-        Row::Plain(Field(1, Kind::U32)),
-        Row::OneOf(&[Field(5, Kind::Message(1)), Field(6, Kind::Message(2))]),
+        Row::Plain(field!(1, Kind::U32)),
+        Row::OneOf(&[field!(5, Kind::Message(1)), field!(6, Kind::Message(2))]),
     ],
     // SleepCompletionNotificationMessage
     &[
-        Row::Plain(Field(1, Kind::U32)),
-        Row::Optional(Field(4, Kind::Message(0))),
+        Row::Plain(field!(1, Kind::U32)),
+        Row::Optional(field!(4, Kind::Message(0))),
     ],
     // GetLazyStateKeysCompletionNotificationMessage
     &[
-        Row::Plain(Field(1, Kind::U32)),
-        Row::Optional(Field(17, Kind::Message(5))),
+        Row::Plain(field!(1, Kind::U32)),
+        Row::Optional(field!(17, Kind::Message(5))),
     ],
     // CallInvocationIdCompletionNotificationMessage
     &[
-        Row::Plain(Field(1, Kind::U32)),
-        Row::Plain(Field(16, Kind::Text)),
+        Row::Plain(field!(1, Kind::U32)),
+        Row::Plain(field!(16, Kind::Text)),
     ],
     // SignalNotificationMessage
     &[
-        Row::OneOf(&[Field(2, Kind::U32), Field(3, Kind::Text)]),
+        Row::OneOf(&[field!(2, Kind::U32), field!(3, Kind::Text)]),
         Row::OneOf(&[
-            Field(4, Kind::Message(0)),
-            Field(5, Kind::Message(1)),
-            Field(6, Kind::Message(2)),
+            field!(4, Kind::Message(0)),
+            field!(5, Kind::Message(1)),
+            field!(6, Kind::Message(2)),
         ]),
     ],
     // NotificationTemplate
     &[
         Row::OneOf(&[
-            Field(1, Kind::U32),
-            Field(2, Kind::U32),
-            Field(3, Kind::Text),
+            field!(1, Kind::U32),
+            field!(2, Kind::U32),
+            field!(3, Kind::Text),
         ]),
         Row::OneOf(&[
-            Field(4, Kind::Message(0)),
-            Field(5, Kind::Message(1)),
-            Field(6, Kind::Message(2)),
-            Field(16, Kind::Text),
-            Field(17, Kind::Message(5)),
+            field!(4, Kind::Message(0)),
+            field!(5, Kind::Message(1)),
+            field!(6, Kind::Message(2)),
+            field!(16, Kind::Text),
+            field!(17, Kind::Message(5)),
         ]),
     ],
 ];

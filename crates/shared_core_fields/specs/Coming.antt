@@ -49,7 +49,7 @@ is_repeated row = false
 
 -- The kind of a field of the program and whether it is repeated, by its row.
 abbrev pub of_row : Row → Field → Kind × Bool
-of_row row f = (kind_view f.1, is_repeated row)
+of_row row f = (kind_view f.kind, is_repeated row)
 
 -- This is the field of the row, if the row is one field.
 abbrev pub IsRowField : Row → Option (ℕ × Kind) → Type 0

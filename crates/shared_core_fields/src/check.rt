@@ -150,10 +150,10 @@ fn is_number(found: FoundField<'_>, value: u64) -> bool
     if found.is_plain() && value == 0 {
         return false;
     }
-    if let Kind::U32 = found.field.1 {
+    if let Kind::U32 = found.field.kind {
         return !found.is_repeated() && value < Size::LIMIT;
     }
-    is_other_number(found.field.1, value)
+    is_other_number(found.field.kind, value)
 }
 
 /// Whether a number is written for a kind, out of line.
@@ -189,16 +189,16 @@ fn is_content(found: FoundField<'_>, content: &[u8], left: u32) -> bool
         return false;
     }
     // one after the other, and not a jump
-    if let Kind::Text = found.field.1 {
+    if let Kind::Text = found.field.kind {
         return is_text(content);
     }
-    if let Kind::ByteString = found.field.1 {
+    if let Kind::ByteString = found.field.kind {
         return true;
     }
-    if let Kind::Message(schema) = found.field.1 {
+    if let Kind::Message(schema) = found.field.kind {
         return left > 0 && is_message(schema, content, left - 1);
     }
-    is_run(found.field.1, found.is_repeated(), content)
+    is_run(found.field.kind, found.is_repeated(), content)
 }
 
 /// Whether the bytes of a message within another one are canonical: most are one record of bytes, which is checked in

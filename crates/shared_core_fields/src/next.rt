@@ -1,15 +1,15 @@
 //! The field of which a record may come next.
 
-ghost use Rattle.std.specs.Prelude.{◌≡◌, map, option_map, is_some, true, false, not, IfSome};
+ghost use Rattle.std.specs.Prelude.{◌≡◌, map, option_map, is_some, true, false, IfSome};
 ghost use Rattle.std.specs.Borrow.{Bor};
-ghost use Rattle.shared_core_codec.specs.Canonicity.{is_plain, next_field, next_view, may_recur};
-ghost use Rattle.shared_core_codec.specs.ProgramRows.{field_in_row, field_view, kind_view, member_numbered, row_view};
-ghost use Rattle.shared_core_codec.specs.RowEncoding.{unpacked};
+ghost use Rattle.shared_core_codec.specs.Canonicity.{is_plain, next_field, next_view};
+ghost use Rattle.shared_core_codec.specs.ProgramRows.{field_in_row, field_view, found_view, kind_view};
+ghost use Rattle.shared_core_codec.specs.ProgramRows.{member_numbered, row_view};
 ghost use Rattle.shared_core_codec.specs.declared.rows.Field.{Field};
 ghost use Rattle.shared_core_fields.specs.Coming.{IsRowField, found_next, is_repeated, of_row, IsSingleRow};
 
 use shared_core_codec::canonical::NextField;
-use shared_core_codec::rows::{Field, Found, Kind, Row};
+use shared_core_codec::rows::{Field, Found, Row};
 
 /// A field of which a record may come next: the row that it is of, the field, and the rows of which records may come
 /// after that record.
@@ -37,10 +37,7 @@ impl<'a> FoundField<'a> {
     pub(crate) fn is_repeated(self) -> bool
         ensures { result ≡ is_repeated (row_view self.entry.row.now) }
     {
-        match self.row {
-            Row::Repeated(_) => true,
-            _ => false,
-        }
+        is_repeated(self.row)
     }
 
     /// The same as `next_field` returns it.
@@ -49,10 +46,7 @@ impl<'a> FoundField<'a> {
         ensures { next_view result ≡ found_next self.entry }
     {
         NextField {
-            field: Found {
-                kind: self.field.1,
-                is_repeated: self.is_repeated(),
-            },
+            field: found_in(self.row, self.field),
             is_plain: self.is_plain(),
             rows: self.rows,
         }
@@ -67,7 +61,7 @@ pub(crate) fn first_field<'a>(rows: &'a [Row], number: u32) -> Option<FoundField
 {
     let (row, rows) = rows.split_first()?;
     let field = single_field(row)?;
-    if field.0 == number {
+    if field.number == number {
         Some(FoundField { row, field, rows })
     } else {
         None
@@ -83,11 +77,9 @@ pub(crate) fn find_field<'a>(rows: &'a [Row], number: u32) -> Option<FoundField<
     let mut rest = rows;
     while let Some((row, after)) = rest.split_first() {
         if let Some(field) = field_of(row, number) {
-            return Some(FoundField {
-                row,
-                field,
-                rows: if recurs(row, field) { rest } else { after },
-            });
+            let recurs = found_in(row, field).may_recur();
+            let rows = if recurs { rest } else { after };
+            return Some(FoundField { row, field, rows });
         }
         rest = after;
     }
@@ -115,7 +107,11 @@ fn field_of(row: &Row, number: u32) -> Option<&Field>
         return find_member(members, number);
     }
     let field = row_field(row)?;
-    if field.0 == number { Some(field) } else { None }
+    if field.number == number {
+        Some(field)
+    } else {
+        None
+    }
 }
 
 /// The field of a row that is one field.
@@ -132,35 +128,35 @@ fn row_field(row: &Row) -> Option<&Field>
 /// The member of a oneof that has the number.
 #[inline(always)]
 fn find_member(members: &[Field], number: u32) -> Option<&Field>
-    ensures { option_map (λ (f : Bor Field). (kind_view f.now.1, false)) result
+    ensures { option_map (λ (f : Bor Field). (kind_view f.now.kind, false)) result
         ≡ member_numbered (map field_view members.now) number }
 {
     for member in members {
-        if member.0 == number {
+        if member.number == number {
             return Some(member);
         }
     }
     None
 }
 
-/// Whether more than one record may come of a field of a row.
+/// The kind of a field of a row, and whether it is repeated.
 #[inline(always)]
-fn recurs(row: &Row, field: &Field) -> bool
-    ensures { result ≡ may_recur (of_row (row_view row.now) field.now) }
+fn found_in(row: &Row, field: &Field) -> Found
+    ensures { found_view result ≡ of_row (row_view row.now) field.now }
 {
-    match row {
-        Row::Repeated(_) => !is_u32(field.1),
-        _ => false,
+    Found {
+        kind: field.kind,
+        is_repeated: is_repeated(row),
     }
 }
 
-/// Whether a kind is a uint32.
+/// Whether a row is a repeated field.
 #[inline(always)]
-fn is_u32(kind: Kind) -> bool
-    ensures { result ≡ not (unpacked (kind_view kind)) }
+fn is_repeated(row: &Row) -> bool
+    ensures { result ≡ is_repeated (row_view row.now) }
 {
-    match kind {
-        Kind::U32 => true,
+    match row {
+        Row::Repeated(_) => true,
         _ => false,
     }
 }

@@ -9,14 +9,14 @@ use Rattle.shared_core_wire.specs.Schema.{Kind, Row, U32, U64, Boolean, Enumerat
 use Rattle.shared_core_wire.proofs.Shortest.{shortest_small, shortest_large}
 use Rattle.shared_core_codec.specs.Table.{table}
 use Rattle.shared_core_codec.specs.RowEncoding.{length_record}
-use Rattle.shared_core_codec.specs.Canonicity.{Next}
+use Rattle.shared_core_codec.specs.Canonicity.{Next, is_packed}
 use Rattle.shared_core_fields.specs.declared.table.FieldEntry.{FieldEntry}
 use Rattle.shared_core_wire.specs.WrittenRecords.{number_record, content_record}
 use Rattle.shared_core_fields_writer.specs.declared.error.Reason.{Reason}
 use Rattle.shared_core_fields_writer.specs.declared.error.Reason.TheVariants.{NotUtf8, WrongLevel}
 use Rattle.shared_core_fields_writer.specs.Given.{Given, Number, Content, Opens, given, value_given}
 use Rattle.shared_core_fields_writer.specs.Given.{text_given, bytes_given, field_next}
-use Rattle.shared_core_fields_writer.specs.Walk.{Walked, onto, nested_onto, is_packed, More, Nothing, walk, varints}
+use Rattle.shared_core_fields_writer.specs.Walk.{Walked, onto, nested_onto, More, Nothing, walk, varints}
 use Rattle.shared_core_fields_writer.specs.Walk.{Inward, Onward, value_walk, message_walk, number_walk, field_walk}
 use Rattle.shared_core_fields_writer.specs.Walk.{more_walk, entries_payload, is_within, is_more}
 use Rattle.shared_core_fields_writer.proofs.Canonical.{short_is}

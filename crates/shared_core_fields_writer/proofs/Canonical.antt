@@ -28,7 +28,7 @@ use Rattle.shared_core_wire.proofs.EncodingLaws.{encodable, encodable_value}
 use Rattle.shared_core_codec.specs.Table.{table}
 use Rattle.shared_core_codec.specs.RowEncoding.{varint_record, length_record}
 use Rattle.shared_core_codec.specs.Canonicity.{Next, next_field, is_written_field, rows_after, coming_after, all_come}
-use Rattle.shared_core_codec.specs.Canonicity.{Coming}
+use Rattle.shared_core_codec.specs.Canonicity.{Coming, is_packed}
 use Rattle.shared_core_codec.specs.Canonicity.{written_size, is_canonical_message}
 use Rattle.shared_core_codec.specs.Canonicity.{is_written_number, is_written_value, is_default_value}
 use Rattle.shared_core_codec.specs.Canonicity.{is_written_run, low_varint_at, IsCanonical, may_recur, found_or}
@@ -50,7 +50,7 @@ use Rattle.shared_core_fields_writer.specs.Walk.{Walked, Inward, Onward, onto, n
 use Rattle.shared_core_fields_writer.specs.Walk.{value_walk, field_walk, more_walk}
 use Rattle.shared_core_fields_writer.proofs.Walking.{past_number, no_number}
 use Rattle.shared_core_fields_writer.specs.Walk.{is_within, is_more, entries_payload, short_enough}
-use Rattle.shared_core_fields_writer.specs.Walk.{is_packed, More, Nothing, Within, Numbers, run_numbers, varints, walk}
+use Rattle.shared_core_fields_writer.specs.Walk.{More, Nothing, Within, Numbers, run_numbers, varints, walk}
 
 -- ---- sizes
 

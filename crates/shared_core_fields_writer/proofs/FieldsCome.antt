@@ -13,10 +13,9 @@ use Rattle.shared_core_wire.proofs.ReadBack.{distinct_other}
 use Rattle.shared_core_wire.proofs.Runs.{and_split}
 use Rattle.shared_core_codec.specs.Table.{table}
 use Rattle.shared_core_codec.specs.RowEncoding.{unpacked}
-use Rattle.shared_core_codec.specs.Canonicity.{Next, next_field, found_or, is_plain, may_recur}
+use Rattle.shared_core_codec.specs.Canonicity.{Next, next_field, found_or, is_plain, may_recur, is_packed}
 use Rattle.shared_core_fields.specs.Fields.{FieldPart, each_field, row_fields, message_fields}
 use Rattle.shared_core_fields.proofs.ByValue.{own_kind, row_own, own_number}
-use Rattle.shared_core_fields_writer.specs.Walk.{is_packed}
 use Rattle.shared_core_fields_writer.proofs.Canonical.{Good, good_later, all_good, next_has, widen_one, one_of}
 
 -- A field of a kind, repeated or not, holds the part as one entry does, or as those of a run do; messages may be nested

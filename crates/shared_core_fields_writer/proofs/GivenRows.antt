@@ -27,7 +27,7 @@ use Rattle.shared_core_codec.specs.RowEncoding.{varint_record, length_record}
 use Rattle.shared_core_codec.specs.Payloads.{payload_meaning}
 use Rattle.shared_core_codec.specs.ProgramRows.{field_in_row, field_numbered}
 use Rattle.shared_core_codec.specs.Canonicity.{Next, next_field, is_written_number}
-use Rattle.shared_core_codec.specs.Canonicity.{found_or, is_plain}
+use Rattle.shared_core_codec.specs.Canonicity.{found_or, is_plain, is_packed}
 use Rattle.shared_core_codec.proofs.Tables.{are_schemas}
 use Rattle.shared_core_codec.proofs.Canonicity.{are_bytes, are_bytes_of, IsLow, payload_sound, canonical_below}
 use Rattle.shared_core_codec.proofs.CanonicityExact.{records_encoded, records_encode}
@@ -48,7 +48,7 @@ use Rattle.shared_core_fields_writer.specs.declared.error.Reason.TheVariants.{Ou
 use Rattle.shared_core_fields_writer.specs.Given.{Given, Number as GivenNumber, Content, Opens, given, value_given}
 use Rattle.shared_core_fields_writer.specs.Given.{number_given, text_given, bytes_given, content, field_next}
 use Rattle.shared_core_fields_writer.specs.Walk.{Walked, onto, nested_onto, message_walk, number_walk, value_walk}
-use Rattle.shared_core_fields_writer.specs.Walk.{field_walk, more_walk, is_within, is_more, entries_payload, is_packed}
+use Rattle.shared_core_fields_writer.specs.Walk.{field_walk, more_walk, is_within, is_more, entries_payload}
 use Rattle.shared_core_fields_writer.specs.Walk.{More, Nothing, Within, Numbers, run_numbers, varints, walk}
 use Rattle.shared_core_fields_writer.specs.Tables.{has_bytes, given_row, gives_default, gives_nothing, given_rows}
 use Rattle.shared_core_fields_writer.proofs.Canonical.{Good, all_good, step, records_of}

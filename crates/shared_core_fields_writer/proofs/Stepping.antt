@@ -12,7 +12,7 @@ use Rattle.shared_core_wire.specs.Schema.{Row, U32}
 use Rattle.shared_core_wire.proofs.Runs.{and_split}
 use Rattle.shared_core_codec.specs.Table.{table}
 use Rattle.shared_core_codec.specs.RowEncoding.{length_record}
-use Rattle.shared_core_codec.specs.Canonicity.{Next}
+use Rattle.shared_core_codec.specs.Canonicity.{Next, is_packed}
 use Rattle.shared_core_fields.specs.declared.table.FieldEntry.{FieldEntry}
 use Rattle.shared_core_fields_writer.specs.declared.error.Reason.{Reason}
 use Rattle.shared_core_fields_writer.specs.declared.error.Reason.TheVariants.{WrongLevel, TooDeep}
@@ -21,7 +21,7 @@ use Rattle.shared_core_wire.specs.WrittenRecords.{number_record, content_record}
 use Rattle.shared_core_wire.specs.WrittenRecords.{at_most_64_bits}
 use Rattle.shared_core_fields_writer.specs.Room.{Wrote, WroteLength}
 use Rattle.shared_core_fields_writer.proofs.Rooms.{less_stays, wrote_both, wrote_over}
-use Rattle.shared_core_fields_writer.specs.Walk.{Walked, onto, nested_onto, is_packed}
+use Rattle.shared_core_fields_writer.specs.Walk.{Walked, onto, nested_onto}
 use Rattle.shared_core_fields_writer.specs.Walk.{Nothing, Within, Numbers, run_numbers, varints, rest_of, walk, Goes}
 use Rattle.shared_core_fields_writer.specs.Walk.{Continues, Writes, Nests}
 use Rattle.shared_core_fields_writer.proofs.Walking.{onto_more, stops, too_deep, no_field, no_value}

@@ -15,7 +15,7 @@ use Rattle.shared_core_wire.specs.Canonical.{canonical_payload, levels}
 use Rattle.shared_core_wire.specs.Fitting.{NumberFits, BytesFit, PartFits, ElementsFit, Fits}
 use Rattle.shared_core_codec.specs.Table.{table}
 use Rattle.shared_core_codec.specs.RowEncoding.{varint_record, length_record}
-use Rattle.shared_core_codec.specs.Canonicity.{Next, next_field, is_written_number}
+use Rattle.shared_core_codec.specs.Canonicity.{Next, next_field, is_written_number, is_packed}
 use Rattle.shared_core_fields.specs.Fields.{FieldPart, message_fields, field_values, field_records, fields_payload}
 use Rattle.shared_core_fields.specs.Entries.{field_entries}
 use Rattle.shared_core_fields.specs.Rows.{TableRow, kind_number, number_row, bytes_row, run_rows}
@@ -25,7 +25,7 @@ use Rattle.shared_core_fields.proofs.Back.{payload_back}
 use Rattle.shared_core_fields.proofs.Written.{rows_more}
 use Rattle.shared_core_fields_writer.specs.Given.{Number as GivenNumber, Content, Opens, given, value_given}
 use Rattle.shared_core_fields_writer.specs.Given.{number_given, text_given, bytes_given, content, field_next}
-use Rattle.shared_core_fields_writer.specs.Walk.{Walked, onto, nested_onto, is_packed}
+use Rattle.shared_core_fields_writer.specs.Walk.{Walked, onto, nested_onto}
 use Rattle.shared_core_fields_writer.specs.Walk.{Nothing, Within, Numbers, run_numbers, varints, walk}
 use Rattle.shared_core_fields_writer.proofs.Walking.{stops, of_number, of_run, of_content, of_message, past_within}
 use Rattle.shared_core_fields_writer.proofs.Walking.{past_number, after_numbers, no_numbers}

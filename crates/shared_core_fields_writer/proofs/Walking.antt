@@ -8,13 +8,13 @@ use Rattle.shared_core_wire.proofs.Runs.{and_split}
 use Rattle.shared_core_wire.specs.Schema.{Row, U32, Text, ByteString}
 use Rattle.shared_core_codec.specs.Table.{table}
 use Rattle.shared_core_codec.specs.RowEncoding.{length_record}
-use Rattle.shared_core_codec.specs.Canonicity.{Next}
+use Rattle.shared_core_codec.specs.Canonicity.{Next, is_packed}
 use Rattle.shared_core_fields.specs.declared.table.FieldEntry.{FieldEntry}
 use Rattle.shared_core_fields_writer.specs.declared.error.Reason.{Reason}
 use Rattle.shared_core_fields_writer.specs.declared.error.Reason.TheVariants.{WrongLevel, TooDeep}
 use Rattle.shared_core_fields_writer.specs.Given.{Given, Number, Content, Opens, content, given, field_next}
 use Rattle.shared_core_wire.specs.WrittenRecords.{number_record, content_record}
-use Rattle.shared_core_fields_writer.specs.Walk.{Walked, onto, nested_onto, is_packed}
+use Rattle.shared_core_fields_writer.specs.Walk.{Walked, onto, nested_onto}
 use Rattle.shared_core_fields_writer.specs.Walk.{More}
 use Rattle.shared_core_fields_writer.specs.Walk.{Nothing, Within, Numbers, run_numbers, varints, rest_of, walk}
 

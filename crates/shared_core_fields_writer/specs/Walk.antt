@@ -7,7 +7,7 @@ use Rattle.shared_core_wire.specs.WrittenRecords.{number_record, content_record}
 use Rattle.shared_core_fields_writer.specs.Room.{Wrote}
 use Rattle.shared_core_codec.specs.Table.{table}
 use Rattle.shared_core_codec.specs.RowEncoding.{length_record}
-use Rattle.shared_core_codec.specs.Canonicity.{Next}
+use Rattle.shared_core_codec.specs.Canonicity.{Next, is_packed}
 use Rattle.shared_core_fields_writer.specs.declared.walk.Source.{Source}
 use Rattle.shared_core_fields.specs.declared.table.FieldEntry.{FieldEntry}
 use Rattle.shared_core_fields_writer.specs.declared.error.Reason.{Reason}
@@ -27,16 +27,6 @@ onto bytes (Err e) = Err e
 abbrev pub nested_onto : ℕ → Walked → Walked → Walked
 nested_onto n (Ok bytes) after = onto (length_record n bytes) after
 nested_onto n (Err e) after = Err e
-
--- Whether a field, of a kind and repeated or not, is a repeated uint32, which is packed.
-abbrev pub is_packed : Kind × Bool → Bool
-is_packed (U32, repeated) = repeated
-is_packed (U64, repeated) = false
-is_packed (Boolean, repeated) = false
-is_packed (Enumeration, repeated) = false
-is_packed (Text, repeated) = false
-is_packed (ByteString, repeated) = false
-is_packed (Message s, repeated) = false
 
 -- What the last field may have more entries for: nothing, the fields within it, or further numbers of a run.
 pub data More : Type 0 where

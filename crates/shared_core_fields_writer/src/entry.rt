@@ -142,18 +142,18 @@ pub(crate) fn first_plain(rows: &'static [Row], number: u64) -> Option<(u32, Nex
     let Some((Row::Plain(field), after)) = rows.split_first() else {
         return None;
     };
-    if u64::from(field.0) != number {
+    if u64::from(field.number) != number {
         return None;
     }
     let next = NextField {
         field: Found {
-            kind: field.1,
+            kind: field.kind,
             is_repeated: false,
         },
         is_plain: true,
         rows: after,
     };
-    Some((field.0, next))
+    Some((field.number, next))
 }
 
 /// The same of any row.

@@ -5,7 +5,7 @@
 
 ghost use Rattle.std.specs.Prelude.{◌<◌, ◌≤◌, length};
 
-use crate::walk::{Source, is_number_of, is_packed};
+use crate::walk::{Source, is_number_of};
 use shared_core_codec::canonical::{NextField, next_field};
 use shared_core_codec::rows::{Kind, rows_of};
 use shared_core_fields::table::FieldEntry;
@@ -109,7 +109,7 @@ fn measure_field(
         let content = measure_message(lengths, at, source, inner, level, depth - 1);
         return note(lengths, index, entry.number, content);
     }
-    if is_packed(next.field) {
+    if next.field.is_packed() {
         let content = measure_run(at, source, entry);
         return note(lengths, index, entry.number, content);
     }

@@ -9,11 +9,10 @@ ghost use Rattle.shared_core_wire.specs.Encoding.{shortest_varint};
 ghost use Rattle.shared_core_wire.specs.Schema as schema;
 ghost use Rattle.shared_core_codec.specs.Table.{table};
 ghost use Rattle.shared_core_codec.specs.Canonicity.{next_view};
-ghost use Rattle.shared_core_codec.specs.ProgramRows.{found_view};
 ghost use Rattle.shared_core_codec.specs.RowEncoding.{length_record};
 ghost use Rattle.shared_core_fields_writer.specs.Room.{Wrote};
 ghost use Rattle.shared_core_fields_writer.specs.Walk.{Nothing, Numbers, walk, entries_from, rest_of, varints};
-ghost use Rattle.shared_core_fields_writer.specs.Walk.{run_numbers, onto, is_packed, Writes, Nests, Goes, GoesOn};
+ghost use Rattle.shared_core_fields_writer.specs.Walk.{run_numbers, onto, Writes, Nests, Goes, GoesOn};
 ghost use Rattle.shared_core_fields_writer.specs.Walk.{Continues};
 
 use crate::entry::{Given, given_value, next_of};
@@ -21,7 +20,7 @@ use crate::error::Reason;
 use crate::flat::write_flat;
 use crate::room::{write_content, write_key, write_length, write_number, write_varint};
 use shared_core_codec::canonical::NextField;
-use shared_core_codec::rows::{Found, Kind, rows_of};
+use shared_core_codec::rows::{Kind, rows_of};
 use shared_core_codec::size::LENGTH;
 use shared_core_fields::table::FieldEntry;
 use shared_core_wire::records::LEVELS;
@@ -119,7 +118,7 @@ fn write_field(
 {
     match given_value(next.field.kind, entry, source.bytes)? {
         Given::Number(value) => {
-            if is_packed(next.field) {
+            if next.field.is_packed() {
                 return write_run(out, at, source, number, value, entry.level);
             }
             at.byte = write_number(out, at.byte, next.is_plain, number, value);
@@ -248,16 +247,6 @@ fn is_room(likely: u64, place: usize, start: usize, end: usize) -> bool
         return true;
     }
     end < usize::MAX && start - place <= varint_len((end - start) as u64) as usize
-}
-
-/// Whether a field is a repeated uint32, which is packed.
-pub(crate) fn is_packed(field: Found) -> bool
-    ensures { result ≡ is_packed (found_view field) }
-{
-    match field.kind {
-        Kind::U32 => field.is_repeated,
-        _ => false,
-    }
 }
 
 /// Writes the packed run of a number, whose entry is at the place, and of those whose entries come after it.

@@ -8,11 +8,12 @@ use Rattle.std.specs.Io.KnownBytes.{IsAtEnd}
 use Rattle.shared_core_base.specs.declared.version.Version.{Version}
 use Rattle.bytes.specs.Filled.{Filled}
 use Rattle.shared_core_stream.specs.Items.{front_word, NoItemBegins, TakesItem}
-use Rattle.shared_core_stream.specs.Limits.{Limited, ReturnsWithin, rejection}
+use Rattle.shared_core_stream.specs.Limits.{ReturnsWithin, after_rejection, rejection}
+use Rattle.shared_core_stream.specs.Unread.{Unread}
 use Rattle.shared_core_stream.specs.Limits.{offset_after}
 use Rattle.shared_core_stream.specs.declared.encoding.item.Item.{Item}
 use Rattle.shared_core_stream.specs.declared.encoding.limit_error.MessageTooLong.{MessageTooLong}
-use Rattle.shared_core_stream.specs.declared.encoding.limit_error.LimitedError.TheVariants as limited
+use Rattle.shared_core_stream.specs.declared.encoding.error.ItemError.TheVariants as item_error
 use Rattle.shared_core_stream.proofs.Items.{front_word_more, item_is_long, takes_more}
 use Rattle.shared_core_stream.proofs.Limits.{accepted, front_more}
 use Rattle.shared_core_io.specs.declared.error.ReadError.{ReadError}
@@ -21,16 +22,16 @@ use Rattle.shared_core_io.specs.Reading.{held, most_held, result_at_end, with_mo
 use Rattle.shared_core_io.specs.Reading.{IsTaken, IsTakenOf, LosesNothing}
 
 -- bytes that were read before, and then more
-pub joined : (first loop next new : Limited) (read more : List ℕ) → loop ≡ with_more first read → next ≡ loop → new ≡
+pub joined : (first loop next new : Unread) (read more : List ℕ) → loop ≡ with_more first read → next ≡ loop → new ≡
     with_more next more → new ≡ with_more first (read ++ more)
 joined first loop next new read more before same after =
-    let bytes = first.unread.bytes in
-    after ∙ ap (λ (state : Limited). with_more state more) (same ∙ before)
-    ∙ ap (λ (all : List ℕ). record first { unread = record first.unread { bytes = all } })
+    let bytes = first.bytes in
+    after ∙ ap (λ (state : Unread). with_more state more) (same ∙ before)
+    ∙ ap (λ (all : List ℕ). record first { bytes = all })
     (append_assoc bytes read more)
 
 -- an error of a read, where no message was rejected before
-pub failed : (old new was is : Limited) (left : Option (List ℕ)) (error : ReadError) → LosesNothing None was is error →
+pub failed : (old new was is : Unread) (left : Option (List ℕ)) (error : ReadError) → LosesNothing None was is error →
     new ≡ old → IsRead old left (Err error) new
 failed old new was is left (Failed reason) nothing same = (same, nothing.1)
 failed old new was is left (TooLong message) (some, kept) same = absurd (none-some message some)
@@ -38,8 +39,8 @@ failed old new was is left (Truncated count) nothing same = absurd nothing
 failed old new was is left OutOfMemory nothing same = same
 
 -- at the end, what is left is nothing or a part of an item
-pub ended : (old new : Limited) (left : Option (List ℕ)) (pending : List ℕ) → IsAtEnd left → rejection old ≡ None →
-    NoItemBegins old.unread.version old.unread.bytes → old.unread.bytes ≡ pending → new ≡ old → IsRead old left
+pub ended : (old new : Unread) (left : Option (List ℕ)) (pending : List ℕ) → IsAtEnd left → rejection old ≡ None →
+    NoItemBegins old.version old.bytes → old.bytes ≡ pending → new ≡ old → IsRead old left
     (result_at_end pending) new
 ended old new left [] end accepts none same kept = (end, accepts, same, kept)
 ended old new left (byte ∷ pending) end accepts none same kept =
@@ -56,23 +57,23 @@ idle version old read pending (byte ∷ rest) first loop new all none kept item 
     kept (omega arith) ∙ same
 
 -- what a whole header says stays, whatever comes after
-accepts_more : (state : Limited) (more : List ℕ) → rejection state ≡ None → 8 ≤ length state.unread.bytes → rejection
+accepts_more : (state : Unread) (more : List ℕ) → rejection state ≡ None → 8 ≤ length state.bytes → rejection
     (with_more state more) ≡ None
 accepts_more state more none whole =
-    let bytes = state.unread.bytes in
+    let bytes = state.bytes in
     let (before, now) = accepted state none in
     let longer : 8 ≤ length (bytes ++ more) = omega (arith, whole, length-append bytes more) in
     rw (before, le-ltb (length (bytes ++ more)) 8 longer, front_word_more bytes more whole)
     (rw (le-ltb (length bytes) 8 whole) at now)
 
-rejects_more : (state : Limited) (more : List ℕ) (message : MessageTooLong) → rejection state ≡ Some message →
+rejects_more : (state : Unread) (more : List ℕ) (message : MessageTooLong) → rejection state ≡ Some message →
     rejection (with_more state more) ≡ Some message
 rejects_more state more message some = by_rejected state.rejected refl
   where
     by_rejected : (rejected : Option MessageTooLong) → state.rejected ≡ rejected → rejection (with_more state more) ≡
         Some message
     by_rejected (Some error) is = rw is (rw is at some)
-    by_rejected None is = rw is (front_more state.unread.version state.limit state.offset state.unread.bytes more
+    by_rejected None is = rw is (front_more state.version state.limit state.offset state.bytes more
         message (rw is at some))
 
 -- the bytes of the decoder, of the chunk and of the buffer are all that is held
@@ -83,40 +84,47 @@ all_held pending chunk rest all first second is then last =
     ∙ append_assoc pending chunk rest
 
 -- what the decoder returned
-pub taken : (old new : Limited) (outside : List ℕ) (found : Option Item) → ReturnsWithin old (Ok found) new → IsTaken
+pub taken : (old new : Unread) (outside : List ℕ) (found : Option Item) → ReturnsWithin old (Ok found) new → IsTaken
     old outside (Ok found) new outside
 taken old new outside (Some item) (accepts, within, after) = (accepts, within, after, refl)
 taken old new outside None (accepts, none, same, short) = (accepts, none, short, same, refl)
 
-pub taken_not : (old new : Limited) (outside : List ℕ) → ReturnsWithin old (Err limited.OutOfMemory) new → IsTaken old
+pub taken_not : (old new : Unread) (outside : List ℕ) → ReturnsWithin old (Err item_error.OutOfMemory) new → IsTaken old
     outside (Err OutOfMemory) new outside
 taken_not old new outside (accepts, next, same) = (same, refl)
 
-pub taken_long : (old new : Limited) (outside kept : List ℕ) (message : MessageTooLong) → ReturnsWithin old
-    (Err (limited.MessageTooLong message)) new → kept ≡ [] → IsTaken old outside (Err (TooLong message)) new kept
-taken_long old new outside kept message (some, after) gone = (some, after, gone)
+pub taken_long : (old new : Unread) (outside kept : List ℕ) (message : MessageTooLong) → ReturnsWithin old
+    (Err item_error.TooLong) new → new.rejected ≡ Some message → kept ≡ [] → IsTaken old outside (Err (TooLong message))
+    new kept
+taken_long old new outside kept message (found, some, after) is gone =
+    let same : Some found ≡ Some message = sym (ap (λ (state : Unread). state.rejected) after) ∙ is in (
+      some ∙ same,
+      after ∙ ap (λ (rejected : Option MessageTooLong). record old { bytes = []; rejected = rejected }) same,
+      gone,
+    )
 
 -- what was taken of the decoder was taken of all that was there, if it is not that no whole item is there
-took : (old new : Limited) (outside kept : List ℕ) (left : Option (List ℕ)) (item : Item) → IsTaken old outside
+took : (old new : Unread) (outside kept : List ℕ) (left : Option (List ℕ)) (item : Item) → IsTaken old outside
     (Ok (Some item)) new kept → IsRead (with_more old outside) left (Ok (Some item)) (with_more new kept)
 took old new outside kept left item (accepts, (taken, fits), after, same) =
-    let long = item_is_long old.unread.version old.unread.bytes new.unread.bytes item taken in
-    let count : (length (old.unread.bytes ++ outside)) - (length (new.unread.bytes ++ outside)) ≡ length
-    old.unread.bytes - length new.unread.bytes =
-    omega (arith, length-append old.unread.bytes outside, length-append new.unread.bytes outside) in
+    let long = item_is_long old.version old.bytes new.bytes item taken in
+    let count : (length (old.bytes ++ outside)) - (length (new.bytes ++ outside)) ≡ length
+    old.bytes - length new.bytes =
+    omega (arith, length-append old.bytes outside, length-append new.bytes outside) in
     rw same (
       accepts_more old outside accepts (omega (arith, long)),
-      (takes_more old.unread.version old.unread.bytes new.unread.bytes outside item taken, fits),
-      ap (λ (state : Limited). with_more state outside) after
+      (takes_more old.version old.bytes new.bytes outside item taken, fits),
+      ap (λ (state : Unread). with_more state outside) after
           ∙ ap (λ (n : ℕ). record {
-            unread = record { version = old.unread.version; bytes = new.unread.bytes ++ outside };
+            version = old.version;
+            bytes = new.bytes ++ outside;
             limit = old.limit;
             offset = offset_after old.offset n;
             rejected = old.rejected;
           }) (sym count),
     )
 
-took_nothing : (old new : Limited) (outside kept : List ℕ) (left : Option (List ℕ)) (error : ReadError) → IsTaken
+took_nothing : (old new : Unread) (outside kept : List ℕ) (left : Option (List ℕ)) (error : ReadError) → IsTaken
     old outside (Err error) new kept → IsRead (with_more old outside) left (Err error) (with_more new kept)
 took_nothing old new outside kept left (Failed reason) taken = absurd taken
 took_nothing old new outside kept left (TooLong message) (some, after, gone) =
@@ -125,13 +133,13 @@ took_nothing old new outside kept left (Truncated count) taken = absurd taken
 took_nothing old new outside kept left OutOfMemory (same, kept_same) = rw (same, kept_same) refl
 
 -- the word at the front of what the decoder held is that at the front of all that was there
-pub word_of : (old first new : Limited) (outside kept : List ℕ) → with_more old outside ≡ first → (item : Item)
-    (word : ℕ) → IsTaken old outside (Ok (Some item)) new kept → word ≡ front_word old.unread.bytes → word ≡ front_word
-    first.unread.bytes
+pub word_of : (old first new : Unread) (outside kept : List ℕ) → with_more old outside ≡ first → (item : Item)
+    (word : ℕ) → IsTaken old outside (Ok (Some item)) new kept → word ≡ front_word old.bytes → word ≡ front_word
+    first.bytes
 word_of old first new outside kept before item word (accepts, (taken, fits), after, same) is =
-    let long = item_is_long old.unread.version old.unread.bytes new.unread.bytes item taken in
-    is ∙ sym (front_word_more old.unread.bytes outside (omega (arith, long)))
-    ∙ ap (λ (state : Limited). front_word state.unread.bytes) before
+    let long = item_is_long old.version old.bytes new.bytes item taken in
+    is ∙ sym (front_word_more old.bytes outside (omega (arith, long)))
+    ∙ ap (λ (state : Unread). front_word state.bytes) before
 
 -- at the end of a stream nothing is outside the decoder, and other errors are no end
 pub drained_end : (result : Result (Option (ℕ × Item)) ReadError) (outside : List ℕ) → outside ≡ [] → IsDrained result
@@ -143,14 +151,14 @@ drained_end (Err (TooLong message)) outside gone = tt
 drained_end (Err (Truncated count)) outside gone = gone
 drained_end (Err OutOfMemory) outside gone = tt
 
-pub drained_fill : (rejected : Option MessageTooLong) (old new : Limited) (error : ReadError) (outside : List ℕ) →
+pub drained_fill : (rejected : Option MessageTooLong) (old new : Unread) (error : ReadError) (outside : List ℕ) →
     LosesNothing rejected old new error → IsDrained (Err error) outside
 drained_fill rejected old new (Failed reason) outside nothing = tt
 drained_fill rejected old new (TooLong message) outside nothing = tt
 drained_fill rejected old new (Truncated count) outside nothing = absurd nothing
 drained_fill rejected old new OutOfMemory outside nothing = tt
 
-pub drained_error : (old new : Limited) (outside kept : List ℕ) (error : ReadError) → IsTaken old outside (Err error)
+pub drained_error : (old new : Unread) (outside kept : List ℕ) (error : ReadError) → IsTaken old outside (Err error)
     new kept → IsDrained (Err error) kept
 drained_error old new outside kept (Failed reason) taken = tt
 drained_error old new outside kept (TooLong message) taken = tt
@@ -158,32 +166,32 @@ drained_error old new outside kept (Truncated count) taken = absurd taken
 drained_error old new outside kept OutOfMemory taken = tt
 
 -- all that is held, by the most that each place holds
-pub few_held : (decoder : Limited) (chunk : List ℕ) (buffer : Filled) → length decoder.unread.bytes ≤ 4295032838 →
-    length chunk ≤ 65536 → length buffer.items ≤ 65536 → length (held decoder chunk buffer).unread.bytes ≤ most_held
+pub few_held : (decoder : Unread) (chunk : List ℕ) (buffer : Filled) → length decoder.bytes ≤ 4295032838 →
+    length chunk ≤ 65536 → length buffer.items ≤ 65536 → length (held decoder chunk buffer).bytes ≤ most_held
 few_held decoder chunk buffer short small few = omega (
   arith,
   short,
   small,
   few,
-  length-append decoder.unread.bytes (chunk ++ buffer.items),
+  length-append decoder.bytes (chunk ++ buffer.items),
   length-append chunk buffer.items,
 )
 
 -- the same where what was there is what was held first and what was read since
-module _ (first : Limited) (read : List ℕ) (old new : Limited) (outside kept : List ℕ)
+module _ (first : Unread) (read : List ℕ) (old new : Unread) (outside kept : List ℕ)
     (before : with_more old outside ≡ with_more first read) (left : Option (List ℕ)) where
   pub item_read : (item : Item) → IsTaken old outside (Ok (Some item)) new kept → IsRead (with_more first read) left
       (Ok (Some item)) (with_more new kept)
-  item_read item taken = subst (λ (all : Limited). IsRead all left (Ok (Some item)) (with_more new kept)) before
+  item_read item taken = subst (λ (all : Unread). IsRead all left (Ok (Some item)) (with_more new kept)) before
       (took old new outside kept left item taken)
 
   pub error_read : (error : ReadError) → IsTaken old outside (Err error) new kept → IsRead (with_more first read) left
       (Err error) (with_more new kept)
-  error_read error taken = subst (λ (all : Limited). IsRead all left (Err error) (with_more new kept)) before
+  error_read error taken = subst (λ (all : Unread). IsRead all left (Err error) (with_more new kept)) before
       (took_nothing old new outside kept left error taken)
 
 -- and where nothing was taken, and more was read
-module _ (first : Limited) (read more : List ℕ) (old next new : Limited) (outside kept : List ℕ)
+module _ (first : Unread) (read more : List ℕ) (old next new : Unread) (outside kept : List ℕ)
     (before : with_more old outside ≡ with_more first read) (taken : IsTaken old outside (Ok None) next kept)
     (after : new ≡ with_more (with_more next kept) more) where
   pub read_more : new ≡ with_more first (read ++ more)
@@ -192,63 +200,63 @@ module _ (first : Limited) (read more : List ℕ) (old next new : Limited) (outs
       joined first (with_more old outside) (with_more next kept) new read more before
       (rw (same, kept_same) refl) after
 
-  pub not_filled : (left : Option (List ℕ)) (was is : Limited) (error : ReadError) → LosesNothing next.rejected was is
+  pub not_filled : (left : Option (List ℕ)) (was is : Unread) (error : ReadError) → LosesNothing next.rejected was is
       error → IsRead (with_more first (read ++ more)) left (Err error) new
   not_filled left was is error nothing =
       let (accepts, none, short, same, kept_same) = taken in
       let unrejected : next.rejected ≡ None =
-      ap (λ (state : Limited). state.rejected) same ∙ (accepted old accepts).0 in
+      ap (λ (state : Unread). state.rejected) same ∙ (accepted old accepts).0 in
       failed (with_more first (read ++ more)) new was is left error
       (subst (λ (rejected : Option MessageTooLong). LosesNothing rejected was is error) unrejected nothing) read_more
 
-  pub stream_ended : (last : Limited) (others : List ℕ) (left : Option (List ℕ)) → new ≡ with_more last others →
+  pub stream_ended : (last : Unread) (others : List ℕ) (left : Option (List ℕ)) → new ≡ with_more last others →
       others ≡ [] → last ≡ next → IsAtEnd left → IsRead (with_more first (read ++ more)) left
-      (result_at_end last.unread.bytes)
+      (result_at_end last.bytes)
       new
   stream_ended last others left is gone still end =
       let (accepts, none, short, same, kept_same) = taken in
       let alone : with_more last [] ≡ last =
-      ap (λ (bytes : List ℕ). record last { unread = record last.unread { bytes = bytes } })
-      (append-nil last.unread.bytes) in
+      ap (λ (bytes : List ℕ). record last { bytes = bytes })
+      (append-nil last.bytes) in
       let all : new ≡ last = is ∙ ap (λ (bytes : List ℕ). with_more last bytes) gone ∙ alone in
       let there : old ≡ with_more first (read ++ more) = sym same ∙ sym still ∙ sym all ∙ read_more in
-      ended (with_more first (read ++ more)) new left last.unread.bytes end
-      (subst (λ (state : Limited). rejection state ≡ None) there accepts)
-      (subst (λ (state : Limited). NoItemBegins state.unread.version state.unread.bytes) there none)
-      (ap (λ (state : Limited). state.unread.bytes) (sym there ∙ sym same ∙ sym still)) read_more
+      ended (with_more first (read ++ more)) new left last.bytes end
+      (subst (λ (state : Unread). rejection state ≡ None) there accepts)
+      (subst (λ (state : Unread). NoItemBegins state.version state.bytes) there none)
+      (ap (λ (state : Unread). state.bytes) (sym there ∙ sym same ∙ sym still)) read_more
 
   pub not_idle : {R : Type 0} (was is now : R) → (0 < length kept → now ≡ is) → (item : Item) (rest : List ℕ) →
-      TakesItem first.unread.version first.unread.bytes item rest → is ≡ was → now ≡ was
+      TakesItem first.version first.bytes item rest → is ≡ was → now ≡ was
   not_idle was is now kept_idle item rest begins same_reader =
       let (accepts, none, short, same, kept_same) = taken in
-      idle first.unread.version first.unread.bytes read old.unread.bytes outside was is now
-      (ap (λ (state : Limited). state.unread.bytes) before)
-      (subst (λ (version : Version). NoItemBegins version old.unread.bytes)
-      (ap (λ (state : Limited). state.unread.version) before) none)
+      idle first.version first.bytes read old.bytes outside was is now
+      (ap (λ (state : Unread). state.bytes) before)
+      (subst (λ (version : Version). NoItemBegins version old.bytes)
+      (ap (λ (state : Unread). state.version) before) none)
       (λ some. kept_idle (rw kept_same some)) item rest begins same_reader
 
 -- what was taken of the decoder was taken of all that was held
-module _ (first old new : Limited) (outside kept : List ℕ) (before : with_more old outside ≡ first) where
+module _ (first old new : Unread) (outside kept : List ℕ) (before : with_more old outside ≡ first) where
   pub item_taken : (item : Item) → IsTaken old outside (Ok (Some item)) new kept → IsTakenOf first (Ok (Some item))
       (with_more new kept)
-  item_taken item taken = subst (λ (all : Limited). IsTakenOf all (Ok (Some item)) (with_more new kept)) before
+  item_taken item taken = subst (λ (all : Unread). IsTakenOf all (Ok (Some item)) (with_more new kept)) before
       (took old new outside kept None item taken)
 
   pub error_taken : (error : ReadError) → IsTaken old outside (Err error) new kept → IsTakenOf first (Err error)
       (with_more new kept)
   error_taken (Failed reason) taken = absurd taken
-  error_taken (TooLong message) taken = subst (λ (all : Limited). IsTakenOf all (Err (TooLong message))
+  error_taken (TooLong message) taken = subst (λ (all : Unread). IsTakenOf all (Err (TooLong message))
       (with_more new kept)) before (took_nothing old new outside kept None (TooLong message) taken)
   error_taken (Truncated count) taken = absurd taken
-  error_taken OutOfMemory taken = subst (λ (all : Limited). IsTakenOf all (Err OutOfMemory) (with_more new kept))
+  error_taken OutOfMemory taken = subst (λ (all : Unread). IsTakenOf all (Err OutOfMemory) (with_more new kept))
       before (took_nothing old new outside kept None OutOfMemory taken)
 
   -- where nothing was outside the decoder
   pub all_there : outside ≡ [] → old ≡ first
   all_there gone =
       let alone : with_more old [] ≡ old =
-      ap (λ (bytes : List ℕ). record old { unread = record old.unread { bytes = bytes } })
-      (append-nil old.unread.bytes) in
+      ap (λ (bytes : List ℕ). record old { bytes = bytes })
+      (append-nil old.bytes) in
       sym alone ∙ ap (λ (bytes : List ℕ). with_more old bytes) (sym gone) ∙ before
 
   pub all_taken : (result : Result (Option Item) ReadError) → outside ≡ [] → IsTaken old outside result new kept →
@@ -257,8 +265,8 @@ module _ (first old new : Limited) (outside kept : List ℕ) (before : with_more
   all_taken (Ok (Some item)) gone taken = item_taken item taken
   all_taken (Ok None) gone (accepts, none, short, same, kept_same) =
       let there = all_there gone in (
-        subst (λ (state : Limited). rejection state ≡ None) there accepts,
-        subst (λ (state : Limited). NoItemBegins state.unread.version state.unread.bytes) there none,
+        subst (λ (state : Unread). rejection state ≡ None) there accepts,
+        subst (λ (state : Unread). NoItemBegins state.version state.bytes) there none,
         rw (same, kept_same) before,
       )
 

@@ -6,18 +6,19 @@ use Rattle.std.specs.IoError.{error_kind}
 use Rattle.std.specs.declared.io.ErrorKind.TheVariants.{Interrupted}
 use Rattle.bytes.specs.Filled.{Filled}
 use Rattle.shared_core_stream.specs.Items.{front_word, NoItemBegins}
-use Rattle.shared_core_stream.specs.Limits.{Limited, TakesWithin, rejection, after_item, after_rejection}
+use Rattle.shared_core_stream.specs.Limits.{TakesWithin, rejection, after_item, after_rejection}
+use Rattle.shared_core_stream.specs.Unread.{Unread}
 use Rattle.shared_core_stream.specs.declared.encoding.item.Item.{Item}
 use Rattle.shared_core_stream.specs.declared.encoding.limit_error.MessageTooLong.{MessageTooLong}
 use Rattle.shared_core_io.specs.declared.error.ReadError.{ReadError}
 use Rattle.shared_core_io.specs.declared.error.ReadError.TheVariants.{Failed, TooLong, Truncated, OutOfMemory}
 
 -- A decoder to which more bytes have come.
-abbrev pub with_more : Limited → List ℕ → Limited
-with_more state more = record state { unread = record state.unread { bytes = state.unread.bytes ++ more } }
+abbrev pub with_more : Unread → List ℕ → Unread
+with_more state more = record state { bytes = state.bytes ++ more }
 
 -- What is held: a decoder to which also those bytes have come that were read and are in a chunk or a buffer yet.
-abbrev pub held : Limited → List ℕ → Filled → Limited
+abbrev pub held : Unread → List ℕ → Filled → Unread
 held decoder chunk buffer = with_more decoder (chunk ++ buffer.items)
 
 -- The most bytes that are held: a header, all but one byte of its payload, and what three reads give.
@@ -28,27 +29,27 @@ most_held = 4295163910
 -- the front, if it is within the limit; none, if there are no bytes at the end; an error that the message at the front
 -- is too long, after which nothing is held; an error with the number of bytes, if they are those of a part of an item
 -- and the stream has ended; and an error that takes nothing, which no interrupted read is.
-abbrev pub IsRead : Limited → Option (List ℕ) → Result (Option Item) ReadError → Limited → Type 0
+abbrev pub IsRead : Unread → Option (List ℕ) → Result (Option Item) ReadError → Unread → Type 0
 IsRead old left (Ok (Some item)) new =
-    (rejection old ≡ None) × TakesWithin old.unread.version old.limit old.unread.bytes item new.unread.bytes
-    × (new ≡ after_item old new.unread.bytes)
-IsRead old left (Ok None) new = IsAtEnd left × (rejection old ≡ None) × (old.unread.bytes ≡ []) × (new ≡ old)
+    (rejection old ≡ None) × TakesWithin old.version old.limit old.bytes item new.bytes
+    × (new ≡ after_item old new.bytes)
+IsRead old left (Ok None) new = IsAtEnd left × (rejection old ≡ None) × (old.bytes ≡ []) × (new ≡ old)
 IsRead old left (Err (TooLong message)) new = (rejection old ≡ Some message) × (new ≡ after_rejection old message)
 IsRead old left (Err (Truncated count)) new =
-    IsAtEnd left × (rejection old ≡ None) × NoItemBegins old.unread.version old.unread.bytes
-    × (count ≡ length old.unread.bytes) × (0 < count) × (new ≡ old)
+    IsAtEnd left × (rejection old ≡ None) × NoItemBegins old.version old.bytes
+    × (count ≡ length old.bytes) × (0 < count) × (new ≡ old)
 IsRead old left (Err (Failed reason)) new = (new ≡ old) × (error_kind reason ≢ Interrupted)
 IsRead old left (Err OutOfMemory) new = new ≡ old
 
 -- What was taken of a decoder, and of the bytes outside it, which are dropped with a message that is too long: the item
 -- at the front; nothing, since no whole item is there or an allocation failed.
-abbrev pub IsTaken : Limited → List ℕ → Result (Option Item) ReadError → Limited → List ℕ → Type 0
+abbrev pub IsTaken : Unread → List ℕ → Result (Option Item) ReadError → Unread → List ℕ → Type 0
 IsTaken old outside (Ok (Some item)) new kept =
-    (rejection old ≡ None) × TakesWithin old.unread.version old.limit old.unread.bytes item new.unread.bytes
-    × (new ≡ after_item old new.unread.bytes) × (kept ≡ outside)
+    (rejection old ≡ None) × TakesWithin old.version old.limit old.bytes item new.bytes
+    × (new ≡ after_item old new.bytes) × (kept ≡ outside)
 IsTaken old outside (Ok None) new kept =
-    (rejection old ≡ None) × NoItemBegins old.unread.version old.unread.bytes
-    × (length old.unread.bytes ≤ old.limit + 7) × (new ≡ old) × (kept ≡ outside)
+    (rejection old ≡ None) × NoItemBegins old.version old.bytes
+    × (length old.bytes ≤ old.limit + 7) × (new ≡ old) × (kept ≡ outside)
 IsTaken old outside (Err (TooLong message)) new kept =
     (rejection old ≡ Some message) × (new ≡ after_rejection old message) × (kept ≡ [])
 IsTaken old outside (Err OutOfMemory) new kept = (new ≡ old) × (kept ≡ outside)
@@ -57,12 +58,12 @@ IsTaken old outside (Err error) new kept = ⊥
 -- What was taken without reading, of what was held, and what is held afterwards: the item at the front, if it is within
 -- the limit; nothing, since no whole item is there; an error that the message at the front is too long, after which
 -- nothing is held; or a failed allocation, which takes nothing.
-abbrev pub IsTakenOf : Limited → Result (Option Item) ReadError → Limited → Type 0
+abbrev pub IsTakenOf : Unread → Result (Option Item) ReadError → Unread → Type 0
 IsTakenOf old (Ok (Some item)) new =
-    (rejection old ≡ None) × TakesWithin old.unread.version old.limit old.unread.bytes item new.unread.bytes
-    × (new ≡ after_item old new.unread.bytes)
+    (rejection old ≡ None) × TakesWithin old.version old.limit old.bytes item new.bytes
+    × (new ≡ after_item old new.bytes)
 IsTakenOf old (Ok None) new =
-    (rejection old ≡ None) × NoItemBegins old.unread.version old.unread.bytes × (new ≡ old)
+    (rejection old ≡ None) × NoItemBegins old.version old.bytes × (new ≡ old)
 IsTakenOf old (Err (TooLong message)) new = (rejection old ≡ Some message) × (new ≡ after_rejection old message)
 IsTakenOf old (Err OutOfMemory) new = new ≡ old
 IsTakenOf old (Err error) new = ⊥
@@ -71,6 +72,12 @@ IsTakenOf old (Err error) new = ⊥
 abbrev pub result_at_end : List ℕ → Result (Option Item) ReadError
 result_at_end [] = Ok None
 result_at_end (byte ∷ bytes) = Err (Truncated (length (byte ∷ bytes)))
+
+-- The result without the word of the item's header.
+abbrev pub without_word : {E : Type 0} → Result (Option (ℕ × Item)) E → Result (Option Item) E
+without_word (Ok (Some next)) = Ok (Some next.1)
+without_word (Ok None) = Ok None
+without_word (Err error) = Err error
 
 -- The word that comes with an item is that of the first header of the bytes.
 abbrev pub HasWord : Result (Option (ℕ × Item)) ReadError → List ℕ → Type 0

@@ -8,9 +8,10 @@ ghost use Rattle.std.specs.Prelude.{OnErr, true, false, None, Err};
 ghost use Rattle.std.specs.Io.KnownBytes.{Consumes, IsAtEnd};
 ghost use Rattle.shared_core_base.specs.Version.{version_number};
 ghost use Rattle.shared_core_stream.specs.Items.{TakesItem};
-ghost use Rattle.shared_core_stream.specs.Limits.{without_word};
+ghost use Rattle.shared_core_stream.specs.Unread.{fresh};
 ghost use Rattle.shared_core_stream.specs.declared.encoding.item.Item.{Item as AnyItem};
 ghost use Rattle.shared_core_io.specs.Reading.{most_held, most_of_a_part, result_at_end, with_more, HasWord};
+ghost use Rattle.shared_core_io.specs.Reading.{without_word};
 ghost use Rattle.shared_core_io.specs.Reading.{IsDrained, IsRead, IsTaken, IsTakenOf, LosesNothing};
 ghost use Rattle.shared_core_io.specs.declared.error.ReadError.TheVariants.{OutOfMemory, TooLong};
 
@@ -18,9 +19,7 @@ use crate::error::ReadError;
 use crate::one_read::read_some;
 use bytes::{Bytes, BytesMut};
 use shared_core_base::version::Version;
-use shared_core_stream::encoding::{
-    Decoder, Item, LimitedDecoder, LimitedError, LimitedPushError, PushError,
-};
+use shared_core_stream::encoding::{Decoder, Item, ItemError, PushError};
 use std::alloc::{AllocError, Global};
 use std::io::Read;
 use std::{io, mem};
@@ -41,7 +40,7 @@ const MOST_OF_A_PART: u64 = 4_294_967_302;
 /// borrowed can be read too, and what it has left is known.
 #[derive(Drop)]
 pub struct ItemBuffer {
-    decoder: LimitedDecoder,
+    decoder: Decoder,
     /// A chunk that was read and could not be pushed.
     chunk: Bytes,
     /// What was read and is in no chunk yet, and the room for what is read next.
@@ -53,7 +52,7 @@ pub struct ItemBuffer {
     ghost some: { 0 < most },
     ghost at_most: { most ≤ 65536 },
     ghost limited: { decoder.limit ≤ 4294967295 },
-    ghost short: { length decoder.unread.bytes ≤ 4295032838 },
+    ghost short: { length decoder.bytes ≤ 4295032838 },
 }
 
 impl ItemBuffer {
@@ -65,11 +64,10 @@ impl ItemBuffer {
         requires spoken { 5 ≤ version_number version }
         requires low { 1 ≤ most }
         requires high { most ≤ 65536 }
-        ensures { held result.decoder result.chunk result.buffer ≡ record
-            { unread = record { version = version; bytes = [] }; limit = limit; offset = 0; rejected = None } }
+        ensures { held result.decoder result.chunk result.buffer ≡ fresh version limit }
     {
         ItemBuffer {
-            decoder: LimitedDecoder::new(alloc, version, limit),
+            decoder: Decoder::with_limit(alloc, version, limit),
             chunk: Bytes::new(),
             buffer: BytesMut::new(alloc),
             most,
@@ -91,12 +89,12 @@ impl ItemBuffer {
         ensures read { (read : List ℕ) × Consumes (R.remaining reader.old) (R.remaining reader.new) read
             × IsRead (with_more (held self.old.decoder self.old.chunk self.old.buffer) read) (R.remaining reader.new)
             (without_word result) (held self.new.decoder self.new.chunk self.new.buffer)
-            × HasWord result (with_more (held self.old.decoder self.old.chunk self.old.buffer) read).unread.bytes }
+            × HasWord result (with_more (held self.old.decoder self.old.chunk self.old.buffer) read).bytes }
         // a whole item is returned before anything is read, so it does not wait for what comes after it
-        ensures idle { (item : AnyItem) (rest : List ℕ) → TakesItem self.old.decoder.unread.version
-            (held self.old.decoder self.old.chunk self.old.buffer).unread.bytes item rest → reader.new ≡ reader.old }
+        ensures idle { (item : AnyItem) (rest : List ℕ) → TakesItem self.old.decoder.version
+            (held self.old.decoder self.old.chunk self.old.buffer).bytes item rest → reader.new ≡ reader.old }
         ensures drained { IsDrained result (self.new.chunk ++ self.new.buffer.items) }
-        ensures bound { length (held self.new.decoder self.new.chunk self.new.buffer).unread.bytes ≤ most_held }
+        ensures bound { length (held self.new.decoder self.new.chunk self.new.buffer).bytes ≤ most_held }
     {
         for _ in 0..u64::MAX {
             if let Some(next) = self.take()? {
@@ -117,7 +115,7 @@ impl ItemBuffer {
     pub fn take_with_word(&mut self) -> Result<Option<(u64, Item)>, ReadError>
         ensures taken { IsTakenOf (held self.old.decoder self.old.chunk self.old.buffer) (without_word result)
             (held self.new.decoder self.new.chunk self.new.buffer) }
-        ensures word { HasWord result (held self.old.decoder self.old.chunk self.old.buffer).unread.bytes }
+        ensures word { HasWord result (held self.old.decoder self.old.chunk self.old.buffer).bytes }
     {
         loop {
             if let Some(next) = self.take()? {
@@ -142,23 +140,23 @@ impl ItemBuffer {
             × (held self.new.decoder self.new.chunk self.new.buffer
             ≡ with_more (held self.old.decoder self.old.chunk self.old.buffer) read) }
         ensures more { IfOk result (λ more. more ≡ true
-            → (length self.old.decoder.unread.bytes < length self.new.decoder.unread.bytes)
-            ⊎ (most_of_a_part < length self.old.decoder.unread.bytes)) }
+            → (length self.old.decoder.bytes < length self.new.decoder.bytes)
+            ⊎ (most_of_a_part < length self.old.decoder.bytes)) }
         ensures end { IfOk result (λ more. more ≡ false → IsAtEnd (R.remaining reader.new)
             × (self.new.decoder ≡ self.old.decoder) × (self.new.chunk ++ self.new.buffer.items ≡ [])) }
         ensures idle { 0 < length self.old.chunk + length self.old.buffer.items → reader.new ≡ reader.old }
-        ensures full { most_of_a_part < length self.old.decoder.unread.bytes → reader.new ≡ reader.old }
+        ensures full { most_of_a_part < length self.old.decoder.bytes → reader.new ≡ reader.old }
         ensures error { IfErr result (LosesNothing self.old.decoder.rejected
             (held self.old.decoder self.old.chunk self.old.buffer)
             (held self.new.decoder self.new.chunk self.new.buffer)) }
         ensures rejected { IfSome self.old.decoder.rejected
             (λ message. (result ≡ Err (TooLong message)) × (reader.new ≡ reader.old)) }
-        ensures bound { length (held self.new.decoder self.new.chunk self.new.buffer).unread.bytes ≤ most_held }
+        ensures bound { length (held self.new.decoder self.new.chunk self.new.buffer).bytes ≤ most_held }
     {
         if let Some(message) = self.decoder.rejected() {
             return Err(ReadError::TooLong(message));
         }
-        if self.decoder.decoder().pending() > MOST_OF_A_PART {
+        if self.decoder.pending() > MOST_OF_A_PART {
             return Ok(true);
         }
         if !self.next_chunk(reader)? {
@@ -173,9 +171,9 @@ impl ItemBuffer {
     #[tactic(auto, using(crate::proofs::Reading::all_held))]
     pub fn copy_pending(&self) -> Result<Vec<u8>, AllocError>
         ensures { IfOk result (λ bytes.
-            bytes.items ≡ (held self.now.decoder self.now.chunk self.now.buffer).unread.bytes) }
+            bytes.items ≡ (held self.now.decoder self.now.chunk self.now.buffer).bytes) }
     {
-        let mut bytes = self.decoder.decoder().copy_pending()?;
+        let mut bytes = self.decoder.copy_pending()?;
         bytes.extend_from_slice(self.chunk.as_slice())?;
         bytes.extend_from_slice(self.buffer.as_slice())?;
         Ok(bytes)
@@ -183,9 +181,9 @@ impl ItemBuffer {
 
     /// The decoder. At the end of a stream, and after `Truncated`, it holds all bytes that are in no item.
     pub fn decoder(&self) -> &Decoder
-        ensures { result.now ≡ self.now.decoder.unread }
+        ensures { result.now ≡ self.now.decoder }
     {
-        self.decoder.decoder()
+        &self.decoder
     }
 
     /// Takes the next item of what the decoder holds. If it is too long, all that is held is dropped.
@@ -194,14 +192,19 @@ impl ItemBuffer {
     fn take(&mut self) -> Result<Option<(u64, Item)>, ReadError>
         ensures taken { IsTaken self.old.decoder (self.old.chunk ++ self.old.buffer.items) (without_word result)
             self.new.decoder (self.new.chunk ++ self.new.buffer.items) }
-        ensures word { HasWord result self.old.decoder.unread.bytes }
+        ensures word { HasWord result self.old.decoder.bytes }
     {
-        match self.decoder.next_with_word() {
-            Ok(found) => Ok(found),
-            Err(LimitedError::OutOfMemory) => Err(ReadError::OutOfMemory),
-            Err(LimitedError::MessageTooLong(message)) => {
+        let mut word = 0;
+        match self.decoder.next_with_word(&mut word) {
+            Ok(Some(item)) => Ok(Some((word, item))),
+            Ok(None) => Ok(None),
+            Err(ItemError::OutOfMemory) => Err(ReadError::OutOfMemory),
+            Err(ItemError::TooLong) => {
                 self.chunk = Bytes::new();
                 self.buffer.clear();
+                let Some(message) = self.decoder.rejected() else {
+                    unreachable!()
+                };
                 Err(ReadError::TooLong(message))
             }
         }
@@ -210,7 +213,7 @@ impl ItemBuffer {
     /// Gives the decoder the next of the bytes that are held outside it, of which there are some.
     fn push_held(&mut self) -> Result<(), ReadError>
         requires accepted { self.old.decoder.rejected ≡ None }
-        requires short { length self.old.decoder.unread.bytes ≤ most_of_a_part }
+        requires short { length self.old.decoder.bytes ≤ most_of_a_part }
         requires some { 0 < length self.old.chunk + length self.old.buffer.items }
         ensures same { held self.new.decoder self.new.chunk self.new.buffer
             ≡ held self.old.decoder self.old.chunk self.old.buffer }
@@ -227,7 +230,7 @@ impl ItemBuffer {
     /// Gives the decoder the chunk that is held, which has room for it.
     fn push(&mut self) -> Result<(), ReadError>
         requires accepted { self.old.decoder.rejected ≡ None }
-        requires short { length self.old.decoder.unread.bytes ≤ most_of_a_part }
+        requires short { length self.old.decoder.bytes ≤ most_of_a_part }
         ensures ok { OnOk result ((self.new.decoder ≡ with_more self.old.decoder self.old.chunk)
             × (self.new.chunk ≡ [])) }
         ensures kept { OnErr result ((self.new.decoder ≡ self.old.decoder) × (self.new.chunk ≡ self.old.chunk)) }
@@ -236,12 +239,11 @@ impl ItemBuffer {
     {
         match self.decoder.push(mem::take(&mut self.chunk)) {
             Ok(()) => Ok(()),
-            Err(LimitedPushError::Rejected(PushError::OutOfMemory(chunk))) => {
+            Err(PushError::OutOfMemory(chunk)) => {
                 self.chunk = chunk;
                 Err(ReadError::OutOfMemory)
             }
-            Err(LimitedPushError::Rejected(PushError::TooLong(_))) => unreachable!(),
-            Err(LimitedPushError::MessageTooLong(_, _)) => unreachable!(),
+            Err(PushError::TooLong(_)) => unreachable!(),
         }
     }
 
@@ -301,11 +303,11 @@ impl ItemBuffer {
 }
 
 /// The result at the end of a stream, of which a decoder holds the last bytes.
-fn end_of(decoder: &LimitedDecoder) -> Result<Option<(u64, Item)>, ReadError>
-    ensures result { without_word result ≡ result_at_end decoder.now.unread.bytes }
+fn end_of(decoder: &Decoder) -> Result<Option<(u64, Item)>, ReadError>
+    ensures result { without_word result ≡ result_at_end decoder.now.bytes }
     ensures word { (bytes : List ℕ) → HasWord result bytes }
 {
-    match decoder.decoder().pending() {
+    match decoder.pending() {
         0 => Ok(None),
         count => Err(ReadError::Truncated(count)),
     }

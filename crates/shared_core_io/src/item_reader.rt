@@ -1,10 +1,11 @@
 //! The items of a stream that a reader gives.
 
-ghost use Rattle.std.specs.Prelude.{◌≡◌, ◌≤◌, ℕ, List, [], IfOk, None};
+ghost use Rattle.std.specs.Prelude.{◌≡◌, ◌≤◌, ℕ, List, IfOk};
 ghost use Rattle.std.specs.Io.KnownBytes.{Consumes};
 ghost use Rattle.shared_core_base.specs.Version.{version_number};
 ghost use Rattle.shared_core_stream.specs.Items.{TakesItem};
 ghost use Rattle.shared_core_stream.specs.declared.encoding.item.Item.{Item as AnyItem};
+ghost use Rattle.shared_core_stream.specs.Unread.{fresh};
 ghost use Rattle.shared_core_io.specs.Reading.{with_more, IsRead};
 
 use crate::error::ReadError;
@@ -28,8 +29,7 @@ impl<R: Read + Drop> ItemReader<R> {
     pub fn new(alloc: Global, version: Version, reader: R) -> ItemReader<R>
         requires { 5 ≤ version_number version }
         ensures reader { result.reader ≡ reader }
-        ensures nothing_held { held_in result.items ≡ record
-            { unread = record { version = version; bytes = [] }; limit = 4294967295; offset = 0; rejected = None } }
+        ensures nothing_held { held_in result.items ≡ fresh version 4294967295 }
     {
         ItemReader::with_limit(alloc, version, u32::MAX, reader)
     }
@@ -38,8 +38,7 @@ impl<R: Read + Drop> ItemReader<R> {
     pub fn with_limit(alloc: Global, version: Version, limit: u32, reader: R) -> ItemReader<R>
         requires { 5 ≤ version_number version }
         ensures reader { result.reader ≡ reader }
-        ensures nothing_held { held_in result.items ≡ record
-            { unread = record { version = version; bytes = [] }; limit = limit; offset = 0; rejected = None } }
+        ensures nothing_held { held_in result.items ≡ fresh version limit }
     {
         ItemReader {
             reader,
@@ -59,8 +58,8 @@ impl<R: Read + Drop> ItemReader<R> {
             × IsRead (with_more (held_in self.old.items) read) (R.remaining self.new.reader) result
             (held_in self.new.items) }
         // a whole item is returned before anything is read, so it does not wait for what comes after it
-        ensures idle { (item : AnyItem) (rest : List ℕ) → TakesItem self.old.items.decoder.unread.version
-            (held_in self.old.items).unread.bytes item rest → self.new.reader ≡ self.old.reader }
+        ensures idle { (item : AnyItem) (rest : List ℕ) → TakesItem self.old.items.decoder.version
+            (held_in self.old.items).bytes item rest → self.new.reader ≡ self.old.reader }
     {
         let Some((_, item)) = self.items.next_with_word(&mut self.reader)? else {
             return Ok(None);
@@ -71,7 +70,7 @@ impl<R: Read + Drop> ItemReader<R> {
     /// Returns a copy of the bytes that were read and are in no item that was returned: after `Truncated` those of the
     /// item that is cut short, after `TooLong` none.
     pub fn copy_pending(&self) -> Result<Vec<u8>, AllocError>
-        ensures { IfOk result (λ bytes. bytes.items ≡ (held_in self.now.items).unread.bytes) }
+        ensures { IfOk result (λ bytes. bytes.items ≡ (held_in self.now.items).bytes) }
     {
         self.items.copy_pending()
     }

@@ -18,8 +18,8 @@ use Rattle.shared_core_json.specs.declared.names.Name.{Name}
 use Rattle.shared_core_json_reader.specs.Rows.{named_field, named_row, named_rows}
 use Rattle.shared_core_json_reader.specs.Reading.{original_name, is_named, names_field, row_names, names_row}
 use Rattle.shared_core_json_reader.specs.Reading.{values_named}
-use Rattle.shared_core_json_reader.specs.Places.{number_by, as_it_is, number_of, is_number, values_numbered}
-use Rattle.shared_core_json_reader.specs.Places.{IsNameAt}
+use Rattle.json_table.specs.Places.{is_place, values_at}
+use Rattle.shared_core_json_reader.specs.Places.{number_by, as_it_is, number_of}
 
 abbrev same_test : Bool → Bool → Bool
 same_test true b = b
@@ -181,7 +181,7 @@ finds_none form ns (x ∷ xs) k n h e g = by_test (λ e g. finds_none form ns xs
 
 -- a key is a name of the field that has the number which the key finds, and of no other one
 pub named_same : (s n : ℕ) (kind : Kind) (k : List ℕ) → includes (all_numbers (table s)) n ≡ true → is_named
-    (named_field s n kind) k ≡ is_number (number_of s k) n
+    (named_field s n kind) k ≡ is_place (number_of s k) n
 unfolding number_of
 named_same s n kind k h = by_name (number_by as_it_is ns k) refl
   where
@@ -198,7 +198,7 @@ named_same s n kind k h = by_name (number_by as_it_is ns k) refl
     own m g = one_of_all (includes all) (numbers_of ns) m (names_are s).own g
 
     by_original : (o : Option ℕ) → number_by original_name ns k ≡ o → bytes_eq k (name_of ns n) ≡ false →
-        (bytes_eq k (name_of ns n) || bytes_eq k (original_name (name_of ns n))) ≡ is_number o n
+        (bytes_eq k (name_of ns n) || bytes_eq k (original_name (name_of ns n))) ≡ is_place o n
     by_original (Some m) e q =
         let f = finds original_name ns ns k m (names_are s).found e in
         ap (λ (b : Bool). b || bytes_eq k (original_name (name_of ns n))) q
@@ -209,7 +209,7 @@ named_same s n kind k h = by_name (number_by as_it_is ns k) refl
         ∙ finds_none original_name ns ns k n (names_are s).found e listed
 
     by_name : (o : Option ℕ) → number_by as_it_is ns k ≡ o → (bytes_eq k (name_of ns n) || bytes_eq k
-        (original_name (name_of ns n))) ≡ is_number (option_or o (number_by original_name ns k)) n
+        (original_name (name_of ns n))) ≡ is_place (option_or o (number_by original_name ns k)) n
     by_name (Some m) e =
         let f = finds as_it_is ns ns k m (names_are s).found e in
         ap (λ (key : List ℕ). bytes_eq key (name_of ns n) || bytes_eq key (original_name (name_of ns n))) f.key
@@ -218,7 +218,7 @@ named_same s n kind k h = by_name (number_by as_it_is ns k) refl
         (finds_none as_it_is ns ns k n (names_are s).found e listed)
 
 pub values_same : (s n : ℕ) (kind : Kind) (ms : Members) → includes (all_numbers (table s)) n ≡ true → values_named
-    (named_field s n kind) ms ≡ values_numbered s n ms
+    (named_field s n kind) ms ≡ values_at (number_of s) n ms
 values_same s n kind no_members h = refl
 values_same s n kind (member k j ms) h = ap₂ (λ (b : Bool) (js : List Json). cond b (j ∷ js) js)
     (named_same s n kind k h) (values_same s n kind ms h)
@@ -243,11 +243,11 @@ at_index (suc i) ns (x ∷ xs) h f =
       found = r.found;
     }
 
--- a key that is the name at an index finds the number there
-pub named_at : (s i : ℕ) (k : List ℕ) → IsNameAt (names_of s) i k → number_of s k ≡ Some
+-- the name at an index finds the number there
+pub named_at : (s i : ℕ) → i < length (names_of s) → number_of s (get_or (names_of s) i (0, [])).1 ≡ Some
     (get_or (names_of s) i (0, [])).0
 unfolding number_of
-named_at s i k h = by_name (number_by as_it_is ns k) refl
+named_at s i within = by_name (number_by as_it_is ns k) refl
   where
     ns : List (ℕ × List ℕ)
     ns = names_of s
@@ -255,11 +255,14 @@ named_at s i k h = by_name (number_by as_it_is ns k) refl
     x : ℕ × List ℕ
     x = get_or ns i (0, [])
 
+    k : List ℕ
+    k = x.1
+
     here : At ns ns x
-    here = at_index i ns ns h.within (names_are s).found
+    here = at_index i ns ns within (names_are s).found
 
     key : k ≡ name_of ns x.0
-    key = equal_bytes k x.1 h.is ∙ equal_bytes x.1 (name_of ns x.0) here.found
+    key = equal_bytes k (name_of ns x.0) here.found
 
     own : (m : ℕ) → includes (numbers_of ns) m ≡ true → includes (all_numbers (table s)) m ≡ true
     own m g = one_of_all (includes (all_numbers (table s))) (numbers_of ns) m (names_are s).own g
@@ -280,11 +283,11 @@ named_at s i k h = by_name (number_by as_it_is ns k) refl
         ap (λ (w : List ℕ). bytes_eq w (name_of ns x.0)) key ∙ same_bytes (name_of ns x.0) in
         absurd cc
 
-pub number_at : (names : List Name) (i : ℕ) (d : Name) → i < length (map name_view names) →
-    (get_or (map name_view names) i (0, [])).0 ≡ (get_or names i d).0
-number_at [] i d h = absurd (omega (arith, h))
-number_at (y ∷ ys) zero d h = refl
-number_at (y ∷ ys) (suc i) d h = number_at ys i d (omega (arith, h))
+pub name_here : (names : List Name) (i : ℕ) (d : Name) → i < length (map name_view names) →
+    get_or (map name_view names) i (0, []) ≡ name_view (get_or names i d)
+name_here [] i d h = absurd (omega (arith, h))
+name_here (y ∷ ys) zero d h = refl
+name_here (y ∷ ys) (suc i) d h = name_here ys i d (omega (arith, h))
 
 -- ---- the keys that are known
 
@@ -345,7 +348,7 @@ abbrev is_one : Option ℕ → List ℕ → Bool
 is_one None ns = false
 is_one (Some m) ns = includes ns m
 
-one_more : (o : Option ℕ) (n : ℕ) (ns : List ℕ) → (is_number o n || is_one o ns) ≡ is_one o (n ∷ ns)
+one_more : (o : Option ℕ) (n : ℕ) (ns : List ℕ) → (is_place o n || is_one o ns) ≡ is_one o (n ∷ ns)
 one_more None n ns = refl
 one_more (Some m) n ns = refl
 

@@ -21,7 +21,7 @@ use Rattle.json.proofs.Printed.Decimals.{IsNumber-decimal, IsNumber-signed_decim
 use Rattle.shared_core_json.specs.Form.{enum_digits, byte_string_json}
 use Rattle.shared_core_json_reader.specs.Scalars.{ends_there, magnitude_of, whole_of_text, unsigned_below, signed_bits}
 use Rattle.shared_core_json_reader.specs.Scalars.{unsigned_read, boolean_read, enum_read, text_read, bytes_read}
-use Rattle.shared_core_json_reader.specs.Reading.{present}
+use Rattle.json_table.specs.Places.{present}
 use Rattle.shared_core_json_reader.proofs.Numbers.{magnitude_is, with_sign, number_whole}
 use Rattle.shared_core_json_reader.proofs.Texts.{standard_bytes}
 

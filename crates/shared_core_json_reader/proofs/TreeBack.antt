@@ -23,7 +23,8 @@ use Rattle.shared_core_json.proofs.Meanings.{PartBytes, PartsBytes}
 use Rattle.shared_core_json_reader.specs.Rows.{NamedField, NamedRow, Plain, Optional, Repeated, named_field, named_row}
 use Rattle.shared_core_json_reader.specs.Rows.{named_rows}
 use Rattle.shared_core_json_reader.specs.Reading.{original_name, is_named, names_field, row_names, names_row, are_known}
-use Rattle.shared_core_json_reader.specs.Reading.{values_named, present, the_only, given, single_read, field_read}
+use Rattle.json_table.specs.Places.{present}
+use Rattle.shared_core_json_reader.specs.Reading.{values_named, the_only, given, single_read, field_read}
 use Rattle.shared_core_json_reader.specs.Reading.{elements_read, list_read, or_absent, member_read, oneof_read}
 use Rattle.shared_core_json_reader.specs.Reading.{row_read, rows_read, object_read, message_read}
 use Rattle.shared_core_json_reader.proofs.Agreeing.{distinct_front}

@@ -6,6 +6,7 @@ use Rattle.json.specs.Json.{Json, null, boolean, number, string, array, object, 
 use Rattle.json.specs.Json.{no_members, member, if_last}
 use Rattle.json.specs.Json as json
 use Rattle.json.specs.Token.{Token}
+use Rattle.json_table.specs.Places.{present}
 use Rattle.json.specs.Lex.{tokens}
 use Rattle.shared_core_wire.specs.Schema.{Kind, U32, U64, Boolean, Enumeration, Text, ByteString, Message}
 use Rattle.shared_core_wire.specs.Value.{Part, Parts, Absent, Number, Bytes, Nested, Elements, Member, nil, cons}
@@ -56,15 +57,6 @@ are_known rows (member k j ms) = names_row rows k && are_known rows ms
 abbrev pub values_named : NamedField → Members → List Json
 values_named f no_members = []
 values_named f (member k j ms) = if is_named f k then j ∷ values_named f ms else values_named f ms
-
--- A value that is not null.
-abbrev pub present : Json → Option Json
-present null = None
-present (boolean b) = Some (boolean b)
-present (number s) = Some (number s)
-present (string s) = Some (string s)
-present (array js) = Some (array js)
-present (object ms) = Some (object ms)
 
 -- The one value, or none if it is null or absent; several values have no meaning.
 abbrev pub the_only : List Json → Option (Option Json)

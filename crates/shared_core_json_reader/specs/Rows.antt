@@ -61,7 +61,7 @@ enum_field_view f = record { schema = f.schema; number = f.number; values = map 
 
 -- The field of the schema s that a field of the codec is, with its name.
 abbrev pub in_schema : ℕ → codec_field.Field → NamedField
-in_schema s f = named_field s f.0 (codec.kind_view f.1)
+in_schema s f = named_field s f.number (codec.kind_view f.kind)
 
 -- The members of a oneof of the schema s, with their names.
 abbrev pub named_members : ℕ → List codec_field.Field → List NamedField

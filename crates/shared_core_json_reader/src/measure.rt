@@ -11,10 +11,10 @@ ghost use Rattle.shared_core_json_reader.specs.Places.{ArePlaces};
 
 use crate::bytes::decoded_len;
 use crate::lengths::{content_len, number_len};
-use crate::members::{PLACES, Place, Places, find_places, likely};
+use crate::members::{PLACES, Places, find_places, likely};
 use crate::rows::{rows_of, values_of};
 use crate::scalars::{extended, marked_text, read_boolean, read_enumeration, read_u32, read_u64};
-use json_table::{Items, Members, Node, Shape};
+use json_table::{Items, Members, Node, Place, Shape};
 use shared_core_codec::rows::{Field, Kind, Row};
 use shared_core_wire::records::LEVELS;
 use shared_core_wire::varint::varint_len;
@@ -167,8 +167,8 @@ fn measure_given<'t, 'a>(
     let Shape::Array(mut items) = value.shape() else {
         return measure_value(lengths, plain, places.schema, field, &value, left);
     };
-    if let Kind::U32 = field.1 {
-        return Ok(content_len(true, field.0, run_len(&mut items)));
+    if let Kind::U32 = field.kind {
+        return Ok(content_len(true, field.number, run_len(&mut items)));
     }
     let mut length: u64 = 0;
     while let Some(item) = items.next() {
@@ -188,20 +188,20 @@ fn measure_value<'t, 'a>(
     value: &Node<'t, 'a>,
     left: u32,
 ) -> Result<u64, AllocError> {
-    if let Kind::Message(nested) = field.1 {
+    if let Kind::Message(nested) = field.kind {
         let length = measure_message(lengths, nested, value, left)?;
-        return Ok(content_len(false, field.0, length));
+        return Ok(content_len(false, field.number, length));
     }
     Ok(single_len(plain, schema, field, value))
 }
 
 /// The length of the record of a value that is no message.
 fn single_len<'t, 'a>(plain: bool, schema: u32, field: &Field, value: &Node<'t, 'a>) -> u64 {
-    match field.1 {
-        Kind::Text => content_len(plain, field.0, text_len(value)),
-        Kind::ByteString => content_len(plain, field.0, bytes_len(value)),
+    match field.kind {
+        Kind::Text => content_len(plain, field.number, text_len(value)),
+        Kind::ByteString => content_len(plain, field.number, bytes_len(value)),
         _ => match read_number(schema, field, value) {
-            Some(number) => number_len(plain, field.0, number),
+            Some(number) => number_len(plain, field.number, number),
             None => 0,
         },
     }
@@ -209,12 +209,12 @@ fn single_len<'t, 'a>(plain: bool, schema: u32, field: &Field, value: &Node<'t, 
 
 /// The number that is written for a value.
 fn read_number<'t, 'a>(schema: u32, field: &Field, value: &Node<'t, 'a>) -> Option<u64> {
-    match field.1 {
+    match field.kind {
         Kind::U32 => Some(u64::from(read_u32(value).ok()?)),
         Kind::U64 => read_u64(value).ok(),
         Kind::Boolean => read_boolean(value).ok(),
         Kind::Enumeration => Some(extended(read_enumeration(
-            values_of(schema, field.0),
+            values_of(schema, field.number),
             value,
         ).ok()?)),
         _ => None,

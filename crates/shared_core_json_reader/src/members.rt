@@ -10,34 +10,25 @@ ghost use Rattle.std.specs.Prelude.{◌≡◌, true, false, Some, None, map, opt
 ghost use Rattle.std.specs.Prelude.{MatchResult, replicate};
 ghost use Rattle.std.specs.Str.{bytes_eq};
 ghost use Rattle.json.specs.Json.{no_members};
-ghost use Rattle.json_table.specs.Tails.{last_members, IsTail};
+ghost use Rattle.json_table.specs.Places.{Say};
+ghost use Rattle.json_table.specs.declared.places.Place.TheVariants.{Absent};
 ghost use Rattle.shared_core_codec.specs.ProgramRows as codec;
 ghost use Rattle.shared_core_json.specs.Fields.{name_view, names_of};
 ghost use Rattle.shared_core_json_reader.specs.Rows.{in_schema, named_rows};
 ghost use Rattle.shared_core_json_reader.specs.Original.{after_byte, after_original};
-ghost use Rattle.shared_core_json_reader.specs.Reading.{original_name, is_named, are_known, given, present};
-ghost use Rattle.shared_core_json_reader.specs.Places.{number_by, as_it_is, number_of, place_after};
-ghost use Rattle.shared_core_json_reader.specs.Places.{first_value, place_count, Say, ArePlaces, IsOf, IsNameAt};
+ghost use Rattle.shared_core_json_reader.specs.Reading.{original_name, is_named, are_known, given};
+ghost use Rattle.shared_core_json_reader.specs.Places.{number_by, as_it_is, number_of, place_count, ArePlaces, IsOf};
 ghost use Rattle.shared_core_json_reader.specs.Places.{IsAbsent, Lacks};
-ghost use Rattle.shared_core_json_reader.specs.declared.members.Place.TheVariants.{Absent};
 ghost use Rattle.shared_core_json_reader.specs.FirstError.{first_unknown};
 
 use crate::error::Reason;
-use json_table::{Members, Node};
+use json_table::{Members, Names, Node, Place, first_present, present};
 use shared_core_codec::rows::{Field, Row};
 use shared_core_json::names::{Name, name_of, names_of};
+use std::marker::Model;
 
 /// How many numbers of fields have a place: those below it.
 pub const PLACES: usize = 20;
-
-/// Where the value of a field is among the members of an object: nowhere, once or several times. Once: with how many
-/// entries the members end that begin with it.
-#[derive(Clone, Copy)]
-pub enum Place {
-    Absent,
-    Once(usize),
-    Several,
-}
 
 /// Where an object of a schema has the values of its fields, by their numbers.
 #[derive(Clone, Copy)]
@@ -85,7 +76,7 @@ fn is_original(key: &[u8], name: &[u8]) -> bool
 fn is_named(schema: u32, field: &Field, key: &str) -> bool
     ensures { result ≡ is_named (in_schema schema field.now) key.now }
 {
-    let name = name_of(schema, field.0);
+    let name = name_of(schema, field.number);
     key == name || is_original(key.as_bytes(), name.as_bytes())
 }
 
@@ -125,59 +116,76 @@ fn number_of(schema: u32, key: &str) -> Option<u32>
     }
 }
 
-/// The index of the first of some names, from an index on, that is as long as a key, if it is the key.
-#[inline(always)]
-fn index_from(names: &[Name], from: usize, key: &str) -> Option<usize>
-    ensures { IfSome result (λ index. IsNameAt (map name_view names.now) index key.now) }
-{
-    let mut index = from;
-    while index < names.len() && names[index].1.len() != key.len() {
-        index += 1;
-    }
-    if index < names.len() && key == names[index].1 {
-        Some(index)
-    } else {
-        None
-    }
+/// The names of the fields of a schema. A contract sees the schema.
+#[derive(Drop)]
+struct FieldNames {
+    schema: u32,
+    names: &'static [Name],
 }
 
-/// The number of the field that has a key as a name, of a schema of which these are the names. The first name from
-/// `next` on that is as long is tried first, and `next` is set after it: most objects have their members in the order
-/// of the names.
-#[inline(always)]
-fn next_number(schema: u32, names: &[Name], next: &mut usize, key: &str) -> Option<u32>
-    requires { map name_view names.now ≡ names_of schema }
-    ensures { result ≡ number_of schema key.now }
-{
-    match index_from(names, *next, key) {
-        Some(index) => {
-            *next = index + 1;
-            Some(names[index].0)
+impl Model for FieldNames {
+    ghost use Rattle.std.specs.Prelude.{◌≡◌, ℕ, map};
+    ghost use Rattle.shared_core_json.specs.Fields.{name_view, names_of};
+
+    ghost Value = { ℕ };
+
+    ghost view = { λ f. f.schema };
+
+    ghost invariant = { λ f. map name_view f.names.now ≡ names_of f.schema };
+}
+
+impl FieldNames {
+    /// The names of a schema's fields.
+    #[inline(always)]
+    fn of(schema: u32) -> FieldNames
+        ensures { result ≡ schema }
+    {
+        FieldNames {
+            schema,
+            names: names_of(schema),
         }
-        None => number_of(schema, key),
     }
 }
 
-/// The place of a field that has one more value, with which the members begin that have this many entries.
-fn place_after(place: Place, left: usize) -> Place
-    ensures { result ≡ place_after place left }
-{
-    match place {
-        Place::Absent => Place::Once(left),
-        _ => Place::Several,
+impl Names for FieldNames {
+    ghost use Rattle.std.specs.Prelude.{length};
+    ghost use Rattle.shared_core_json.specs.Fields.{names_of};
+    ghost use Rattle.shared_core_json_reader.specs.Places.{number_of};
+
+    ghost finds = { number_of };
+
+    ghost count = { λ schema. length (names_of schema) };
+
+    #[inline(always)]
+    fn len(&self) -> usize {
+        self.names.len()
+    }
+
+    #[inline(always)]
+    fn name_at(&self, index: usize) -> (&'static str, usize) {
+        let names = self.names;
+        let Name(number, name) = names[index];
+        (name, number as usize)
+    }
+
+    fn place_of(&self, key: &str) -> Option<usize> {
+        match number_of(self.schema, key) {
+            Some(number) => Some(number as usize),
+            None => None,
+        }
     }
 }
 
 /// Finds where an object of a schema has the values of its fields. The error is the first key that is no name of a
 /// field.
 #[inline(always)]
-pub fn find_places<'t, 'a>(
+pub fn find_places<'a>(
     schema: u32,
-    members: &Members<'t, 'a>,
+    members: &Members<'_, 'a>,
     numbered: &mut [Place; PLACES],
 ) -> Result<(), &'a str>
     requires { numbered.old ≡ replicate place_count Absent }
-    ensures places { OnOk result (Say schema members.now no_members numbered.new) }
+    ensures places { OnOk result (Say (number_of schema) place_count members.now no_members numbered.new) }
     ensures known { MatchResult result
         (λ _. are_known (named_rows schema) members.now ≡ true)
         (λ _. are_known (named_rows schema) members.now ≡ false) }
@@ -185,21 +193,9 @@ pub fn find_places<'t, 'a>(
         (λ _. first_unknown (named_rows schema) members.now ≡ None)
         (λ key. first_unknown (named_rows schema) members.now ≡ Some key.now) }
 {
-    let names = names_of(schema);
-    let mut rest = members.copy();
-    let mut next = 0;
-    loop {
-        let left = rest.left();
-        let Some((key, _)) = rest.next() else {
-            return Ok(());
-        };
-        let Some(number) = next_number(schema, names, &mut next, key) else {
-            return Err(key);
-        };
-        let number = number as usize;
-        if number < PLACES {
-            numbered[number] = place_after(numbered[number], left);
-        }
+    match json_table::find_places(&FieldNames::of(schema), members, numbered) {
+        Ok(_) => Ok(()),
+        Err(key) => Err(key),
     }
 }
 
@@ -216,7 +212,7 @@ pub fn given<'t, 'a>(
         (λ _. given (in_schema places.now.schema field.now) members.now ≡ None) }
     ensures repeated { IfErr result (λ reason. reason ≡ Reason.RepeatedMember) }
 {
-    let number = field.0 as usize;
+    let number = field.number as usize;
     if number >= PLACES {
         return given_by_name(members, places.schema, field);
     }
@@ -241,9 +237,9 @@ pub fn lacks(places: &Places, row: &Row) -> bool
 /// Whether an object gives a field of its schema nothing, as can be seen without the field's names.
 #[inline(always)]
 pub fn is_absent(places: &Places, field: &Field) -> bool
-    ensures { IsTrue result → IsAbsent places.now field.now.0 }
+    ensures { IsTrue result → IsAbsent places.now field.now.number }
 {
-    let number = field.0 as usize;
+    let number = field.number as usize;
     number < PLACES && matches!(places.numbered[number], Place::Absent)
 }
 
@@ -255,7 +251,7 @@ pub fn likely<'t, 'a>(
 ) -> Option<Node<'t, 'a>>
     requires { ArePlaces members.now places.now }
 {
-    let number = field.0 as usize;
+    let number = field.number as usize;
     if number >= PLACES {
         return match given_by_name(members, places.schema, field) {
             Ok(found) => found,
@@ -266,24 +262,6 @@ pub fn likely<'t, 'a>(
         Place::Once(left) => first_present(members, left),
         _ => None,
     }
-}
-
-/// The value of the first of those of the members, at the end, that have this many entries, unless it is null.
-fn first_present<'t, 'a>(members: &Members<'t, 'a>, left: usize) -> Option<Node<'t, 'a>>
-    requires { IsTail left members.now }
-    ensures { result ≡ present (first_value (last_members left members.now)) }
-{
-    match members.last(left).next() {
-        Some((_, value)) => present(value),
-        None => None,
-    }
-}
-
-/// A value, unless it is null.
-fn present<'t, 'a>(value: Node<'t, 'a>) -> Option<Node<'t, 'a>>
-    ensures { result ≡ present value.entry }
-{
-    if value.is_null() { None } else { Some(value) }
 }
 
 /// The value that members give a field of a schema, by its names, if it is there and not null. An error if it comes

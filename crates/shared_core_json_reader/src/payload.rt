@@ -24,12 +24,12 @@ ghost use Rattle.shared_core_json_reader.specs.FirstError.{members_error, object
 use crate::bytes::append_bytes;
 use crate::error::Reason;
 use crate::measure::Lengths;
-use crate::members::{PLACES, Place, Places, find_places, given, is_absent, lacks};
+use crate::members::{PLACES, Places, find_places, given, is_absent, lacks};
 use crate::records::append_varint;
 use crate::rows::{rows_of, values_of};
 use crate::scalars::{extended, read_boolean, read_enumeration, read_text, read_u32, read_u64};
 use crate::short::{append_content, append_number, append_prefix, put_length};
-use json_table::{Items, Members, Node, Shape};
+use json_table::{Items, Members, Node, Place, Shape};
 use shared_core_codec::rows::{Field, Kind, Row};
 use shared_core_json::names::name_of;
 use std::alloc::Global;
@@ -79,7 +79,7 @@ impl<'a> Walk<'a> {
             × (trail_view self.new.trail.items
             ≡ Member (in_schema schema field.now).name ∷ trail_view self.old.trail.items) }
     {
-        self.note(Step::Member(name_of(schema, field.0)), reason)
+        self.note(Step::Member(name_of(schema, field.number)), reason)
     }
 }
 
@@ -349,8 +349,8 @@ fn append_array<'a>(
     let Shape::Array(mut items) = value.shape() else {
         return Err(Reason::WrongKind);
     };
-    if let Kind::U32 = field.1 {
-        return append_run(walk, out, field.0, &mut items);
+    if let Kind::U32 = field.kind {
+        return append_run(walk, out, field.number, &mut items);
     }
     append_items(walk, out, schema, field, &mut items, left)
 }
@@ -447,19 +447,19 @@ fn append_value<'a>(
     ensures error { HasError result (field_error (message_error left) (in_schema schema field.now) value.now)
         walk.new.trail.items }
 {
-    match field.1 {
-        Kind::U32 => append_number(out, plain, field.0, u64::from(read_u32(value)?))?,
-        Kind::U64 => append_number(out, plain, field.0, read_u64(value)?)?,
-        Kind::Boolean => append_number(out, plain, field.0, read_boolean(value)?)?,
+    match field.kind {
+        Kind::U32 => append_number(out, plain, field.number, u64::from(read_u32(value)?))?,
+        Kind::U64 => append_number(out, plain, field.number, read_u64(value)?)?,
+        Kind::Boolean => append_number(out, plain, field.number, read_boolean(value)?)?,
         Kind::Enumeration => {
-            let bits = read_enumeration(values_of(schema, field.0), value)?;
-            append_number(out, plain, field.0, extended(bits))?;
+            let bits = read_enumeration(values_of(schema, field.number), value)?;
+            append_number(out, plain, field.number, extended(bits))?;
         }
-        Kind::Text => append_content(out, plain, field.0, read_text(value)?)?,
-        Kind::ByteString => append_bytes(out, plain, field.0, value)?,
+        Kind::Text => append_content(out, plain, field.number, read_text(value)?)?,
+        Kind::ByteString => append_bytes(out, plain, field.number, value)?,
         Kind::Message(nested) => {
             let room = walk.lengths.next(nested, value, left)?;
-            let place = append_prefix(out, field.0, room)?;
+            let place = append_prefix(out, field.number, room)?;
             let end = out.len();
             append_message(walk, out, nested, value, left)?;
             put_length(out, place, end)?;

@@ -1,20 +1,16 @@
-//! Writing a record's frame: a header, and the canonical payload after it.
+//! The parts of a record's frame: a header, and the canonical payload after it.
 
-ghost use Rattle.std.specs.Prelude.{◌≡◌, ◌≤◌, ◌<◌, ◌+◌, ◌^◌, ◌++◌, OnOk, OnErr};
-ghost use Rattle.std.specs.Prelude.{IfOk, IsErr, Err, MatchOption, ℕ, length, vec_len, vec_capacity};
+ghost use Rattle.std.specs.Prelude.{◌≡◌, ◌≤◌, ◌<◌, ◌+◌, ◌^◌, ◌++◌, IfOk, IsErr, Err, MatchOption, ℕ, length};
 ghost use Rattle.std.specs.Int.{w64, to_be_bytes};
-ghost use Rattle.std.specs.Result.{IsErrOf};
 ghost use Rattle.shared_core_base.specs.MessageHeader.{word_of};
 ghost use Rattle.shared_core_base.specs.declared.header.MessageType.{MessageType as AnyType};
 ghost use Rattle.shared_core_wire.specs.Value.{Parts};
 ghost use Rattle.shared_core_wire.specs.Canonical.{canonical_payload, size};
 ghost use Rattle.shared_core_wire.specs.Fitting.{Fits};
 ghost use Rattle.shared_core_codec.specs.Table.{table};
-ghost use Rattle.shared_core_codec.specs.declared.error.EncodingError.TheVariants.{PayloadTooLong, OutOfMemory};
-ghost use Rattle.shared_core_message.specs.Frames.{frame};
+ghost use Rattle.shared_core_codec.specs.declared.error.EncodingError.TheVariants.{PayloadTooLong};
 
 use crate::restate_message::RestateMessage;
-use bytes::BytesMut;
 use shared_core_base::header::{MessageHeader, MessageType};
 use shared_core_codec::error::EncodingError;
 
@@ -68,65 +64,6 @@ impl<M: RestateMessage> FramePayload for M {
     fn fill(&self, out: &mut [u8]) {
         self.fill_payload(out);
     }
-}
-
-/// Appends the frame of a record, with or without the flag in its header. After an error the buffer is unchanged. Its
-/// capacity never shrinks.
-pub fn encode_frame_into<P: FramePayload>(
-    payload: &P,
-    requested_ack: Option<bool>,
-    out: &mut Vec<u8>,
-) -> Result<(), EncodingError>
-    ensures ok { OnOk result (out.new.items ≡ out.old.items
-        ++ frame P.frame_type requested_ack (canonical_payload table P.payload_schema (P.payload_parts payload.now))) }
-    ensures short { OnOk result (size table P.payload_schema (P.payload_parts payload.now) < 2 ^ 32) }
-    ensures fits { OnOk result (Fits table (P.payload_parts payload.now) (table P.payload_schema)) }
-    ensures unchanged { OnErr result (out.new.items ≡ out.old.items) }
-    ensures capacity { vec_capacity out.old ≤ vec_capacity out.new }
-    ensures full { IsErrOf result OutOfMemory
-        → vec_capacity out.old < vec_len out.old + (8 + size table P.payload_schema (P.payload_parts payload.now)) }
-    ensures too_long { IsErrOf result PayloadTooLong
-        → 2 ^ 32 ≤ size table P.payload_schema (P.payload_parts payload.now) }
-    ensures rejected { 2 ^ 32 ≤ size table P.payload_schema (P.payload_parts payload.now)
-        → result ≡ Err PayloadTooLong }
-{
-    let header = header_of(payload, requested_ack)?;
-    let start = out.len();
-    let count = MessageHeader::SIZE + header.message_length() as usize;
-    out.resize(start + count, 0)?;
-    fill_frame(payload, header, &mut out[start..]);
-    Ok(())
-}
-
-/// Appends the frame of a record, as `encode_frame_into` does, to a buffer whose spare room is initialized, so that no
-/// byte is written twice.
-pub fn encode_frame_into_bytes<P: FramePayload>(
-    payload: &P,
-    requested_ack: Option<bool>,
-    out: &mut BytesMut,
-) -> Result<(), EncodingError>
-    ensures ok { OnOk result (out.new.items ≡ out.old.items
-        ++ frame P.frame_type requested_ack (canonical_payload table P.payload_schema (P.payload_parts payload.now))) }
-    ensures short { OnOk result (size table P.payload_schema (P.payload_parts payload.now) < 2 ^ 32) }
-    ensures fits { OnOk result (Fits table (P.payload_parts payload.now) (table P.payload_schema)) }
-    ensures unchanged { OnErr result (out.new.items ≡ out.old.items) }
-    ensures full { IsErrOf result OutOfMemory
-        → out.old.spare < 8 + size table P.payload_schema (P.payload_parts payload.now) }
-    ensures spare { OnOk result (out.old.spare ≤ out.new.spare
-        + (8 + size table P.payload_schema (P.payload_parts payload.now))) }
-    ensures kept { OnErr result (out.old.spare ≤ out.new.spare) }
-    ensures too_long { IsErrOf result PayloadTooLong
-        → 2 ^ 32 ≤ size table P.payload_schema (P.payload_parts payload.now) }
-    ensures rejected { 2 ^ 32 ≤ size table P.payload_schema (P.payload_parts payload.now)
-        → result ≡ Err PayloadTooLong }
-{
-    let header = header_of(payload, requested_ack)?;
-    let start = out.len();
-    let count = MessageHeader::SIZE + header.message_length() as usize;
-    out.reserve(count)?;
-    out.advance_mut(count);
-    fill_frame(payload, header, &mut out.as_mut_slice()[start..]);
-    Ok(())
 }
 
 /// The header of a record's frame. `PayloadTooLong` if the canonical payload has more than 4,294,967,295 bytes.

@@ -13,7 +13,6 @@ pub mod propose_run_completion_message;
 pub mod start_message;
 pub mod suspension_message;
 pub mod suspension_message_v6;
-pub mod versions;
 
 pub use crate::awaiting_on_message::AwaitingOnMessage;
 pub use crate::end_message::EndMessage;

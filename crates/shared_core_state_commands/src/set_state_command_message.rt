@@ -4,22 +4,18 @@
 ghost use Rattle.std.specs.Prelude.{refl};
 ghost use Rattle.shared_core_wire.specs.Value.{Bytes as Content, cons, nil};
 ghost use Rattle.shared_core_base.specs.declared.header.MessageType.TheVariants as types;
-ghost use Rattle.shared_core_message.specs.Frames.{plain_form};
 ghost use Rattle.std.proofs.Common.{inl};
 ghost use Rattle.shared_core_codec.specs.Table as tables;
 ghost use Rattle.shared_core_codec.specs.FieldParts.{message_part, option_part, text_part};
 ghost use Rattle.shared_core_codec.specs.EqualityRules.{equality_rules};
 
-use bytes::{Bytes, BytesMut};
+use bytes::Bytes;
 use shared_core_base::header::MessageType;
-use shared_core_base::version::Version;
-use shared_core_codec::error::EncodingError;
 use shared_core_codec::occurrence::Occurrence;
 use shared_core_codec::record::WireRecord;
 use shared_core_codec::size::Size;
 use shared_core_codec::{optional, plain};
-use shared_core_message::frame::{encode_frame_into, encode_frame_into_bytes};
-use shared_core_message::restate_message::{RestateEncodableMessage, RestateMessage};
+use shared_core_message::restate_message::RestateMessage;
 use shared_core_parts::value::Value;
 use shared_core_wire::error::WireError;
 use std::alloc::Global;
@@ -88,21 +84,4 @@ impl RestateMessage for SetStateCommandMessage {
     ghost named = { tt };
 
     ghost own_schema = { inl refl };
-}
-
-impl RestateEncodableMessage for SetStateCommandMessage {
-    ghost wire_form = { λ message _. plain_form tables.set_state_command
-        (⟦<SetStateCommandMessage as WireRecord>⟧.parts message) };
-
-    fn encode_into(&self, _version: Version, out: &mut Vec<u8>) -> Result<(), EncodingError> {
-        encode_frame_into(self, None, out)
-    }
-
-    fn encode_into_bytes(
-        &self,
-        _version: Version,
-        out: &mut BytesMut,
-    ) -> Result<(), EncodingError> {
-        encode_frame_into_bytes(self, None, out)
-    }
 }

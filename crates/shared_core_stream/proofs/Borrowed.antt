@@ -6,18 +6,10 @@ use Rattle.std.proofs.lemmas.List.{take-append-drop}
 use Rattle.shared_core_base.specs.declared.version.Version.{Version}
 use Rattle.shared_core_stream.specs.declared.encoding.announced.Announced.{Announced}
 use Rattle.shared_core_stream.specs.declared.encoding.item_ref.ItemRef.{ItemRef}
-use Rattle.shared_core_stream.specs.Unread.{Unread}
 use Rattle.shared_core_stream.specs.Items.{NoItemBegins, TakesItem, body_length, front_word}
 use Rattle.shared_core_stream.specs.Borrowed.{Announces, IsAtFront, IsMissing, announced_length, item_with}
 use Rattle.shared_core_stream.specs.Borrowed.{kind_announced}
 use Rattle.shared_core_stream.proofs.Items.{item_is_long, none_partial, takes_announced}
-
--- what a word announces at the version of what is unread
-pub announces_at : (version : Version) (bytes : List ℕ) (read : Unread) (word : ℕ) (announced : Announced) → record
-    { version = version; bytes = bytes } ≡ read → Announces version word announced → Announces read.version word
-    announced
-announces_at version bytes read word announced is says = subst (λ v. Announces v word announced)
-    (ap (λ (u : Unread). u.version) is) says
 
 -- fewer than eight bytes are no item
 pub header_missing : (version : Version) (bytes : List ℕ) → length bytes < 8 → IsMissing version bytes

@@ -4,6 +4,6 @@ pub mod Segments
 pub mod Equality
 pub mod Splits
 pub mod Limits
-pub mod LimitedStreams
 pub mod LimitedSplits
 pub mod LongMessages
+pub mod Returned

@@ -8,11 +8,12 @@ use Rattle.shared_core_base.specs.declared.version.Version.{Version}
 use Rattle.shared_core_base.specs.MessageHeader.{header_of, word_code, word_length}
 use Rattle.shared_core_base.specs.MessageType.{type_of}
 use Rattle.shared_core_stream.specs.declared.encoding.item.Item.{Item}
-use Rattle.shared_core_stream.specs.Items.{AreItems, SplitsInto, body_length, front_word}
+use Rattle.shared_core_stream.specs.Items.{AreItems, NoItemBegins, SplitsInto, body_length, front_word}
 use Rattle.shared_core_stream.specs.Items.{skips_unknown_messages}
-use Rattle.shared_core_stream.specs.Limits.{SplitsWithin, payload_length, too_long_at}
+use Rattle.shared_core_stream.specs.Limits.{SplitsWithin, payload_length, rejection, too_long_at}
+use Rattle.shared_core_stream.specs.Unread.{IsUnlimited, Unread}
 use Rattle.shared_core_stream.proofs.Items.{same_split}
-use Rattle.shared_core_stream.proofs.Limits.{item_length, taken_length, within_limit}
+use Rattle.shared_core_stream.proofs.Limits.{item_length, left_within, taken_length, within_limit}
 
 -- under a limit a stream splits in one way
 pub limited_split_is_unique : (version : Version) (limit : ℕ) (stream : List ℕ) (items others : List Item)
@@ -61,6 +62,16 @@ greatest_accepts version offset bytes = by_length (nat_lt (length bytes) 8) refl
     by_length true is = rw is refl
     by_length false is = rw is (within_limit version 4294967295 offset (front_word bytes)
         (body_below version (front_word bytes)))
+
+-- a decoder without a limit rejects nothing
+pub unlimited_accepts : (state : Unread) → IsUnlimited state → rejection state ≡ None
+unlimited_accepts state (limit_is, gone) =
+    rw (gone, limit_is) (greatest_accepts state.version state.offset state.bytes)
+
+-- a header and all but one byte of the longest payload, where no item begins
+pub none_bounded : (version : Version) (bytes : List ℕ) → NoItemBegins version bytes → length bytes ≤ 4294967302
+none_bounded version bytes none =
+    omega (arith, left_within version 4294967295 0 bytes (greatest_accepts version 0 bytes) none)
 
 all_below : (version : Version) (bytes : List ℕ) (items : List Item) → AreItems version bytes items → (k : ℕ) (d : Item)
     → suc k ≤ length items → payload_length (get_or items k d) ≤ 4294967295

@@ -3,6 +3,7 @@ use Rattle.std.specs.Prelude.{◌≡◌, ℕ, ◌+◌, ◌-◌, ◌<◌, nat_lt,
 use Rattle.std.specs.Prelude.{if◌then◌else◌}
 use Rattle.shared_core_base.specs.declared.version.Version.{Version}
 use Rattle.shared_core_stream.specs.Items.{NoItemBegins, TakesItem, body_length, front_word, item_of}
+use Rattle.shared_core_stream.specs.Limits.{too_long_at}
 use Rattle.shared_core_stream.specs.declared.encoding.announced.Announced.{Announced}
 use Rattle.shared_core_stream.specs.declared.encoding.announced.Announced.TheVariants as announced
 use Rattle.shared_core_stream.specs.declared.encoding.item.Item.{Item}
@@ -11,6 +12,7 @@ use Rattle.shared_core_stream.specs.declared.encoding.item_ref.ItemKind.{ItemKin
 use Rattle.shared_core_stream.specs.declared.encoding.item_ref.ItemKind.TheVariants as kind
 use Rattle.shared_core_stream.specs.declared.encoding.item_ref.ItemRef.{ItemRef}
 use Rattle.shared_core_stream.specs.declared.encoding.item_refs.ItemRefs.{ItemRefs}
+use Rattle.shared_core_stream.specs.declared.encoding.limit_error.MessageTooLong.{MessageTooLong}
 
 -- The item of a kind that has this payload.
 abbrev pub item_with : ItemKind → List ℕ → Item
@@ -57,10 +59,16 @@ pub record IsMissing (version : Version) (bytes : List ℕ) (missing : ℕ) : Ty
   pub some : 0 < missing
   pub needed : (more : List ℕ) → length more < missing → NoItemBegins version (bytes ++ more)
 
--- `next` changed old to new. `None`: no whole item is left, and nothing changes. An item: it is at the front of the
--- bytes that were left, and the bytes after it are left.
+-- The message that the bytes begin with that an iterator has not returned, if it is longer than the limit.
+abbrev pub too_long_for : ItemRefs → Option MessageTooLong
+too_long_for items = too_long_at items.version items.limit (items.count - length items.rest.now) items.rest.now
+
+-- `next` changed old to new, of the same version, the same limit and the same bytes. `None`: the message at the front
+-- of the bytes that were left is longer than the limit, or no whole item is left; nothing changes. An item: it is at
+-- the front of those bytes, within the limit, and the bytes after it are left.
 abbrev pub GivesBorrowed : ItemRefs → Option ItemRef → ItemRefs → Type 0
 GivesBorrowed old None new =
-    (new.version ≡ old.version) × (new.rest.now ≡ old.rest.now) × NoItemBegins old.version old.rest.now
+    (new ≡ old) × (too_long_for old ≡ None → NoItemBegins old.version old.rest.now)
 GivesBorrowed old (Some item) new =
-    (new.version ≡ old.version) × IsAtFront old.version old.rest.now item new.rest.now
+    (new.version ≡ old.version) × (new.limit ≡ old.limit) × (new.count ≡ old.count) × (too_long_for old ≡ None)
+    × IsAtFront old.version old.rest.now item new.rest.now

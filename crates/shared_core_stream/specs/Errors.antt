@@ -1,23 +1,25 @@
 -- The texts of errors.
 use Rattle.std.specs.Prelude.{ℕ, ◌++◌, List, codes, decimal, Some, None}
 use Rattle.shared_core_base.specs.MessageType.{debug_name_of, type_of, unknown_type_text}
+use Rattle.shared_core_stream.specs.declared.encoding.error.ItemError.{ItemError}
+use Rattle.shared_core_stream.specs.declared.encoding.error.ItemError.TheVariants as item
 use Rattle.shared_core_stream.specs.declared.encoding.error.PiecesError.{PiecesError}
 use Rattle.shared_core_stream.specs.declared.encoding.error.PiecesError.TheVariants as chunks
 use Rattle.shared_core_stream.specs.declared.encoding.error.PushError.{PushError}
 use Rattle.shared_core_stream.specs.declared.encoding.error.PushError.TheVariants as push
 use Rattle.shared_core_stream.specs.declared.encoding.item_ref.MissingBytes.{MissingBytes}
 use Rattle.shared_core_stream.specs.declared.encoding.limit_error.MessageTooLong.{MessageTooLong}
-use Rattle.shared_core_stream.specs.declared.encoding.limit_error.ItemRefError.{ItemRefError}
-use Rattle.shared_core_stream.specs.declared.encoding.limit_error.ItemRefError.TheVariants as first
-use Rattle.shared_core_stream.specs.declared.encoding.limit_error.LimitedError.{LimitedError}
-use Rattle.shared_core_stream.specs.declared.encoding.limit_error.LimitedError.TheVariants as limited
-use Rattle.shared_core_stream.specs.declared.encoding.limit_error.LimitedPushError.{LimitedPushError}
-use Rattle.shared_core_stream.specs.declared.encoding.limit_error.LimitedPushError.TheVariants as limited_push
 
 -- The text of the error of a rejected chunk.
 abbrev pub push_error_text : PushError → List ℕ
 push_error_text (push.OutOfMemory back) = codes "out of memory"
-push_error_text (push.TooLong back) = codes "more than 2^64 - 1 bytes are pending"
+push_error_text (push.TooLong back) =
+    codes "more than 2^64 - 1 bytes are pending, or a message is longer than the limit"
+
+-- The text of the error of a decoder that returns no item.
+abbrev pub item_error_text : ItemError → List ℕ
+item_error_text item.OutOfMemory = codes "out of memory"
+item_error_text item.TooLong = codes "a message is longer than the limit"
 
 -- The text of the error of chunks that were not decoded.
 abbrev pub pieces_error_text : PiecesError → List ℕ
@@ -38,18 +40,3 @@ abbrev pub message_too_long_text : MessageTooLong → List ℕ
 message_too_long_text message =
     code_text message.code ++ (codes " at offset " ++ (decimal message.offset ++ (codes ": " ++ (decimal message.length
     ++ (codes " bytes of payload, more than the limit of " ++ decimal message.limit)))))
-
--- The text of the error of a decoder with a limit that returns no item.
-abbrev pub limited_error_text : LimitedError → List ℕ
-limited_error_text limited.OutOfMemory = codes "out of memory"
-limited_error_text (limited.MessageTooLong message) = message_too_long_text message
-
--- The text of the error of a chunk that a decoder with a limit rejected.
-abbrev pub limited_push_error_text : LimitedPushError → List ℕ
-limited_push_error_text (limited_push.Rejected error) = push_error_text error
-limited_push_error_text (limited_push.MessageTooLong message back) = message_too_long_text message
-
--- The text of the error of a slice that begins with no item within a limit.
-abbrev pub item_ref_error_text : ItemRefError → List ℕ
-item_ref_error_text (first.Missing missing) = missing_bytes_text missing
-item_ref_error_text (first.TooLong message) = message_too_long_text message

@@ -2,12 +2,13 @@
 --
 -- A version decides how many bytes belong to a header, so each of these relations takes it. Only `body_length` and
 -- `item_of` depend on it, by whether it skips unknown messages. Versions 5 to 8 read headers alike.
-use Rattle.std.specs.Prelude.{◌≡◌, ℕ, ◌+◌, ◌^◌, ◌<◌, ◌≤◌, if◌then◌else◌, List, [], ◌∷◌, ◌++◌, length, take, drop}
+use Rattle.std.specs.Prelude.{◌≡◌, ℕ, ◌+◌, ◌^◌, ◌<◌, ◌≤◌, if◌then◌else◌, List, [], ◌∷◌, ◌++◌, length, take, drop, None}
 use Rattle.std.specs.Option.{option_map_or}
 use Rattle.std.specs.Int.{w64, from_be_bytes}
 use Rattle.shared_core_base.specs.declared.version.Version.{Version}
 use Rattle.shared_core_base.specs.MessageHeader.{header_of, word_code, word_length}
 pub use Rattle.shared_core_base.specs.Version.{skips_unknown_messages}
+use Rattle.shared_core_stream.specs.Unread.{Unread}
 use Rattle.shared_core_stream.specs.declared.encoding.item.Item.{Item}
 use Rattle.shared_core_stream.specs.declared.encoding.item.Item.TheVariants.{Message, Unknown, Skipped}
 use Rattle.shared_core_stream.specs.declared.encoding.error.PushError.{PushError}
@@ -77,7 +78,10 @@ HasPayload item = Unit {0}
 abbrev pub PayloadIsNext : Version → List ℕ → Type 0
 PayloadIsNext version bytes = (item : Item) × (rest : List ℕ) × TakesItem version bytes item rest × HasPayload item
 
--- A rejected chunk is returned unchanged, and is too long if and only if the bytes would be 2 ^ 64 or more.
-abbrev pub PushFails : List ℕ → List ℕ → PushError → Type 0
-PushFails old chunk (NoMemory back) = (back ≡ chunk) × (length old + length chunk < 2 ^ 64)
-PushFails old chunk (TooLong back) = (back ≡ chunk) × (2 ^ 64 ≤ length old + length chunk)
+-- A rejected chunk is returned unchanged. It is too long if and only if the bytes would be 2 ^ 64 or more, or a message
+-- was rejected before.
+abbrev pub PushFails : Unread → List ℕ → PushError → Type 0
+PushFails old chunk (NoMemory back) =
+    (back ≡ chunk) × (old.rejected ≡ None) × (length old.bytes + length chunk < 2 ^ 64)
+PushFails old chunk (TooLong back) =
+    (back ≡ chunk) × (old.rejected ≡ None → 2 ^ 64 ≤ length old.bytes + length chunk)

@@ -5,5 +5,3 @@ pub mod Iteration
 pub mod Segments
 pub mod Errors
 pub mod Limits
-pub mod LimitedIteration
-pub mod LimitedStreams

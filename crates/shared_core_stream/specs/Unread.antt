@@ -1,11 +1,24 @@
 -- What a decoder holds.
-use Rattle.std.specs.Prelude.{ℕ, List, [], Option, Some, None}
+use Rattle.std.specs.Prelude.{◌≡◌, ℕ, ◌-◌, ◌^◌, min, List, [], Option, Some, None}
 use Rattle.shared_core_base.specs.declared.version.Version.{Version}
+use Rattle.shared_core_stream.specs.declared.encoding.limit_error.MessageTooLong.{MessageTooLong}
 
--- A decoder as contracts see it: its version and its pending bytes, those that no call has taken.
+-- A decoder as contracts see it: its version; its pending bytes, those that no call has taken; its limit; the offset of
+-- the pending bytes in the stream, or 2^64 - 1 from there on; and the message that it has rejected, if any.
 pub record Unread : Type 0 where
   pub version : Version
   pub bytes : List ℕ
+  pub limit : ℕ
+  pub offset : ℕ
+  pub rejected : Option MessageTooLong
+
+-- A decoder of this version and this limit to which no byte has come.
+abbrev pub fresh : Version → ℕ → Unread
+fresh version limit = record { version = version; bytes = []; limit = limit; offset = 0; rejected = None }
+
+-- No message is too long for the decoder: it has the greatest limit, which is none, and has rejected nothing.
+abbrev pub IsUnlimited : Unread → Type 0
+IsUnlimited decoder = (decoder.limit ≡ 4294967295) × (decoder.rejected ≡ None)
 
 -- The eight bytes that were read as a header and are held, if any are.
 abbrev pub held_bytes : Option (List ℕ) → List ℕ
@@ -16,3 +29,7 @@ held_bytes (Some head) = head
 abbrev pub held_length : Option (List ℕ) → ℕ
 held_length None = 0
 held_length (Some head) = 8
+
+-- The offset of the pending bytes, if this many have come and so many of them are pending.
+abbrev pub offset_of : ℕ → ℕ → ℕ
+offset_of pushed pending = min (pushed - pending) (2 ^ 64 - 1)

@@ -23,7 +23,7 @@ use Rattle.stream_lines.specs.declared.error.PrintError.{PrintError}
 use Rattle.stream_lines.specs.declared.error.PrintError.TheVariants.{Input, Output, OutOfMemory, TooLong}
 use Rattle.stream_lines.specs.declared.error.PrintError.TheVariants.{MessageTooLong}
 use Rattle.shared_core_stream.specs.declared.encoding.limit_error.MessageTooLong.{MessageTooLong as Longer}
-use Rattle.shared_core_stream.specs.Limits.{Limited}
+use Rattle.shared_core_stream.specs.Unread.{Unread}
 use Rattle.shared_core_stream.specs.Limits.{after_item, offset_after, payload_length, too_long_at, TakesWithin}
 use Rattle.shared_core_io.specs.Reading.{with_more}
 use Rattle.stream_lines.specs.Printing.{item_size, items_size, lines, trouble_at, first_trouble, ArePrinted}
@@ -163,13 +163,13 @@ pub moved : (version : Version) (limit offset : ℕ) (bytes rest : List ℕ) (si
     → after_item (holding version limit offset bytes) rest ≡ holding version limit (offset + size) rest
 moved version limit offset bytes rest size long =
     ap (λ (o : ℕ). record
-    { unread = record { version = version; bytes = rest }; limit = limit; offset = o; rejected = None })
+    { version = version; bytes = rest; limit = limit; offset = o; rejected = None })
     (omega (arith, long))
 
 -- what is held after more was read
-pub filled : (version : Version) (limit offset : ℕ) (old new : Limited) (read : List ℕ) → old ≡ holding version limit
-    offset old.unread.bytes → new ≡ with_more old read → new ≡ holding version limit offset (old.unread.bytes ++ read)
-filled version limit offset old new read state after = after ∙ ap (λ (held : Limited). with_more held read) state
+pub filled : (version : Version) (limit offset : ℕ) (old new : Unread) (read : List ℕ) → old ≡ holding version limit
+    offset old.bytes → new ≡ with_more old read → new ≡ holding version limit offset (old.bytes ++ read)
+filled version limit offset old new read state after = after ∙ ap (λ (held : Unread). with_more held read) state
 
 -- at the end nothing was read, and all that was held is in the decoder
 pub all_decoded : (decoded outside before beside read : List ℕ) → decoded ++ outside ≡ (before ++ beside) ++ read →
@@ -190,27 +190,27 @@ all_decoded decoded outside before beside (byte ∷ read) all same gone = absurd
 
 -- what a step says of the items that it added, of these bytes, and of what is after them
 abbrev pub HasAdded : (ℕ → ℕ → Item → List ℕ) → (Item → Option Trouble) → Version → ℕ → ℕ → Option (ℕ × Trouble) →
-    List ℕ → List ℕ → Option Longer → ℕ → Option (ℕ × Trouble) → List ℕ → Limited → Type 0
+    List ℕ → List ℕ → Option Longer → ℕ → Option (ℕ × Trouble) → List ℕ → Unread → Type 0
 HasAdded line trouble version limit at found text bytes longer offset noted longest state = (rest : List ℕ)
     × Added line trouble version limit at found text bytes offset noted longest rest
     × IsAfter version limit longer offset rest state
 
 -- an item is taken of what is held
-pub takes : (version : Version) (limit offset : ℕ) (old new : Limited) (item : Item) → old ≡ holding version limit
+pub takes : (version : Version) (limit offset : ℕ) (old new : Unread) (item : Item) → old ≡ holding version limit
     offset
-    old.unread.bytes → TakesWithin old.unread.version old.limit old.unread.bytes item new.unread.bytes → new ≡
-    after_item old new.unread.bytes → TakesWithin version limit old.unread.bytes item new.unread.bytes
-    × (length old.unread.bytes ≡ item_size item + length new.unread.bytes)
-    × (new ≡ holding version limit (offset + item_size item) new.unread.bytes)
+    old.bytes → TakesWithin old.version old.limit old.bytes item new.bytes → new ≡
+    after_item old new.bytes → TakesWithin version limit old.bytes item new.bytes
+    × (length old.bytes ≡ item_size item + length new.bytes)
+    × (new ≡ holding version limit (offset + item_size item) new.bytes)
 takes version limit offset old new item is taken after =
-    let bytes = old.unread.bytes in
-    let rest = new.unread.bytes in
-    let here = subst (λ (state : Limited). TakesWithin state.unread.version state.limit bytes item rest) is taken in
+    let bytes = old.bytes in
+    let rest = new.bytes in
+    let here = subst (λ (state : Unread). TakesWithin state.version state.limit bytes item rest) is taken in
     let long : length bytes ≡ item_size item + length rest =
     omega (arith, then_long version bytes rest (item ∷ []) (then_one version bytes rest item here.0)) in (
       here,
       long,
-      after ∙ ap (λ (state : Limited). after_item state rest) is
+      after ∙ ap (λ (state : Unread). after_item state rest) is
           ∙ moved version limit offset bytes rest (item_size item) long,
     )
 

@@ -111,15 +111,15 @@ impl Lines {
     ) -> Result<Option<MessageTooLong>, PrintError>
         requires accepted { items.old.decoder.rejected ≡ None }
         requires placed { items.old.decoder.offset ≡ offset_after 0 self.old.offset }
-        requires room { self.old.offset + length (held_in items.old).unread.bytes < 2 ^ 128 }
+        requires room { self.old.offset + length (held_in items.old).bytes < 2 ^ 128 }
         ensures added { IfOk result (λ longer. (rest : List ℕ) × Added (P.item_line printer.now)
-            (P.item_trouble printer.now) items.old.decoder.unread.version items.old.decoder.limit self.old.offset
-            self.old.trouble self.old.text.items (held_in items.old).unread.bytes self.new.offset self.new.trouble
+            (P.item_trouble printer.now) items.old.decoder.version items.old.decoder.limit self.old.offset
+            self.old.trouble self.old.text.items (held_in items.old).bytes self.new.offset self.new.trouble
             self.new.text.items rest
-            × IsAfter items.old.decoder.unread.version items.old.decoder.limit longer self.new.offset rest
+            × IsAfter items.old.decoder.version items.old.decoder.limit longer self.new.offset rest
             (held_in items.new)) }
-        ensures lack { IfErr result (IsLack (IsLongIn (P.is_long printer.now) items.old.decoder.unread.version
-            (held_in items.old).unread.bytes)) }
+        ensures lack { IfErr result (IsLack (IsLongIn (P.is_long printer.now) items.old.decoder.version
+            (held_in items.old).bytes)) }
     {
         loop {
             match items.take_with_word() {

@@ -6,11 +6,11 @@ ghost use Rattle.shared_core_base.specs.Version.{version_number};
 ghost use Rattle.shared_core_codec.specs.declared.error.EncodingError.TheVariants.{PayloadTooLong, OutOfMemory};
 ghost use Rattle.shared_core_message.specs.Frames.{wire_size, wire_frame};
 
-use crate::encoding::FrameBuffer;
 use bytes::Bytes;
 use shared_core_base::version::Version;
 use shared_core_codec::error::EncodingError;
-use shared_core_message::restate_message::RestateEncodableMessage;
+use shared_core_frames::buffer::FrameBuffer;
+use shared_core_frames::encodable_message::RestateEncodableMessage;
 use std::alloc::Global;
 
 /// Writes messages as frames of a version. A contract sees it as the record of its version.
@@ -75,15 +75,15 @@ impl Encoder {
         Ok(frame)
     }
 
-    /// Appends the frame of a message, as `encode` returns it, to a buffer: a `Vec<u8>`, a `BytesMut`, or the chunks of
-    /// `shared_core_chunks`.
+    /// Appends the frame of a message, as `encode` returns it, to a buffer: a `Vec<u8>`, a `BytesMut`, or
+    /// `FrameChunks`.
     ///
     /// The errors are those of `encode`, and after one the buffer has the same bytes. A `Vec<u8>` or a `BytesMut`
     /// allocates only if it has too little room. So a `Vec<u8>` that is cleared and reused does not allocate once it
     /// has had room for the longest frame; its capacity never shrinks. `freeze_to` takes frames off a `BytesMut` as
     /// `Bytes` that share its block, so that many frames need few allocations.
     #[tactic(auto, using(crate::proofs::DecodedFrames::appended_is_frame_of))]
-    pub fn encode_into<M: RestateEncodableMessage, B: FrameBuffer<M>>(
+    pub fn encode_into<M: RestateEncodableMessage, B: FrameBuffer>(
         &self,
         message: &M,
         out: &mut B,
@@ -104,6 +104,6 @@ impl Encoder {
         ensures rejected { 2 ^ 32 ≤ wire_size (M.wire_form message.now self.now.version)
             → result ≡ Err PayloadTooLong }
     {
-        out.append_frame(self.version, message)
+        message.encode_into(self.version, out)
     }
 }

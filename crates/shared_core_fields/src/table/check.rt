@@ -356,11 +356,11 @@ pub(crate) fn single_bytes(schema: u32, bytes: &[u8]) -> Option<u32>
     let Row::Plain(field) = row else {
         return None;
     };
-    let Kind::ByteString = field.1 else {
+    let Kind::ByteString = field.kind else {
         return None;
     };
-    if u64::from(key) == 8 * u64::from(field.0) + 2 {
-        Some(field.0)
+    if u64::from(key) == 8 * u64::from(field.number) + 2 {
+        Some(field.number)
     } else {
         None
     }

@@ -4,8 +4,9 @@ ghost use Rattle.std.specs.Prelude.{◌≡◌, ◌+◌, ◌++◌, ◌^◌, ◌�
 ghost use Rattle.std.specs.List.{concat};
 ghost use Rattle.shared_core_base.specs.Version.{version_number};
 ghost use Rattle.shared_core_stream.specs.Items.{NoItemBegins, IsItemsThen, SplitsInto, BeginsWithWritten};
+ghost use Rattle.shared_core_stream.specs.Unread.{IsUnlimited};
 
-use crate::encoding::{Decoder, Item, PiecesError, PushError};
+use crate::encoding::{Decoder, Item, ItemError, PiecesError, PushError};
 use bytes::Bytes;
 use shared_core_base::version::Version;
 use std::alloc::Global;
@@ -26,6 +27,7 @@ pub fn decode_pieces(
     ensures items { IfOk result (λ returned. SplitsInto version (concat chunks.now) returned.0.items returned.1.bytes) }
     ensures written { IfOk result (λ returned. BeginsWithWritten version (concat chunks.now) returned.0.items) }
     ensures version { IfOk result (λ returned. returned.1.version ≡ version) }
+    ensures unlimited { IfOk result (λ returned. IsUnlimited returned.1) }
     ensures too_long { IsErrOf result PiecesError.TooLong → 2 ^ 64 ≤ length (concat chunks.now) }
     ensures none { chunks.now ≡ [] → IsOk result }
 {
@@ -39,11 +41,13 @@ pub fn decode_pieces(
 
 /// Pushes a chunk, and then moves each whole item to the list.
 fn feed(decoder: &mut Decoder, items: &mut Vec<Item>, chunk: &Bytes) -> Result<(), PiecesError>
+    requires { IsUnlimited decoder.old }
     ensures moved { OnOk result ((stream : List ℕ)
         → IsItemsThen decoder.old.version stream items.old.items decoder.old.bytes
         → IsItemsThen decoder.old.version (stream ++ chunk.now) items.new.items decoder.new.bytes) }
     ensures no_more { OnOk result (NoItemBegins decoder.old.version decoder.new.bytes) }
     ensures version { OnOk result (decoder.new.version ≡ decoder.old.version) }
+    ensures unlimited { OnOk result (IsUnlimited decoder.new) }
     ensures too_long { IsErrOf result PiecesError.TooLong → 2 ^ 64 ≤ length decoder.old.bytes + length chunk.now }
 {
     match decoder.push(chunk.clone()?) {
@@ -55,15 +59,22 @@ fn feed(decoder: &mut Decoder, items: &mut Vec<Item>, chunk: &Bytes) -> Result<(
 
 /// Moves each whole item to the list.
 fn drain(decoder: &mut Decoder, items: &mut Vec<Item>) -> Result<(), PiecesError>
+    requires { IsUnlimited decoder.old }
     ensures moved { OnOk result ((stream : List ℕ)
         → IsItemsThen decoder.old.version stream items.old.items decoder.old.bytes
         → IsItemsThen decoder.old.version stream items.new.items decoder.new.bytes) }
     ensures no_more { OnOk result (NoItemBegins decoder.old.version decoder.new.bytes) }
     ensures version { OnOk result (decoder.new.version ≡ decoder.old.version) }
+    ensures unlimited { OnOk result (IsUnlimited decoder.new) }
     ensures memory { IsErrOf result PiecesError.TooLong → ⊥ }
 {
-    while let Some(item) = decoder.next_item()? {
-        items.push(item)?;
+    loop {
+        match decoder.next_item() {
+            Ok(Some(item)) => items.push(item)?,
+            Ok(None) => return Ok(()),
+            Err(ItemError::OutOfMemory) => return Err(PiecesError::OutOfMemory),
+            // the decoder has no limit
+            Err(ItemError::TooLong) => unreachable!(),
+        }
     }
-    Ok(())
 }

@@ -2,12 +2,10 @@
 
 ghost use Rattle.std.specs.Prelude.{◌≡◌, ◌+◌, ◌<◌, ◌≤◌, ◌++◌, length, drop, take, IfOk, IfSome, IfNone, OnErr};
 ghost use Rattle.std.specs.Prelude.{MatchOption, Some, None};
-ghost use Rattle.shared_core_stream.specs.Borrowed.{announced_length, item_with, kind_announced};
-ghost use Rattle.shared_core_stream.specs.Items.{HasPayload};
 ghost use Rattle.shared_core_stream.specs.Unread.{held_bytes, held_length};
 
 use crate::encoding::announced::Announced;
-use crate::encoding::{Item, Items, LimitedError, MessageTooLong, PushError, RawMessage};
+use crate::encoding::{Item, ItemError, Items, MessageTooLong, PushError, RawMessage};
 use crate::pending_bytes::PendingBytes;
 use bytes::Bytes;
 use shared_core_base::header::MessageHeader;
@@ -17,26 +15,42 @@ use std::marker::Model;
 
 /// Takes a stream in chunks, and returns its items in order.
 ///
-/// A contract sees a decoder as its version and its pending bytes, those that no call has taken; a header that was read
-/// is still among them until its message is returned.
+/// It may have a limit on the length of a payload. Then the first longer message ends the stream: as soon as its header
+/// has come, whatever has come of its payload, `next_item` returns `TooLong`. From the first such error on nothing is
+/// held, each call returns it, and `push` returns each chunk. A limit of `u32::MAX` is none.
+///
+/// A contract sees a decoder as its version; its pending bytes, those that no call has taken, where a header that was
+/// read is still among them until its message is returned; its limit; the offset of the pending bytes; and the message
+/// that was rejected.
 #[derive(Drop)]
 pub struct Decoder {
     version: Version,
+    limit: u32,
     head: Option<[u8; 8]>,
     pending: PendingBytes,
+    /// How many bytes have come, or 2^128 - 1 from there on. Without those that a rejected message dropped.
+    pushed: u128,
+    rejected: Option<MessageTooLong>,
 }
 
 impl Model for Decoder {
-    ghost use Rattle.std.specs.Prelude.{◌≡◌, ◌++◌, ◌<◌, ◌^◌, length};
-    ghost use Rattle.shared_core_stream.specs.Unread.{Unread, held_bytes, held_length};
+    ghost use Rattle.std.specs.Prelude.{◌≡◌, ◌++◌, ◌<◌, ◌≤◌, ◌^◌, [], length, IfSome};
+    ghost use Rattle.shared_core_stream.specs.Unread.{Unread, held_bytes, held_length, offset_of};
 
     ghost Value = { Unread };
 
-    ghost view = { λ decoder.
-        record { version = decoder.version; bytes = held_bytes decoder.head ++ decoder.pending } };
+    ghost view = { λ decoder. record {
+      version = decoder.version;
+      bytes = held_bytes decoder.head ++ decoder.pending;
+      limit = decoder.limit;
+      offset = offset_of decoder.pushed (length (held_bytes decoder.head ++ decoder.pending));
+      rejected = decoder.rejected;
+    } };
 
     ghost invariant = { λ decoder. (length (held_bytes decoder.head ++ decoder.pending) < 2 ^ 64)
-        × (length (held_bytes decoder.head) ≡ held_length decoder.head) };
+        × (length (held_bytes decoder.head) ≡ held_length decoder.head)
+        × (length (held_bytes decoder.head ++ decoder.pending) ≤ decoder.pushed)
+        × IfSome decoder.rejected (λ _. held_bytes decoder.head ++ decoder.pending ≡ []) };
 }
 
 /// The eight bytes that are held as a header. If none are held and eight have come, these are held from now on.
@@ -80,70 +94,63 @@ fn take_payload(
     Ok(Some(payload))
 }
 
-/// Takes the held header and the item that it announces, if its payload has come. An `Err` takes nothing.
-#[inline(always)]
-fn take_item(
-    head: &mut Option<[u8; 8]>,
-    pending: &mut PendingBytes,
-    announced: Announced,
-) -> Result<Option<Item>, AllocError>
-    ensures taken { IfOk result (λ found. MatchOption found
-        ((length pending.old < announced_length announced) × (head.new ≡ head.old) × (pending.new ≡ pending.old))
-        (λ item. (announced_length announced ≤ length pending.old)
-        × (item ≡ item_with (kind_announced announced) (take (announced_length announced) pending.old))
-        × (head.new ≡ None) × (pending.new ≡ drop (announced_length announced) pending.old))) }
-    ensures rejected { OnErr result ((announced_length announced ≤ length pending.old)
-        × HasPayload (item_with (kind_announced announced) (take (announced_length announced) pending.old))
-        × (head.new ≡ head.old) × (pending.new ≡ pending.old)) }
-{
-    match announced {
-        Announced::Message(header) => {
-            let length = header.message_length() as usize;
-            let Some(payload) = take_payload(head, pending, length)? else {
-                return Ok(None);
-            };
-            Ok(Some(Item::Message(RawMessage::new(header, payload))))
-        }
-        Announced::Skipped(unknown, length) => {
-            let Some(payload) = take_payload(head, pending, length as usize)? else {
-                return Ok(None);
-            };
-            Ok(Some(Item::Skipped(unknown.code(), payload)))
-        }
-        Announced::Unknown(unknown) => {
-            *head = None;
-            Ok(Some(Item::Unknown(unknown.code())))
-        }
-    }
-}
-
 impl Decoder {
-    ghost use Rattle.std.specs.Prelude.{◌≡◌, ◌+◌, ◌≤◌, ◌++◌, [], length, OnOk, OnErr, IfOk, IfErr, IsOk, MatchOption};
-    ghost use Rattle.std.specs.Prelude.{false, IsErr, ◌^◌};
+    ghost use Rattle.std.specs.Prelude.{◌≡◌, ◌+◌, ◌<◌, ◌≤◌, ◌++◌, ◌^◌, [], length, OnOk, OnErr, IfOk, IfErr, IfSome};
+    ghost use Rattle.std.specs.Prelude.{IsOk, IsErr, IsSome, IsErrOf, MatchOption, None, Err, Ok, false};
     ghost use Rattle.shared_core_base.specs.Version.{version_number};
-    ghost use Rattle.shared_core_stream.specs.Items.{NoItemBegins, PayloadIsNext, PushFails};
-    ghost use Rattle.shared_core_stream.specs.Limits.{ReturnsNext};
-    ghost use Rattle.std.specs.Prelude.{◌<◌};
-    ghost use Rattle.shared_core_stream.specs.Items.{TakesItem};
+    ghost use Rattle.shared_core_stream.specs.Items.{front_word, NoItemBegins, PayloadIsNext, PushFails, TakesItem};
+    ghost use Rattle.shared_core_stream.specs.Limits.{ReturnsWithin, too_long_by};
+    ghost use Rattle.shared_core_stream.specs.Unread.{fresh, IsUnlimited};
+    ghost use Rattle.shared_core_stream.specs.declared.encoding.error.ItemError.TheVariants as error;
 
-    /// Returns a decoder of this version, which is at least V5, before any byte has come. Does not allocate.
+    /// Returns a decoder of this version, which is at least V5, without a limit, before any byte has come. Does not
+    /// allocate.
     pub fn new(alloc: Global, version: Version) -> Decoder
         requires { 5 ≤ version_number version }
-        ensures { result ≡ record { version = version; bytes = [] } }
+        ensures { result ≡ fresh version 4294967295 }
+    {
+        Decoder::with_limit(alloc, version, u32::MAX)
+    }
+
+    /// The same with a limit: the greatest length in bytes of a payload that is taken.
+    pub fn with_limit(alloc: Global, version: Version, limit: u32) -> Decoder
+        requires { 5 ≤ version_number version }
+        ensures { result ≡ fresh version limit }
     {
         Decoder {
             version,
+            limit,
             head: None,
             pending: PendingBytes::new(alloc),
+            pushed: 0,
+            rejected: None,
         }
     }
 
-    /// Drops the pending bytes.
-    pub(crate) fn discard(&mut self)
-        ensures { self.new ≡ record self.old { bytes = [] } }
+    /// The greatest length of a payload that is taken.
+    pub fn limit(&self) -> u32
+        ensures { result ≡ self.now.limit }
     {
-        self.head = None;
-        self.pending = PendingBytes::new(self.pending.alloc());
+        self.limit
+    }
+
+    /// The number of bytes of the stream that are in the items taken so far, or 2^64 - 1 from there on.
+    pub fn offset(&self) -> u64
+        ensures { result ≡ self.now.offset }
+    {
+        let taken = self.pushed - self.pending() as u128;
+        if taken < u64::MAX as u128 {
+            taken as u64
+        } else {
+            u64::MAX
+        }
+    }
+
+    /// The message that was rejected, since it is longer than the limit, if one was.
+    pub fn rejected(&self) -> Option<MessageTooLong>
+        ensures { result ≡ self.now.rejected }
+    {
+        self.rejected
     }
 
     /// Returns the number of bytes that no call has taken yet.
@@ -175,22 +182,31 @@ impl Decoder {
     /// pending bytes take at most twice their number and 64 KiB, besides what is used of the chunk that they begin in.
     ///
     /// An empty chunk is not kept and never rejected. A rejected chunk is returned in the error, and nothing has
-    /// changed: `TooLong` if and only if the pending bytes would be more than 2^64 - 1, otherwise `OutOfMemory`.
+    /// changed: `TooLong` if and only if the pending bytes would be more than 2^64 - 1 or a message was rejected,
+    /// otherwise `OutOfMemory`.
     pub fn push(&mut self, chunk: Bytes) -> Result<(), PushError>
         ensures ok { OnOk result (self.new ≡ record self.old { bytes = self.old.bytes ++ chunk }) }
-        ensures err { IfErr result (PushFails self.old.bytes chunk) }
+        ensures err { IfErr result (PushFails self.old chunk) }
         ensures too_long { 0 < length chunk → 2 ^ 64 ≤ length self.old.bytes + length chunk → IsErr result }
+        ensures rejected { 0 < length chunk → IsSome self.old.rejected → IsErr result }
         ensures kept { OnErr result (self.new ≡ self.old) }
         ensures empty { length chunk ≡ 0 → IsOk result }
     {
         if chunk.is_empty() {
             return Ok(());
         }
-        if self.pending().checked_add(chunk.len() as u64).is_none() {
+        if let Some(_) = self.rejected {
+            return Err(PushError::TooLong(chunk));
+        }
+        let count = chunk.len() as u64;
+        if self.pending().checked_add(count).is_none() {
             return Err(PushError::TooLong(chunk));
         }
         match self.pending.push(chunk) {
-            Ok(()) => Ok(()),
+            Ok(()) => {
+                self.pushed = self.pushed.saturating_add(count as u128);
+                Ok(())
+            }
             Err(failed) => Err(PushError::OutOfMemory(failed.value)),
         }
     }
@@ -200,33 +216,59 @@ impl Decoder {
     ///
     /// A payload within one chunk shares its memory; one that straddles chunks is joined, once. A failed allocation
     /// takes nothing, and comes only if a whole payload would be taken: a later call returns as if this one had not
-    /// been made.
+    /// been made. `TooLong` comes if a header has come whose message is longer than the limit, and from then on;
+    /// without a limit it never comes.
+    #[tactic(auto, using(crate::proofs::Returned::memory_of, crate::proofs::Returned::version_of))]
     #[inline(always)]
-    pub fn next_item(&mut self) -> Result<Option<Item>, AllocError>
+    pub fn next_item(&mut self) -> Result<Option<Item>, ItemError>
+        ensures next { ReturnsWithin self.old result self.new }
         ensures taken { IfOk result (λ found. MatchOption found
             (NoItemBegins self.old.version self.old.bytes × (self.new.bytes ≡ self.old.bytes)
             × (length self.new.bytes ≤ 4294967302))
             (λ item. TakesItem self.old.version self.old.bytes item self.new.bytes)) }
-        ensures rejected { OnErr result
-            ((self.new.bytes ≡ self.old.bytes) × PayloadIsNext self.old.version self.old.bytes) }
+        ensures out_of_memory { result ≡ Err error.OutOfMemory →
+            (self.new.bytes ≡ self.old.bytes) × PayloadIsNext self.old.version self.old.bytes }
+        ensures unlimited { IsUnlimited self.old → IsUnlimited self.new × (result ≡ Err error.TooLong → ⊥) }
         ensures shorter { IfOk result (λ found.
             IfSome found (λ item. length self.new.bytes + 8 ≤ length self.old.bytes)) }
         ensures version { self.new.version ≡ self.old.version }
     {
+        let mut word = 0;
+        self.next_with_word(&mut word)
+    }
+
+    /// The next item as of `next_item`. With an item, `word` is that of its header, of which an item holds only a part.
+    #[inline(always)]
+    pub fn next_with_word(&mut self, word: &mut u64) -> Result<Option<Item>, ItemError>
+        ensures next { ReturnsWithin self.old result self.new }
+        ensures word { IfOk result (λ found. IfSome found (λ _. word.new ≡ front_word self.old.bytes)) }
+        ensures shorter { IfOk result (λ found.
+            IfSome found (λ item. length self.new.bytes + 8 ≤ length self.old.bytes)) }
+    {
         let Some(front) = hold_head(&mut self.head, &mut self.pending) else {
-            return Ok(None);
+            // after a rejection nothing is pending
+            return match self.rejected {
+                Some(_) => Err(ItemError::TooLong),
+                None => Ok(None),
+            };
         };
-        // not by `next_within`, whose result is larger: each item would be moved twice more
-        match Announced::by(self.version, u64::from_be_bytes(front)) {
+        *word = u64::from_be_bytes(front);
+        match Announced::by(self.version, *word) {
             Announced::Message(header) => {
-                let length = header.message_length() as usize;
-                let taken = take_payload(&mut self.head, &mut self.pending, length)?;
+                let length = header.message_length();
+                if length > self.limit {
+                    return self.reject(*word);
+                }
+                let taken = take_payload(&mut self.head, &mut self.pending, length as usize)?;
                 let Some(payload) = taken else {
                     return Ok(None);
                 };
                 Ok(Some(Item::Message(RawMessage::new(header, payload))))
             }
             Announced::Skipped(unknown, length) => {
+                if length > self.limit {
+                    return self.reject(*word);
+                }
                 let skipped = take_payload(&mut self.head, &mut self.pending, length as usize)?;
                 let Some(payload) = skipped else {
                     return Ok(None);
@@ -240,29 +282,22 @@ impl Decoder {
         }
     }
 
-    /// The next item as of `next_item`, with the word of its header. If the message that comes next, at this offset of
-    /// the stream, is longer than the limit, it is the error. An `Err` takes nothing.
+    /// Drops what is held, since the message that this word announces is longer than the limit. Inline: a call would
+    /// have each item of a loop go through memory.
     #[inline(always)]
-    pub(crate) fn next_within(
-        &mut self,
-        limit: u32,
-        offset: u64,
-    ) -> Result<Option<(u64, Item)>, LimitedError>
-        ensures next { ReturnsNext limit offset self.old result self.new }
-        ensures version { self.new.version ≡ self.old.version }
+    fn reject(&mut self, word: u64) -> Result<Option<Item>, ItemError>
+        ensures error { result ≡ Err error.TooLong }
+        ensures rejected { self.new ≡ record self.old {
+          bytes = [];
+          rejected = too_long_by self.old.version self.old.limit self.old.offset word;
+        } }
     {
-        let Some(head) = hold_head(&mut self.head, &mut self.pending) else {
-            return Ok(None);
-        };
-        let word = u64::from_be_bytes(head);
-        let announced = Announced::by(self.version, word);
-        if let Some(message) = MessageTooLong::announced(&announced, limit, offset, word) {
-            return Err(LimitedError::MessageTooLong(message));
-        }
-        let Some(item) = take_item(&mut self.head, &mut self.pending, announced)? else {
-            return Ok(None);
-        };
-        Ok(Some((word, item)))
+        let message = MessageTooLong::by(self.version, self.limit, self.offset(), word);
+        self.pushed -= self.pending() as u128;
+        self.head = None;
+        self.pending = PendingBytes::new(self.pending.alloc());
+        self.rejected = message;
+        Err(ItemError::TooLong)
     }
 
     /// The items that the decoder holds, in order, for a loop: each is taken as it is returned, as by `next_item`.

@@ -1,4 +1,4 @@
-//! The errors of pushing chunks.
+//! The errors of decoders.
 
 use bytes::Bytes;
 use std::alloc::{AllocError, AllocFailed};
@@ -10,7 +10,8 @@ use std::fmt;
 pub enum PushError {
     /// The allocation of one more segment failed.
     OutOfMemory(Bytes),
-    /// The pending bytes would be more than 2^64 - 1.
+    /// The pending bytes would be more than 2^64 - 1; or a message that came before is longer than the decoder's limit
+    /// (`Decoder::rejected`), which no message is for a decoder without one.
     TooLong(Bytes),
 }
 
@@ -24,12 +25,52 @@ impl fmt::Display for PushError {
     fn fmt<W: fmt::Write>(&self, f: &mut fmt::Formatter<W>) -> fmt::Result {
         match self {
             PushError::OutOfMemory(_) => f.write_str("out of memory"),
-            PushError::TooLong(_) => f.write_str("more than 2^64 - 1 bytes are pending"),
+            PushError::TooLong(_) => f.write_str(
+                "more than 2^64 - 1 bytes are pending, or a message is longer than the limit",
+            ),
         }
     }
 }
 
 impl Error for PushError {}
+
+/// Why a decoder returned no item.
+#[derive(Clone, Copy, Debug, PartialEq, Eq, Drop)]
+pub enum ItemError {
+    /// The allocation of a payload failed. Nothing is taken.
+    OutOfMemory,
+    /// The next message is longer than the limit; `Decoder::rejected` says which. Each later call returns this error
+    /// too.
+    TooLong,
+}
+
+/// Prints which of the two it is.
+impl fmt::Display for ItemError {
+    ghost use Rattle.std.specs.Prelude.{Some};
+    ghost use Rattle.shared_core_stream.specs.Errors.{item_error_text};
+
+    ghost output = { λ error. Some (item_error_text error) };
+
+    fn fmt<W: fmt::Write>(&self, f: &mut fmt::Formatter<W>) -> fmt::Result {
+        match self {
+            ItemError::OutOfMemory => f.write_str("out of memory"),
+            ItemError::TooLong => f.write_str("a message is longer than the limit"),
+        }
+    }
+}
+
+impl Error for ItemError {}
+
+impl From<AllocError> for ItemError {
+    ghost use Rattle.std.specs.Prelude.{◌≡◌};
+    ghost use Rattle.shared_core_stream.specs.declared.encoding.error.ItemError.TheVariants.{OutOfMemory};
+
+    ghost from_gives = { λ _ error. error ≡ OutOfMemory };
+
+    fn from(_error: AllocError) -> ItemError {
+        ItemError::OutOfMemory
+    }
+}
 
 /// Why a list of chunks was not decoded.
 #[derive(Debug, Drop)]

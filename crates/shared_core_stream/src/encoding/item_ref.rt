@@ -1,12 +1,10 @@
 //! An item that is borrowed from the bytes of a stream.
 
-ghost use Rattle.std.specs.Prelude.{◌≡◌, ◌+◌, length, IfOk, IfErr, None};
+ghost use Rattle.std.specs.Prelude.{◌≡◌, ◌+◌, length, IfOk, IfErr};
 ghost use Rattle.std.specs.Int.{w64, to_be_bytes};
 ghost use Rattle.shared_core_stream.specs.Borrowed.{IsAtFront, IsMissing};
-ghost use Rattle.shared_core_stream.specs.Limits.{FirstFails, too_long_at};
 
 use crate::encoding::announced::Announced;
-use crate::encoding::{ItemRefError, MessageTooLong};
 use shared_core_base::header::MessageHeader;
 use shared_core_base::version::Version;
 use std::error::Error;
@@ -69,30 +67,6 @@ impl<'a> ItemRef<'a> {
         Ok((item, rest))
     }
 
-    /// The item that the bytes begin with, as by `first`, if its payload is not longer than the limit.
-    ///
-    /// `TooLong` comes if a header is at the front whose message is longer, whatever is there of its payload; `offset`,
-    /// that of the bytes in the stream, is in the error. Otherwise the error is that of `first`.
-    #[inline(always)]
-    pub fn first_within(
-        version: Version,
-        limit: u32,
-        offset: u64,
-        bytes: &'a [u8],
-    ) -> Result<(ItemRef<'a>, &'a [u8]), ItemRefError>
-        ensures item { IfOk result (λ found. (too_long_at version limit offset bytes.now ≡ None)
-            × IsAtFront version bytes.now found.0 found.1.now) }
-        ensures err { IfErr result (FirstFails version limit offset bytes.now) }
-    {
-        if let Some(error) = too_long_at_front(version, limit, offset, bytes) {
-            return Err(ItemRefError::TooLong(error));
-        }
-        match ItemRef::first(version, bytes) {
-            Ok(found) => Ok(found),
-            Err(missing) => Err(ItemRefError::Missing(missing)),
-        }
-    }
-
     /// Its first eight bytes.
     pub fn head(&self) -> [u8; 8]
         ensures { result ≡ to_be_bytes w64 self.now.word }
@@ -106,20 +80,6 @@ impl<'a> ItemRef<'a> {
     {
         8 + self.payload.len() as u64
     }
-}
-
-/// The message that the bytes begin with, if it is longer than the limit.
-#[inline(always)]
-fn too_long_at_front(
-    version: Version,
-    limit: u32,
-    offset: u64,
-    bytes: &[u8],
-) -> Option<MessageTooLong>
-    ensures { result ≡ too_long_at version limit offset bytes.now }
-{
-    let (head, _) = bytes.split_first_chunk::<8>()?;
-    MessageTooLong::by(version, limit, offset, u64::from_be_bytes(*head))
 }
 
 /// Bytes that do not begin with a whole item.

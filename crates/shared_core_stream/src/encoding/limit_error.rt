@@ -1,16 +1,11 @@
-//! The errors of streams with a limit on the length of a payload.
+//! The message that ends a stream with a limit on the length of a payload.
 
 ghost use Rattle.std.specs.Prelude.{◌≡◌};
-ghost use Rattle.shared_core_base.specs.declared.version.Version.{Version as AnyVersion};
-ghost use Rattle.shared_core_stream.specs.Borrowed.{Announces};
-ghost use Rattle.shared_core_stream.specs.Limits.{too_long_by};
+ghost use Rattle.shared_core_stream.specs.Limits.{too_long_at, too_long_by};
 
 use crate::encoding::announced::Announced;
-use crate::encoding::{MissingBytes, PushError};
-use bytes::Bytes;
 use shared_core_base::header::MessageType;
 use shared_core_base::version::Version;
-use std::alloc::AllocError;
 use std::error::Error;
 use std::fmt;
 
@@ -33,21 +28,7 @@ impl MessageTooLong {
     pub(crate) fn by(version: Version, limit: u32, offset: u64, word: u64) -> Option<MessageTooLong>
         ensures { result ≡ too_long_by version limit offset word }
     {
-        MessageTooLong::announced(&Announced::by(version, word), limit, offset, word)
-    }
-
-    /// The same for what the word announces.
-    #[inline(always)]
-    pub(crate) fn announced(
-        announced: &Announced,
-        limit: u32,
-        offset: u64,
-        word: u64,
-    ) -> Option<MessageTooLong>
-        ensures { (version : AnyVersion) → Announces version word announced.now
-            → result ≡ too_long_by version limit offset word }
-    {
-        let length = announced.payload_len();
+        let length = Announced::by(version, word).payload_len();
         if length <= limit {
             return None;
         }
@@ -57,6 +38,20 @@ impl MessageTooLong {
             limit,
             offset,
         })
+    }
+
+    /// The message that the bytes at an offset begin with, if it is longer than the limit.
+    #[inline(always)]
+    pub(crate) fn at_front(
+        version: Version,
+        limit: u32,
+        offset: u64,
+        bytes: &[u8],
+    ) -> Option<MessageTooLong>
+        ensures { result ≡ too_long_at version limit offset bytes.now }
+    {
+        let (head, _) = bytes.split_first_chunk::<8>()?;
+        MessageTooLong::by(version, limit, offset, u64::from_be_bytes(*head))
     }
 }
 
@@ -86,100 +81,3 @@ impl fmt::Display for MessageTooLong {
 }
 
 impl Error for MessageTooLong {}
-
-/// Why a decoder with a limit returns no item.
-#[derive(Clone, Copy, Debug, PartialEq, Eq, Drop)]
-pub enum LimitedError {
-    /// The allocation of a payload failed. Nothing is taken.
-    OutOfMemory,
-    /// The next message is longer than the limit. Each later call returns this error too.
-    MessageTooLong(MessageTooLong),
-}
-
-impl fmt::Display for LimitedError {
-    ghost use Rattle.std.specs.Prelude.{Some};
-    ghost use Rattle.shared_core_stream.specs.Errors.{limited_error_text};
-
-    ghost output = { λ error. Some (limited_error_text error) };
-
-    fn fmt<W: fmt::Write>(&self, f: &mut fmt::Formatter<W>) -> fmt::Result {
-        match self {
-            LimitedError::OutOfMemory => f.write_str("out of memory"),
-            LimitedError::MessageTooLong(message) => write!(f, "{message}"),
-        }
-    }
-}
-
-impl Error for LimitedError {}
-
-impl From<AllocError> for LimitedError {
-    ghost use Rattle.std.specs.Prelude.{◌≡◌};
-    ghost use Rattle.shared_core_stream.specs.declared.encoding.limit_error.LimitedError.TheVariants.{OutOfMemory};
-
-    ghost from_gives = { λ _ error. error ≡ OutOfMemory };
-
-    fn from(_error: AllocError) -> LimitedError {
-        LimitedError::OutOfMemory
-    }
-}
-
-impl From<MessageTooLong> for LimitedError {
-    ghost use Rattle.std.specs.Prelude.{◌≡◌};
-    ghost use Rattle.shared_core_stream.specs.declared.encoding.limit_error.LimitedError.TheVariants as limited;
-
-    ghost from_gives = { λ message error. error ≡ limited.MessageTooLong message };
-
-    fn from(message: MessageTooLong) -> LimitedError {
-        LimitedError::MessageTooLong(message)
-    }
-}
-
-/// Why a decoder with a limit rejected a chunk, and the chunk.
-#[derive(Debug, Drop)]
-pub enum LimitedPushError {
-    /// As a decoder without a limit rejects it.
-    Rejected(PushError),
-    /// A message that came before is longer than the limit.
-    MessageTooLong(MessageTooLong, Bytes),
-}
-
-impl fmt::Display for LimitedPushError {
-    ghost use Rattle.std.specs.Prelude.{Some};
-    ghost use Rattle.shared_core_stream.specs.Errors.{limited_push_error_text};
-
-    ghost output = { λ error. Some (limited_push_error_text error) };
-
-    fn fmt<W: fmt::Write>(&self, f: &mut fmt::Formatter<W>) -> fmt::Result {
-        match self {
-            LimitedPushError::Rejected(error) => write!(f, "{error}"),
-            LimitedPushError::MessageTooLong(message, _) => write!(f, "{message}"),
-        }
-    }
-}
-
-impl Error for LimitedPushError {}
-
-/// Why no item within a limit is at the front of a slice.
-#[derive(Clone, Copy, Debug, PartialEq, Eq, Drop)]
-pub enum ItemRefError {
-    /// The bytes do not begin with a whole item.
-    Missing(MissingBytes),
-    /// The message at the front is longer than the limit.
-    TooLong(MessageTooLong),
-}
-
-impl fmt::Display for ItemRefError {
-    ghost use Rattle.std.specs.Prelude.{Some};
-    ghost use Rattle.shared_core_stream.specs.Errors.{item_ref_error_text};
-
-    ghost output = { λ error. Some (item_ref_error_text error) };
-
-    fn fmt<W: fmt::Write>(&self, f: &mut fmt::Formatter<W>) -> fmt::Result {
-        match self {
-            ItemRefError::Missing(missing) => write!(f, "{missing}"),
-            ItemRefError::TooLong(message) => write!(f, "{message}"),
-        }
-    }
-}
-
-impl Error for ItemRefError {}

@@ -1,12 +1,11 @@
 use Rattle.std.proofs.Common.{◌≡◌, ℕ, List, ◌++◌, length}
-use Rattle.std.specs.Prelude.{string_bytes}
 use Rattle.diff_lines.specs.EntryLines.{GoesOn, IsText}
 use Rattle.diff_lines.proofs.entry_lines.aligned_text.Given as goal
 
 abbrev pub invariant-loop-left : goal.invariant-loop-left
 invariant-loop-left l =
-    (new : List ℕ) → GoesOn l.fn.ignore_payloads l.fn.is_terminal l.fn.found l.left (string_bytes l.text) new
-    → IsText l.fn.ignore_payloads l.fn.is_terminal l.fn.limit l.fn.found new
+    (new : List ℕ) → GoesOn l.fn.ignore_payloads l.fn.pen.look l.fn.found l.left l.text.items new
+    → IsText l.fn.ignore_payloads l.fn.pen.look l.fn.limit l.fn.found new
 
 abbrev pub decreases-loop-left : goal.decreases-loop-left
 decreases-loop-left l = length l.left

@@ -4,7 +4,7 @@ use Rattle.replay_bench.specs.Verdicts.{recorded_ended, replayed_ended, stopped_
 use Rattle.replay_bench.proofs.Endings.{returns_out_of_memory}
 use Rattle.replay_bench.proofs.Readings.{finished, on_last, rejected_on}
 use Rattle.replay_bench.proofs.Rejections.{fails_recorded, fails_replayed, rejects_recorded, rejects_replayed}
-use Rattle.replay_bench.proofs.Stops.{held_of}
+use Rattle.replay_bench.proofs.Stops.{held_of, type_at}
 use Rattle.replay_bench.proofs.aligned.align_sources.Goals as goal
 
 pub returns-clause-aligned : goal.returns-clause-aligned
@@ -19,6 +19,10 @@ returns-clause-aligned g c =
       compared = record {
         verdict = c.in_ok-stopped.ensures.compared;
         fields = c.in_ok-stopped.ensures.fields refl;
+        said = rw (c.type_of-recorded_type.ensures, c.type_of-replayed_type.ensures)
+            (c.in_ok-stopped.ensures.said refl);
+        recorded_typed = rw c.type_of-recorded_type.ensures (type_at v _ _ _ _ _ stopped);
+        replayed_typed = rw c.type_of-replayed_type.ensures (type_at v _ _ _ _ _ other_stopped);
         recorded_survey = finished v _ c.args.options.is_strict _ _ (recorded_ended verdict) _ _
             c.in_ok-recorded_held.recorded
             recorded.noted_is stopped.ended recorded.read_on c.in_ok-recorded_held.ensures.survey;

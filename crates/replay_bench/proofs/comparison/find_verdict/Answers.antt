@@ -4,6 +4,7 @@ use Rattle.replay_bench.proofs.Endings.{both_go_on, ends_next, goes_after, retur
 use Rattle.replay_bench.proofs.Places.{after_more, fields_next}
 use Rattle.replay_bench.proofs.Readings.{on_more}
 use Rattle.replay_bench.proofs.Rejections.{fails_recorded, fails_replayed, rejects_recorded, rejects_replayed}
+use Rattle.replay_bench.proofs.Saying.{said_next}
 use Rattle.replay_bench.proofs.Seen.{seen_next}
 use Rattle.replay_bench.proofs.Stops.{stops}
 use Rattle.replay_bench.proofs.comparison.find_verdict.Goals as goal
@@ -73,6 +74,10 @@ returns-in-Some-clause-fields g c is_listed =
     let other = rw inv.other_same at c.in_ok-replayed_next.ensures.taken in
     let found = rw c.in-Some.is at c.in_ok-found.ensures in
     fields_next c.args.journals.version _ _ _ _ _ _ _ _ _ _ _ _ inv.after inv.other_after one other found is_listed
+
+pub returns-in-Some-clause-said : goal.returns-in-Some-clause-said
+returns-in-Some-clause-said g c is_listed =
+    said_next c.args.journals.version _ _ _ _ _ _ (rw c.in-Some.is at c.in_ok-found.ensures) is_listed
 
 pub returns-in-Some-clause-recorded : goal.returns-in-Some-clause-recorded
 returns-in-Some-clause-recorded g c =

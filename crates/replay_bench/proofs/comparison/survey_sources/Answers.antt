@@ -3,6 +3,7 @@ use Rattle.std.proofs.lemmas.Result.{err_from_is_err_and}
 use Rattle.replay_bench.specs.Verdicts.{recorded_ended, replayed_ended}
 use Rattle.replay_bench.proofs.Readings.{finished, on_last, rejected_on}
 use Rattle.replay_bench.proofs.Rejections.{fails_recorded, fails_replayed, rejects_recorded, rejects_replayed}
+use Rattle.replay_bench.proofs.Stops.{type_at}
 use Rattle.replay_bench.proofs.comparison.survey_sources.Goals as goal
 
 pub returns-clause-compared : goal.returns-clause-compared
@@ -14,6 +15,9 @@ returns-clause-compared g c =
     record {
       verdict = c.in_ok-stopped.ensures.compared;
       fields = c.in_ok-stopped.ensures.fields refl;
+      said = rw (c.type_of-recorded_type.ensures, c.type_of-replayed_type.ensures) (c.in_ok-stopped.ensures.said refl);
+      recorded_typed = rw c.type_of-recorded_type.ensures (type_at v _ _ _ _ _ c.in_ok-stopped.ensures.stopped);
+      replayed_typed = rw c.type_of-replayed_type.ensures (type_at v _ _ _ _ _ c.in_ok-stopped.ensures.other_stopped);
       recorded_survey = finished v _ c.args.options.is_strict _ _ (recorded_ended verdict) _ _ c.in_ok-recorded.recorded
           recorded.noted_is c.has_recorded_ended.ensures recorded.read_on c.in_ok-recorded.ensures.survey;
       replayed_survey = finished v _ c.args.options.is_strict _ _ (replayed_ended verdict) _ _ c.in_ok-replayed.replayed

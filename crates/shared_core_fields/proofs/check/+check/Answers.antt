@@ -57,7 +57,7 @@ is_content-returns-then-left-gt0 t c =
     ] in
     c.is_message.ensures
     ∙ sym (canonical_below (c.args.left - 1) c.args.left c.in-Message.schema bytes (omega (arith, c.if-left-gt0.true)))
-    ∙ sym (is_nested (is_canonical_message c.args.left) (is_plain row) (kind_view c.args.found.field.now.1)
+    ∙ sym (is_nested (is_canonical_message c.args.left) (is_plain row) (kind_view c.args.found.field.now.kind)
     c.in-Message.schema (is_repeated row) bytes (ap kind_view c.in-Message.is) some)
 
 pub is_content-returns-else-left-gt0 : goal.is_content-returns-else-left-gt0
@@ -65,7 +65,7 @@ is_content-returns-else-left-gt0 t c =
     let row = row_view c.args.found.row.now in
     let none : c.args.left ≡ 0 = omega (arith, c.if-left-gt0.false) in
     ap (ltb 0) none
-    ∙ not_nested (is_canonical_message c.args.left) (is_plain row) (kind_view c.args.found.field.now.1)
+    ∙ not_nested (is_canonical_message c.args.left) (is_plain row) (kind_view c.args.found.field.now.kind)
     c.in-Message.schema (is_repeated row) c.args.content.now (ap kind_view c.in-Message.is)
     (ap (λ (left : ℕ). is_canonical_message left c.in-Message.schema c.args.content.now) none ∙ canonical_zero
     c.in-Message.schema c.args.content.now)

@@ -1,12 +1,14 @@
 use Rattle.std.proofs.Common.{◌∙◌, Some, ap, sym, arith}
 use Rattle.shared_core_json_reader.specs.Rows.{in_schema}
-use Rattle.shared_core_json_reader.proofs.Givens.{place_gives, given_at, once_within}
+use Rattle.json_table.proofs.Placing.{once_within}
+use Rattle.shared_core_json_reader.specs.Places.{number_of, place_count}
+use Rattle.shared_core_json_reader.proofs.Givens.{place_gives, given_at}
 use Rattle.shared_core_json_reader.proofs.members.given.Goals as goal
 
 pub first_present-requires : goal.first_present-requires
 first_present-requires c =
-    once_within c.args.places.now.schema c.args.field.now.0 c.in-Once.left c.args.members.now
-    c.args.places.now.numbered c.requires.places.say (omega arith) c.in-Once.is
+    once_within (number_of c.args.places.now.schema) place_count c.args.field.now.number c.in-Once.left
+    c.args.members.now c.args.places.now.numbered c.requires.places.say (omega arith) c.in-Once.is
 
 pub returns-in-Absent-clause-given : goal.returns-in-Absent-clause-given
 returns-in-Absent-clause-given c =

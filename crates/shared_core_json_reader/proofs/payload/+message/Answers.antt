@@ -95,7 +95,7 @@ append_row-append_given-requires t c = (
     c.requires.trail,
     (
       c.requires.places,
-      row_field c.args.places.now.schema c.in-Plain.field.0 (kind_view c.in-Plain.field.1)
+      row_field c.args.places.now.schema c.in-Plain.field.number (kind_view c.in-Plain.field.kind)
           (row_view (Plain c.in-Plain.field)) refl
           (subst (λ (r : Row). IsRowOf c.args.places.now.schema (row_view r)) c.in-Plain.is c.requires.row),
     ),
@@ -109,7 +109,7 @@ append_row-append_given-requires-in-Optional t c = (
     c.requires.trail,
     (
       c.requires.places,
-      row_field c.args.places.now.schema c.in-Optional.field.0 (kind_view c.in-Optional.field.1)
+      row_field c.args.places.now.schema c.in-Optional.field.number (kind_view c.in-Optional.field.kind)
           (row_view (Optional c.in-Optional.field)) refl
           (subst (λ (r : Row). IsRowOf c.args.places.now.schema (row_view r)) c.in-Optional.is c.requires.row),
     ),
@@ -123,7 +123,7 @@ append_row-append_list-requires t c = (
     c.requires.trail,
     (
       c.requires.places,
-      row_field c.args.places.now.schema c.in-Repeated.field.0 (kind_view c.in-Repeated.field.1)
+      row_field c.args.places.now.schema c.in-Repeated.field.number (kind_view c.in-Repeated.field.kind)
           (row_view (Repeated c.in-Repeated.field)) refl
           (subst (λ (r : Row). IsRowOf c.args.places.now.schema (row_view r)) c.in-Repeated.is c.requires.row),
     ),

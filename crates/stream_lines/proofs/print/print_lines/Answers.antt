@@ -2,7 +2,6 @@ use Rattle.std.proofs.Common.{◌≡◌, ◌∙◌, ◌++◌, ℕ, List, [], Opt
 use Rattle.std.proofs.lemmas.Result.{err_from_is_err_and}
 use Rattle.std.specs.Io.KnownBytes.{Appends}
 use Rattle.std.proofs.KnownBytes.{Consumes-nil}
-use Rattle.shared_core_stream.specs.Limits.{Limited}
 use Rattle.shared_core_stream.specs.Unread.{Unread}
 use Rattle.shared_core_stream.specs.declared.encoding.limit_error.MessageTooLong.{MessageTooLong as Longer}
 use Rattle.shared_core_io.specs.Buffered.{held_in}
@@ -17,7 +16,7 @@ use Rattle.stream_lines.proofs.print.print_lines.Goals as goal
 
 pub loop-init : goal.loop-init
 loop-init g c =
-    let bytes = ap (λ (held : Limited). held.unread.bytes) c.new-items.ensures in
+    let bytes = ap (λ (held : Unread). held.bytes) c.new-items.ensures in
     record {
       counted = omega arith;
       state = c.new-items.ensures ∙ ap (λ (left : List ℕ). holding c.args.version c.args.limit 0 left) (sym bytes);
@@ -34,10 +33,10 @@ pub returns-in_err-print_rest-in-Ok-false : goal.returns-in_err-print_rest-in-Ok
 returns-in_err-print_rest-in-Ok-false g c =
     let (read, came, after) = c.fill.ensures.filled in
     let (end, still, gone) = c.in-Ok-false.ensures.end c.in-Ok-false.field-0-test in
-    let (same, left) = all_decoded c.fill.new.self.decoder.unread.bytes
-    (c.fill.new.self.chunk ++ c.fill.new.self.buffer.items) c.loop.items.decoder.unread.bytes
-    (c.loop.items.chunk ++ c.loop.items.buffer.items) read (ap (λ (held : Limited). held.unread.bytes) after)
-    (ap (λ (held : Limited). held.unread.bytes) still) gone in
+    let (same, left) = all_decoded c.fill.new.self.decoder.bytes
+    (c.fill.new.self.chunk ++ c.fill.new.self.buffer.items) c.loop.items.decoder.bytes
+    (c.loop.items.chunk ++ c.loop.items.buffer.items) read (ap (λ (held : Unread). held.bytes) after)
+    (ap (λ (held : Unread). held.bytes) still) gone in
     let so_far = stays (g.P.LinePrinter.item_line c.args.printer.now)
     (g.P.LinePrinter.rest_line c.args.printer.now) (g.P.LinePrinter.is_long c.args.printer.now)
     (g.P.LinePrinter.item_trouble c.args.printer.now) c.args.version c.args.limit _ _ _ _ _ _ _ c.loop.invariant.so_far
@@ -52,10 +51,10 @@ pub returns-in_err-write_whole-in-Ok-false : goal.returns-in_err-write_whole-in-
 returns-in_err-write_whole-in-Ok-false g c =
     let (read, came, after) = c.fill.ensures.filled in
     let (end, still, gone) = c.in-Ok-false.ensures.end c.in-Ok-false.field-0-test in
-    let (same, left) = all_decoded c.fill.new.self.decoder.unread.bytes
-    (c.fill.new.self.chunk ++ c.fill.new.self.buffer.items) c.loop.items.decoder.unread.bytes
-    (c.loop.items.chunk ++ c.loop.items.buffer.items) read (ap (λ (held : Limited). held.unread.bytes) after)
-    (ap (λ (held : Limited). held.unread.bytes) still) gone in
+    let (same, left) = all_decoded c.fill.new.self.decoder.bytes
+    (c.fill.new.self.chunk ++ c.fill.new.self.buffer.items) c.loop.items.decoder.bytes
+    (c.loop.items.chunk ++ c.loop.items.buffer.items) read (ap (λ (held : Unread). held.bytes) after)
+    (ap (λ (held : Unread). held.bytes) still) gone in
     let so_far = stays (g.P.LinePrinter.item_line c.args.printer.now)
     (g.P.LinePrinter.rest_line c.args.printer.now) (g.P.LinePrinter.is_long c.args.printer.now)
     (g.P.LinePrinter.item_trouble c.args.printer.now) c.args.version c.args.limit _ _ _ _ _ _ _ c.loop.invariant.so_far
@@ -63,7 +62,7 @@ returns-in_err-write_whole-in-Ok-false g c =
     let last = g.P.LinePrinter.rest_line c.args.printer.now in
     let at = c.loop.lines.offset in
     let rest = ap (λ (unread : Unread). unread.bytes) c.decoder-rest.ensures ∙ left in
-    let text : c.as_slice.result.now ≡ last at (held_in c.loop.items).unread.bytes =
+    let text : c.as_slice.result.now ≡ last at (held_in c.loop.items).bytes =
     c.as_slice.ensures.value ∙ c.in_ok-print_rest-in-Ok-false.ensures.line
     ∙ ap (λ (l : List ℕ). l ++ last at c.decoder-rest.result.now.bytes) c.clear.ensures.items
     ∙ ap (λ (bytes : List ℕ). last at bytes) rest in
@@ -79,10 +78,10 @@ pub returns-in-Ok-false : goal.returns-in-Ok-false
 returns-in-Ok-false g c =
     let (read, came, after) = c.fill.ensures.filled in
     let (end, still, gone) = c.in-Ok-false.ensures.end c.in-Ok-false.field-0-test in
-    let (same, left) = all_decoded c.fill.new.self.decoder.unread.bytes
-    (c.fill.new.self.chunk ++ c.fill.new.self.buffer.items) c.loop.items.decoder.unread.bytes
-    (c.loop.items.chunk ++ c.loop.items.buffer.items) read (ap (λ (held : Limited). held.unread.bytes) after)
-    (ap (λ (held : Limited). held.unread.bytes) still) gone in
+    let (same, left) = all_decoded c.fill.new.self.decoder.bytes
+    (c.fill.new.self.chunk ++ c.fill.new.self.buffer.items) c.loop.items.decoder.bytes
+    (c.loop.items.chunk ++ c.loop.items.buffer.items) read (ap (λ (held : Unread). held.bytes) after)
+    (ap (λ (held : Unread). held.bytes) still) gone in
     let so_far = stays (g.P.LinePrinter.item_line c.args.printer.now)
     (g.P.LinePrinter.rest_line c.args.printer.now) (g.P.LinePrinter.is_long c.args.printer.now)
     (g.P.LinePrinter.item_trouble c.args.printer.now) c.args.version c.args.limit _ _ _ _ _ _ _ c.loop.invariant.so_far
@@ -90,7 +89,7 @@ returns-in-Ok-false g c =
     let last = g.P.LinePrinter.rest_line c.args.printer.now in
     let at = c.loop.lines.offset in
     let rest = ap (λ (unread : Unread). unread.bytes) c.decoder-rest.ensures ∙ left in
-    let text : c.as_slice.result.now ≡ last at (held_in c.loop.items).unread.bytes =
+    let text : c.as_slice.result.now ≡ last at (held_in c.loop.items).bytes =
     c.as_slice.ensures.value ∙ c.in_ok-print_rest-in-Ok-false.ensures.line
     ∙ ap (λ (l : List ℕ). l ++ last at c.decoder-rest.result.now.bytes) c.clear.ensures.items
     ∙ ap (λ (bytes : List ℕ). last at bytes) rest in
@@ -106,7 +105,7 @@ returns-in-Err-Failed g c =
     let (read, came, after) = c.fill.ensures.filled in
     let kept : LosesNothing c.loop.items.decoder.rejected (held_in c.loop.items) (held_in c.fill.new.self)
     (reading.Failed c.in-Err-Failed.field-0-0) = rw c.in-Err-Failed.field-0-is at c.in-Err-Failed.ensures.error in
-    let same = ap (λ (held : Limited). held.unread.bytes) (sym after ∙ kept.0) in
+    let same = ap (λ (held : Unread). held.bytes) (sym after ∙ kept.0) in
     let so_far = stays (g.P.LinePrinter.item_line c.args.printer.now)
     (g.P.LinePrinter.rest_line c.args.printer.now) (g.P.LinePrinter.is_long c.args.printer.now)
     (g.P.LinePrinter.item_trouble c.args.printer.now) c.args.version c.args.limit _ _ _ _ _ _ _ c.loop.invariant.so_far
@@ -129,8 +128,8 @@ returns-in_err-longer g c =
     let (read, came, after) = c.fill.ensures.filled in
     let here = filled c.args.version c.args.limit c.loop.lines.offset (held_in c.loop.items) (held_in c.fill.new.self)
     read c.loop.invariant.state after in
-    let lack = subst (λ (state : Limited). IsLack (IsLongIn (g.P.LinePrinter.is_long c.args.printer.now)
-    state.unread.version state.unread.bytes) c.in_err-longer.field-0.0) here c.in_err-longer.ensures.lack in
+    let lack = subst (λ (state : Unread). IsLack (IsLongIn (g.P.LinePrinter.is_long c.args.printer.now)
+    state.version state.bytes) c.in_err-longer.field-0.0) here c.in_err-longer.ensures.lack in
     let from = err_from_is_err_and c.from_residual-in_err-longer.result c.from_residual-in_err-longer.ensures.1 in
     rw (from.1, from.2) (ended_lack (g.P.LinePrinter.item_line c.args.printer.now)
     (g.P.LinePrinter.rest_line c.args.printer.now) (g.P.LinePrinter.is_long c.args.printer.now)
@@ -142,7 +141,7 @@ returns-in_err-write_whole g c =
     let (read, came, after) = c.fill.ensures.filled in
     let here = filled c.args.version c.args.limit c.loop.lines.offset (held_in c.loop.items) (held_in c.fill.new.self)
     read c.loop.invariant.state after in
-    let bytes = (held_in c.loop.items).unread.bytes ++ read in
+    let bytes = (held_in c.loop.items).bytes ++ read in
     let line = g.P.LinePrinter.item_line c.args.printer.now in
     let trouble = g.P.LinePrinter.item_trouble c.args.printer.now in
     let has : Option Longer → Type 0 =
@@ -153,8 +152,8 @@ returns-in_err-write_whole g c =
     subst (λ (text : List ℕ). HasAdded line trouble c.args.version c.args.limit c.loop.lines.offset
     c.loop.lines.trouble text bytes c.in_ok-longer.longer c.add_held.new.self.offset c.add_held.new.self.trouble
     c.add_held.new.self.text.items (held_in c.add_held.new.items)) c.clear-in-loop.ensures.items
-    (subst (λ (state : Limited). HasAdded line trouble state.unread.version state.limit c.loop.lines.offset
-    c.loop.lines.trouble c.clear-in-loop.new.self.items state.unread.bytes c.in_ok-longer.longer
+    (subst (λ (state : Unread). HasAdded line trouble state.version state.limit c.loop.lines.offset
+    c.loop.lines.trouble c.clear-in-loop.new.self.items state.bytes c.in_ok-longer.longer
     c.add_held.new.self.offset c.add_held.new.self.trouble c.add_held.new.self.text.items
     (held_in c.add_held.new.items)) here c.in_ok-longer.ensures.added) in
     let (rest, step, next) = every in
@@ -172,7 +171,7 @@ returns-in-Some g c =
     let (read, came, after) = c.fill.ensures.filled in
     let here = filled c.args.version c.args.limit c.loop.lines.offset (held_in c.loop.items) (held_in c.fill.new.self)
     read c.loop.invariant.state after in
-    let bytes = (held_in c.loop.items).unread.bytes ++ read in
+    let bytes = (held_in c.loop.items).bytes ++ read in
     let line = g.P.LinePrinter.item_line c.args.printer.now in
     let trouble = g.P.LinePrinter.item_trouble c.args.printer.now in
     let has : Option Longer → Type 0 =
@@ -183,8 +182,8 @@ returns-in-Some g c =
     subst (λ (text : List ℕ). HasAdded line trouble c.args.version c.args.limit c.loop.lines.offset
     c.loop.lines.trouble text bytes c.in_ok-longer.longer c.add_held.new.self.offset c.add_held.new.self.trouble
     c.add_held.new.self.text.items (held_in c.add_held.new.items)) c.clear-in-loop.ensures.items
-    (subst (λ (state : Limited). HasAdded line trouble state.unread.version state.limit c.loop.lines.offset
-    c.loop.lines.trouble c.clear-in-loop.new.self.items state.unread.bytes c.in_ok-longer.longer
+    (subst (λ (state : Unread). HasAdded line trouble state.version state.limit c.loop.lines.offset
+    c.loop.lines.trouble c.clear-in-loop.new.self.items state.bytes c.in_ok-longer.longer
     c.add_held.new.self.offset c.add_held.new.self.trouble c.add_held.new.self.text.items
     (held_in c.add_held.new.items)) here c.in_ok-longer.ensures.added) in
     let some : has (Some c.in-Some.message) = subst has c.in-Some.is every in
@@ -203,7 +202,7 @@ loop-preserved g c =
     let (read, came, after) = c.fill.ensures.filled in
     let here = filled c.args.version c.args.limit c.loop.lines.offset (held_in c.loop.items) (held_in c.fill.new.self)
     read c.loop.invariant.state after in
-    let bytes = (held_in c.loop.items).unread.bytes ++ read in
+    let bytes = (held_in c.loop.items).bytes ++ read in
     let line = g.P.LinePrinter.item_line c.args.printer.now in
     let trouble = g.P.LinePrinter.item_trouble c.args.printer.now in
     let has : Option Longer → Type 0 =
@@ -214,8 +213,8 @@ loop-preserved g c =
     subst (λ (text : List ℕ). HasAdded line trouble c.args.version c.args.limit c.loop.lines.offset
     c.loop.lines.trouble text bytes c.in_ok-longer.longer c.add_held.new.self.offset c.add_held.new.self.trouble
     c.add_held.new.self.text.items (held_in c.add_held.new.items)) c.clear-in-loop.ensures.items
-    (subst (λ (state : Limited). HasAdded line trouble state.unread.version state.limit c.loop.lines.offset
-    c.loop.lines.trouble c.clear-in-loop.new.self.items state.unread.bytes c.in_ok-longer.longer
+    (subst (λ (state : Unread). HasAdded line trouble state.version state.limit c.loop.lines.offset
+    c.loop.lines.trouble c.clear-in-loop.new.self.items state.bytes c.in_ok-longer.longer
     c.add_held.new.self.offset c.add_held.new.self.trouble c.add_held.new.self.text.items
     (held_in c.add_held.new.items)) here c.in_ok-longer.ensures.added) in
     let none : has None = subst has c.in_default.is every in
@@ -228,14 +227,14 @@ loop-preserved g c =
     (g.P.LinePrinter.item_trouble c.args.printer.now) c.args.version c.args.limit _ _ _ _ _ _ _ c.loop.invariant.so_far
     _ read came _ _ _ rest step _
     all_written next.0 next.1 in
-    let left = ap (λ (held : Limited). held.unread.bytes) next.2 in
+    let left = ap (λ (held : Unread). held.bytes) next.2 in
     record {
       counted = omega (
         arith,
         c.loop.invariant.counted,
         step.place,
         then_long c.args.version bytes rest step.more step.next,
-        ap (λ (held : Limited). length held.unread.bytes) here,
+        ap (λ (held : Unread). length held.bytes) here,
         c.fill.ensures.bound,
       );
       state = next.2 ∙ ap (λ (l : List ℕ). holding c.args.version c.args.limit c.add_held.new.self.offset l) (sym left);

@@ -3,6 +3,7 @@ use Rattle.std.proofs.lemmas.Result.{err_from_is_err_and}
 use Rattle.std.specs.Prelude.{is_some}
 use Rattle.replay_bench.proofs.Fronts.{nothing_after, nothing_left, takes_after, takes_item}
 use Rattle.replay_bench.proofs.Readings.{counts_found, on_more}
+use Rattle.replay_bench.proofs.Replays.{still_unread}
 use Rattle.replay_bench.proofs.commands.Commands.next_command.Goals as goal
 
 pub next_item-requires-clause-same : goal.next_item-requires-clause-same
@@ -91,3 +92,11 @@ returns-in_err-item-clause-rejected g c =
     let from = err_from_is_err_and c.from_residual.result c.from_residual.ensures.1 in
     let rejected = rw (inv.side, inv.same, inv.limit) at c.in_err-item.ensures.rejected in
     rw (from.1, from.2) (λ is_strict first read. rejected is_strict first (inv.read is_strict first read))
+
+pub returns-in_err-item-clause-kept : goal.returns-in_err-item-clause-kept
+returns-in_err-item-clause-kept g c =
+    let inv = c.loop-item.invariant in
+    let from = err_from_is_err_and c.from_residual.result c.from_residual.ensures.1 in
+    rw (from.1, from.2)
+    (still_unread g.S.Source.version g.S.Source.limit g.S.Source.coming c.args.self.now _ _ _ inv.passed inv.version
+    inv.limit inv.fits inv.commands inv.read c.in_err-item.ensures.kept)

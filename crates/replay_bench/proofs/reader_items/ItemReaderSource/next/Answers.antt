@@ -1,4 +1,4 @@
-use Rattle.replay_bench.proofs.Giving.{item_given, long_given, rest_given}
+use Rattle.replay_bench.proofs.Giving.{item_given, kept_given, long_given, rest_given}
 use Rattle.replay_bench.proofs.reader_items.ItemReaderSource.next.Goals as goal
 
 pub returns-in-Ok-Some-clause-next : goal.returns-in-Ok-Some-clause-next
@@ -15,3 +15,8 @@ pub returns-in-Err-TooLong-clause-next : goal.returns-in-Err-TooLong-clause-next
 returns-in-Err-TooLong-clause-next g c =
     let (gave, consumed, is) = rw c.in-Err-TooLong.field-0-is at c.in-Err-TooLong.ensures.read in
     long_given _ _ gave _ _ consumed c.in-Err-TooLong.message is
+
+pub returns-in-Err-OutOfMemory-clause-kept : goal.returns-in-Err-OutOfMemory-clause-kept
+returns-in-Err-OutOfMemory-clause-kept g c =
+    let (gave, consumed, is) = rw c.in-Err-OutOfMemory.field-0-is at c.in-Err-OutOfMemory.ensures.read in
+    kept_given _ _ gave _ _ consumed is

@@ -8,7 +8,7 @@ use Rattle.shared_core_fields.proofs.table.check.single_bytes.Goals as goal
 
 pub returns-then-from : goal.returns-then-from
 returns-then-from c =
-    let n = c.in-Plain.field.0 in
+    let n = c.in-Plain.field.number in
     let none : length c.in_ok-row.others.now ≡ 0 = search rules in
     let rows : table c.args.schema ≡ Plain n ByteString ∷ [] = sym c.rows_of.ensures
     ∙ ap (map row_view) c.in_ok-row.ensures.cases.0

@@ -10,7 +10,7 @@ invariant-loop g l = record {
   so_far : (read : List ℕ) × Consumes (g.R.Read.remaining l.fn.reader) (g.R.Read.remaining l.reader) read
       × (held l.self.decoder l.self.chunk l.self.buffer
       ≡ with_more (held l.fn.self.decoder l.fn.self.chunk l.fn.self.buffer) read);
-  idle : (item : Item) (rest : List ℕ) → TakesItem l.fn.self.decoder.unread.version
-      (held l.fn.self.decoder l.fn.self.chunk l.fn.self.buffer).unread.bytes item rest
+  idle : (item : Item) (rest : List ℕ) → TakesItem l.fn.self.decoder.version
+      (held l.fn.self.decoder l.fn.self.chunk l.fn.self.buffer).bytes item rest
       → l.reader ≡ l.fn.reader;
 }

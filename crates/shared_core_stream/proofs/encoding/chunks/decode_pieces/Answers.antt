@@ -23,6 +23,7 @@ loop-chunk-preserved c =
             (moved (concat (take c.loop-chunk.chunk-index c.args.chunks.now)) c.loop-chunk.invariant.1.items_then);
         no_more = rw c.loop-chunk.invariant.0 at c.in_ok-feed.ensures.no_more;
       },
+      c.in_ok-feed.ensures.unlimited,
     )
 
 pub returns-clause-written : goal.returns-clause-written

@@ -1,0 +1,9 @@
+use Rattle.std.proofs.Common.{◌≡◌, length}
+use Rattle.diff_lines.specs.Shown.{has_unequal}
+use Rattle.diff_lines.proofs.look.has_unequal.Given as goal
+
+abbrev pub invariant-loop-left : goal.invariant-loop-left
+invariant-loop-left l = has_unequal l.left ≡ has_unequal l.fn.text
+
+abbrev pub decreases-loop-left : goal.decreases-loop-left
+decreases-loop-left l = length l.left

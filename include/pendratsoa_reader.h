@@ -1,0 +1,190 @@
+/*
+ * pendratsoa: the items of a stream that comes in chunks, for C99 and C++, over the calls of pendratsoa.h.
+ *
+ * A journal_reader keeps the bytes of a stream that are in no whole item yet. Chunks of any length go in, and items
+ * come out, each with its offset. All functions are static inline, and their memory is from malloc.
+ *
+ *     struct journal_reader reader = journal_reader_of(8, 1048576);
+ *     struct journal_reader_item item;
+ *     int64_t result;
+ *
+ *     while ((count = fread(chunk, 1, sizeof chunk, stdin)) > 0 &&
+ *            journal_reader_feed(&reader, chunk, count) == 0) {
+ *         while ((result = journal_reader_next(&reader, &item)) == 1) {
+ *             .. item.item, item.payload, item.offset ..
+ *         }
+ *     }
+ *     .. result, journal_reader_pending(&reader) ..
+ *     journal_reader_free(&reader);
+ *
+ * A journal_memory is memory that grows, for arenas of pendratsoa_messages.h and for what a call writes.
+ */
+#ifndef PENDRATSOA_READER_H
+#define PENDRATSOA_READER_H
+
+#include <stdbool.h>
+#include <stddef.h>
+#include <stdint.h>
+#include <stdlib.h>
+#include <string.h>
+
+#include "pendratsoa.h"
+
+#ifdef __cplusplus
+extern "C" {
+#endif
+
+/*
+ * Memory that grows.
+ */
+
+/* Memory from malloc. One whose bytes are all 0 has none yet. */
+struct journal_memory {
+    uint8_t *bytes; /* where it begins; null if it has none */
+    size_t size;    /* how many bytes it has */
+};
+
+/*
+ * Makes memory at least `size` bytes large, and at least twice as large as it was if it grows. It keeps what it holds;
+ * slices that point into it do not stay. Returns false, and changes nothing, if an allocation fails.
+ */
+static inline bool journal_memory_grow(struct journal_memory *memory, size_t size) {
+    size_t wanted = size;
+    uint8_t *bytes;
+
+    if (size <= memory->size) {
+        return true;
+    }
+    if (size > PTRDIFF_MAX) {
+        return false;
+    }
+    if (memory->size <= PTRDIFF_MAX / 2 && wanted < 2 * memory->size) {
+        wanted = 2 * memory->size;
+    }
+    bytes = (uint8_t *)realloc(memory->bytes, wanted);
+    if (bytes == NULL) {
+        return false;
+    }
+    memory->bytes = bytes;
+    memory->size = wanted;
+    return true;
+}
+
+/* Gives the memory back. */
+static inline void journal_memory_free(struct journal_memory *memory) {
+    free(memory->bytes);
+    memory->bytes = NULL;
+    memory->size = 0;
+}
+
+/*
+ * Items of a stream.
+ */
+
+/* An item of a stream, and where it is. */
+struct journal_reader_item {
+    struct journal_item item; /* what it is */
+    uint64_t offset;          /* where it begins in the stream, in bytes */
+    const uint8_t *bytes;     /* its bytes, header and payload; they stay until the next feed, room or free */
+    const uint8_t *payload;   /* those of its payload */
+    size_t payload_length;    /* how many these are */
+};
+
+/* A reader of a stream. journal_reader_of makes one. */
+struct journal_reader {
+    uint32_t version;             /* the version of the protocol, from 5 to 9 */
+    uint32_t limit;               /* the greatest length of a payload, in bytes; 4,294,967,295 is no limit */
+    struct journal_memory memory; /* what is pending, and room after it */
+    size_t begin;                 /* where the pending bytes begin in it */
+    size_t end;                   /* where they end */
+    uint64_t offset;              /* where they begin in the stream: the bytes of all items that were returned */
+};
+
+/* Returns a reader before any byte has come. It has no memory yet. */
+static inline struct journal_reader journal_reader_of(uint32_t version, uint32_t limit) {
+    struct journal_reader reader = {version, limit, {NULL, 0}, 0, 0, 0};
+
+    return reader;
+}
+
+/* The number of bytes that have come and are in no item that was returned: at the end of a stream the trailing ones. */
+static inline size_t journal_reader_pending(const struct journal_reader *reader) {
+    return reader->end - reader->begin;
+}
+
+/*
+ * Room for `count` bytes, into which a chunk of the stream may be read; journal_reader_came says how many came. The
+ * pending bytes are moved to the front where that makes room. Returns null, and loses nothing, if an allocation fails.
+ */
+static inline uint8_t *journal_reader_room(struct journal_reader *reader, size_t count) {
+    const size_t pending = journal_reader_pending(reader);
+
+    if (count > reader->memory.size - reader->end) {
+        if (pending > 0 && reader->begin > 0) {
+            memmove(reader->memory.bytes, reader->memory.bytes + reader->begin, pending);
+        }
+        reader->begin = 0;
+        reader->end = pending;
+        if (count > SIZE_MAX - pending || !journal_memory_grow(&reader->memory, pending + count)) {
+            return NULL;
+        }
+    }
+    return reader->memory.bytes + reader->end;
+}
+
+/* Says that this many bytes of the stream are in the room that was returned last, from its beginning. */
+static inline void journal_reader_came(struct journal_reader *reader, size_t count) {
+    reader->end += count;
+}
+
+/* Appends a copy of a chunk of the stream. Returns 0, or JOURNAL_OUT_OF_MEMORY, which loses nothing. */
+static inline int64_t journal_reader_feed(struct journal_reader *reader, const uint8_t *chunk, size_t length) {
+    if (length > 0) {
+        uint8_t *room = journal_reader_room(reader, length);
+
+        if (room == NULL) {
+            return JOURNAL_OUT_OF_MEMORY;
+        }
+        memcpy(room, chunk, length);
+        journal_reader_came(reader, length);
+    }
+    return 0;
+}
+
+/*
+ * Takes the next item. Returns 1 if one is there, and 0 if no whole one has come yet.
+ *
+ * Its errors are those of journal_next_within: JOURNAL_UNKNOWN_VERSION, JOURNAL_TOO_LONG as soon as the header has come
+ * of an item whose payload has more than the limit. Nothing is taken then; the item that is too long begins at
+ * reader->offset.
+ */
+static inline int64_t journal_reader_next(struct journal_reader *reader, struct journal_reader_item *found) {
+    const size_t pending = journal_reader_pending(reader);
+    const uint8_t *bytes = pending > 0 ? reader->memory.bytes + reader->begin : NULL;
+    const int64_t missing = journal_next_within(reader->version, reader->limit, bytes, pending, &found->item,
+                                                JOURNAL_ITEM_NUMBERS);
+
+    if (missing != 0) {
+        return missing < 0 ? missing : 0;
+    }
+    found->offset = reader->offset;
+    found->bytes = bytes;
+    found->payload = bytes + found->item.payload;
+    found->payload_length = (size_t)(found->item.size - found->item.payload);
+    reader->begin += (size_t)found->item.size;
+    reader->offset += found->item.size;
+    return 1;
+}
+
+/* Gives the memory of a reader back. What was pending is lost. */
+static inline void journal_reader_free(struct journal_reader *reader) {
+    journal_memory_free(&reader->memory);
+    reader->begin = 0;
+    reader->end = 0;
+}
+
+#ifdef __cplusplus
+}
+#endif
+
+#endif

@@ -1,0 +1,172 @@
+/*
+ * Checks pendratsoa_reader.h: test_reader VERSION STREAM..
+ *
+ * Each stream is read in chunks of every length up to 40, by each of the two ways in. The items and their offsets are
+ * those of journal_next over the whole stream, and so are the trailing bytes. Every third allocation fails, after which
+ * the same bytes are given again. Within a limit that is one byte less than a payload has, the reader ends at the first
+ * such message, and the error stays. The last line is 'N passed, M failed'.
+ */
+#include <stdio.h>
+#include <stdlib.h>
+#include <string.h>
+
+/* An allocation, of which every third fails while `is_failing`. */
+static int is_failing, allocations;
+
+static void *failing_realloc(void *bytes, size_t size) {
+    return is_failing && ++allocations % 3 == 0 ? NULL : realloc(bytes, size);
+}
+
+#define realloc failing_realloc
+#include <pendratsoa_reader.h>
+#undef realloc
+
+static long passed, failed;
+
+static void outcome(const char *name, const char *path, size_t chunk, int is_right) {
+    passed += is_right;
+    failed += !is_right;
+    if (!is_right) {
+        printf("failed: %s, %s in chunks of %zu\n", name, path, chunk);
+    }
+}
+
+/* Gives a chunk to a reader, as a copy or into its room, again after an allocation that failed. */
+static int give(struct journal_reader *reader, const uint8_t *chunk, size_t length, int is_copied) {
+    for (int tries = 0; tries < 2; tries++) {
+        const size_t pending = journal_reader_pending(reader);
+        const uint64_t offset = reader->offset;
+        uint8_t *room = NULL;
+
+        if (is_copied && journal_reader_feed(reader, chunk, length) == 0) {
+            return 1;
+        }
+        if (!is_copied && (room = journal_reader_room(reader, length)) != NULL) {
+            memcpy(room, chunk, length);
+            journal_reader_came(reader, length);
+            return 1;
+        }
+        if (journal_reader_pending(reader) != pending || reader->offset != offset) {
+            return 0;
+        }
+    }
+    return 0;
+}
+
+/* Whether the items of a stream in chunks are those of the whole, within a limit. */
+static int reads(uint32_t version, uint32_t limit, const uint8_t *stream, size_t length, size_t chunk, int is_copied) {
+    struct journal_reader reader = journal_reader_of(version, limit);
+    struct journal_reader_item found;
+    struct journal_item item;
+    size_t begin = 0;
+    int64_t result = 0, wanted;
+    int is_right = 1;
+
+    for (size_t at = 0; is_right && result >= 0 && at < length; at += chunk) {
+        is_right = give(&reader, stream + at, length - at < chunk ? length - at : chunk, is_copied);
+        while (is_right && (result = journal_reader_next(&reader, &found)) == 1) {
+            wanted = journal_next(version, stream + begin, length - begin, &item, JOURNAL_ITEM_NUMBERS);
+            is_right = wanted == 0 && memcmp(&item, &found.item, sizeof item) == 0 && found.offset == begin &&
+                       memcmp(found.bytes, stream + begin, (size_t)item.size) == 0 &&
+                       found.payload == found.bytes + item.payload &&
+                       found.payload_length == item.size - item.payload && found.payload_length <= limit;
+            begin += (size_t)item.size;
+        }
+    }
+    wanted = journal_next_within(version, limit, stream + begin, length - begin, &item, JOURNAL_ITEM_NUMBERS);
+    is_right = is_right && wanted != 0 && reader.offset == begin;
+    if (wanted < 0) {
+        is_right = is_right && result == JOURNAL_TOO_LONG &&
+                   journal_reader_next(&reader, &found) == JOURNAL_TOO_LONG;
+    } else {
+        is_right = is_right && result == 0 && journal_reader_pending(&reader) == length - begin;
+    }
+    journal_reader_free(&reader);
+    return is_right && reader.memory.bytes == NULL;
+}
+
+/* The length of the longest payload of a stream. */
+static uint32_t longest(uint32_t version, const uint8_t *stream, size_t length) {
+    struct journal_item item;
+    uint64_t found = 0;
+
+    for (size_t begin = 0;
+         journal_next(version, stream + begin, length - begin, &item, JOURNAL_ITEM_NUMBERS) == 0;
+         begin += (size_t)item.size) {
+        found = item.size - item.payload > found ? item.size - item.payload : found;
+    }
+    return (uint32_t)found;
+}
+
+static void check_stream(uint32_t version, const char *path) {
+    static uint8_t stream[1 << 20];
+    FILE *file = fopen(path, "rb");
+    size_t length = file == NULL ? 0 : fread(stream, 1, sizeof stream, file);
+    uint32_t most = longest(version, stream, length);
+
+    outcome("the stream is there, and not too long", path, 0, length > 0 && length < sizeof stream);
+    if (file != NULL) {
+        fclose(file);
+    }
+    for (size_t chunk = 1; chunk <= 40; chunk++) {
+        for (int round = 0; round < 2; round++) {
+            is_failing = round;
+            outcome("copied", path, chunk, reads(version, UINT32_MAX, stream, length, chunk, 1));
+            outcome("in its room", path, chunk, reads(version, UINT32_MAX, stream, length, chunk, 0));
+            outcome("within its longest payload", path, chunk, reads(version, most, stream, length, chunk, 1));
+            if (most > 0) {
+                outcome("within less", path, chunk, reads(version, most - 1, stream, length, chunk, 0));
+            }
+        }
+    }
+}
+
+/* Memory grows to what is asked, and to twice as much as it had at least; a failed allocation changes nothing. */
+static void check_memory(void) {
+    struct journal_memory memory = {NULL, 0};
+    int is_right;
+
+    is_failing = 0;
+    is_right = journal_memory_grow(&memory, 10) && memory.size == 10 && journal_memory_grow(&memory, 5);
+
+    memory.bytes[9] = 7;
+    is_right = is_right && memory.size == 10 && journal_memory_grow(&memory, 11) && memory.size == 20;
+    is_right = is_right && journal_memory_grow(&memory, 100) && memory.size == 100 && memory.bytes[9] == 7;
+    is_failing = 1;
+    allocations = 2;
+    is_right = is_right && !journal_memory_grow(&memory, 101) && memory.size == 100 && memory.bytes[9] == 7;
+    is_failing = 0;
+    journal_memory_free(&memory);
+    outcome("memory", "-", 0, is_right && memory.bytes == NULL && memory.size == 0);
+}
+
+/* Each error has a text of its own; a number that is none has that of its kind. */
+static void check_texts(void) {
+    static const int64_t errors[] = {
+        JOURNAL_MALFORMED, JOURNAL_OUT_OF_MEMORY, JOURNAL_NO_ROOM, JOURNAL_TOO_LONG, JOURNAL_UNKNOWN, JOURNAL_NO_ID,
+        JOURNAL_NO_RESULT, JOURNAL_NOT_CANONICAL, JOURNAL_MALFORMED_SECOND, JOURNAL_UNKNOWN_VERSION,
+        JOURNAL_UNKNOWN_SCHEMA, JOURNAL_UNKNOWN_TYPE,
+    };
+    const size_t count = sizeof errors / sizeof errors[0];
+    int is_right = strcmp(journal_error_text(JOURNAL_MALFORMED), "malformed payload") == 0;
+
+    for (size_t i = 0; i < count; i++) {
+        for (size_t j = 0; j < i; j++) {
+            is_right = is_right && strcmp(journal_error_text(errors[i]), journal_error_text(errors[j])) != 0;
+        }
+    }
+    outcome("texts of errors", "-", 0, is_right);
+    outcome("a later error of a kind", "-", 0, strcmp(journal_error_text(-68 - 1), "unknown") == 0);
+    outcome("no kind", "-", 0, strcmp(journal_error_text(-16), "unknown error") == 0);
+    outcome("no error", "-", 0, strcmp(journal_error_text(0), "no error") == 0);
+}
+
+int main(int count, char **words) {
+    for (int i = 2; i < count; i++) {
+        check_stream((uint32_t)strtoul(words[1], NULL, 10), words[i]);
+    }
+    check_memory();
+    check_texts();
+    printf("%ld passed, %ld failed\n", passed, failed);
+    return failed != 0;
+}
