@@ -247,7 +247,7 @@ func list(decoder *Decoder) (string, error) {
 	var items []string
 	for {
 		item, err := decoder.Next()
-		if err == io.EOF || err == io.ErrUnexpectedEOF {
+		if err == io.EOF || errors.Is(err, io.ErrUnexpectedEOF) {
 			return strings.Join(append(items, fmt.Sprintf("rest %d", decoder.Rest())), ", "), nil
 		} else if err != nil {
 			return "", err

@@ -42,7 +42,7 @@ func TestBytesOfItemsThatDidNotCome(t *testing.T) {
 	proposal := must(NewMessage(8, CodeProposeRunCompletion, unhex(t, "088100")))(t)
 	for want, item := range map[string]Item{
 		"0005800000000003088100": proposal,
-		"0008000000000002":       UnknownCode{8, 8, 8<<48 | 2},
+		"0008000000000002":       UnknownCode{Version: 8, Code: 8, Word: 8<<48 | 2},
 		"00080000000000020003":   Skipped{Version: 9, Code: 8, Word: 8<<48 | 2, Payload: []byte{0, 3}},
 	} {
 		if !bytes.Equal(item.Bytes(), unhex(t, want)) {
@@ -130,7 +130,7 @@ func TestAllItems(t *testing.T) {
 		decoder.All()(func(item Item, err error) bool {
 			if err != nil {
 				failures++
-				if item != nil || err != io.ErrUnexpectedEOF {
+				if item != nil || !errors.Is(err, io.ErrUnexpectedEOF) {
 					t.Errorf("%v, %v", item, err)
 				}
 				return true

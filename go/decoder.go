@@ -75,9 +75,9 @@ func NewDecoder(reader io.Reader, version int) *Decoder {
 	return &Decoder{reader: reader, version: version}
 }
 
-// Next returns the next item, and reads only if no whole one is there. At the end of the stream the error is io.EOF, or
-// io.ErrUnexpectedEOF if the last item is not whole. An error of the reader is returned as it is, after all items
-// before it.
+// Next returns the next item, and reads only if no whole one is there. At the end of the stream the error is io.EOF. If
+// the last item is not whole, it is an *IncompleteError, which wraps io.ErrUnexpectedEOF: errors.Is finds that one. An
+// error of the reader is returned as it is, after all items before it.
 //
 // An error loses nothing: the next call continues where the stream ended, since a reader may have more by then.
 func (d *Decoder) Next() (Item, error) {
@@ -87,7 +87,7 @@ func (d *Decoder) Next() (Item, error) {
 			return item, err
 		}
 		if err := d.read(missing); err == io.EOF && len(d.rest) > 0 {
-			return nil, io.ErrUnexpectedEOF
+			return nil, d.incomplete()
 		} else if err != nil {
 			return nil, err
 		}
@@ -99,7 +99,7 @@ func (d *Decoder) Next() (Item, error) {
 //	for item, err := range decoder.All() {
 //
 // and before that by a call with the function that takes them, which returns whether it takes more. The loop ends at
-// the end of the stream, and after an error, which comes without an item: io.ErrUnexpectedEOF if the last item is not
+// the end of the stream, and after an error, which comes without an item: an *IncompleteError if the last item is not
 // whole.
 func (d *Decoder) All() func(yield func(item Item, err error) bool) {
 	return func(yield func(item Item, err error) bool) {
@@ -132,7 +132,7 @@ func (d *Decoder) take() (Item, int64, error) {
 	} else {
 		missing = journalNext(version, d.rest, &d.numbers)
 	}
-	if missing == tooLong && len(d.rest) >= 8 {
+	if missing == tooLong && len(d.rest) >= headerSize {
 		code, length := binary.BigEndian.Uint16(d.rest), binary.BigEndian.Uint32(d.rest[4:])
 		d.ended = &MessageTooLong{code, length, d.limit, d.offset}
 		d.rest = nil
@@ -145,13 +145,23 @@ func (d *Decoder) take() (Item, int64, error) {
 		return nil, missing, nil
 	}
 	size := d.numbers[itemSize]
-	item, err := itemOf(d.version, d.numbers[:], d.rest[:size:size])
+	item, err := itemOf(d.version, d.numbers[:], d.rest[:size:size], positionAt(d.offset))
 	if err != nil {
 		return nil, 0, &Error{"Decoder.Next", named(versionName, d.version), err}
 	}
 	d.rest = d.rest[size:]
 	d.offset += int64(size)
 	return item, 0, nil
+}
+
+// incomplete returns the error that the stream ended within the item that the rest begins.
+func (d *Decoder) incomplete() error {
+	found := &IncompleteError{Offset: d.offset, Rest: len(d.rest)}
+	if len(d.rest) >= headerSize {
+		found.Code = binary.BigEndian.Uint16(d.rest)
+		found.Type, _ = TypeName(found.Code)
+	}
+	return found
 }
 
 // read reads at least that many more bytes, unless the reader fails.

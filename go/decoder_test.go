@@ -49,9 +49,9 @@ func returns(count int, err error) func([]byte) (int, error) {
 func TestItemsHoweverTheyAreRead(t *testing.T) {
 	stream := unhex(t, input+"0008000000000000"+"00058000000000050801720178"+"0400000000000014"+"0a")
 	want := []Item{
-		came(t, Message{Version: 8, Code: CodeInputCommand}, input),
-		UnknownCode{8, 8, 8 << 48},
-		came(t, Message{Version: 8, Code: CodeProposeRunCompletion, RequestedAck: true}, "00058000000000050801720178"),
+		came(t, Message{Version: 8, Code: CodeInputCommand}, input, 0),
+		UnknownCode{Version: 8, Code: 8, Word: 8 << 48, position: positionAt(17)},
+		came(t, Message{Version: 8, Code: CodeProposeRunCompletion, RequestedAck: true}, "00058000000000050801720178", 25),
 	}
 	readers := map[string]func(io.Reader) io.Reader{
 		"whole":            func(reader io.Reader) io.Reader { return reader },
@@ -63,7 +63,7 @@ func TestItemsHoweverTheyAreRead(t *testing.T) {
 	for name, reader := range readers {
 		decoder := NewDecoder(reader(bytes.NewReader(stream)), 8)
 		items, err := all(decoder)
-		if err != io.ErrUnexpectedEOF {
+		if !errors.Is(err, io.ErrUnexpectedEOF) {
 			t.Errorf("%s: the error is %v", name, err)
 		}
 		if !reflect.DeepEqual(items, want) {
@@ -75,8 +75,9 @@ func TestItemsHoweverTheyAreRead(t *testing.T) {
 	}
 }
 
-// came is a message with the bytes that it came as.
-func came(t *testing.T, message Message, digits string) Message {
+// came is a message with the bytes that it came as, at an offset.
+func came(t *testing.T, message Message, digits string, offset int64) Message {
+	message.position = positionAt(offset)
 	message.came = unhex(t, digits)
 	message.Payload = message.came[headerSize:]
 	return message
@@ -86,8 +87,8 @@ func TestVersion9SkipsPayloads(t *testing.T) {
 	decoder := NewDecoder(bytes.NewReader(unhex(t, "00080000000000020003"+"000300000000")), 9)
 	items, err := all(decoder)
 	data := unhex(t, "00080000000000020003")
-	want := []Item{Skipped{9, 8, 8<<48 | 2, data[8:], data}}
-	if !reflect.DeepEqual(items, want) || err != io.ErrUnexpectedEOF || decoder.Rest() != 6 {
+	want := []Item{Skipped{9, 8, 8<<48 | 2, data[8:], data, positionAt(0)}}
+	if !reflect.DeepEqual(items, want) || !errors.Is(err, io.ErrUnexpectedEOF) || decoder.Rest() != 6 {
 		t.Errorf("%v, %v, %d", items, err, decoder.Rest())
 	}
 }
@@ -96,7 +97,7 @@ func TestEndOfStream(t *testing.T) {
 	for digits, want := range map[string]error{"": io.EOF, input: io.EOF, input[:2]: io.ErrUnexpectedEOF} {
 		decoder := NewDecoder(bytes.NewReader(unhex(t, digits)), 8)
 		for attempt := 0; attempt < 3; attempt++ {
-			if _, err := all(decoder); err != want {
+			if _, err := all(decoder); !errors.Is(err, want) {
 				t.Errorf("'%s' ends with %v", digits, err)
 			}
 		}
@@ -109,7 +110,7 @@ func TestStreamGoesOnAfterItsEnd(t *testing.T) {
 	data := unhex(t, input)
 	for _, split := range []int{1, 8, len(data) - 1} {
 		stream.Write(data[:split])
-		if items, err := all(decoder); len(items) != 0 || err != io.ErrUnexpectedEOF || decoder.Rest() != split {
+		if items, err := all(decoder); len(items) != 0 || !errors.Is(err, io.ErrUnexpectedEOF) || decoder.Rest() != split {
 			t.Errorf("%d bytes: %v, %v, %d", split, items, err, decoder.Rest())
 		}
 		stream.Write(data[split:])
@@ -223,7 +224,7 @@ func TestPromisedBytesAreNotAllocated(t *testing.T) {
 	runtime.ReadMemStats(&before)
 	_, err := NewDecoder(bytes.NewReader(stream), 8).Next()
 	runtime.ReadMemStats(&after)
-	if allocated := after.TotalAlloc - before.TotalAlloc; err != io.ErrUnexpectedEOF || allocated > 1<<20 {
+	if allocated := after.TotalAlloc - before.TotalAlloc; !errors.Is(err, io.ErrUnexpectedEOF) || allocated > 1<<20 {
 		t.Errorf("%v, and %d bytes allocated", err, allocated)
 	}
 }
@@ -231,7 +232,7 @@ func TestPromisedBytesAreNotAllocated(t *testing.T) {
 func TestItemOfLaterLibrary(t *testing.T) {
 	numbers := make([]uint64, itemNumbers)
 	numbers[itemKind] = itemSkipped + 1
-	if item, err := itemOf(8, numbers, nil); item != nil || !errors.Is(err, ErrUnexpected) {
+	if item, err := itemOf(8, numbers, nil, 0); item != nil || !errors.Is(err, ErrUnexpected) {
 		t.Errorf("%v, %v", item, err)
 	}
 }

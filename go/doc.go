@@ -31,6 +31,8 @@
 //		// the bytes are not those of an ErrorMessage
 //	}
 //
+// An error of the payload of a Message is a *MessageError besides, which says of which message of the stream it is.
+//
 // # Memory and goroutines
 //
 // The library for C keeps nothing between calls. All memory is Go's, and what a function returns is the caller's. Any

@@ -3,6 +3,7 @@ package pendratsoa
 import (
 	"errors"
 	"fmt"
+	"io"
 	"math"
 )
 
@@ -56,6 +57,60 @@ func (e *Error) Error() string {
 // Unwrap returns Err.
 func (e *Error) Unwrap() error {
 	return e.Err
+}
+
+// A MessageError says of which message an error of a payload is. It wraps an *Error.
+type MessageError struct {
+	// Type is the name of the message's type, as "SetStateCommand", and Code its code.
+	Type string
+	Code uint16
+	// Offset is where the message begins in its stream, in bytes; -1 of one that did not come in a stream.
+	Offset int64
+	// Err says which function and which argument the error is about. It wraps ErrMalformed, ErrNoID or ErrNoResult.
+	Err *Error
+}
+
+// Error returns a text as "pendratsoa: ToJSON: SetStateCommand at offset 17: payload of 3 bytes: not well-formed for
+// its schema", and of a message that did not come in a stream the same without the offset.
+func (e *MessageError) Error() string {
+	where := e.Type
+	if e.Offset >= 0 {
+		where = fmt.Sprintf("%s at offset %d", e.Type, e.Offset)
+	}
+	return fmt.Sprintf("pendratsoa: %s: %s: %s: %v", e.Err.Call, where, e.Err.Argument, e.Err.Err)
+}
+
+// Unwrap returns Err.
+func (e *MessageError) Unwrap() error {
+	return e.Err
+}
+
+// An IncompleteError is the error of a stream that ended within an item. It wraps io.ErrUnexpectedEOF.
+type IncompleteError struct {
+	// Offset is where the item begins in the stream, in bytes, and Rest how many bytes of it came.
+	Offset int64
+	Rest   int
+	// Code is the code of the item's type, and Type its name, as "SetStateCommand". They are 0 and empty if less than a
+	// header came; Type is empty too if no type has the code.
+	Code uint16
+	Type string
+}
+
+// Error returns a text as "pendratsoa: the stream ended within SetStateCommand at offset 17, after 12 bytes of it".
+func (e *IncompleteError) Error() string {
+	item := e.Type
+	if item == "" && e.Code != 0 {
+		item = codeText(e.Code)
+	} else if item == "" {
+		item = "an item"
+	}
+	return fmt.Sprintf("pendratsoa: the stream ended within %s at offset %d, after %s of it", item, e.Offset,
+		byteCount(e.Rest))
+}
+
+// Unwrap returns io.ErrUnexpectedEOF.
+func (e *IncompleteError) Unwrap() error {
+	return io.ErrUnexpectedEOF
 }
 
 // An unknownError says what is unknown. It wraps ErrUnknown.
@@ -168,8 +223,13 @@ func codeText(code uint16) string {
 
 // bytesText returns bytes as an argument with its value, as "payload of 12 bytes".
 func bytesText(name string, bytes []byte) string {
-	if len(bytes) == 1 {
-		return name + " of 1 byte"
+	return name + " of " + byteCount(len(bytes))
+}
+
+// byteCount returns a number of bytes as a text, as "12 bytes".
+func byteCount(count int) string {
+	if count == 1 {
+		return "1 byte"
 	}
-	return fmt.Sprintf("%s of %d bytes", name, len(bytes))
+	return fmt.Sprintf("%d bytes", count)
 }

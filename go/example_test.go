@@ -7,6 +7,7 @@ import (
 	"io"
 	"log"
 	"os"
+	"strings"
 
 	"pendratsoa.dev/pendratsoa"
 )
@@ -71,6 +72,26 @@ func ExampleAs() {
 	// Output:
 	// a 1 true <nil>
 	// false <nil>
+}
+
+func ExampleMessageError() {
+	// an End, and a SetStateCommand whose key goes over the end of the payload
+	stream := "\x00\x03\x00\x00\x00\x00\x00\x00" + "\x04\x03\x00\x00\x00\x00\x00\x03\x0a\x05a"
+	decoder := pendratsoa.NewDecoder(strings.NewReader(stream), 8)
+	for {
+		item, err := decoder.Next()
+		if err == io.EOF {
+			break
+		} else if err != nil {
+			log.Fatal(err)
+		}
+		_, _, err = pendratsoa.As[*pendratsoa.SetStateCommandMessage](item)
+		var of *pendratsoa.MessageError
+		if errors.As(err, &of) {
+			fmt.Println(of.Type, of.Offset, errors.Is(err, pendratsoa.ErrMalformed))
+		}
+	}
+	// Output: SetStateCommand 8 true
 }
 
 func ExampleFrame() {

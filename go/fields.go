@@ -8,7 +8,7 @@ import (
 	"sync"
 )
 
-// ErrField: a field of a record cannot be encoded. A FieldError wraps it.
+// ErrField is the error that a field of a record cannot be encoded. A FieldError wraps it.
 var ErrField = errors.New("a field that cannot be encoded")
 
 // A FieldError says why a field of a record cannot be encoded. It wraps ErrField.
@@ -42,8 +42,8 @@ type Record interface {
 }
 
 // Record returns what the payload means: a pointer to a struct as SetStateCommandMessage, for a type switch. A custom
-// entry has no record: nil, without an error. The errors are those of Schema and Canonical. The function As returns the
-// record of one type.
+// entry has no record: nil, without an error. The errors are those of Schema and Canonical; one of the payload is a
+// *MessageError. The function As returns the record of one type.
 func (m Message) Record() (Record, error) {
 	schema, err := m.Schema()
 	if err != nil {
@@ -58,14 +58,14 @@ func (m Message) Record() (Record, error) {
 		return nil, &Error{"Record", named("schema", schema), ErrUnexpected}
 	}
 	if err := unmarshal(record, m.Payload); err != nil {
-		return nil, err
+		return nil, m.located(err)
 	}
 	return record, nil
 }
 
 // As returns the record of an item, and true, if it is a message of the type of that record, as in
 // As[*SetStateCommandMessage](item); of any other item false, and no error: its payload is not read. The errors are
-// those of Canonical.
+// those of Canonical; one of the payload is a *MessageError.
 func As[R Record](item Item) (record R, ok bool, err error) {
 	message, isMessage := item.(Message)
 	if !isMessage {
@@ -81,7 +81,7 @@ func As[R Record](item Item) (record R, ok bool, err error) {
 		return record, false, nil
 	}
 	if err := unmarshal(found, message.Payload); err != nil {
-		return record, false, err
+		return record, false, message.located(err)
 	}
 	return found, true, nil
 }

@@ -3,6 +3,7 @@ package pendratsoa
 import (
 	"bytes"
 	"errors"
+	"fmt"
 	"io"
 	"math/rand"
 	"os"
@@ -110,12 +111,12 @@ func TestRandomStreams(t *testing.T) {
 		version, stream := FirstVersion+random.Intn(5), randomStream(random)
 		whole := NewDecoder(bytes.NewReader(stream), version)
 		items, err := all(whole)
-		if err != io.EOF && err != io.ErrUnexpectedEOF {
+		if err != io.EOF && !errors.Is(err, io.ErrUnexpectedEOF) {
 			t.Fatalf("version %d, %x: %v", version, stream, err)
 		}
 		split := NewDecoder(iotest.OneByteReader(bytes.NewReader(stream)), version)
 		again, splitErr := all(split)
-		if !reflect.DeepEqual(items, again) || err != splitErr || whole.Rest() != split.Rest() {
+		if !reflect.DeepEqual(items, again) || fmt.Sprint(err) != fmt.Sprint(splitErr) || whole.Rest() != split.Rest() {
 			t.Errorf("version %d, %x: %v, %v, and byte by byte %v, %v", version, stream, items, err, again, splitErr)
 		}
 	}

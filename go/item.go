@@ -14,6 +14,8 @@ type Item interface {
 	// Bytes returns the item as it came, byte for byte, header and payload: what a proxy passes on if it does not
 	// change it. Of an item of a Decoder they are a part of its block, as the payload is, without a copy.
 	Bytes() []byte
+	// Offset returns where the item begins in its stream, in bytes; -1 of one that did not come in a stream.
+	Offset() int64
 	isItem()
 }
 
@@ -24,7 +26,8 @@ type Message struct {
 	Payload      []byte
 	RequestedAck bool
 	// came is the message as it came, or nil of one that did not
-	came []byte
+	came     []byte
+	position position
 }
 
 // An UnknownCode is eight bytes whose code is no type's, before version 9.
@@ -32,7 +35,8 @@ type UnknownCode struct {
 	Version int
 	Code    uint16
 	// Word is the eight bytes as one big-endian number.
-	Word uint64
+	Word     uint64
+	position position
 }
 
 // A Skipped is a message of an unknown type, which is skipped with its payload from version 9 on.
@@ -43,12 +47,39 @@ type Skipped struct {
 	Word    uint64
 	Payload []byte
 	// came is the message as it came, or nil of one that did not
-	came []byte
+	came     []byte
+	position position
 }
 
 func (Message) isItem()     {}
 func (UnknownCode) isItem() {}
 func (Skipped) isItem()     {}
+
+// A position is one more than the offset of an item in its stream, and 0 of one that did not come in a stream.
+type position int64
+
+func positionAt(offset int64) position {
+	return position(offset + 1)
+}
+
+func (p position) offset() int64 {
+	return int64(p) - 1
+}
+
+// Offset returns where the message begins in its stream, in bytes; -1 of one that did not come in a stream.
+func (m Message) Offset() int64 {
+	return m.position.offset()
+}
+
+// Offset returns where the eight bytes begin in their stream, in bytes; -1 if they did not come in a stream.
+func (u UnknownCode) Offset() int64 {
+	return u.position.offset()
+}
+
+// Offset returns where the message begins in its stream, in bytes; -1 of one that did not come in a stream.
+func (s Skipped) Offset() int64 {
+	return s.position.offset()
+}
 
 // String returns the name of the type and the length of the payload in bytes, as "InputCommand 9", with " ack" if the
 // header requests an acknowledgement.
@@ -145,7 +176,7 @@ func NewMessage(version int, code uint16, payload []byte) (Message, error) {
 		return Message{}, err
 	}
 	// the flag is the high bit of the third byte
-	return Message{version, code, payload, header[2]&0x80 != 0, nil}, nil
+	return Message{Version: version, Code: code, Payload: payload, RequestedAck: header[2]&0x80 != 0}, nil
 }
 
 // MessageFromJSON returns the message of a named type that a JSON text means. Its payload is canonical, and it requests
@@ -184,27 +215,32 @@ func (m Message) IsNotification() bool {
 	return firstNotification <= m.Code && m.Code < endOfNotifications
 }
 
-// JSON returns the JSON of what the payload means. The errors are those of Schema and ToJSON.
+// JSON returns the JSON of what the payload means. The errors are those of Schema and ToJSON; one of the payload is a
+// *MessageError.
 func (m Message) JSON() ([]byte, error) {
 	schema, err := m.Schema()
 	if err != nil {
 		return nil, err
 	}
-	return ToJSON(schema, m.Payload)
+	json, err := ToJSON(schema, m.Payload)
+	return json, m.located(err)
 }
 
-// Canonical returns the canonical encoding of the payload. The errors are those of Schema and Canonical.
+// Canonical returns the canonical encoding of the payload. The errors are those of Schema and Canonical; one of the
+// payload is a *MessageError.
 func (m Message) Canonical() ([]byte, error) {
 	schema, err := m.Schema()
 	if err != nil {
 		return nil, err
 	}
-	return Canonical(schema, m.Payload)
+	canonical, err := Canonical(schema, m.Payload)
+	return canonical, m.located(err)
 }
 
 // Frame returns the message as a frame of a version, its own or another: a header, and the canonical payload after it.
 // The errors are those of the function Frame, and ErrUnknown for a version that cannot have the payload: a suspension
-// before version 7 has no frame from 7 on, and one since then has a frame at each.
+// before version 7 has no frame from 7 on, and one since then has a frame at each. An error of the payload is a
+// *MessageError.
 func (m Message) Frame(version int) ([]byte, error) {
 	frame, err := m.appendFrame("Frame", nil, version)
 	return frame[:len(frame):len(frame)], err
@@ -217,10 +253,14 @@ func (m Message) AppendFrame(dst []byte, version int) ([]byte, error) {
 }
 
 func (m Message) appendFrame(call string, dst []byte, version int) ([]byte, error) {
-	if schema, isEarlier := earlierSchema(m.Version, m.Code); isEarlier {
-		return appendEarlierFrame(call, dst, version, m.Code, schema, m.Payload)
+	schema, isEarlier := earlierSchema(m.Version, m.Code)
+	var err error
+	if isEarlier {
+		dst, err = appendEarlierFrame(call, dst, version, m.Code, schema, m.Payload)
+	} else {
+		dst, err = appendFrame(call, dst, version, m.Code, m.Payload)
 	}
-	return appendFrame(call, dst, version, m.Code, m.Payload)
+	return dst, m.located(err)
 }
 
 // WriteFrame writes the frame that Frame returns. The errors are those of Frame and of the writer.
@@ -234,22 +274,36 @@ func (m Message) WriteFrame(writer io.Writer, version int) error {
 }
 
 // Notification returns the id and the result of the message, if it is a notification. The errors are those of
-// ReadNotification.
+// ReadNotification; one of the payload is a *MessageError.
 func (m Message) Notification() (Notification, error) {
-	return ReadNotification(m.Code, m.Payload)
+	notification, err := ReadNotification(m.Code, m.Payload)
+	return notification, m.located(err)
 }
 
-// itemOf returns the item of a version that the numbers of the library say, and that has these bytes.
-func itemOf(version int, numbers []uint64, bytes []byte) (Item, error) {
+// located returns an error of the payload with the type and the offset of the message, and any other as it is.
+func (m Message) located(err error) error {
+	failed, isError := err.(*Error)
+	if !isError {
+		return err
+	}
+	switch failed.Err {
+	case ErrMalformed, ErrNoID, ErrNoResult:
+		return &MessageError{Type: m.Type(), Code: m.Code, Offset: m.Offset(), Err: failed}
+	}
+	return err
+}
+
+// itemOf returns the item of a version that the numbers of the library say, and that has these bytes, at its position.
+func itemOf(version int, numbers []uint64, bytes []byte, at position) (Item, error) {
 	code := uint16(numbers[itemCode])
 	payload := bytes[numbers[itemPayload]:]
 	switch numbers[itemKind] {
 	case itemMessage:
-		return Message{version, code, payload, numbers[itemRequestedAck] != 0, bytes}, nil
+		return Message{version, code, payload, numbers[itemRequestedAck] != 0, bytes, at}, nil
 	case itemUnknownCode:
-		return UnknownCode{version, code, numbers[itemWord]}, nil
+		return UnknownCode{version, code, numbers[itemWord], at}, nil
 	case itemSkipped:
-		return Skipped{version, code, numbers[itemWord], payload, bytes}, nil
+		return Skipped{version, code, numbers[itemWord], payload, bytes, at}, nil
 	}
 	return nil, unexpected("kind of item", numbers[itemKind])
 }

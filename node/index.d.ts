@@ -37,6 +37,9 @@ export type Schema = number | SchemaName;
 /** The name of a type, as `'SleepCommand'`, or `'CustomEntry(64513)'` of a custom entry. */
 export type TypeName = NamedType | `CustomEntry(${number})`;
 
+/** The name of the record of a message, as `'SetStateCommandMessage'`. */
+export type MessageName = Extract<SchemaName, `${string}Message` | 'SuspensionMessageV6'>;
+
 /** A value of JSON. */
 export type JsonValue = null | boolean | number | string | JsonValue[] | JsonObject;
 
@@ -92,6 +95,9 @@ export class Message<T extends TypeName = TypeName> {
   /** The eight bytes of its header as one big-endian number, where it came in a stream, and otherwise undefined. */
   get word(): bigint | undefined;
 
+  /** Where it begins in its stream, in bytes; undefined if it came in no stream. */
+  get offset(): number | undefined;
+
   /**
    * The message as it came, byte for byte, in an array of its own: what a proxy passes on if it does not change it. If
    * it came in no stream, its payload as it is after the header of its type.
@@ -109,6 +115,14 @@ export class Message<T extends TypeName = TypeName> {
    * @throws {Unknown} it came in no stream, and there is no such version or type
    */
   get message(): T extends NamedType ? MessageRecords[T] : undefined;
+
+  /**
+   * The record that its payload means, if it is of this name, as `'SetStateCommandMessage'`; otherwise undefined, and
+   * nothing is decoded.
+   * @throws {Malformed} the payload is not well-formed for its schema
+   * @throws {TypeError} no message has a record of this name
+   */
+  record<N extends MessageName>(name: N): Records[N] | undefined;
 
   /**
    * The number of the schema of its payload.
@@ -184,6 +198,12 @@ export class UnknownCode {
   /** The eight bytes as one big-endian number. */
   readonly word: bigint;
 
+  /** Where they begin in their stream, in bytes; undefined if they came in no stream. */
+  get offset(): number | undefined;
+
+  /** Undefined: it is no message. */
+  record<N extends MessageName>(name: N): Records[N] | undefined;
+
   /** The eight bytes as they came. */
   get bytes(): Uint8Array;
 
@@ -211,6 +231,12 @@ export class Skipped {
 
   /** Its payload, as it came. */
   readonly payload: Uint8Array;
+
+  /** Where it begins in its stream, in bytes; undefined if it came in no stream. */
+  get offset(): number | undefined;
+
+  /** Undefined: no record is known of its type. */
+  record<N extends MessageName>(name: N): Records[N] | undefined;
 
   /** The message as it came, byte for byte, in an array of its own. */
   get bytes(): Uint8Array;
@@ -502,6 +528,12 @@ export class JournalError extends Error {
 /** A payload is not well-formed for its schema. */
 export class Malformed extends JournalError {
   readonly code: 'JOURNAL_MALFORMED';
+
+  /** The code of the type of its message, if it is the error of a message; otherwise undefined. */
+  readonly typeCode: number | undefined;
+
+  /** Where that message begins in its stream, in bytes; undefined if it came in no stream. */
+  readonly offset: number | undefined;
 }
 
 /** An allocation of the library failed; the call can be repeated. */
@@ -542,11 +574,23 @@ export class Unknown extends JournalError {
 /** A notification has no id. */
 export class NoId extends JournalError {
   readonly code: 'JOURNAL_NO_ID';
+
+  /** The code of the type of its message, if it is the error of a message; otherwise undefined. */
+  readonly typeCode: number | undefined;
+
+  /** Where that message begins in its stream, in bytes; undefined if it came in no stream. */
+  readonly offset: number | undefined;
 }
 
 /** A notification has an id, and no result. */
 export class NoResult extends JournalError {
   readonly code: 'JOURNAL_NO_RESULT';
+
+  /** The code of the type of its message, if it is the error of a message; otherwise undefined. */
+  readonly typeCode: number | undefined;
+
+  /** Where that message begins in its stream, in bytes; undefined if it came in no stream. */
+  readonly offset: number | undefined;
 }
 
 /** A payload is well-formed for its schema, and not canonical. */
@@ -602,4 +646,10 @@ export class Incomplete extends JournalError {
 
   /** How many bytes of that item came. */
   readonly rest: number;
+
+  /** Where that item begins in the stream, in bytes. */
+  readonly offset: number;
+
+  /** The code of its type; undefined if less than a header came. */
+  readonly typeCode: number | undefined;
 }

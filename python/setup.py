@@ -23,8 +23,8 @@ setup(
     ext_modules=[
         Extension(
             "pendratsoa._compiled",
-            ["src/compiled.c"],
-            depends=["src/pendratsoa.h"],
+            ["src/compiled.c", "src/calls.c", "src/records.c", "src/stream.c"],
+            depends=["src/module.h", "src/calls.h", "src/pendratsoa.h"],
             # no path of a folder is in it, so that it is the same from each
             extra_compile_args=["-std=gnu11", "-O2", "-g0", "-fvisibility=hidden"],
             extra_link_args=["-Wl,--strip-all"],

@@ -1,10 +1,10 @@
 //! Finds the library for C, and has it linked.
 //!
-//! PENDRATSOA_PREFIX names the folder that it was installed below; otherwise the program pkg-config says where it is.
-//! The shared library is linked, and where PENDRATSOA_STATIC is set to anything but 0 the static one.
+//! `PENDRATSOA_PREFIX` names the folder that it was installed below; otherwise the program pkg-config says where it is.
+//! The shared library is linked, and where `PENDRATSOA_STATIC` is set to anything but 0 the static one.
 //!
 //! The crate of a release has the static library, in `lib`, in a folder of the target's name. There that one is linked,
-//! unless PENDRATSOA_PREFIX is set, or PENDRATSOA_STATIC is 0.
+//! unless `PENDRATSOA_PREFIX` is set, or `PENDRATSOA_STATIC` is 0.
 //!
 //! A missing library is a warning, so that `cargo check`, `cargo doc` and a language server work without one. What is
 //! linked then is a library that there is not, whose name says so in the error of the linker.
@@ -78,7 +78,7 @@ fn bundled() -> Option<PathBuf> {
     (is_chosen && folder.join("libpendratsoa.a").is_file()).then_some(folder)
 }
 
-/// Whether the static library is wanted, if PENDRATSOA_STATIC says so.
+/// Whether the static library is wanted, if `PENDRATSOA_STATIC` says so.
 fn is_static() -> Option<bool> {
     let value = env::var_os("PENDRATSOA_STATIC").filter(|value| !value.is_empty())?;
     Some(value != "0")

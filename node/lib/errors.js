@@ -20,8 +20,17 @@ export class JournalError extends Error {
   }
 }
 
+/** What errors of payloads have: the code of the type of the message, and where the message begins. */
+class PayloadError extends JournalError {
+  constructor(message, { typeCode, offset, ...details } = {}) {
+    super(message, details);
+    this.typeCode = typeCode;
+    this.offset = offset;
+  }
+}
+
 /** A payload is not well-formed for its schema. */
-export class Malformed extends JournalError {
+export class Malformed extends PayloadError {
   static {
     identify(this, 'JOURNAL_MALFORMED');
   }
@@ -71,14 +80,14 @@ export class Unknown extends JournalError {
 }
 
 /** A notification has no id. */
-export class NoId extends JournalError {
+export class NoId extends PayloadError {
   static {
     identify(this, 'JOURNAL_NO_ID');
   }
 }
 
 /** A notification has an id, and no result. */
-export class NoResult extends JournalError {
+export class NoResult extends PayloadError {
   static {
     identify(this, 'JOURNAL_NO_RESULT');
   }
@@ -124,8 +133,10 @@ export class Incomplete extends JournalError {
     identify(this, 'JOURNAL_INCOMPLETE');
   }
 
-  constructor(message, { rest, ...details } = {}) {
+  constructor(message, { typeCode, offset, rest, ...details } = {}) {
     super(message, details);
+    this.typeCode = typeCode;
+    this.offset = offset;
     this.rest = rest;
   }
 }
@@ -233,11 +244,22 @@ export function fieldError(path, reason) {
   return new FieldError(`payload: ${path}: ${REASONS[reason]}`, { call: 'payload', reason, path });
 }
 
-/** The error that a source ended with bytes that are in no item, and how many. */
-export function incomplete(call, rest) {
+/** An error of the payload of a message, with its type and its offset in its stream; any other error as it is. */
+export function ofMessage(error, typeCode, name, offset) {
+  if (!(error instanceof PayloadError)) {
+    return error;
+  }
+  const { call, argument, value, message } = error;
+  const where = offset === undefined ? '' : ` at offset ${offset}`;
+  const text = `${call}: ${name}${where}${message.slice(call.length)}`;
+  return new error.constructor(text, { call, argument, value, typeCode, offset });
+}
+
+/** The error that a source ended within an item: its name or "an item", its type, its offset, and what came of it. */
+export function incomplete(call, { name, typeCode, offset, rest }) {
   const what = call === 'finish' ? 'stream' : 'source';
-  const message = `${call}: the ${what} ended within an item, after ${byteCount(rest)} of it`;
-  return new Incomplete(message, { call, rest });
+  const message = `${call}: the ${what} ended within ${name} at offset ${offset}, after ${byteCount(rest)} of it`;
+  return new Incomplete(message, { call, typeCode, offset, rest });
 }
 
 /** The error that an argument is of another kind than it has to be. */

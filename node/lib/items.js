@@ -14,23 +14,29 @@ import {
   typeCode,
   typeName,
 } from './calls.js';
-import { Unknown, notKnown, wrongKind } from './errors.js';
+import { Unknown, notKnown, ofMessage, wrongKind } from './errors.js';
 import { payloadOf, recordOf } from './fields.js';
 import { isCommandCode, isNotificationCode } from './protocol.js';
 import { RECORDS } from './records.js';
+import { schemaNumber } from './schemas.js';
 
-/** The message of a stream whose header is this word. */
+// The items of a stream, each with the offset at which it begins there. One class for what they share would make each
+// seven times as slow to construct.
 export let messageThatCame;
+export let unknownCodeThatCame;
+export let skippedThatCame;
 
 /** A message of a stream. */
 export class Message {
   #word;
+  #offset;
   kind = 'message';
 
   static {
-    messageThatCame = (word, ...fields) => {
+    messageThatCame = (offset, word, ...fields) => {
       const message = new Message(...fields);
       message.#word = word;
+      message.#offset = offset;
       return message;
     };
   }
@@ -61,6 +67,10 @@ export class Message {
     return this.#word;
   }
 
+  get offset() {
+    return this.#offset;
+  }
+
   get bytes() {
     // what came in no stream has the header of its type
     const { version, code, payload } = this;
@@ -74,7 +84,15 @@ export class Message {
 
   get message() {
     const number = schemaOf(this.version, this.code);
-    return number === undefined ? undefined : recordOf(number, this.payload);
+    return number === undefined ? undefined : this.#read(() => recordOf(number, this.payload));
+  }
+
+  record(name) {
+    const wanted = messageSchema(name);
+    if (this.code !== RECORDS[wanted].code || schema(this.version, this.code) !== wanted) {
+      return undefined;
+    }
+    return this.#read(() => recordOf(wanted, this.payload));
   }
 
   get schema() {
@@ -90,29 +108,31 @@ export class Message {
   }
 
   json() {
-    return JSON.parse(toJson(this.schema, this.payload));
+    return JSON.parse(this.#read(() => toJson(this.schema, this.payload)));
   }
 
   canonical() {
-    return canonical(this.schema, this.payload);
+    return this.#read(() => canonical(this.schema, this.payload));
   }
 
   frame(version = this.version) {
     const earlier = earlierSchema(this.version, this.code);
-    return earlier === undefined
-      ? frame(version, this.code, this.payload)
-      : earlierFrame('frame', version, this.code, earlier, this.payload);
+    return this.#read(() =>
+      earlier === undefined
+        ? frame(version, this.code, this.payload)
+        : earlierFrame('frame', version, this.code, earlier, this.payload),
+    );
   }
 
   frameInto(out, version = this.version) {
     const earlier = earlierSchema(this.version, this.code);
     if (earlier === undefined) {
-      return frameInto(version, this.code, this.payload, out);
+      return this.#read(() => frameInto(version, this.code, this.payload, out));
     }
     if (!(out instanceof Uint8Array)) {
       throw wrongKind('out', out, 'a Uint8Array');
     }
-    const found = earlierFrame('frameInto', version, this.code, earlier, this.payload);
+    const found = this.#read(() => earlierFrame('frameInto', version, this.code, earlier, this.payload));
     if (found.length <= out.length) {
       out.set(found);
     }
@@ -120,7 +140,16 @@ export class Message {
   }
 
   notification() {
-    return notification(this.code, this.payload);
+    return this.#read(() => notification(this.code, this.payload));
+  }
+
+  /** What reads the payload. An error of the payload says of which message it is. */
+  #read(read) {
+    try {
+      return read();
+    } catch (error) {
+      throw ofMessage(error, this.code, nameOf(this.code), this.#offset);
+    }
   }
 
   toString() {
@@ -131,6 +160,15 @@ export class Message {
     const { kind, version, code, requestedAck } = this;
     return { kind, version, code, type: nameOf(code), requestedAck, payload: base64(this.payload) };
   }
+}
+
+/** The number of the schema of a message's record, by the name of the record. */
+function messageSchema(name) {
+  const number = typeof name === 'string' ? schemaNumber(name) : undefined;
+  if (RECORDS[number]?.code === undefined) {
+    throw wrongKind('name', name, "the name of a message's record");
+  }
+  return number;
 }
 
 /** The number of the schema of a message, or undefined of a custom entry, which has none. */
@@ -174,7 +212,7 @@ function earlierFrame(call, version, code, earlier, payload) {
 }
 
 /** The name of a type, or its code where a message was made with one that no type has. */
-function nameOf(code) {
+export function nameOf(code) {
   try {
     return typeName(code);
   } catch (error) {
@@ -214,12 +252,30 @@ function isPlainObject(value) {
 
 /** Eight bytes whose code is no type's, before version 9. */
 export class UnknownCode {
+  #offset;
   kind = 'unknownCode';
+
+  static {
+    unknownCodeThatCame = (offset, ...fields) => {
+      const unknown = new UnknownCode(...fields);
+      unknown.#offset = offset;
+      return unknown;
+    };
+  }
 
   constructor(version, code, word) {
     this.version = version;
     this.code = code;
     this.word = word;
+  }
+
+  get offset() {
+    return this.#offset;
+  }
+
+  record(name) {
+    messageSchema(name);
+    return undefined;
   }
 
   get bytes() {
@@ -238,13 +294,31 @@ export class UnknownCode {
 
 /** A message of an unknown type, which is skipped with its payload from version 9 on. */
 export class Skipped {
+  #offset;
   kind = 'skipped';
+
+  static {
+    skippedThatCame = (offset, ...fields) => {
+      const skipped = new Skipped(...fields);
+      skipped.#offset = offset;
+      return skipped;
+    };
+  }
 
   constructor(version, code, word, payload) {
     this.version = version;
     this.code = code;
     this.word = word;
     this.payload = payload;
+  }
+
+  get offset() {
+    return this.#offset;
+  }
+
+  record(name) {
+    messageSchema(name);
+    return undefined;
   }
 
   get bytes() {

@@ -4,12 +4,16 @@ import { addon } from './addon.js';
 import { checked } from './calls.js';
 import { ITEM, ITEM_KINDS, ITEM_NUMBERS } from './declared.js';
 import { TooLong, incomplete, messageTooLong, notKnown } from './errors.js';
-import { Skipped, UnknownCode, messageThatCame } from './items.js';
+import { messageThatCame, nameOf, skippedThatCame, unknownCodeThatCame } from './items.js';
 
 const NOTHING = new Uint8Array(0);
+const HEADER_SIZE = 8;
 
 // The numbers of an item. No JavaScript runs between a call and the reading of it.
 const numbers = new BigUint64Array(ITEM_NUMBERS);
+
+/** Throws if a stream has bytes that are in no item. */
+let atEnd;
 
 /** A stream that comes in chunks. */
 export class Stream {
@@ -22,6 +26,10 @@ export class Stream {
   #bytes = NOTHING;
   #begin = 0;
   #end = 0;
+
+  static {
+    atEnd = (stream, call) => stream.#atEnd(call);
+  }
 
   constructor(version = 8, { maxMessageSize } = {}) {
     this.#version = version;
@@ -49,7 +57,7 @@ export class Stream {
 
   finish() {
     this.#check();
-    atEnd(this, 'finish');
+    this.#atEnd('finish');
   }
 
   *[Symbol.iterator]() {
@@ -57,6 +65,16 @@ export class Stream {
     while (item !== undefined) {
       yield item;
       item = this.#take();
+    }
+  }
+
+  /** Throws if bytes are in no item. */
+  #atEnd(call) {
+    if (this.rest > 0) {
+      const isHeader = this.rest >= HEADER_SIZE;
+      const typeCode = isHeader ? this.#bytes[this.#begin] * 256 + this.#bytes[this.#begin + 1] : undefined;
+      const name = isHeader ? nameOf(typeCode) : 'an item';
+      throw incomplete(call, { name, typeCode, offset: this.#offset, rest: this.rest });
     }
   }
 
@@ -114,7 +132,7 @@ export class Stream {
     if (this.#look(rest) > 0) {
       return undefined;
     }
-    const item = itemOf(this.#version, rest);
+    const item = itemOf(this.#version, this.#offset, rest);
     const size = Number(numbers[ITEM.size]);
     this.#begin += size;
     this.#offset += size;
@@ -125,17 +143,17 @@ export class Stream {
   }
 }
 
-/** The item whose numbers were written, with a payload in memory of its own. */
-function itemOf(version, bytes) {
+/** The item at an offset whose numbers were written, with a payload in memory of its own. */
+function itemOf(version, offset, bytes) {
   const code = Number(numbers[ITEM.code]);
   const payload = () => bytes.slice(Number(numbers[ITEM.payload]), Number(numbers[ITEM.size]));
   switch (ITEM_KINDS[Number(numbers[ITEM.kind])]) {
     case 'message':
-      return messageThatCame(numbers[ITEM.word], version, code, payload(), numbers[ITEM.requestedAck] === 1n);
+      return messageThatCame(offset, numbers[ITEM.word], version, code, payload(), numbers[ITEM.requestedAck] === 1n);
     case 'unknownCode':
-      return new UnknownCode(version, code, numbers[ITEM.word]);
+      return unknownCodeThatCame(offset, version, code, numbers[ITEM.word]);
     case 'skipped':
-      return new Skipped(version, code, numbers[ITEM.word], payload());
+      return skippedThatCame(offset, version, code, numbers[ITEM.word], payload());
     default:
       throw notKnown('Stream', 'kind of item', numbers[ITEM.kind]);
   }
@@ -168,11 +186,4 @@ async function* itemsOf(stream, source) {
     yield* stream;
   }
   atEnd(stream, 'items');
-}
-
-/** Throws if a source ended within an item. */
-function atEnd(stream, call) {
-  if (stream.rest > 0) {
-    throw incomplete(call, stream.rest);
-  }
 }

@@ -369,7 +369,7 @@ test('a malformed payload is named', () => {
       code: 'JOURNAL_MALFORMED',
       argument,
       value: bad,
-      message: new RegExp(`^\\w+: ${argument} of 1 byte: not well-formed for its schema$`),
+      message: new RegExp(`^\\w+: (CallCommand: )?${argument} of 1 byte: not well-formed for its schema$`),
     });
   }
 });

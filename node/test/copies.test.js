@@ -122,8 +122,9 @@ test('the end of a stream', () => {
   stream.feed(hex('04'));
   assert.throws(() => stream.finish(), (error) => {
     assert.ok(error instanceof Incomplete);
-    assert.equal(error.message, 'finish: the stream ended within an item, after 1 byte of it');
-    assert.deepEqual([error.call, error.rest], ['finish', 1]);
+    const text = `finish: the stream ended within an item at offset ${FRAME.length}, after 1 byte of it`;
+    assert.equal(error.message, text);
+    assert.deepEqual([error.call, error.rest, error.offset, error.typeCode], ['finish', 1, FRAME.length, undefined]);
     return true;
   });
 });

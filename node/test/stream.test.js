@@ -286,7 +286,9 @@ test('a source that ends within an item', async () => {
       code: 'JOURNAL_INCOMPLETE',
       rest: 8,
       call: 'items',
-      message: 'items: the source ended within an item, after 8 bytes of it',
+      offset: 25,
+      typeCode: 0x0400,
+      message: 'items: the source ended within InputCommand at offset 25, after 8 bytes of it',
     },
   );
   assert.deepEqual(found, ITEMS);

@@ -53,7 +53,7 @@ export function described(item: Item): string {
   switch (item.kind) {
     case 'message': {
       const type: TypeName = item.type;
-      const json: JsonValue | undefined = item.json().value;
+      const json: JsonValue | undefined = item.json()['value'];
       const word: bigint | undefined = item.word;
       const length: number = item.bytes.length + item.frameInto(new Uint8Array(20), 9);
       // @ts-expect-error it cannot be changed
@@ -68,6 +68,18 @@ export function described(item: Item): string {
     case 'skipped':
       return `${item.code} ${item.word + 1n} ${item.payload.length}`;
   }
+}
+
+/** The record of one type, of any item; and where an item is. */
+export function recorded(item: Item): string {
+  const command = item.record('SetStateCommandMessage');
+  const same: Same<typeof command, SetStateCommandMessage | undefined> = true;
+  const offset: Same<Item['offset'], number | undefined> = true;
+  // @ts-expect-error no message has a record of this name
+  item.record('SetStatCommandMessage');
+  // @ts-expect-error it is the record of a field
+  item.record('Value');
+  return `${command?.key} ${command?.value?.content} ${item.offset} ${same} ${offset}`;
 }
 
 /** A notification's id is a number or a name, by its kind. */
@@ -205,7 +217,8 @@ export function calls(): void {
 export function caught(error: unknown): string {
   if (error instanceof Malformed) {
     const code: 'JOURNAL_MALFORMED' = error.code;
-    return code;
+    const place: Same<Malformed['offset'] | Malformed['typeCode'], number | undefined> = true;
+    return `${code} ${error.offset} ${error.typeCode} ${place}`;
   }
   if (error instanceof JsonError) {
     const offset: Same<JsonError['offset'], number | undefined> = true;
@@ -215,7 +228,7 @@ export function caught(error: unknown): string {
     return error.reason === 'notUtf8' ? error.path : error.reason;
   }
   if (error instanceof Incomplete) {
-    return error.rest.toFixed();
+    return (error.rest + error.offset + (error.typeCode ?? 0)).toFixed();
   }
   if (error instanceof MessageTooLong) {
     const code: 'JOURNAL_TOO_LONG' = error.code;

@@ -11,7 +11,7 @@ schema is given by its number or by the name of its record, as "SleepCommandMess
 
 The first call loads the library: the file that PENDRATSOA_LIBRARY names, or else that which is installed with this
 package, or else what the system finds as libpendratsoa.so.0. Where there is none, the call is an ImportError. COMPILED
-says whether the compiled module reads and writes records; it is not used where PENDRATSOA_PURE is set.
+says whether the compiled module makes the calls; it is not used where PENDRATSOA_PURE is set.
 """
 
 from ._calls import (
@@ -51,8 +51,9 @@ from ._errors import (
 )
 from ._fast import COMPILED
 from ._items import Item, Message, Skipped, UnknownCode
+from ._kinds import BytesLike, Schema
 from ._protocol import SCHEMA_NAMES, TypeCode
-from ._request import SCHEMAS, BytesLike, Schema
+from ._request import SCHEMAS
 from ._stream import Stream
 
 __all__ = [

@@ -6,9 +6,9 @@ from dataclasses import dataclass
 from typing import Type, Union
 
 from ._declared import IdKind, JsonReason, ResultKind, VerdictKind
-from ._kinds import K
-from ._library import library
-from ._request import BytesLike, NotificationNumbers, ReadNumbers, Request, Schema, VerdictNumbers
+from ._kinds import BytesLike, K, Schema
+from ._named import named
+from ._request import Request
 
 
 @dataclass(frozen=True)
@@ -37,7 +37,7 @@ class Verdict:
 
 def library_version() -> str:
     """The version of the library, as "0.2.0"."""
-    return Request("library_version").written(library.journal_library_version).decode()
+    return named.library_version().decode()
 
 
 def schema(version: int, code: int) -> int:
@@ -45,20 +45,17 @@ def schema(version: int, code: int) -> int:
 
     `Unknown` if there is no such version, or the code is not that of a named type: a custom entry has no schema.
     """
-    request = Request("schema", version=version, code=code)
-    return request.returned(library.journal_schema, request.version(), request.code("a named type"))
+    return named.schema(version, code)
 
 
 def type_name(code: int) -> str:
     """The name of the type that has a code, as "SleepCommand", or "CustomEntry(64513)". `Unknown` if no type has it."""
-    request = Request("type_name", code=code)
-    return request.written(library.journal_type_name, request.code("a type")).decode()
+    return named.type_name(code).decode()
 
 
 def type_code(name: str) -> int:
     """The code of the named type that has a name, as "SleepCommand". `Unknown` if none has it."""
-    request = Request("type_code", name=name)
-    return request.returned(library.journal_type_code, *request.text("name"))
+    return named.type_code(name)
 
 
 def header(version: int, code: int, payload_length: int) -> bytes:
@@ -67,9 +64,7 @@ def header(version: int, code: int, payload_length: int) -> bytes:
     `Unknown` if there is no such version or type, `TooLong` for a length of more than 4,294,967,295, and a `ValueError`
     for a length below 0.
     """
-    request = Request("header", version=version, code=code, payload_length=payload_length)
-    parameters = request.version(), request.code("a type"), request.length("payload_length")
-    return request.written(library.journal_header, *parameters)
+    return named.header(version, code, payload_length)
 
 
 def frame(version: int, code: int, payload: BytesLike) -> bytes:
@@ -78,32 +73,24 @@ def frame(version: int, code: int, payload: BytesLike) -> bytes:
     Its header is that of `header`. `Unknown` if there is no such version, or the code is not that of a named type;
     `Malformed`, `TooLong`, `OutOfMemory`.
     """
-    request = Request("frame", version=version, code=code, payload=payload)
-    parameters = request.version(), request.code("a named type"), *request.data("payload")
-    return request.written(library.journal_frame, *parameters)
-
-
-def frame_of_canonical(version: int, code: int, payload: bytes) -> bytes:
-    """The same of a payload that is canonical, which is not read again."""
-    request = Request("frame", version=version, code=code, payload_length=len(payload))
-    parameters = request.version(), request.code("a named type"), request.length("payload_length")
-    return request.written(library.journal_header, *parameters) + payload
+    return named.frame(version, code, payload)
 
 
 def append_frame(out: bytearray, version: int, code: int, payload: BytesLike) -> int:
-    """Appends the frame that `frame` returns to `out`, without a copy of it, and returns its length in bytes.
+    """Appends the frame that `frame` returns to `out`, and returns its length in bytes.
 
     Its errors are those of `frame`; after one of them `out` is as it was.
     """
-    request = Request("append_frame", version=version, code=code, payload=payload)
-    parameters = request.version(), request.code("a named type"), *request.data("payload")
-    return request.appended(out, library.journal_frame, *parameters)
+    if not isinstance(out, bytearray):
+        raise TypeError(f"append_frame: out must be a bytearray, not {type(out).__name__}")
+    data = named.append_frame(version, code, payload)
+    out += data
+    return len(data)
 
 
 def is_well_formed(schema: Schema, payload: BytesLike) -> bool:
     """Whether a payload is well-formed for a schema. `Unknown` if there is no such schema."""
-    request = Request("is_well_formed", schema=schema, payload=payload)
-    return request.returned(library.journal_is_well_formed, request.schema(), *request.data("payload")) == 1
+    return named.is_well_formed(schema, payload) == 1
 
 
 def canonical(schema: Schema, payload: BytesLike) -> bytes:
@@ -111,8 +98,7 @@ def canonical(schema: Schema, payload: BytesLike) -> bytes:
 
     `Unknown` if there is no such schema; `Malformed`, `TooLong`, `OutOfMemory`.
     """
-    request = Request("canonical", schema=schema, payload=payload)
-    return request.written(library.journal_canonical, request.schema(), *request.data("payload"))
+    return named.canonical(schema, payload)
 
 
 def merge(schema: Schema, first: BytesLike, second: BytesLike) -> bytes:
@@ -120,9 +106,7 @@ def merge(schema: Schema, first: BytesLike, second: BytesLike) -> bytes:
 
     `Unknown` if there is no such schema; `Malformed`, `TooLong`, `OutOfMemory`.
     """
-    request = Request("merge", schema=schema, first=first, second=second)
-    parameters = request.schema(), *request.data("first"), *request.data("second")
-    return request.written(library.journal_merge, *parameters)
+    return named.merge(schema, first, second)
 
 
 def to_json(schema: Schema, payload: BytesLike) -> str:
@@ -130,8 +114,7 @@ def to_json(schema: Schema, payload: BytesLike) -> str:
 
     `Unknown` if there is no such schema; `Malformed`, `TooLong`, `OutOfMemory`.
     """
-    request = Request("to_json", schema=schema, payload=payload)
-    return request.written(library.journal_json, request.schema(), *request.data("payload")).decode()
+    return named.to_json(schema, payload).decode()
 
 
 def from_json(schema: Schema, json: Union[str, BytesLike]) -> bytes:
@@ -139,14 +122,11 @@ def from_json(schema: Schema, json: Union[str, BytesLike]) -> bytes:
 
     `JsonError` if it means no value of the schema; `Unknown` if there is no such schema; `TooLong`, `OutOfMemory`.
     """
-    request = Request("from_json", schema=schema, json=json)
-    numbers = ReadNumbers()
-    parameters = request.schema(), *request.json("json"), numbers, len(numbers)
-    found = request.written(library.journal_payload_of_json, *parameters)
-    kind, offset = numbers
+    found, (kind, offset) = named.from_json(schema, json)
     if kind == 0:
         return found
-    raise request.not_taken(_kind_of(request, JsonReason, kind, "a JSON text"), offset, found.decode())
+    request = Request("from_json", schema=schema, json=json)
+    raise request.not_taken(_kind_of("from_json", JsonReason, kind, "a JSON text"), offset, found.decode())
 
 
 def notification(code: int, payload: BytesLike) -> Notification:
@@ -154,15 +134,11 @@ def notification(code: int, payload: BytesLike) -> Notification:
 
     `Unknown` if the code is not that of a notification; `Malformed`, `NoId`, `NoResult`, `TooLong`, `OutOfMemory`.
     """
-    request = Request("notification", code=code, payload=payload)
-    numbers = NotificationNumbers()
-    parameters = request.code("a notification"), *request.data("payload")
-    found = request.written(library.journal_notification, *parameters, numbers, len(numbers))
-    kind, number, name_length, result_kind = numbers
-    id_kind = _kind_of(request, IdKind, kind, "an id")
+    found, (kind, number, name_length, result_kind) = named.notification(code, payload)
+    id_kind = _kind_of("notification", IdKind, kind, "an id")
     name, result = found[:name_length], found[name_length:]
-    id_ = name.decode() if id_kind is IdKind.SIGNAL_NAME else number
-    return Notification(id_kind, id_, _kind_of(request, ResultKind, result_kind, "a result"), result)
+    id_: Union[int, str] = name.decode() if id_kind is IdKind.SIGNAL_NAME else number
+    return Notification(id_kind, id_, _kind_of("notification", ResultKind, result_kind, "a result"), result)
 
 
 def header_eq(code: int, first: BytesLike, second: BytesLike, ignore_payloads: bool = False) -> bool:
@@ -171,9 +147,7 @@ def header_eq(code: int, first: BytesLike, second: BytesLike, ignore_payloads: b
     `ignore_payloads` leaves the content of user data out of the comparison, but not that of a signal.
     `Unknown` if the code is not that of a command; `Malformed`, `OutOfMemory`.
     """
-    request = Request("header_eq", code=code, first=first, second=second)
-    parameters = request.code("a command"), *request.data("first"), *request.data("second")
-    return request.returned(library.journal_header_eq, *parameters, bool(ignore_payloads)) == 1
+    return named.header_eq(code, first, second, ignore_payloads) == 1
 
 
 def difference(code: int, first: BytesLike, second: BytesLike) -> str:
@@ -181,9 +155,7 @@ def difference(code: int, first: BytesLike, second: BytesLike) -> str:
 
     `Unknown` if the code is not that of a command; `Malformed`, `OutOfMemory`.
     """
-    request = Request("difference", code=code, first=first, second=second)
-    parameters = request.code("a command"), *request.data("first"), *request.data("second")
-    return request.written(library.journal_difference, *parameters).decode()
+    return named.difference(code, first, second).decode()
 
 
 def compare_journals(version: int, recorded: BytesLike, replayed: BytesLike, ignore_payloads: bool = False) -> Verdict:
@@ -192,17 +164,13 @@ def compare_journals(version: int, recorded: BytesLike, replayed: BytesLike, ign
     Other items, custom entries among them, and bytes after the last whole item are skipped. `Unknown` if there is no
     such version; `OutOfMemory`.
     """
-    request = Request("compare_journals", version=version, recorded=recorded, replayed=replayed)
-    numbers = VerdictNumbers()
-    parameters = request.version(), *request.data("recorded"), *request.data("replayed"), bool(ignore_payloads)
-    text = request.written(library.journal_verdict, *parameters, numbers, len(numbers)).decode()
-    kind, index = numbers
-    return Verdict(_kind_of(request, VerdictKind, kind, "a verdict"), index, text)
+    text, (kind, index) = named.compare_journals(version, recorded, replayed, ignore_payloads)
+    return Verdict(_kind_of("compare_journals", VerdictKind, kind, "a verdict"), index, text.decode())
 
 
-def _kind_of(request: Request, kinds: Type[K], number: int, what: str) -> K:
+def _kind_of(call: str, kinds: Type[K], number: int, what: str) -> K:
     """The kind of a number. A later library may have further ones."""
     kind = kinds.of(number)
     if kind is None:
-        raise request.unexpected(f"{what} of the kind {number}")
+        raise Request(call).unexpected(f"{what} of the kind {number}")
     return kind

@@ -120,12 +120,21 @@ class JsonError(JournalError, ValueError):
 
 
 class Incomplete(JournalError, EOFError):
-    """A stream ended within an item; `rest` is the number of bytes of it that came, and `offset` where it begins."""
+    """A stream ended within an item; `rest` is the number of bytes of it that came, and `offset` where it begins.
+    `code` is that of its type, and None if fewer bytes came than a header has."""
 
-    def __init__(self, *texts: str, call: Optional[str] = None, rest: int = 0, offset: int = 0) -> None:
+    def __init__(
+        self,
+        *texts: str,
+        call: Optional[str] = None,
+        rest: int = 0,
+        offset: int = 0,
+        code: Optional[int] = None,
+    ) -> None:
         super().__init__(*texts, call=call)
         self.rest = rest
         self.offset = offset
+        self.code = code
 
 
 class FieldError(JournalError, ValueError):

@@ -1,28 +1,27 @@
-"""The compiled module, where it is there: it reads and writes records without ctypes. Where it is not, since there was
-no compiler or this is no CPython, or where PENDRATSOA_PURE is set, all of it is done in Python. It is used from the
-first call on, which loads the library."""
+"""The compiled module, where it is there: it makes all calls of the library, reads and writes records, and takes items
+from streams. Where it is not, since there was no compiler or this is no CPython, or where PENDRATSOA_PURE is set, all
+of it is done in Python, by ctypes. The first call loads the library, whose functions the module takes by their
+addresses."""
 
 from __future__ import annotations
 
-import ctypes
-import dataclasses
 import os
-from typing import TYPE_CHECKING, Any, Optional, Tuple, Type
+from typing import TYPE_CHECKING, Any, Optional, Tuple, Type, Union
 
+from . import _named
+from ._items import Message, Skipped, UnknownCode
 from ._library import library
-from ._records import Record, Row
+from ._pending import Pending
+from ._protocol import SCHEMA_NAMES
+from ._records import MessageRecord, Record, Row
 from .messages import RECORDS as CLASSES
 
 if TYPE_CHECKING:
-    from ._compiled import Codec
+    from . import _compiled
 
 RECORDS: Tuple[Type[Record], ...] = CLASSES
 
 SHAPES = ("plain", "optional", "repeated", "member")
-
-
-def _address(function: Any) -> int:
-    return ctypes.cast(function, ctypes.c_void_p).value or 0
 
 
 def _row(row: Row) -> Tuple[Any, ...]:
@@ -34,40 +33,60 @@ def _row(row: Row) -> Tuple[Any, ...]:
 
 
 def _record(record: Type[Record]) -> Tuple[Any, ...]:
-    """A record, as the compiled module takes it: its class, what its fields are by default, and its rows."""
-    fields = dataclasses.fields(record)
-    return record, {field.name: field.default for field in fields}, tuple(map(_row, record._by_number.values()))
+    """A record, as the compiled module takes it: its class, the code of its type or -1, what its fields are by default,
+    and its rows."""
+    code = record.CODE if issubclass(record, MessageRecord) else -1
+    return record, code, record._defaults, tuple(map(_row, record._by_number.values()))
 
 
-def _imported() -> Optional[Type[Codec]]:
+def _imported() -> Optional[Type[_compiled.Native]]:
     """The class of the compiled module, or None."""
     if os.environ.get("PENDRATSOA_PURE"):
         return None
     try:
-        from ._compiled import Codec
+        from ._compiled import Native
     except ImportError:
         return None
-    return Codec
+    return Native
 
 
-_CODEC = _imported()
-COMPILED = _CODEC is not None
+_NATIVE = _imported()
+COMPILED = _NATIVE is not None
+
+# what the compiled module has, once the library is loaded
+_native: Optional[_compiled.Native] = None
 
 
-def codec() -> Optional[Codec]:
-    """What has two functions for each record, or None."""
-    if _CODEC is None:
+def native() -> Optional[_compiled.Native]:
+    """What has all calls, two functions for each record, and what comes of streams; or None."""
+    if _NATIVE is None:
         return None
-    calls = _address(library.journal_fields), _address(library.journal_payload_of_fields)
-    return _CODEC(*calls, tuple(map(_record, RECORDS)))
+    schemas = {name: number for number, name in enumerate(SCHEMA_NAMES)}
+    items = Message, UnknownCode, Skipped
+    records = tuple(map(_record, RECORDS))
+    return _NATIVE(library.addresses(), records, items, schemas, _named.checked, _named.refused)
 
 
 def use() -> None:
-    """Gives each record its two functions, if there are any."""
-    found = codec()
-    if found is not None:
-        for record in RECORDS:
-            record._compiled = found.of(record.SCHEMA)
+    """Makes all calls by the functions of the library."""
+    global _native
+    if _native is not None:
+        _native.point(library.addresses())
+        return
+    _native = native()
+    if _native is None:
+        _named.calls.use(_named.by_ctypes)
+        return
+    _named.calls.use(_native.call)
+    for record in RECORDS:
+        record._compiled = _native.of(record.SCHEMA)
+
+
+def pending_of(version: int, limit: Optional[int]) -> Union[Pending, _compiled.Pending]:
+    """What comes of a stream and is in no item yet."""
+    if _native is None:
+        library.load()
+    return Pending(version, limit) if _native is None else _native.pending(version, limit)
 
 
 library.when_loaded.append(use)

@@ -9,13 +9,13 @@ import json
 from dataclasses import dataclass, field
 from typing import Any, Callable, Mapping, Optional, Protocol, Type, TypeVar, Union, cast
 
-# _codec is imported since it lists what reads and what writes each record
-from . import _calls, _codec
+from . import _calls
 from ._calls import Notification
 from ._errors import JournalError, Unknown, _PayloadError
 from ._protocol import COMMAND_CODES, NOTIFICATION_CODES
 from ._records import MessageRecord, Record, earlier_frame, earlier_schema, schema_of
-from ._request import BytesLike, Request, shown
+from ._kinds import BytesLike
+from ._request import Request, shown
 from .messages import RECORDS, AnyMessage, TypeName
 
 M = TypeVar("M", bound=MessageRecord)
@@ -77,8 +77,8 @@ class Message(_Item):
         `frame` rejects one that is malformed. `Unknown` if there is no such version or type.
         """
         code = _calls.type_code(type) if isinstance(type, str) else type
-        data, length = Request("Message.of", payload=payload).data("payload")
-        header = _calls.header(version, code, length)
+        data = Request("Message.of", payload=payload).data("payload")
+        header = _calls.header(version, code, len(data))
         # the flag is the high bit of the third byte
         return cls(version, code, data, header[2] >= 0x80)
 
@@ -121,7 +121,7 @@ class Message(_Item):
         """The record that its payload means, which is decoded at each access. A custom entry has none: None.
         `Malformed` if the payload means none."""
         record = _class_of(self.version, self.code)
-        return None if record is None else cast(AnyMessage, self._read("message", record.decode, self.payload))
+        return None if record is None else cast(AnyMessage, self._decoded("message", record))
 
     def record(self, record: Type[M], /) -> Optional[M]:
         """The record that its payload means, if it is of this class; otherwise None, and nothing is decoded.
@@ -130,7 +130,7 @@ class Message(_Item):
         if found is None or found is not record:
             _check_class(record)
             return None
-        return self._read("record", record.decode, self.payload)
+        return self._decoded("record", record)
 
     @classmethod
     def of_record(cls, record: MessageRecord, version: int = 8) -> Message:
@@ -167,8 +167,11 @@ class Message(_Item):
         call = "append_frame"
         if schema is None:
             return self._read(call, _calls.append_frame, out, version, self.code, self.payload)
+        if not isinstance(out, bytearray):
+            raise TypeError(f"{call}: out must be a bytearray, not {type(out).__name__}")
         frame = self._read(call, earlier_frame, call, version, self.code, schema, self.payload)
-        return Request(call).extended(out, frame)
+        out += frame
+        return len(frame)
 
     def write_frame(self, file: Writable, version: Optional[int] = None) -> None:
         """Writes its frame, as `frame` returns it, by one call of `file.write`."""
@@ -184,20 +187,25 @@ class Message(_Item):
         """Its id and its result, if it is a notification."""
         return self._read("notification", _calls.notification, self.code, self.payload)
 
+    def _decoded(self, call: str, record: Type[M]) -> M:
+        """The record of this class that its payload means."""
+        made: Optional[M] = None if record._compiled is None else record._compiled.decode(self.payload)
+        return self._read(call, record.decode, self.payload) if made is None else made
+
     def _read(self, call: str, function: Callable[..., T], *arguments: Any) -> T:
         """What a function returns that reads its payload. An error of the payload says of which message it is."""
         try:
             return function(*arguments)
         except _PayloadError as error:
             where = "" if self.offset is None else f" at offset {self.offset}"
-            text = f"{call}: {_name(self.code)}{where}: {str(error).partition(': ')[2]}"
+            text = f"{call}: {name_of(self.code)}{where}: {str(error).partition(': ')[2]}"
             argument, value = error.argument, error.value
             raise type(error)(
                 text, call=call, argument=argument, value=value, code=self.code, offset=self.offset
             ) from None
 
     def __str__(self) -> str:
-        return f"{_name(self.code)} {len(self.payload)}{' ack' if self.requested_ack else ''}"
+        return f"{name_of(self.code)} {len(self.payload)}{' ack' if self.requested_ack else ''}"
 
     def __repr__(self) -> str:
         return _fields(self)
@@ -294,7 +302,7 @@ def _bytes_of(word: int) -> bytes:
     return word.to_bytes(8, "big")
 
 
-def _name(code: int) -> str:
+def name_of(code: int) -> str:
     """The name of a type, or its code where a message was made with one that no type has."""
     try:
         return _calls.type_name(code)

@@ -1,9 +1,14 @@
-"""Kinds, which the library numbers, as words."""
+"""Kinds, which the library numbers, as words, and what arguments may be."""
 
 from __future__ import annotations
 
 from enum import Enum
-from typing import Optional, Type, TypeVar
+from typing import Optional, Type, TypeVar, Union
+
+BytesLike = Union[bytes, bytearray, memoryview]
+
+# a schema, by its number or by the name of its record, as "SleepCommandMessage"
+Schema = Union[int, str]
 
 K = TypeVar("K", bound="Kind")
 

@@ -6,7 +6,8 @@ from __future__ import annotations
 import ctypes
 import os
 import pathlib
-from typing import Any, Callable, Dict, List, Optional
+import threading
+from typing import Any, Callable, Dict, List, Optional, Tuple
 
 from ._declared import CALLS
 
@@ -57,17 +58,29 @@ class Library:
         self.loaded: Optional[ctypes.CDLL] = None
         # what is called once it is loaded
         self.when_loaded: List[Callable[[], object]] = []
+        self._lock = threading.RLock()
+
+    def load(self) -> None:
+        """Loads it, if that is not done yet."""
+        with self._lock:
+            if self.loaded is not None:
+                return
+            found = load(find())
+            for function in PARAMETERS:
+                setattr(self, function, getattr(found, function))
+            for call in self.when_loaded:
+                call()
+            self.loaded = found
+
+    def addresses(self) -> Tuple[int, ...]:
+        """Where the functions are, in the order of the header."""
+        return tuple(ctypes.cast(getattr(self, name), ctypes.c_void_p).value or 0 for name in PARAMETERS)
 
     def __getattr__(self, name: str) -> Callable[..., int]:
         # Python looks here for what is no attribute yet
         if name not in PARAMETERS:
             raise AttributeError(f"the library has no function {name}")
-        if self.loaded is None:
-            self.loaded = load(find())
-        for function in PARAMETERS:
-            setattr(self, function, getattr(self.loaded, function))
-        for call in self.when_loaded:
-            call()
+        self.load()
         found: Callable[..., int] = vars(self)[name]
         return found
 

@@ -4,20 +4,23 @@ those of which the library makes one. Nothing is known here of how a payload is 
 from __future__ import annotations
 
 import ctypes
+import dataclasses
 import functools
 import threading
 from array import array
 from enum import IntEnum
-from typing import TYPE_CHECKING, Any, Callable, ClassVar, Dict, List, NamedTuple
+from typing import TYPE_CHECKING, Any, ClassVar, Dict, List, NamedTuple
 from typing import NoReturn, Optional, Tuple, Type, TypeVar
 
 from . import _calls
+from ._declared import FIELD_BOOL, FIELD_BYTES, FIELD_ENUM, FIELD_MESSAGE, FIELD_STRING
 from ._declared import FIELD_NUMBERS as NUMBERS
 from ._declared import LAST_VERSION, WRITING_NUMBERS, FieldReason
 from ._errors import ERRORS, FieldError, JournalError, NotCanonical, Unknown
+from ._kinds import BytesLike
 from ._library import library
 from ._protocol import SCHEMA_NAMES
-from ._request import BytesLike, Request
+from ._request import Request
 
 if TYPE_CHECKING:
     from ._compiled import RecordCodec
@@ -28,10 +31,6 @@ BYTES = 1024
 
 U64_END = 1 << 64
 I64_END = 1 << 63
-
-# what reads and what writes each record, at the number of its schema: generated in _codec.py
-READERS: List[Callable[[List[int], int, int, bytes], Tuple[Any, int]]] = []
-WRITERS: List[Callable[[Any, int, Any, int], int]] = []
 
 R = TypeVar("R", bound="Record")
 
@@ -61,13 +60,22 @@ class Row(NamedTuple):
     member: Optional[str] = None
     wrapper: Any = None
 
+    def told_by(self) -> Any:
+        """The class by which a value is told apart as one of this member of a oneof."""
+        if self.wrapper is not None:
+            return self.wrapper
+        return self.holds if self.kind == FIELD_MESSAGE else {FIELD_STRING: str, FIELD_BYTES: bytes}.get(self.kind, int)
+
 
 class Record:
     """What all records have. Each is a frozen dataclass of `pendratsoa.messages`."""
 
     SCHEMA: ClassVar[int]
 
+    # its rows by their numbers and by the attributes that have them, and what each attribute is by default
     _by_number: ClassVar[Dict[int, Row]]
+    _by_name: ClassVar[Dict[str, List[Row]]]
+    _defaults: ClassVar[Dict[str, Any]]
 
     # what the compiled module has for it, where that is in use
     _compiled: ClassVar[Optional[RecordCodec]] = None
@@ -80,14 +88,13 @@ class Record:
             if made is not None:
                 return made
         schema = cls.SCHEMA
-        data = payload if type(payload) is bytes else Request("decode", payload=payload).data("payload")[0]
+        data = payload if type(payload) is bytes else Request("decode", payload=payload).data("payload")
         count = library.journal_fields(schema, data, len(data), _scratch.table, ENTRIES)
         if 0 <= count <= ENTRIES:
             table = _scratch.numbers[: NUMBERS * count].tolist()
         else:
             table, data = _table_of(schema, data, count)
-        record: R = READERS[schema](table, 0, 0, data)[0]
-        return record
+        return _read(cls, table, 0, 0, data)[0]
 
     def encode(self) -> bytes:
         """Its canonical payload. A `FieldError` names the field that a value is wrong for; a value of another type is a
@@ -98,7 +105,7 @@ class Record:
                 return payload
         schema = self.SCHEMA
         writer = Writer(type(self))
-        size = WRITERS[schema](self, 0, writer, 0)
+        writer.record(self, 0)
         table = writer.table
         try:
             entries = array("Q", table)
@@ -107,7 +114,7 @@ class Record:
         data = b"".join(writer.parts)
         scratch = _scratch
         count = len(table) // NUMBERS
-        parameters = schema, entries.buffer_info()[0], count, data, size, scratch.writing, WRITING_NUMBERS
+        parameters = schema, entries.buffer_info()[0], count, data, len(data), scratch.writing, WRITING_NUMBERS
         length = library.journal_payload_of_fields(*parameters, scratch.out, BYTES)
         if length < 0 or length > BYTES or scratch.written[0] != 0:
             return _long_payload(writer, parameters, length, scratch)
@@ -124,17 +131,23 @@ class MessageRecord(Record):
 
     def frame(self, version: int = 8) -> bytes:
         """Its frame at a version: the header, and its canonical payload. `Unknown` if it is none of the version."""
+        if self._compiled is not None:
+            frame = self._compiled.frame(self, version)
+            if frame is not None:
+                return frame
         payload = self.encode()
         if self.BEFORE_VERSION is not None:
             return earlier_frame("frame", version, self.CODE, self.SCHEMA, payload)
-        if earlier_schema(version, self.CODE) is not None:
-            return _calls.frame(version, self.CODE, payload)
-        return _calls.frame_of_canonical(version, self.CODE, payload)
+        return _calls.frame(version, self.CODE, payload)
 
 
 def described(record: Type[Record], rows: Tuple[Row, ...]) -> None:
-    """Says which fields a record has."""
+    """Says which fields a record has, which is a dataclass."""
     record._by_number = {row.number: row for row in rows}
+    record._by_name = {}
+    for row in rows:
+        record._by_name.setdefault(row.name, []).append(row)
+    record._defaults = {field.name: field.default for field in dataclasses.fields(record)}
 
 
 @functools.lru_cache(maxsize=1024)
@@ -188,7 +201,7 @@ def _table_of(schema: int, data: bytes, count: int) -> Tuple[List[int], bytes]:
         data = _calls.canonical(schema, data)
         count = library.journal_fields(schema, data, len(data), None, 0)
     if count < 0:
-        raise Request("decode", schema=schema, payload=data)._refused(count)
+        raise Request("decode", schema=schema, payload=data).refused(count)
     numbers = array("Q", bytes(8 * NUMBERS * count))
     library.journal_fields(schema, data, len(data), numbers.buffer_info()[0], count)
     return numbers.tolist(), data
@@ -199,13 +212,56 @@ def _long_payload(writer: Writer, parameters: Tuple[Any, ...], length: int, scra
     request = Request("encode", payload=parameters[3])
     number, index = scratch.written
     if number == 0:
-        out = ctypes.create_string_buffer(request.returned(lambda: length))
-        length = request.returned(library.journal_payload_of_fields, *parameters, out, len(out))
+        # nothing is written of an error
+        out = ctypes.create_string_buffer(max(0, length))
+        length = length if length < 0 else library.journal_payload_of_fields(*parameters, out, len(out))
+        if length < 0:
+            raise request.refused(length)
         return out.raw[:length]
     reason = FieldReason.of(number)
     if reason is None:
         raise request.unexpected(f"a table of fields of the kind {number}")
     raise _field_error(writer.of, writer.table, index, reason)
+
+
+def _read(record: Type[R], table: List[int], at: int, level: int, data: bytes) -> Tuple[R, int]:
+    """The record of the entries of a level, from a place on, and where those after it begin."""
+    values = record._defaults.copy()
+    lists: Dict[str, List[Any]] = {}
+    end = len(table)
+    while at < end and table[at] == level:
+        row = record._by_number.get(table[at + 1])
+        if row is None:
+            raise unknown(record.__name__, table[at + 1])
+        name, _, kind, shape, holds, _, wrapper = row
+        if kind == FIELD_MESSAGE:
+            value, at = _read(holds, table, at + NUMBERS, level + 1, data)
+        else:
+            value = _value(kind, holds, table, at, data)
+            at += NUMBERS
+        if wrapper is not None:
+            value = wrapper(value)
+        if shape == "repeated":
+            lists.setdefault(name, []).append(value)
+        else:
+            values[name] = value
+    for name, found in lists.items():
+        values[name] = tuple(found)
+    made = object.__new__(record)
+    object.__setattr__(made, "__dict__", values)
+    return made, at
+
+
+def _value(kind: int, holds: Any, table: List[int], at: int, data: bytes) -> Any:
+    """The value of the entry at a place, which is no record."""
+    if kind == FIELD_BYTES or kind == FIELD_STRING:
+        first = table[at + 4]
+        found = data[first : first + table[at + 5]]
+        return found if kind == FIELD_BYTES else str(found, "utf-8")
+    number = table[at + 3]
+    if kind == FIELD_ENUM:
+        return holds(signed(number))
+    return number != 0 if kind == FIELD_BOOL else number
 
 
 def signed(number: int) -> int:
@@ -222,12 +278,61 @@ def unknown(name: str, number: int) -> JournalError:
 class Writer:
     """The table of a record of a class, and the bytes that its entries are places in."""
 
-    __slots__ = ("of", "table", "parts")
+    __slots__ = ("of", "table", "parts", "size")
 
     def __init__(self, of: Type[Record]) -> None:
         self.of = of
         self.table: List[int] = []
         self.parts: List[bytes] = []
+        self.size = 0
+
+    def record(self, record: Record, level: int) -> None:
+        """Appends the entries of a record."""
+        values = record.__dict__
+        for name, rows in type(record)._by_name.items():
+            row, value = rows[0], values[name]
+            if row.shape == "repeated":
+                for element in value:
+                    self.value(row, level, element)
+            elif row.shape == "plain":
+                self.value(row, level, value)
+            elif value is not None:
+                row = row if row.shape == "optional" else self.member(rows, level, value)
+                self.value(row, level, value if row.wrapper is None else value.value)
+
+    def member(self, rows: List[Row], level: int, value: Any) -> Row:
+        """The member of a oneof that a value is of."""
+        found = next((row for row in rows if isinstance(value, row.told_by())), None)
+        if found is None:
+            self.wrong(rows[0].number, level, value, *(row.told_by() for row in rows))
+        return found
+
+    def value(self, row: Row, level: int, value: Any) -> None:
+        """Appends the entries of a value."""
+        _, number, kind, _, holds, _, _ = row
+        if kind == FIELD_MESSAGE:
+            if value.__class__ is not holds:
+                self.wrong(number, level, value, holds)
+            self.table += (level, number, kind, holds.SCHEMA, 0, 0)
+            self.record(value, level + 1)
+        elif kind == FIELD_STRING or kind == FIELD_BYTES:
+            data = self.encoded(number, level, value) if kind == FIELD_STRING else value
+            if data.__class__ is not bytes:
+                data = self.copied(number, level, value)
+            self.table += (level, number, kind, 0, self.size, len(data))
+            self.parts.append(data)
+            self.size += len(data)
+        else:
+            if not isinstance(value, int):
+                self.wrong(number, level, value, int)
+            self.table += (level, number, kind, self.unsigned(value) if kind == FIELD_ENUM else value, 0, 0)
+
+    def encoded(self, number: int, level: int, value: Any) -> bytes:
+        """A text as UTF-8."""
+        if not isinstance(value, str):
+            self.wrong(number, level, value, str)
+        # half a surrogate is in no text, which the library says
+        return str.encode(value, "utf-8", "surrogatepass")
 
     def copied(self, number: int, level: int, value: Any) -> bytes:
         """Bytes that may be of another type, or change."""

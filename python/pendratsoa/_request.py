@@ -1,14 +1,11 @@
-"""One call of the library: its arguments are checked, and what it returns is a value or an error."""
+"""One call of this package: its arguments are checked, and what is wrong is an error that names them."""
 
 from __future__ import annotations
 
-import ctypes
-import functools
 import operator
-from typing import Any, Callable, Optional, SupportsIndex, Tuple, Type, Union, cast
+from typing import Any, Callable, Dict, Optional, SupportsIndex, Tuple, Type, cast
 
-from ._declared import FIRST_VERSION, ITEM_NUMBERS, LAST_VERSION, NOTIFICATION_NUMBERS, READ_NUMBERS, VERDICT_NUMBERS
-from ._declared import JsonReason
+from ._declared import FIRST_VERSION, LAST_VERSION, JsonReason
 from ._errors import (
     ERRORS,
     JournalError,
@@ -22,12 +19,8 @@ from ._errors import (
     TooLong,
     Unknown,
 )
+from ._kinds import BytesLike
 from ._protocol import SCHEMA_NAMES
-
-BytesLike = Union[bytes, bytearray, memoryview]
-
-# a schema, by its number or by the name of its record, as "SleepCommandMessage"
-Schema = Union[int, str]
 
 SCHEMAS = len(SCHEMA_NAMES)
 
@@ -66,12 +59,6 @@ REASONS = {
 U16_END = 1 << 16
 U32_END = 1 << 32
 
-# the numbers that calls write
-ItemNumbers = ctypes.c_uint64 * ITEM_NUMBERS
-ReadNumbers = ctypes.c_uint64 * READ_NUMBERS
-NotificationNumbers = ctypes.c_uint64 * NOTIFICATION_NUMBERS
-VerdictNumbers = ctypes.c_uint64 * VERDICT_NUMBERS
-
 
 def shown(value: object) -> str:
     """A value as texts show it: of long bytes their beginning, and their number."""
@@ -87,32 +74,34 @@ class Request:
     """A call by its name in this package, with its arguments by their names. A method that takes the name of an
     argument checks it, and returns what the library takes in its place."""
 
-    __slots__ = ("call", "arguments", "kind", "size")
+    __slots__ = ("call", "arguments", "kind")
 
-    def __init__(self, call: str, **arguments: object) -> None:
+    def __init__(self, call: str, kind: str = "a type", **arguments: object) -> None:
         self.call = call
         self.arguments = arguments
-        # of which kind the code has to be
-        self.kind = "a type"
-        # how many bytes are passed
-        self.size = 0
-
-    def version(self) -> int:
-        """The number of a version."""
-        return self._unsigned("version", U32_END)
-
-    def code(self, kind: str) -> int:
-        """The code of a type of this kind, as "a command"."""
+        # what the code has to be that of, as "a command"
         self.kind = kind
-        return self._unsigned("code", U16_END)
 
-    def schema(self) -> int:
+    def checked(self) -> Tuple[Any, ...]:
+        """All arguments, as the library takes them."""
+        # by a list, since a tuple of a generator is made too long first
+        return tuple([CHECKS.get(name, Request.data)(self, name) for name in self.arguments])
+
+    def version(self, argument: str = "version") -> int:
+        """The number of a version."""
+        return self._unsigned(argument, U32_END)
+
+    def code(self, argument: str) -> int:
+        """The code of a type."""
+        return self._unsigned(argument, U16_END)
+
+    def schema(self, argument: str) -> int:
         """The number of a schema, which may be given by the name of its record."""
-        name = self.arguments["schema"]
+        name = self.arguments[argument]
         if not isinstance(name, str):
-            return self._unsigned("schema", U32_END)
+            return self._unsigned(argument, U32_END)
         if name not in SCHEMA_NAMES:
-            raise self._unknown("schema")
+            raise self._unknown(argument)
         return SCHEMA_NAMES.index(name)
 
     def length(self, argument: str) -> int:
@@ -124,79 +113,45 @@ class Request:
             raise self.error(TooLong, f"{argument} {shown(number)} is more than 4,294,967,295", argument)
         return number
 
-    def text(self, argument: str) -> Tuple[bytes, int]:
-        """A text as UTF-8, and its length in bytes."""
+    def flag(self, argument: str) -> bool:
+        """Whether something is so."""
+        return bool(self.arguments[argument])
+
+    def text(self, argument: str) -> bytes:
+        """A text as UTF-8."""
         value = self.arguments[argument]
         if not isinstance(value, str):
             raise TypeError(f"{self.call}: {argument} must be a str, not {type(value).__name__}")
         # half a surrogate is in no name; a class below str may encode itself otherwise
-        data = str.encode(value, "utf-8", "surrogatepass")
-        return data, len(data)
+        return str.encode(value, "utf-8", "surrogatepass")
 
-    def json(self, argument: str) -> Tuple[bytes, int]:
-        """A JSON text, which is a text or its UTF-8 in bytes, and its length in bytes."""
-        value = self.arguments[argument]
-        if isinstance(value, str):
-            data, length = self.text(argument)
-            self.size += length
-            return data, length
-        return self.data(argument, "a str or bytes-like")
+    def json(self, argument: str) -> bytes:
+        """A JSON text, which is a text or its UTF-8 in bytes."""
+        is_text = isinstance(self.arguments[argument], str)
+        return self.text(argument) if is_text else self.data(argument, "a str or bytes-like")
 
-    def data(self, argument: str, what: str = "bytes-like") -> Tuple[bytes, int]:
-        """Bytes and their number. All but `bytes` are copied: they could change while the call runs."""
+    def data(self, argument: str, what: str = "bytes-like") -> bytes:
+        """Bytes. All but `bytes` are copied: they could change while the call runs."""
         data = self.arguments[argument]
         # and not a class below it, whose length could be another
-        if type(data) is not bytes:
-            try:
-                data = memoryview(cast(BytesLike, data)).tobytes()
-            except TypeError:
-                raise TypeError(f"{self.call}: {argument} must be {what}, not {type(data).__name__}") from None
-        self.size += len(data)
-        return data, len(data)
+        if type(data) is bytes:
+            return data
+        try:
+            return memoryview(cast(BytesLike, data)).tobytes()
+        except TypeError:
+            raise TypeError(f"{self.call}: {argument} must be {what}, not {type(data).__name__}") from None
 
-    def returned(self, function: Callable[..., int], *parameters: Any) -> int:
-        """What a function returns, if that is no error."""
-        number = function(*parameters)
-        if number < 0:
-            raise self._refused(number)
-        return number
-
-    def written(self, function: Callable[..., int], *parameters: Any) -> bytes:
-        """The bytes that a function writes."""
-        # enough for most results, which are then made once
-        needed = 200 + self.size * 3 // 2
-        while True:
-            out = room_for(needed)()
-            room = len(out)
-            needed = function(*parameters, out, room)
-            if needed < 0:
-                raise self._refused(needed)
-            if needed <= room:
-                return memoryview(out)[:needed].tobytes()
-
-    def appended(self, out: bytearray, function: Callable[..., int], *parameters: Any) -> int:
-        """Appends the bytes that a function writes, and returns their number. An error leaves `out` as it was."""
-        self._check_out(out)
-        begin = len(out)
-        needed = 200 + self.size * 3 // 2
-        while True:
-            room = needed
-            out.extend(bytes(room))
-            # while it is held no thread can move the bytes
-            first = ctypes.c_char.from_buffer(out, begin)
-            needed = function(*parameters, ctypes.addressof(first), room)
-            del first
-            del out[begin + max(0, needed if needed <= room else 0) :]
-            if needed < 0:
-                raise self._refused(needed)
-            if needed <= room:
-                return needed
-
-    def extended(self, out: bytearray, data: bytes) -> int:
-        """Appends bytes, and returns their number."""
-        self._check_out(out)
-        out += data
-        return len(data)
+    def refused(self, number: int) -> JournalError:
+        """The error of a negative number. A later library may have further ones."""
+        if number not in ERRORS:
+            return self.unexpected(str(number))
+        kind, arguments = ERRORS[number]
+        argument = next((name for name in arguments if name in self.arguments), None)
+        if argument is None:
+            return self.error(kind, TEXTS[kind])
+        if kind is Unknown:
+            return self._unknown(argument)
+        return self.error(kind, f"{argument} {shown(self.arguments[argument])} {TEXTS[kind]}", argument)
 
     def error(self, kind: Type[JournalError], text: str, argument: Optional[str] = None) -> JournalError:
         """An error of this call, about one of its arguments or none."""
@@ -222,11 +177,6 @@ class Request:
         """The error that a later library may return something new."""
         return self.error(JournalError, f"the library returned {what}, which this module does not know")
 
-    def _check_out(self, out: object) -> None:
-        """Says that bytes cannot be appended to what is no bytearray."""
-        if not isinstance(out, bytearray):
-            raise TypeError(f"{self.call}: out must be a bytearray, not {type(out).__name__}")
-
     def _integer(self, argument: str) -> int:
         value = self.arguments[argument]
         try:
@@ -241,18 +191,6 @@ class Request:
             raise self._unknown(argument)
         return number
 
-    def _refused(self, number: int) -> JournalError:
-        """The error of a negative number. A later library may have further ones."""
-        if number not in ERRORS:
-            return self.unexpected(str(number))
-        kind, arguments = ERRORS[number]
-        argument = next((name for name in arguments if name in self.arguments), None)
-        if argument is None:
-            return self.error(kind, TEXTS[kind])
-        if kind is Unknown:
-            return self._unknown(argument)
-        return self.error(kind, f"{argument} {shown(self.arguments[argument])} {TEXTS[kind]}", argument)
-
     def _unknown(self, argument: str) -> JournalError:
         value = self.arguments[argument]
         if argument == "code":
@@ -262,12 +200,14 @@ class Request:
         return self.error(Unknown, f"unknown {name} {shown(value)}{where}", argument)
 
 
-@functools.lru_cache(maxsize=None)
-def _room(bits: int) -> Type[ctypes.Array[ctypes.c_char]]:
-    """Arrays of a power of two of bytes, of which each is made once: a new one for each length would be slow."""
-    return ctypes.c_char * (1 << bits)
-
-
-def room_for(length: int) -> Type[ctypes.Array[ctypes.c_char]]:
-    """Arrays of at least this many bytes."""
-    return _room((length - 1).bit_length())
+# what checks each argument that is not bytes
+CHECKS: Dict[str, Callable[[Request, str], Any]] = {
+    "version": Request.version,
+    "code": Request.code,
+    "schema": Request.schema,
+    "payload_length": Request.length,
+    "max_message_size": Request.length,
+    "name": Request.text,
+    "json": Request.json,
+    "ignore_payloads": Request.flag,
+}

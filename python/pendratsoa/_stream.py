@@ -2,18 +2,20 @@
 
 from __future__ import annotations
 
-import ctypes
 import inspect
-import threading
-from typing import AsyncIterator, Awaitable, Callable, Iterator, List, Optional, Protocol, Tuple, Union
+from typing import AsyncIterator, Awaitable, Callable, Iterator, NoReturn, Optional, Protocol, Union, cast
 
 from ._errors import Incomplete, TooLong
-from ._items import Item, Message, Skipped, UnknownCode, came, message_that_came
-from ._library import library
-from ._request import BytesLike, ItemNumbers, Request
+from ._fast import pending_of
+from ._items import Item, name_of
+from ._kinds import BytesLike
+from ._request import Request
 
 # how many bytes are read from a file at a time
 CHUNK = 1 << 16
+
+# how many bytes a header has
+HEADER = 8
 
 
 class Readable(Protocol):
@@ -55,19 +57,11 @@ class Stream:
         self._request = Request("Stream", version=version, max_message_size=max_message_size)
         self._version = self._request.version()
         self._limit = None if max_message_size is None else self._request.length("max_message_size")
-        # how many bytes items have taken, and the error that ended the stream
-        self._offset = 0
+        # what came and is in no item yet, which may be used by several threads; the error that ended the stream
+        self._pending = pending_of(self._version, self._limit)
         self._ended: Optional[TooLong] = None
-        self._lock = threading.Lock()
-        self._numbers = ItemNumbers()
-        # bytes, their address, and where what is in no item yet begins in them; they change together, also where a
-        # signal interrupts
-        self._left: Tuple[bytes, int, int] = (b"", 0, 0)
-        # what came after them, and is joined to them once it is enough
-        self._chunks: List[bytes] = []
-        self._chunks_size = 0
-        # how many bytes are missing after `_left` at least; 0 if this is not known. It rejects an unknown version
-        self._missing = self._look()
+        # that there is no such version is known before anything came
+        self._next()
 
     @property
     def version(self) -> int:
@@ -77,18 +71,14 @@ class Stream:
     @property
     def rest(self) -> int:
         """The number of bytes that are in no item yet."""
-        with self._lock:
-            data, _, begin = self._left
-            return len(data) - begin + self._chunks_size
+        return self._pending.rest()
 
     def feed(self, data: BytesLike) -> None:
         """Appends bytes to those that came. `bytes` are kept, others are copied."""
-        chunk, size = Request("feed", data=data).data("data")
-        if size > 0:
-            with self._lock:
-                self._check()
-                self._chunks.append(chunk)
-                self._chunks_size += size
+        chunk = data if type(data) is bytes else Request("feed", data=data).data("data")
+        if chunk:
+            self._check()
+            self._pending.feed(chunk)
 
     def read(self, file: Source, size: int = CHUNK, strict: bool = False) -> Iterator[Item]:
         """Feeds what a binary file or a socket has, at most `size` bytes at a time, and iterates over the items as they
@@ -110,11 +100,14 @@ class Stream:
         self._finish("finish")
 
     def __iter__(self) -> Iterator[Item]:
+        take = self._pending.take
         while True:
-            item = self._next()
+            item = take()
             if item is None:
                 return
-            yield item
+            if item.__class__ is int:
+                self._refuse(cast(int, item))
+            yield cast(Item, item)
 
     def __repr__(self) -> str:
         return f"<Stream of version {self._version}, {self.rest} bytes in no item yet>"
@@ -127,10 +120,16 @@ class Stream:
         self._check()
         rest = self.rest
         if rest > 0:
-            offset = self._offset
+            offset, code = self._pending.offset(), self._code_of_rest()
+            item = "an item" if code is None else name_of(code)
             what = "1 byte" if rest == 1 else f"{rest} bytes"
-            text = f"{call}: the stream ended within the item at offset {offset}, after {what} of it"
-            raise Incomplete(text, call=call, rest=rest, offset=offset)
+            text = f"{call}: the stream ended within {item} at offset {offset}, after {what} of it"
+            raise Incomplete(text, call=call, rest=rest, offset=offset, code=code)
+
+    def _code_of_rest(self) -> Optional[int]:
+        """The code of the item that the rest begins, or None if its header is not all there."""
+        head = self._pending.head()
+        return int.from_bytes(head[:2], "big") if len(head) == HEADER else None
 
     def _read(self, receive: Callable[[int], Optional[bytes]], size: int, strict: bool) -> Iterator[Item]:
         yield from self
@@ -164,66 +163,30 @@ class Stream:
 
     def _next(self) -> Optional[Item]:
         """The next item, or None if not all of it came."""
-        with self._lock:
-            self._check()
-            if self._missing == 0:
-                self._missing = self._look()
-            if 0 < self._missing <= self._chunks_size:
-                self._join()
-                # an error leaves it at that
-                self._missing = 0
-                self._missing = self._look()
-            return self._take() if self._missing == 0 else None
+        item = self._pending.take()
+        if isinstance(item, int):
+            self._refuse(item)
+        return item
 
-    def _look(self) -> int:
-        """Looks for an item, and returns how many bytes are missing at least."""
-        data, address, begin = self._left
-        numbers = self._numbers
-        parameters = address + begin, len(data) - begin, numbers, len(numbers)
-        if self._limit is None:
-            return self._request.returned(library.journal_next, self._version, *parameters)
-        try:
-            return self._request.returned(library.journal_next_within, self._version, self._limit, *parameters)
-        except TooLong:
-            self._ended = self._too_long(data[begin : begin + 8])
-            self._left = b"", 0, 0
-            self._chunks.clear()
-            self._chunks_size = 0
-            raise self._ended from None
+    def _refuse(self, number: int) -> NoReturn:
+        """Raises the error of a negative number, or that of a kind of items that is not known."""
+        if number >= 0:
+            raise self._request.unexpected(f"an item of the kind {number}")
+        self._check()
+        if isinstance(self._request.refused(number), TooLong) and self._limit is not None:
+            self._ended = self._too_long(self._pending.head())
+            raise self._ended
+        # no name here holds the error, which holds this frame
+        raise self._request.refused(number)
 
     def _too_long(self, head: bytes) -> TooLong:
         """The error of the message of a header, which is longer than the limit."""
-        code, length = int.from_bytes(head[:2], "big"), int.from_bytes(head[4:], "big")
-        what = f"a message of type {code:#06x} at offset {self._offset} has {length} bytes"
+        code, length, offset = int.from_bytes(head[:2], "big"), int.from_bytes(head[4:], "big"), self._pending.offset()
+        what = f"a message of type {code:#06x} at offset {offset} has {length} bytes"
         error = self._request.error(TooLong, f"{what}, more than the limit of {self._limit}", "max_message_size")
         assert isinstance(error, TooLong)
-        error.code, error.length, error.limit, error.offset = code, length, self._limit, self._offset
+        error.code, error.length, error.limit, error.offset = code, length, self._limit, offset
         return error
-
-    def _join(self) -> None:
-        """Joins what came to what is left, so that each byte is joined twice at most."""
-        data, _, begin = self._left
-        chunks = [data[begin:], *self._chunks] if begin < len(data) else self._chunks
-        data = chunks[0] if len(chunks) == 1 else b"".join(chunks)
-        self._left = data, ctypes.cast(ctypes.c_char_p(data), ctypes.c_void_p).value or 0, 0
-        self._chunks.clear()
-        self._chunks_size = 0
-
-    def _take(self) -> Item:
-        """The item that was found, which is taken from the bytes."""
-        kind, word, code, requested_ack, size, payload_begin = self._numbers
-        if kind not in (0, 1, 2):
-            raise self._request.unexpected(f"an item of the kind {kind}")
-        data, address, begin = self._left
-        payload = data[begin + payload_begin : begin + size]
-        offset = self._offset
-        self._left = data, address, begin + size
-        self._offset = offset + size
-        if kind == 0:
-            return message_that_came(Message(self._version, code, payload, requested_ack == 1), word, offset)
-        if kind == 1:
-            return came(UnknownCode(self._version, code, word), offset)
-        return came(Skipped(self._version, code, word, payload), offset)
 
 
 def _checked(call: str, size: int) -> int:

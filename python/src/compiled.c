@@ -1,651 +1,40 @@
-/*
- * Records of the package for Python, read from the table of fields and written as one, without ctypes.
- *
- * What a record has is given by _fast.py, from what is generated; the table is made and read by the library, whose two
- * calls are given by their addresses. Nothing is known here of how a payload is encoded. What is unusual, as a value of
- * a wrong type, is left to the modules in Python, which say what is wrong: the result is None then.
- */
+/* The compiled module: all calls of the library, records and streams, without ctypes. */
+#include "module.h"
 
-/* one module for each version of CPython since */
-#define Py_LIMITED_API 0x03090000
-#define PY_SSIZE_T_CLEAN
-#include <Python.h>
-
-#include <stdbool.h>
-#include <stdint.h>
-#include <string.h>
-
-#include "pendratsoa.h"
-
-/* The room that is tried first: for entries, and for bytes. */
-#define ENTRIES 64
-#define BYTES 1024
-
-/* From how many bytes on a call of the library lets other threads run. */
-#define LONG 65536
-
-/* How many lists a record has at most. */
-#define LISTS 16
-
-enum shape { PLAIN, OPTIONAL, REPEATED, MEMBER };
-
-/* A field of a record. */
-struct row {
-    uint64_t number;
-    uint64_t kind;
-    enum shape shape;
-    Py_ssize_t list;    /* of a repeated field, which of the lists of its record it is */
-    Py_ssize_t schema;  /* of a message, the number of its schema */
-    PyObject *name;     /* the attribute, which is that of the oneof for a member */
-    PyObject *enumeration; /* the class of an enum, or NULL */
-    PyObject *members;  /* its members by their numbers, or NULL */
-    PyObject *wrapper;  /* the class that is made for a member of a oneof, or NULL */
-};
-
-/* A record: its class, what its fields are by default, and its rows in the order of the description. */
-struct record {
-    PyTypeObject *class;
-    PyObject *defaults;
-    struct row *rows;
-    Py_ssize_t count;
-    Py_ssize_t lists;
-};
-
-/* All records, at the numbers of their schemas, and the calls of the library. */
-struct codec {
-    PyObject_HEAD
-    __typeof__(journal_fields) *fields;
-    __typeof__(journal_payload_of_fields) *payload_of_fields;
-    PyObject *dict_name;
-    PyObject *value_name;
-    struct record *records;
-    Py_ssize_t count;
-};
-
-/* The two functions of one record. */
-struct record_codec {
-    PyObject_HEAD
-    struct codec *codec;
-    Py_ssize_t schema;
-};
-
-/*
- * Reading.
- */
-
-/* The entries of a payload, and which of them comes next. */
-struct reading {
-    const struct codec *codec;
-    const struct journal_field *entries;
-    Py_ssize_t count;
-    Py_ssize_t at;
-    const char *bytes;
-    uint64_t length;
-};
-
-static PyObject *read_record(struct reading *reading, const struct record *record, uint64_t level);
-
-/* The row of a number, looked for from one on, since fields come in order; NULL if a later library has it. */
-static const struct row *row_of(const struct record *record, const struct row *from, uint64_t number)
+void *made_of(struct native *native, const char *type)
 {
-    const struct row *end = record->rows + record->count;
-    const struct row *row = from;
-    for (Py_ssize_t tried = 0; tried < record->count; tried += 1) {
-        if (row->number == number) {
-            return row;
-        }
-        row = row + 1 == end ? record->rows : row + 1;
+    PyObject *found = PyObject_GetAttrString((PyObject *)native, type);
+    if (found == NULL) {
+        return NULL;
     }
+    void *made = PyType_GenericAlloc((PyTypeObject *)found, 0);
+    Py_DECREF(found);
+    return made;
+}
+
+PyObject *made_by_native(PyTypeObject *type, PyObject *arguments, PyObject *keywords)
+{
+    (void)type;
+    (void)arguments;
+    (void)keywords;
+    PyErr_SetString(PyExc_TypeError, "it is made by a Native alone");
     return NULL;
 }
 
-/* A value of an enum: one of its members, or what its class makes of another number. */
-static PyObject *enum_of(const struct row *row, uint64_t value)
+PyObject *instance_of(const struct native *native, PyObject *class, PyObject *values)
 {
-    PyObject *number = PyLong_FromLongLong((long long)value);
-    if (number == NULL) {
-        return NULL;
-    }
-    PyObject *found = PyDict_GetItemWithError(row->members, number);
-    if (found != NULL) {
-        Py_INCREF(found);
-    } else if (!PyErr_Occurred()) {
-        found = PyObject_CallFunctionObjArgs(row->enumeration, number, NULL);
-    }
-    Py_DECREF(number);
-    return found;
-}
-
-/* The value of an entry. NULL without an exception where its bytes are not in the payload. */
-static PyObject *read_value(struct reading *reading, const struct row *row, const struct journal_field *entry)
-{
-    const struct codec *codec = reading->codec;
-    switch (row->kind) {
-    case JOURNAL_FIELD_STRING:
-    case JOURNAL_FIELD_BYTES:
-        if (entry->offset > reading->length || entry->length > reading->length - entry->offset) {
-            return NULL;
-        }
-        const char *bytes = reading->bytes + entry->offset;
-        Py_ssize_t length = (Py_ssize_t)entry->length;
-        return row->kind == JOURNAL_FIELD_BYTES ? PyBytes_FromStringAndSize(bytes, length)
-                                                : PyUnicode_DecodeUTF8(bytes, length, NULL);
-    case JOURNAL_FIELD_MESSAGE:
-        return read_record(reading, &codec->records[row->schema], entry->level + 1);
-    case JOURNAL_FIELD_BOOL:
-        return PyBool_FromLong(entry->value != 0);
-    case JOURNAL_FIELD_ENUM:
-        return enum_of(row, entry->value);
-    default:
-        return PyLong_FromUnsignedLongLong(entry->value);
-    }
-}
-
-/* An instance of a class, with these attributes. They are set as __dict__ is, since versions keep them differently. */
-static PyObject *instance_of(const struct codec *codec, PyTypeObject *class, PyObject *values)
-{
-    PyObject *made = PyType_GenericAlloc(class, 0);
-    if (made != NULL && PyObject_GenericSetAttr(made, codec->dict_name, values) != 0) {
+    PyObject *made = PyType_GenericAlloc((PyTypeObject *)class, 0);
+    if (made != NULL && PyObject_GenericSetAttr(made, native->dict_name, values) != 0) {
         Py_CLEAR(made);
     }
     return made;
 }
 
-/* The class of a member of a oneof around a value, which is taken. */
-static PyObject *wrapped(const struct codec *codec, const struct row *row, PyObject *value)
-{
-    PyObject *made = NULL;
-    PyObject *values = PyDict_New();
-    if (values != NULL && PyDict_SetItem(values, codec->value_name, value) == 0) {
-        made = instance_of(codec, (PyTypeObject *)row->wrapper, values);
-    }
-    Py_XDECREF(values);
-    Py_DECREF(value);
-    return made;
-}
-
-/* Reads the entries of a level into the attributes of a record, and into its lists. */
-static int read_entries(struct reading *reading, const struct record *record, uint64_t level, PyObject *values,
-                        PyObject **lists)
-{
-    const struct row *row = record->rows;
-    while (reading->at < reading->count && reading->entries[reading->at].level == level) {
-        const struct journal_field *entry = &reading->entries[reading->at];
-        row = row_of(record, row, entry->number);
-        if (row == NULL) {
-            return -1;
-        }
-        reading->at += 1;
-        PyObject *value = read_value(reading, row, entry);
-        if (value != NULL && row->wrapper != NULL) {
-            value = wrapped(reading->codec, row, value);
-        }
-        if (value == NULL) {
-            return -1;
-        }
-        int failed;
-        if (row->shape != REPEATED) {
-            failed = PyDict_SetItem(values, row->name, value);
-        } else {
-            PyObject **list = &lists[row->list];
-            *list = *list != NULL ? *list : PyList_New(0);
-            failed = *list == NULL ? -1 : PyList_Append(*list, value);
-        }
-        Py_DECREF(value);
-        if (failed) {
-            return -1;
-        }
-    }
-    return 0;
-}
-
-/* Makes the lists attributes, as tuples. */
-static int put_lists(const struct record *record, PyObject *values, PyObject **lists)
-{
-    for (Py_ssize_t at = 0; at < record->count; at += 1) {
-        const struct row *row = &record->rows[at];
-        if (row->shape == REPEATED && lists[row->list] != NULL) {
-            PyObject *tuple = PyList_AsTuple(lists[row->list]);
-            int failed = tuple == NULL ? -1 : PyDict_SetItem(values, row->name, tuple);
-            Py_XDECREF(tuple);
-            if (failed) {
-                return -1;
-            }
-        }
-    }
-    return 0;
-}
-
-/* The record of the entries of a level, from the next one on. NULL without an exception is left to Python. */
-static PyObject *read_record(struct reading *reading, const struct record *record, uint64_t level)
-{
-    if (Py_EnterRecursiveCall(" while a record is decoded")) {
-        return NULL;
-    }
-    PyObject *made = NULL;
-    PyObject *lists[LISTS] = {NULL};
-    PyObject *values = PyDict_Copy(record->defaults);
-    if (values != NULL && read_entries(reading, record, level, values, lists) == 0 &&
-        put_lists(record, values, lists) == 0) {
-        made = instance_of(reading->codec, record->class, values);
-    }
-    for (Py_ssize_t at = 0; at < record->lists; at += 1) {
-        Py_XDECREF(lists[at]);
-    }
-    Py_XDECREF(values);
-    Py_LeaveRecursiveCall();
-    return made;
-}
-
-/* The number of the entries of a payload, of which those are written that there is room for. */
-static int64_t fields_of(const struct record_codec *self, const struct reading *reading, struct journal_field *entries,
-                         size_t room)
-{
-    const uint8_t *bytes = (const uint8_t *)reading->bytes;
-    uint32_t schema = (uint32_t)self->schema;
-    if (reading->length < LONG) {
-        return self->codec->fields(schema, bytes, reading->length, entries, room);
-    }
-    int64_t count;
-    Py_BEGIN_ALLOW_THREADS
-    count = self->codec->fields(schema, bytes, reading->length, entries, room);
-    Py_END_ALLOW_THREADS
-    return count;
-}
-
-/* None, unless there is an exception: what is wrong is said in Python. Memory that is not there is said here. */
-static PyObject *left_to_python(void)
-{
-    if (PyErr_Occurred()) {
-        if (PyErr_ExceptionMatches(PyExc_MemoryError)) {
-            return NULL;
-        }
-        PyErr_Clear();
-    }
-    Py_RETURN_NONE;
-}
-
-PyDoc_STRVAR(decode_doc, "decode(payload)\n--\n\nThe record of canonical bytes, or None where it is left to Python.");
-
-static PyObject *decode(struct record_codec *self, PyObject *payload)
-{
-    if (!PyBytes_CheckExact(payload)) {
-        Py_RETURN_NONE;
-    }
-    struct reading reading = {
-        .codec = self->codec,
-        .bytes = PyBytes_AsString(payload),
-        .length = (uint64_t)PyBytes_Size(payload),
-    };
-    struct journal_field first[ENTRIES];
-    struct journal_field *entries = first;
-    int64_t count = fields_of(self, &reading, first, ENTRIES);
-    if (count > ENTRIES) {
-        size_t room = (size_t)count;
-        entries = room > PY_SSIZE_T_MAX / sizeof *entries ? NULL : PyMem_Malloc(room * sizeof *entries);
-        if (entries == NULL) {
-            return PyErr_NoMemory();
-        }
-        count = fields_of(self, &reading, entries, room);
-        count = count > (int64_t)room ? -1 : count;
-    }
-    PyObject *made = NULL;
-    if (count >= 0) {
-        reading.entries = entries;
-        reading.count = (Py_ssize_t)count;
-        made = read_record(&reading, &self->codec->records[self->schema], 0);
-    }
-    if (entries != first) {
-        PyMem_Free(entries);
-    }
-    return made != NULL ? made : left_to_python();
-}
-
-/*
- * Writing.
- */
-
-/* The table of a record, and the bytes that its entries are places in. */
-struct writing {
-    const struct codec *codec;
-    struct journal_field *entries;
-    size_t count;
-    size_t entries_room;
-    char *bytes;
-    size_t size;
-    size_t bytes_room;
-    struct journal_field first_entries[ENTRIES];
-    char first_bytes[BYTES];
-};
-
-static int write_record(struct writing *writing, const struct record *record, PyObject *object, uint64_t level);
-
-/* More memory for what is in `memory`, of which `used` bytes count; NULL with an exception if there is none. */
-static void *grown(void *memory, const void *first, size_t used, size_t wanted)
-{
-    void *found = NULL;
-    if (wanted <= PY_SSIZE_T_MAX) {
-        found = memory == first ? PyMem_Malloc(wanted) : PyMem_Realloc(memory, wanted);
-    }
-    if (found == NULL) {
-        PyErr_NoMemory();
-    } else if (memory == first) {
-        memcpy(found, first, used);
-    }
-    return found;
-}
-
-/* Appends an entry, unless it is that of a plain field with its default, which no table of a payload has. */
-static int add_entry(struct writing *writing, const struct row *row, uint64_t level, uint64_t value, uint64_t length)
-{
-    if (row->shape == PLAIN && value == 0 && length == 0 && row->kind != JOURNAL_FIELD_MESSAGE) {
-        return 0;
-    }
-    if (writing->count == writing->entries_room) {
-        size_t size = sizeof *writing->entries;
-        void *found =
-            grown(writing->entries, writing->first_entries, writing->count * size, 2 * writing->entries_room * size);
-        if (found == NULL) {
-            return -1;
-        }
-        writing->entries = found;
-        writing->entries_room *= 2;
-    }
-    bool has_bytes = row->kind == JOURNAL_FIELD_STRING || row->kind == JOURNAL_FIELD_BYTES;
-    writing->entries[writing->count++] = (struct journal_field){
-        .level = level,
-        .number = row->number,
-        .kind = row->kind,
-        .value = value,
-        .offset = has_bytes ? writing->size : 0,
-        .length = length,
-    };
-    return 0;
-}
-
-/* Appends an entry of the bytes of an object. */
-static int add_bytes(struct writing *writing, const struct row *row, uint64_t level, PyObject *object)
-{
-    size_t length = (size_t)PyBytes_Size(object);
-    if (add_entry(writing, row, level, 0, length) != 0) {
-        return -1;
-    }
-    if (writing->bytes_room - writing->size < length) {
-        size_t wanted = 2 * (writing->size + length);
-        void *found = grown(writing->bytes, writing->first_bytes, writing->size, wanted);
-        if (found == NULL) {
-            return -1;
-        }
-        writing->bytes = found;
-        writing->bytes_room = wanted;
-    }
-    memcpy(writing->bytes + writing->size, PyBytes_AsString(object), length);
-    writing->size += length;
-    return 0;
-}
-
-/* Appends a text, also one with half a surrogate, which the library rejects. */
-static int add_text(struct writing *writing, const struct row *row, uint64_t level, PyObject *text)
-{
-    PyObject *bytes = PyUnicode_AsEncodedString(text, NULL, "surrogatepass");
-    if (bytes == NULL) {
-        return -1;
-    }
-    int failed = add_bytes(writing, row, level, bytes);
-    Py_DECREF(bytes);
-    return failed;
-}
-
-/* Whether a value is of the type that a field has. */
-static bool is_of(const struct codec *codec, const struct row *row, PyObject *value)
-{
-    switch (row->kind) {
-    case JOURNAL_FIELD_MESSAGE:
-        return Py_TYPE(value) == codec->records[row->schema].class;
-    case JOURNAL_FIELD_STRING:
-        return PyUnicode_Check(value);
-    case JOURNAL_FIELD_BYTES:
-        return PyBytes_CheckExact(value);
-    default:
-        return PyLong_Check(value);
-    }
-}
-
-/* Appends the entries of a value. -1 without an exception is left to Python. */
-static int write_value(struct writing *writing, const struct row *row, uint64_t level, PyObject *value)
-{
-    if (!is_of(writing->codec, row, value)) {
-        return -1;
-    }
-    switch (row->kind) {
-    case JOURNAL_FIELD_MESSAGE:
-        return add_entry(writing, row, level, (uint64_t)row->schema, 0) != 0
-                   ? -1
-                   : write_record(writing, &writing->codec->records[row->schema], value, level + 1);
-    case JOURNAL_FIELD_STRING:
-        return add_text(writing, row, level, value);
-    case JOURNAL_FIELD_BYTES:
-        return add_bytes(writing, row, level, value);
-    default:
-        break;
-    }
-    /* the number of an enum may be negative, as the table has it */
-    uint64_t number = row->kind == JOURNAL_FIELD_ENUM ? (uint64_t)PyLong_AsLongLong(value)
-                                                      : (uint64_t)PyLong_AsUnsignedLongLong(value);
-    return number == UINT64_MAX && PyErr_Occurred() ? -1 : add_entry(writing, row, level, number, 0);
-}
-
-/* Appends the entries of a list, or of a tuple. */
-static int write_list(struct writing *writing, const struct row *row, uint64_t level, PyObject *list)
-{
-    bool is_tuple = PyTuple_CheckExact(list);
-    if (!is_tuple && !PyList_CheckExact(list)) {
-        return -1;
-    }
-    for (Py_ssize_t at = 0; at < (is_tuple ? PyTuple_Size(list) : PyList_Size(list)); at += 1) {
-        PyObject *value = is_tuple ? PyTuple_GetItem(list, at) : PyList_GetItem(list, at);
-        if (value == NULL) {
-            return -1;
-        }
-        Py_INCREF(value);
-        int failed = write_value(writing, row, level, value);
-        Py_DECREF(value);
-        if (failed) {
-            return -1;
-        }
-    }
-    return 0;
-}
-
-/* Appends the entry of the member of a oneof that a value is of, among the rows from one to an end. */
-static int write_member(struct writing *writing, const struct row *row, const struct row *end, uint64_t level,
-                        PyObject *value)
-{
-    for (; row < end; row += 1) {
-        if (row->wrapper == NULL) {
-            if (is_of(writing->codec, row, value)) {
-                return write_value(writing, row, level, value);
-            }
-        } else if ((PyObject *)Py_TYPE(value) == row->wrapper) {
-            PyObject *held = PyObject_GetAttr(value, writing->codec->value_name);
-            int failed = held == NULL ? -1 : write_value(writing, row, level, held);
-            Py_XDECREF(held);
-            return failed;
-        }
-    }
-    return -1;
-}
-
-/* Appends the entries of an attribute, which a row has, or the rows of a oneof. */
-static int write_rows(struct writing *writing, const struct row *row, const struct row *end, uint64_t level,
-                      PyObject *value)
-{
-    switch (row->shape) {
-    case REPEATED:
-        return write_list(writing, row, level, value);
-    case PLAIN:
-        return write_value(writing, row, level, value);
-    case OPTIONAL:
-        return value == Py_None ? 0 : write_value(writing, row, level, value);
-    default:
-        return value == Py_None ? 0 : write_member(writing, row, end, level, value);
-    }
-}
-
-/* Appends the entries of the attributes of a record. */
-static int write_values(struct writing *writing, const struct record *record, PyObject *values, uint64_t level)
-{
-    const struct row *end = record->rows + record->count;
-    const struct row *next;
-    for (const struct row *row = record->rows; row < end; row = next) {
-        next = row + 1;
-        while (row->shape == MEMBER && next < end && next->shape == MEMBER && next->name == row->name) {
-            next += 1;
-        }
-        PyObject *value = PyDict_GetItemWithError(values, row->name);
-        if (value == NULL) {
-            return -1;
-        }
-        /* what runs while memory is collected could drop it */
-        Py_INCREF(value);
-        int failed = write_rows(writing, row, next, level, value);
-        Py_DECREF(value);
-        if (failed) {
-            return -1;
-        }
-    }
-    return 0;
-}
-
-/* Appends the entries of a record. -1 without an exception is left to Python. */
-static int write_record(struct writing *writing, const struct record *record, PyObject *object, uint64_t level)
-{
-    if (record->count == 0) {
-        return 0;
-    }
-    if (Py_EnterRecursiveCall(" while a record is encoded")) {
-        return -1;
-    }
-    PyObject *values = PyObject_GetAttr(object, writing->codec->dict_name);
-    int failed = values == NULL || !PyDict_CheckExact(values) ? -1 : write_values(writing, record, values, level);
-    Py_XDECREF(values);
-    Py_LeaveRecursiveCall();
-    return failed;
-}
-
-/* The length of the payload of a table, which is written if there is room for it; -1 if there is none. */
-static int64_t payload_of(const struct record_codec *self, const struct writing *writing, uint8_t *out, size_t room)
-{
-    struct journal_writing written;
-    const uint8_t *bytes = (const uint8_t *)writing->bytes;
-    int64_t length =
-        self->codec->payload_of_fields((uint32_t)self->schema, writing->entries, writing->count, bytes, writing->size,
-                                       &written, JOURNAL_WRITING_NUMBERS, out, room);
-    return length >= 0 && written.kind == JOURNAL_WRITTEN ? length : -1;
-}
-
-/* The payload of a long table, which is made while other threads run. */
-static PyObject *long_payload(const struct record_codec *self, const struct writing *writing, size_t room)
-{
-    for (;;) {
-        uint8_t *out = PyMem_Malloc(room);
-        if (out == NULL) {
-            return PyErr_NoMemory();
-        }
-        int64_t length;
-        Py_BEGIN_ALLOW_THREADS
-        length = payload_of(self, writing, out, room);
-        Py_END_ALLOW_THREADS
-        bool is_whole = length >= 0 && (size_t)length <= room;
-        PyObject *found = is_whole ? PyBytes_FromStringAndSize((const char *)out, (Py_ssize_t)length) : NULL;
-        PyMem_Free(out);
-        if (is_whole || length < 0) {
-            return found;
-        }
-        room = (size_t)length;
-    }
-}
-
-/* The payload of a table, or NULL. */
-static PyObject *payload(const struct record_codec *self, const struct writing *writing)
-{
-    /* what is enough for most */
-    size_t room = writing->size + 6 * writing->count;
-    if (room <= BYTES) {
-        uint8_t out[BYTES];
-        int64_t length = payload_of(self, writing, out, BYTES);
-        if (length <= BYTES) {
-            return length < 0 ? NULL : PyBytes_FromStringAndSize((const char *)out, (Py_ssize_t)length);
-        }
-        room = (size_t)length;
-    }
-    return long_payload(self, writing, room);
-}
-
-PyDoc_STRVAR(encode_doc, "encode(record)\n--\n\nThe payload of a record, or None where it is left to Python.");
-
-static PyObject *encode(struct record_codec *self, PyObject *object)
-{
-    struct writing writing;
-    writing.codec = self->codec;
-    writing.entries = writing.first_entries;
-    writing.count = 0;
-    writing.entries_room = ENTRIES;
-    writing.bytes = writing.first_bytes;
-    writing.size = 0;
-    writing.bytes_room = BYTES;
-    PyObject *found = NULL;
-    if (write_record(&writing, &self->codec->records[self->schema], object, 0) == 0) {
-        found = payload(self, &writing);
-    }
-    if (writing.entries != writing.first_entries) {
-        PyMem_Free(writing.entries);
-    }
-    if (writing.bytes != writing.first_bytes) {
-        PyMem_Free(writing.bytes);
-    }
-    return found != NULL ? found : left_to_python();
-}
-
-/*
- * The types.
- */
-
-/* It is made by Codec.of alone. */
-static PyObject *record_codec_new(PyTypeObject *type, PyObject *arguments, PyObject *keywords)
-{
-    (void)type;
-    (void)arguments;
-    (void)keywords;
-    PyErr_SetString(PyExc_TypeError, "it is made by Codec.of alone");
-    return NULL;
-}
-
-static int record_codec_traverse(struct record_codec *self, visitproc visit, void *arg)
-{
-    Py_VISIT(self->codec);
-    Py_VISIT(Py_TYPE(self));
-    return 0;
-}
-
-static void record_codec_dealloc(struct record_codec *self)
-{
-    PyTypeObject *type = Py_TYPE(self);
-    PyObject_GC_UnTrack(self);
-    Py_XDECREF(self->codec);
-    PyObject_GC_Del(self);
-    Py_DECREF(type);
-}
-
-static PyMethodDef record_codec_methods[] = {
-    {"decode", (PyCFunction)decode, METH_O, decode_doc},
-    {"encode", (PyCFunction)encode, METH_O, encode_doc},
-    {NULL, NULL, 0, NULL},
-};
-
 /* Reads the row of a field: its number, its kind, its shape, its name, its schema or -1, its enum and its wrapper. */
-static int take_row(struct record *record, struct row *row, PyObject *given, Py_ssize_t schemas)
+static int take_row(struct record *record, Py_ssize_t place, PyObject *given, Py_ssize_t schemas)
 {
+    struct field *field = &record->fields[place];
+    struct row *row = &record->rows[place];
     unsigned long long number, kind;
     int shape;
     PyObject *enumeration, *wrapper, *name;
@@ -656,9 +45,7 @@ static int take_row(struct record *record, struct row *row, PyObject *given, Py_
     if (!PyArg_ParseTuple(given, "KKiUnOO", &number, &kind, &shape, &name, &row->schema, &enumeration, &wrapper)) {
         return -1;
     }
-    row->number = number;
-    row->kind = kind;
-    row->shape = (enum shape)shape;
+    *field = (struct field){.number = number, .kind = kind, .shape = (enum shape)shape};
     Py_INCREF(name);
     row->name = name;
     PyUnicode_InternInPlace(&row->name);
@@ -671,9 +58,9 @@ static int take_row(struct record *record, struct row *row, PyObject *given, Py_
         Py_INCREF(wrapper);
         row->wrapper = wrapper;
     }
-    row->list = row->shape == REPEATED ? record->lists++ : 0;
-    bool is_enum = row->kind == JOURNAL_FIELD_ENUM;
-    bool is_message = row->kind == JOURNAL_FIELD_MESSAGE;
+    row->list = field->shape == REPEATED ? record->lists++ : 0;
+    bool is_enum = kind == JOURNAL_FIELD_ENUM;
+    bool is_message = kind == JOURNAL_FIELD_MESSAGE;
     if (shape < PLAIN || shape > MEMBER || record->lists > LISTS ||
         is_enum != (row->members != NULL && PyDict_Check(row->members)) ||
         is_message != (row->schema >= 0 && row->schema < schemas) ||
@@ -684,7 +71,7 @@ static int take_row(struct record *record, struct row *row, PyObject *given, Py_
     return 0;
 }
 
-/* Reads a record: its class, what its fields are by default, and its rows. */
+/* Reads a record: its class, the code of its type or -1, what its fields are by default, and its rows. */
 static int take_record(struct record *record, PyObject *given, Py_ssize_t schemas)
 {
     PyObject *class, *defaults, *rows;
@@ -692,33 +79,102 @@ static int take_record(struct record *record, PyObject *given, Py_ssize_t schema
         PyErr_SetString(PyExc_TypeError, "a record must be a tuple");
         return -1;
     }
-    if (!PyArg_ParseTuple(given, "OOO", &class, &defaults, &rows)) {
+    if (!PyArg_ParseTuple(given, "OlOO", &class, &record->code, &defaults, &rows)) {
         return -1;
     }
     if (!PyType_Check(class) || !PyDict_CheckExact(defaults) || !PyTuple_CheckExact(rows)) {
-        PyErr_SetString(PyExc_TypeError, "a record must be a class, a dict and a tuple");
+        PyErr_SetString(PyExc_TypeError, "a record must be a class, a number, a dict and a tuple");
         return -1;
     }
     Py_INCREF(class);
     record->class = (PyTypeObject *)class;
     record->defaults = PyDict_Copy(defaults);
     Py_ssize_t count = PyTuple_Size(rows);
+    record->fields = PyMem_Calloc((size_t)count + 1, sizeof *record->fields);
     record->rows = PyMem_Calloc((size_t)count + 1, sizeof *record->rows);
-    if (record->defaults == NULL || record->rows == NULL) {
+    if (record->defaults == NULL || record->fields == NULL || record->rows == NULL) {
         PyErr_NoMemory();
         return -1;
     }
     while (record->count < count) {
-        struct row *row = &record->rows[record->count];
         record->count += 1;
-        if (take_row(record, row, PyTuple_GetItem(rows, record->count - 1), schemas) != 0) {
+        if (take_row(record, record->count - 1, PyTuple_GetItem(rows, record->count - 1), schemas) != 0) {
             return -1;
         }
     }
     return 0;
 }
 
-static int codec_traverse(struct codec *self, visitproc visit, void *arg)
+/* Takes the addresses of the functions, in the order of the header. */
+static int take_addresses(struct native *self, PyObject *addresses)
+{
+    uintptr_t found[FUNCTIONS];
+    if (!PyTuple_Check(addresses) || PyTuple_Size(addresses) != FUNCTIONS) {
+        PyErr_Format(PyExc_TypeError, "the addresses must be a tuple of %d", FUNCTIONS);
+        return -1;
+    }
+    for (int place = 0; place < FUNCTIONS; place += 1) {
+        found[place] = (uintptr_t)PyLong_AsVoidPtr(PyTuple_GetItem(addresses, place));
+        if (PyErr_Occurred()) {
+            return -1;
+        }
+    }
+    for (int place = 0; place < FUNCTIONS; place += 1) {
+        point(&self->library, place, found[place]);
+    }
+    return 0;
+}
+
+/* Takes the records. */
+static int take_records(struct native *self, PyObject *records)
+{
+    Py_ssize_t count = PyTuple_Size(records);
+    self->records = PyMem_Calloc((size_t)count + 1, sizeof *self->records);
+    if (self->records == NULL) {
+        PyErr_NoMemory();
+        return -1;
+    }
+    while (self->count < count) {
+        self->count += 1;
+        if (take_record(&self->records[self->count - 1], PyTuple_GetItem(records, self->count - 1), count) != 0) {
+            return -1;
+        }
+    }
+    return 0;
+}
+
+/* Takes the classes of items. */
+static int take_items(struct native *self, PyObject *items)
+{
+    if (PyTuple_Size(items) != ITEM_CLASSES) {
+        PyErr_SetString(PyExc_TypeError, "there must be three classes of items");
+        return -1;
+    }
+    for (Py_ssize_t at = 0; at < ITEM_CLASSES; at += 1) {
+        PyObject *class = PyTuple_GetItem(items, at);
+        if (!PyType_Check(class)) {
+            PyErr_SetString(PyExc_TypeError, "an item must have a class");
+            return -1;
+        }
+        Py_INCREF(class);
+        self->items[at] = class;
+    }
+    return 0;
+}
+
+/* Makes the names of attributes. */
+static int make_names(struct native *self)
+{
+    static const char *const names[ATTRIBUTES] = {"version", "code", "payload", "requested_ack", "word", "offset"};
+    self->dict_name = PyUnicode_InternFromString("__dict__");
+    self->value_name = PyUnicode_InternFromString("value");
+    for (int at = 0; at < ATTRIBUTES; at += 1) {
+        self->attributes[at] = PyUnicode_InternFromString(names[at]);
+    }
+    return PyErr_Occurred() ? -1 : 0;
+}
+
+static int native_traverse(struct native *self, visitproc visit, void *arg)
 {
     for (Py_ssize_t at = 0; at < self->count; at += 1) {
         const struct record *record = &self->records[at];
@@ -730,11 +186,17 @@ static int codec_traverse(struct codec *self, visitproc visit, void *arg)
             Py_VISIT(record->rows[of].wrapper);
         }
     }
+    for (int at = 0; at < ITEM_CLASSES; at += 1) {
+        Py_VISIT(self->items[at]);
+    }
+    Py_VISIT(self->schemas);
+    Py_VISIT(self->checked);
+    Py_VISIT(self->refused);
     Py_VISIT(Py_TYPE(self));
     return 0;
 }
 
-static void codec_dealloc(struct codec *self)
+static void native_dealloc(struct native *self)
 {
     PyTypeObject *type = Py_TYPE(self);
     PyObject_GC_UnTrack(self);
@@ -746,122 +208,174 @@ static void codec_dealloc(struct codec *self)
             Py_XDECREF(record->rows[of].members);
             Py_XDECREF(record->rows[of].wrapper);
         }
+        PyMem_Free(record->fields);
         PyMem_Free(record->rows);
         Py_XDECREF(record->class);
         Py_XDECREF(record->defaults);
     }
     PyMem_Free(self->records);
+    for (int at = 0; at < ITEM_CLASSES; at += 1) {
+        Py_XDECREF(self->items[at]);
+    }
+    for (int at = 0; at < ATTRIBUTES; at += 1) {
+        Py_XDECREF(self->attributes[at]);
+    }
     Py_XDECREF(self->dict_name);
     Py_XDECREF(self->value_name);
+    Py_XDECREF(self->schemas);
+    Py_XDECREF(self->checked);
+    Py_XDECREF(self->refused);
     PyObject_GC_Del(self);
     Py_DECREF(type);
 }
 
-static PyObject *codec_new(PyTypeObject *type, PyObject *arguments, PyObject *keywords)
+static PyObject *native_new(PyTypeObject *type, PyObject *arguments, PyObject *keywords)
 {
-    static char *names[] = {"fields", "payload_of_fields", "records", NULL};
-    PyObject *fields, *payload_of_fields, *records;
-    if (!PyArg_ParseTupleAndKeywords(arguments, keywords, "O!O!O!", names, &PyLong_Type, &fields, &PyLong_Type,
-                                     &payload_of_fields, &PyTuple_Type, &records)) {
+    static char *names[] = {"addresses", "records", "items", "schemas", "checked", "refused", NULL};
+    PyObject *addresses, *records, *items, *schemas, *checked, *refused;
+    if (!PyArg_ParseTupleAndKeywords(arguments, keywords, "O!O!O!O!OO", names, &PyTuple_Type, &addresses, &PyTuple_Type,
+                                     &records, &PyTuple_Type, &items, &PyDict_Type, &schemas, &checked, &refused)) {
         return NULL;
     }
-    struct codec *self = (struct codec *)PyType_GenericAlloc(type, 0);
+    struct native *self = (struct native *)PyType_GenericAlloc(type, 0);
     if (self == NULL) {
         return NULL;
     }
-    self->dict_name = PyUnicode_InternFromString("__dict__");
-    self->value_name = PyUnicode_InternFromString("value");
-    self->fields = (__typeof__(self->fields))PyLong_AsVoidPtr(fields);
-    self->payload_of_fields = (__typeof__(self->payload_of_fields))PyLong_AsVoidPtr(payload_of_fields);
-    Py_ssize_t count = PyTuple_Size(records);
-    self->records = PyMem_Calloc((size_t)count + 1, sizeof *self->records);
-    if (self->records == NULL) {
-        PyErr_NoMemory();
-    }
-    while (!PyErr_Occurred() && self->count < count) {
-        struct record *record = &self->records[self->count];
-        self->count += 1;
-        if (take_record(record, PyTuple_GetItem(records, self->count - 1), count) != 0) {
-            break;
-        }
-    }
-    if (PyErr_Occurred()) {
+    self->schemas = schemas;
+    Py_INCREF(schemas);
+    self->checked = checked;
+    Py_INCREF(checked);
+    self->refused = refused;
+    Py_INCREF(refused);
+    if (make_names(self) != 0 || take_addresses(self, addresses) != 0 || take_items(self, items) != 0 ||
+        take_records(self, records) != 0) {
         Py_DECREF(self);
         return NULL;
     }
     return (PyObject *)self;
 }
 
-PyDoc_STRVAR(of_doc, "of(schema)\n--\n\nThe two functions of the record of a schema.");
+PyDoc_STRVAR(point_doc, "point(addresses)\n--\n\nTakes other addresses of the functions.");
 
-static PyObject *codec_of(struct codec *self, PyObject *schema)
+static PyObject *native_point(struct native *self, PyObject *addresses)
+{
+    if (take_addresses(self, addresses) != 0) {
+        return NULL;
+    }
+    Py_RETURN_NONE;
+}
+
+PyDoc_STRVAR(of_doc, "of(schema)\n--\n\nThe functions of the record of a schema.");
+
+static PyObject *native_of(struct native *self, PyObject *schema)
 {
     Py_ssize_t number = PyLong_AsSsize_t(schema);
     if (number == -1 && PyErr_Occurred()) {
         return NULL;
     }
-    PyObject *type = PyObject_GetAttrString((PyObject *)self, "_RecordCodec");
-    if (type == NULL || number < 0 || number >= self->count) {
-        Py_XDECREF(type);
+    if (number < 0 || number >= self->count) {
         PyErr_SetString(PyExc_IndexError, "there is no such schema");
         return NULL;
     }
-    struct record_codec *made = (struct record_codec *)PyType_GenericAlloc((PyTypeObject *)type, 0);
-    Py_DECREF(type);
+    struct record_codec *made = made_of(self, "_RecordCodec");
     if (made != NULL) {
         Py_INCREF(self);
-        made->codec = self;
+        made->native = self;
         made->schema = number;
     }
     return (PyObject *)made;
 }
 
-static PyMethodDef codec_methods[] = {
-    {"of", (PyCFunction)codec_of, METH_O, of_doc},
+PyDoc_STRVAR(call_doc, "call(place, name)\n--\n\nThe call at a place of the list, by its name in the package.");
+
+static PyObject *native_call(struct native *self, PyObject *arguments)
+{
+    Py_ssize_t place;
+    PyObject *name;
+    if (!PyArg_ParseTuple(arguments, "nU", &place, &name)) {
+        return NULL;
+    }
+    if (place < 0 || place >= (Py_ssize_t)(sizeof CALLS / sizeof *CALLS)) {
+        PyErr_SetString(PyExc_IndexError, "there is no such call");
+        return NULL;
+    }
+    struct named_call *made = made_of(self, "_NamedCall");
+    if (made == NULL) {
+        return NULL;
+    }
+    Py_INCREF(self);
+    made->native = self;
+    made->call = &CALLS[place];
+    Py_INCREF(name);
+    made->name = name;
+    made->place = PyLong_FromSsize_t(place);
+    if (made->place == NULL) {
+        Py_CLEAR(made);
+    }
+    return (PyObject *)made;
+}
+
+PyDoc_STRVAR(pending_doc, "pending(version, limit)\n--\n\nWhat comes of a stream, of a limit or None.");
+
+static PyObject *native_pending(struct native *self, PyObject *arguments)
+{
+    PyObject *version, *limit;
+    if (!PyArg_ParseTuple(arguments, "O!O", &PyLong_Type, &version, &limit)) {
+        return NULL;
+    }
+    struct pending *made = made_of(self, "_Pending");
+    if (made == NULL) {
+        return NULL;
+    }
+    Py_INCREF(self);
+    made->native = self;
+    if (start_pending(made, version, limit) != 0) {
+        Py_CLEAR(made);
+    }
+    return (PyObject *)made;
+}
+
+static PyMethodDef native_methods[] = {
+    {"point", (PyCFunction)native_point, METH_O, point_doc},
+    {"of", (PyCFunction)native_of, METH_O, of_doc},
+    {"call", (PyCFunction)native_call, METH_VARARGS, call_doc},
+    {"pending", (PyCFunction)native_pending, METH_VARARGS, pending_doc},
     {NULL, NULL, 0, NULL},
 };
 
-static PyType_Slot record_codec_slots[] = {
-    {Py_tp_doc, "The two functions of a record."},
-    {Py_tp_new, record_codec_new},
-    {Py_tp_traverse, record_codec_traverse},
-    {Py_tp_dealloc, record_codec_dealloc},
-    {Py_tp_methods, record_codec_methods},
+static PyType_Slot native_slots[] = {
+    {Py_tp_doc, "The library by the addresses of its functions, all records, and the classes of items."},
+    {Py_tp_new, native_new},
+    {Py_tp_traverse, native_traverse},
+    {Py_tp_dealloc, native_dealloc},
+    {Py_tp_methods, native_methods},
     {0, NULL},
 };
 
-static PyType_Spec record_codec_spec = {
-    .name = "pendratsoa._compiled.RecordCodec",
-    .basicsize = sizeof(struct record_codec),
+static PyType_Spec native_spec = {
+    .name = "pendratsoa._compiled.Native",
+    .basicsize = sizeof(struct native),
     .flags = Py_TPFLAGS_DEFAULT | Py_TPFLAGS_HAVE_GC,
-    .slots = record_codec_slots,
+    .slots = native_slots,
 };
 
-static PyType_Slot codec_slots[] = {
-    {Py_tp_doc, "All records, and the calls of the library by their addresses."},
-    {Py_tp_new, codec_new},
-    {Py_tp_traverse, codec_traverse},
-    {Py_tp_dealloc, codec_dealloc},
-    {Py_tp_methods, codec_methods},
-    {0, NULL},
-};
-
-static PyType_Spec codec_spec = {
-    .name = "pendratsoa._compiled.Codec",
-    .basicsize = sizeof(struct codec),
-    .flags = Py_TPFLAGS_DEFAULT | Py_TPFLAGS_HAVE_GC,
-    .slots = codec_slots,
-};
+/* Makes a type, and puts it into an object; -1 with an exception. */
+static int put_type(PyObject *object, const char *name, PyType_Spec *spec)
+{
+    PyObject *type = PyType_FromSpec(spec);
+    int failed = type == NULL ? -1 : PyObject_SetAttrString(object, name, type);
+    Py_XDECREF(type);
+    return failed;
+}
 
 static int executed(PyObject *module)
 {
-    PyObject *codec = PyType_FromSpec(&codec_spec);
-    PyObject *record_codec = PyType_FromSpec(&record_codec_spec);
-    int failed = codec == NULL || record_codec == NULL ? -1 : 0;
-    failed = failed != 0 ? failed : PyObject_SetAttrString(codec, "_RecordCodec", record_codec);
-    failed = failed != 0 ? failed : PyObject_SetAttrString(module, "Codec", codec);
-    Py_XDECREF(codec);
-    Py_XDECREF(record_codec);
+    PyObject *native = PyType_FromSpec(&native_spec);
+    int failed = native == NULL ? -1 : PyObject_SetAttrString(module, "Native", native);
+    failed = failed != 0 ? failed : put_type(native, "_RecordCodec", &record_codec_spec);
+    failed = failed != 0 ? failed : put_type(native, "_NamedCall", &named_call_spec);
+    failed = failed != 0 ? failed : put_type(native, "_Pending", &pending_spec);
+    Py_XDECREF(native);
     return failed;
 }
 
@@ -873,7 +387,7 @@ static PyModuleDef_Slot module_slots[] = {
 static struct PyModuleDef module = {
     PyModuleDef_HEAD_INIT,
     .m_name = "_compiled",
-    .m_doc = "Records, read from the table of fields and written as one.",
+    .m_doc = "The calls of the library, records and streams.",
     .m_slots = module_slots,
 };
 

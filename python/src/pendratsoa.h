@@ -62,6 +62,45 @@ extern "C" {
 #define JOURNAL_KIND_OF_ERROR(result) ((result) % 16)
 
 /*
+ * What an error says, as "malformed payload", in a text that stays and ends with a zero byte. Of an error that this
+ * header does not know it is the text of its kind, and of a result that is no error "no error".
+ */
+static inline const char *journal_error_text(int64_t result) {
+    if (result >= 0) {
+        return "no error";
+    }
+    switch (result) {
+    case JOURNAL_MALFORMED:
+        return "malformed payload";
+    case JOURNAL_OUT_OF_MEMORY:
+        return "out of memory";
+    case JOURNAL_NO_ROOM:
+        return "not enough room";
+    case JOURNAL_TOO_LONG:
+        return "too long";
+    case JOURNAL_UNKNOWN:
+        return "unknown";
+    case JOURNAL_NO_ID:
+        return "notification without an id";
+    case JOURNAL_NO_RESULT:
+        return "notification without a result";
+    case JOURNAL_NOT_CANONICAL:
+        return "payload is not canonical";
+    case JOURNAL_MALFORMED_SECOND:
+        return "malformed second payload";
+    case JOURNAL_UNKNOWN_VERSION:
+        return "unknown version";
+    case JOURNAL_UNKNOWN_SCHEMA:
+        return "unknown schema";
+    case JOURNAL_UNKNOWN_TYPE:
+        return "unknown type";
+    default:
+        return result < -16 && JOURNAL_KIND_OF_ERROR(result) < 0 ? journal_error_text(JOURNAL_KIND_OF_ERROR(result))
+                                                                 : "unknown error";
+    }
+}
+
+/*
  * Names and numbers.
  */
 

@@ -3,7 +3,7 @@
 import dataclasses
 from typing import Optional, Union
 
-from pendratsoa import Item, Malformed, Message, TooLong, Verdict, VerdictKind
+from pendratsoa import Incomplete, Item, Malformed, Message, TooLong, Verdict, VerdictKind
 from pendratsoa.messages import (
     ErrorBehavior,
     ErrorMessage,
@@ -36,6 +36,11 @@ def limited(error: TooLong, malformed: Malformed) -> int:
     error.limit + 1  # type: ignore[operator]
     malformed.offset + 1  # type: ignore[operator]
     return 0 if error.limit is None or error.length is None else error.length - error.limit
+
+
+def ended(error: Incomplete) -> int:
+    error.code + 1  # type: ignore[operator]
+    return error.offset + error.rest
 
 
 def read(item: Item) -> Union[bytes, int, None]:

@@ -46,9 +46,9 @@ def defined(pattern, base=10):
 
 @contextlib.contextmanager
 def replaced(function, with_what):
-    """The library with another function in the place of this one, for the compiled module too."""
-    if function in ("journal_fields", "journal_payload_of_fields"):
-        with_what = ctypes.CFUNCTYPE(ctypes.c_int64, *_library.PARAMETERS[function])(with_what)
+    """The library with another function in the place of this one, for the compiled module too. It is given numbers: of
+    a slice the address, which is None if it has none, and the length."""
+    with_what = ctypes.CFUNCTYPE(ctypes.c_int64, *_library.PARAMETERS[function])(with_what)
     try:
         with mock.patch.object(_library.library, function, with_what):
             _fast.use()
@@ -58,12 +58,13 @@ def replaced(function, with_what):
 
 
 def returning(number, *numbers):
-    """A function that writes numbers into its slice of 64-bit numbers, and returns a number."""
+    """A function that writes numbers into its slice of as many 64-bit numbers, and returns a number."""
 
     def function(*parameters):
         if numbers:
-            slices = [parameter for parameter in parameters if getattr(parameter, "_length_", 0) == len(numbers)]
-            slices[-1][:] = numbers
+            # the slice of numbers is the last one that has this length
+            at = max(at for at, length in enumerate(parameters) if length == len(numbers))
+            (ctypes.c_uint64 * len(numbers)).from_address(parameters[at - 1])[:] = numbers
         return number
 
     return function

@@ -3,14 +3,16 @@
 import contextlib
 import ctypes
 import gc
+import itertools
 import os
 import pathlib
 import subprocess
 import sys
+import threading
 import unittest
 
 import pendratsoa
-from pendratsoa import JournalError, _fast
+from pendratsoa import JournalError, Message, Skipped, Unknown, UnknownCode, _fast, _library, _named
 from pendratsoa.messages import (
     RECORDS,
     CallCommandMessage,
@@ -31,7 +33,7 @@ from pendratsoa.messages import (
     Void,
 )
 
-from support import replaced
+from support import CALL_COMMAND, INPUT, INPUT_COMMAND, replaced, returning
 
 # records of each kind and shape of field, and of long values
 SAMPLES = (
@@ -65,6 +67,13 @@ class Bytes(bytes):
     """A class below bytes."""
 
 
+def _taken(data):
+    """The next item of a new stream of these bytes."""
+    stream = pendratsoa.Stream()
+    stream.feed(data)
+    return next(iter(stream))
+
+
 def ends(work):
     """What a call returns, or the class of its error."""
     try:
@@ -89,7 +98,7 @@ def in_python():
 class TestChoice(unittest.TestCase):
     def test_the_variable(self):
         package = str(pathlib.Path(pendratsoa.__file__).parents[1])
-        for value, wanted in (("1", False), ("", _fast.codec() is not None)):
+        for value, wanted in (("1", False), ("", _fast.native() is not None)):
             environment = {**os.environ, "PYTHONPATH": package, "PENDRATSOA_PURE": value}
             if os.environ.get("PENDRATSOA_PURE") and not value:
                 continue
@@ -164,29 +173,114 @@ class TestCompiled(unittest.TestCase):
                 self.assertIsNone(Value._compiled.decode(b"x"))
 
     def test_what_it_is_made_of(self):
-        codec = _fast.codec()
-        for arguments, error in (
-            ((), TypeError),
-            ((1, 2), TypeError),
-            (("1", 2, ()), TypeError),
-            ((1, 2, []), TypeError),
-            ((1, 2, (5,)), TypeError),
-            ((1, 2, ((5, {}, ()),)), TypeError),
-            ((1, 2, ((Value, {}, (5,)),)), TypeError),
-            ((1, 2, ((Value, {}, ((1, 7, 0, "name", 1, None, None),)),)), ValueError),
-            ((1, 2, ((Value, {}, ((1, 4, 0, "name", -1, None, None),)),)), ValueError),
-            ((1, 2, ((Value, {}, ((1, 6, 4, "name", -1, None, None),)),)), ValueError),
-            ((1, 2, ((Value, {}, ((1, 6, 0, 5, -1, None, None),)),)), TypeError),
+        native = _fast.native()
+        addresses = _library.library.addresses()
+        whole = {"addresses": addresses, "records": (), "items": (Message, UnknownCode, Skipped), "schemas": {}}
+        whole.update(checked=None, refused=None)
+        for changed, error in (
+            ({"addresses": [*addresses]}, TypeError),
+            ({"addresses": addresses[1:]}, TypeError),
+            ({"addresses": ("1", *addresses[1:])}, TypeError),
+            ({"items": (Message, UnknownCode)}, TypeError),
+            ({"items": (Message, UnknownCode, 5)}, TypeError),
+            ({"schemas": ()}, TypeError),
+            ({"records": []}, TypeError),
+            ({"records": (5,)}, TypeError),
+            ({"records": ((5, -1, {}, ()),)}, TypeError),
+            ({"records": ((Value, "code", {}, ()),)}, TypeError),
+            ({"records": ((Value, -1, {}, (5,)),)}, TypeError),
+            ({"records": ((Value, -1, {}, ((1, 7, 0, "name", 1, None, None),)),)}, ValueError),
+            ({"records": ((Value, -1, {}, ((1, 4, 0, "name", -1, None, None),)),)}, ValueError),
+            ({"records": ((Value, -1, {}, ((1, 6, 4, "name", -1, None, None),)),)}, ValueError),
+            ({"records": ((Value, -1, {}, ((1, 6, 0, 5, -1, None, None),)),)}, TypeError),
         ):
-            with self.subTest(arguments):
-                self.assertRaises(error, type(codec), *arguments)
+            with self.subTest(changed):
+                self.assertRaises(error, type(native), **{**whole, **changed})
+        self.assertRaises(TypeError, type(native))
         for number in (-1, len(RECORDS), 1 << 80):
-            self.assertRaises((IndexError, OverflowError), codec.of, number)
-        self.assertRaises(TypeError, type(codec.of(0)))
+            self.assertRaises((IndexError, OverflowError), native.of, number)
+            self.assertRaises((IndexError, OverflowError), native.call, number, "name")
+        self.assertRaises(TypeError, native.call, 0, 5)
+        for arguments in ((1 << 32, None), (8, 1 << 32), (-1, None), ("8", None), (8, "1")):
+            self.assertRaises((TypeError, OverflowError), native.pending, *arguments)
+        for made in (native.of(0), native.call(0, "name"), native.pending(8, None)):
+            self.assertRaises(TypeError, type(made))
         used = sys.getrefcount(Value)
-        del codec
+        del native, made
         gc.collect()
         self.assertEqual(sys.getrefcount(Value), used - 1)
+
+    def test_calls_that_are_given_otherwise(self):
+        native = _fast.native()
+        header = native.call(_named.PLACES["header"], "header")
+        for given in ((), (8,), (8, INPUT_COMMAND, 0, 0)):
+            self.assertRaises(TypeError, header, *given)
+        self.assertRaises(TypeError, header, 8, INPUT_COMMAND, payload_length=0)
+        self.assertEqual(header(8, INPUT_COMMAND, 9), INPUT[:8])
+        with self.assertRaisesRegex(Unknown, "^name: code 1037 is not that of a notification$"):
+            native.call(_named.PLACES["notification"], "name")(CALL_COMMAND, b"")
+
+    def test_what_is_left_of_a_stream(self):
+        pending = _fast.native().pending(8, None)
+        self.assertRaises(TypeError, pending.feed, bytearray(INPUT))
+        pending.feed(INPUT)
+        self.assertEqual((pending.rest(), pending.offset()), (len(INPUT), 0))
+        # of a later library, or of none
+        for numbers in ((0, 0, 0, 0, len(INPUT) + 1, 8), (0, 0, 0, 0, len(INPUT), 1 << 63)):
+            with replaced("journal_next", returning(0, *numbers)):
+                self.assertRaises(SystemError, _taken, INPUT)
+        self.assertEqual(pending.take().bytes, INPUT)
+        self.assertEqual((pending.take(), pending.rest(), pending.offset()), (None, 0, len(INPUT)))
+
+    def test_long_calls_of_several_threads(self):
+        record = OutputCommandMessage(result=Value(bytes(range(256)) * 4000))
+        schema, code, payload = record.SCHEMA, record.CODE, record.encode()
+        wanted = pendratsoa.header(8, code, len(payload)) + payload
+
+        def work(found):
+            for _ in range(5):
+                json = pendratsoa.to_json(schema, payload)
+                verdict = pendratsoa.compare_journals(8, wanted, wanted)
+                found += [
+                    pendratsoa.frame(8, code, payload) == record.frame(8) == wanted,
+                    # an empty name is left out
+                    pendratsoa.canonical(schema, payload + b"\x62\x00") == payload,
+                    pendratsoa.from_json(schema, json) == pendratsoa.from_json(schema, json.encode()) == payload,
+                    type(record).decode(payload) == record,
+                    (verdict.kind, verdict.index) == ("same", 1),
+                ]
+
+        results = [[] for _ in range(4)]
+        threads = [threading.Thread(target=work, args=(found,)) for found in results]
+        for thread in threads:
+            thread.start()
+        for thread in threads:
+            thread.join()
+        self.assertEqual(results, [[True] * 25] * 4)
+
+    def test_what_runs_while_memory_is_collected(self):
+        stream = pendratsoa.Stream()
+        stream.feed(INPUT * 5000)
+        found = []
+
+        class Taking:
+            """Takes an item where it is freed, which a collection does."""
+
+            def __init__(self):
+                self.itself = self
+
+            def __del__(self):
+                found.extend(item.offset for item in itertools.islice(stream, 1))
+
+        thresholds = gc.get_threshold()
+        self.addCleanup(gc.set_threshold, *thresholds)
+        gc.set_threshold(1)
+        for item in stream:
+            found.append(item.offset)
+            if len(found) % 100 == 0:
+                Taking()
+        gc.set_threshold(*thresholds)
+        self.assertEqual(sorted(found), [*range(0, 5000 * len(INPUT), len(INPUT))])
 
     def test_references(self):
         record = ErrorMessage(behavior=ErrorBehavior.PAUSE, message="text")

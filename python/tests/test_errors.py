@@ -201,7 +201,7 @@ class TestErrors(unittest.TestCase):
             (
                 "journal_payload_of_json",
                 returning(0, 9, 0),
-                lambda: pendratsoa.from_json(0, "{}"),
+                lambda: pendratsoa.from_json(0, "[{}]"),
                 "a JSON text of the kind 9",
             ),
             (

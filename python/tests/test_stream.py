@@ -8,9 +8,9 @@ import sys
 import threading
 import tracemalloc
 import unittest
-from unittest import mock
 
 from pendratsoa import JournalError, Malformed, Message, Skipped, Stream, TooLong, UnknownCode, canonical
+from pendratsoa._library import library
 from support import CALL_COMMAND, INPUT, INPUT_COMMAND, INPUT_LENGTH, RECORDED, STREAM, UNKNOWN_WORD
 from support import replaced, returning
 
@@ -73,8 +73,15 @@ class TestFeeding(unittest.TestCase):
         stream.feed(INPUT[:4] + length.to_bytes(4, "big"))
         self.assertEqual(list(stream), [])
         chunk = bytes(1 << 10)
+        found = library.journal_next
+        looks = []
+
+        def look(*parameters):
+            looks.append(parameters)
+            return found(*parameters)
+
         tracemalloc.start()
-        with mock.patch.object(stream, "_look", wraps=stream._look) as look:
+        with replaced("journal_next", look):
             for _ in range(length >> 10):
                 self.assertEqual(list(stream), [])
                 stream.feed(chunk)
@@ -82,7 +89,7 @@ class TestFeeding(unittest.TestCase):
         _, peak = tracemalloc.get_traced_memory()
         tracemalloc.stop()
         # for the message, and whether there is another
-        self.assertEqual(look.call_count, 2)
+        self.assertEqual(len(looks), 2)
         self.assertEqual((len(message.payload), stream.rest), (length, 0))
         # the joined bytes and the payload, and the list of chunks
         self.assertLess(peak, 2 * length + (1 << 20))

@@ -7,6 +7,7 @@ require_relative "pendratsoa/errors"
 require_relative "pendratsoa/library"
 require_relative "pendratsoa/shown"
 require_relative "pendratsoa/call"
+require_relative "pendratsoa/named"
 require_relative "pendratsoa/functions"
 require_relative "pendratsoa/fields"
 require_relative "pendratsoa/records"
@@ -14,6 +15,7 @@ require_relative "pendratsoa/messages"
 require_relative "pendratsoa/earlier"
 require_relative "pendratsoa/compiled"
 require_relative "pendratsoa/items"
+require_relative "pendratsoa/pending"
 require_relative "pendratsoa/stream"
 
 # The journal protocol of the Restate SDKs, by the calls of Pendratsoa's shared library.
@@ -30,6 +32,6 @@ require_relative "pendratsoa/stream"
 #
 # The first call loads the library: the file that PENDRATSOA_LIBRARY names, or else that which is copied into this gem,
 # or else what the system finds as libpendratsoa.so.0. Where there is none, the call is a LoadError. COMPILED says
-# whether the compiled module reads and writes records; it is not used where PENDRATSOA_PURE is set.
+# whether the compiled module makes the calls; it is not used where PENDRATSOA_PURE is set.
 module Pendratsoa
 end

@@ -87,6 +87,63 @@ class TestCompiled < Minitest::Test
     assert_raises(SystemStackError) { futures[0].encode }
   end
 
+  def test_calls_that_are_given_otherwise
+    skip "not run: the compiled module is not in use" unless COMPILED
+    named, compiled = %i[Named Compiled].map { |name| Pendratsoa.send(:const_get, name) }
+    assert_equal INPUT.byteslice(0, 8), named.call(named::HEADER, "header", 8, CODES.fetch(:input), 9)
+    [[], [named::HEADER], [named::HEADER, "header"], [named::HEADER, "header", 8, 0, 0, 0]].each do |given|
+      assert_raises(ArgumentError) { named.call(*given) }
+    end
+    [-1, 1000].each { |place| assert_raises(IndexError) { named.call(place, "name") } }
+    assert_error(Unknown, "name: code 1037 is not that of a notification") do
+      named.call(named::NOTIFICATION, "name", CODES.fetch(:call), "")
+    end
+    [[nil, nil], [8, "1"], [8, 1 << 32]].each do |arguments|
+      assert_raises(TypeError, RangeError) { compiled::Pending.new(*arguments) }
+    end
+    assert_raises(ArgumentError) { compiled.point([]) }
+    assert_raises(ArgumentError) { compiled.use([], [], [], {}) }
+    assert_raises(TypeError) { compiled::Pending.new(8, nil).feed(8) }
+  end
+
+  # Other threads run while a long call is made, and may change what it is given, and what it writes is whole.
+  def test_long_calls
+    payload = OutputCommandMessage.new(result: Value.new(content: "x" * 3_000_000)).encode
+    frame = Pendratsoa.frame(8, 0x0401, payload)
+    given = +payload
+    is_over = false
+    turns = 0
+    changing = Thread.new do
+      until is_over
+        # as it was, in memory of its own, since what a call reads is shared with the String that was given
+        given.setbyte(given.bytesize - 1 - (turns % 1000), "x".ord)
+        turns += 1
+        Thread.pass
+      end
+    end
+    20.times do
+      assert_equal frame, Pendratsoa.frame(8, 0x0401, given)
+      assert_equal payload, OutputCommandMessage.decode(given).encode
+      assert_equal frame, OutputCommandMessage.decode(given).frame(8)
+    end
+    assert_operator turns, :>, 0
+  ensure
+    is_over = true
+    changing&.join
+  end
+
+  # A copy of a stream goes on by itself, in any order, and however much came.
+  def test_copies_of_a_stream
+    stream = Stream.new.feed(INPUT * 5000).feed(INPUT.byteslice(0, 5))
+    first = stream.first(2000)
+    other = stream.dup
+    [stream, other].each { |one| one.feed(INPUT.byteslice(5..)) }
+    found = stream.to_a
+    assert_equal [3001, first.last.bytes], [found.length, found.first.bytes]
+    assert_equal found, other.to_a
+    assert_equal [0, 0], [stream.rest, other.rest]
+  end
+
   def test_the_variable
     [["1", "false"], ["", COMPILED.to_s]].each do |value, wanted|
       next if value.empty? && !ENV.fetch("PENDRATSOA_PURE", "").empty?

@@ -109,16 +109,34 @@ end
 class TestLaterLibrary < Minitest::Test
   LIBRARY = Pendratsoa.send(:const_get, :Library)
 
-  # Runs a block in which the library returns this number, and writes these.
+  COMPILED = Pendratsoa.send(:const_get, :Compiled)
+
+  # Runs a block in which the library returns this number, and writes these; for the compiled module too.
   def returning(number, numbers = nil)
-    later = lambda do |_function, *parameters|
+    found = LIBRARY.functions
+    # a Function holds what it is made of, so that it stays
+    replace(LIBRARY::PARAMETERS.transform_values do |types|
+      Fiddle::Function.new(closure(types, number, numbers), types, Fiddle::TYPE_LONG_LONG, need_gvl: true)
+    end)
+    yield
+  ensure
+    replace(found) if found
+  end
+
+  def closure(types, number, numbers)
+    Fiddle::Closure::BlockCaller.new(Fiddle::TYPE_LONG_LONG, types) do |*parameters|
       if numbers
-        room, = parameters.each_cons(2).find { |place, count| place.is_a?(Fiddle::Pointer) && count == numbers.length }
-        room[0, 8 * numbers.length] = numbers.pack("Q*")
+        # the slice of numbers is the last one that has this length
+        place, = parameters.each_cons(2).to_a.reverse.find { |_, count| count == numbers.length }
+        Fiddle::Pointer.new(place.to_i)[0, 8 * numbers.length] = numbers.pack("Q*")
       end
       number
     end
-    LIBRARY.stub(:call, later) { yield }
+  end
+
+  def replace(functions)
+    LIBRARY.instance_variable_set(:@functions, functions)
+    COMPILED.start(functions)
   end
 
   def test_another_error
@@ -147,10 +165,16 @@ class TestLaterLibrary < Minitest::Test
       2.times { assert_error(Pendratsoa::Error, text) { stream.first } }
     end
     assert_equal 8, stream.rest
+    if Pendratsoa::COMPILED
+      # of a later library, or of none
+      [[9, 8], [8, 9]].each do |size, payload|
+        returning(0, [0, 0, 0, 0, size, payload]) { assert_raises(RuntimeError) { stream.first } }
+      end
+    end
     returning(0, [3, 0, 0, 0]) { assert_raises(Pendratsoa::Error) { Pendratsoa.notification(0x8000, "") } }
     returning(0, [0, 0, 0, 5]) { assert_raises(Pendratsoa::Error) { Pendratsoa.notification(0x8000, "") } }
-    returning(0, [9, 0]) { assert_raises(Pendratsoa::Error) { Pendratsoa.from_json(13, "{}") } }
-    returning(0, [1 << 63, 0]) { assert_raises(Pendratsoa::Error) { Pendratsoa.from_json(13, "{}") } }
+    returning(0, [9, 0]) { assert_raises(Pendratsoa::Error) { Pendratsoa.from_json(13, "[{}]") } }
+    returning(0, [1 << 63, 0]) { assert_raises(Pendratsoa::Error) { Pendratsoa.from_json(13, "[{}]") } }
     returning(0, [7, 0]) { assert_raises(Pendratsoa::Error) { Pendratsoa.compare_journals(8, "", "") } }
     returning(0, [1 << 63, 0]) { assert_raises(Pendratsoa::Error) { Pendratsoa.compare_journals(8, "", "") } }
   end

@@ -162,14 +162,6 @@ class TestStream < Minitest::Test
                  skipped.inspect
   end
 
-  private
-
-  # How many bytes all objects hold.
-  def held
-    GC.start
-    ObjectSpace.memsize_of_all
-  end
-
   def test_a_message_that_is_longer_than_the_limit
     endless = ["00000000ffffffff010203"].pack("H*")
     stream = Pendratsoa::Stream.new(max_message_size: 9)
@@ -194,5 +186,13 @@ class TestStream < Minitest::Test
     assert_raises(ArgumentError) { Pendratsoa::Stream.new(max_message_size: -1) }
     error = assert_raises(Pendratsoa::TooLong) { Pendratsoa::Stream.new(max_message_size: 1 << 32) }
     assert_equal [nil] * 4, [error.code, error.length, error.limit, error.offset]
+  end
+
+  private
+
+  # How many bytes all objects hold.
+  def held
+    GC.start
+    ObjectSpace.memsize_of_all
   end
 end

@@ -3,8 +3,8 @@
 use std::io::{self, ErrorKind, Read};
 use std::iter::FusedIterator;
 
-use crate::error::Error;
-use crate::item::{next_item_within, Item, Next};
+use crate::error::{Error, Incomplete};
+use crate::item::{next_item_within, Item, Next, OwnedItem};
 
 /// The most bytes that are read at once.
 const CHUNK: usize = 64 << 10;
@@ -98,11 +98,13 @@ impl Decoder {
     }
 
     /// The version of the stream.
+    #[must_use]
     pub fn version(&self) -> u32 {
         self.version
     }
 
     /// The number of bytes of the stream that are in the items that were taken: the offset of the next one.
+    #[must_use]
     pub fn offset(&self) -> u64 {
         self.taken
     }
@@ -134,9 +136,7 @@ impl Decoder {
     /// # Ok::<(), Box<dyn std::error::Error>>(())
     /// ```
     pub fn read_from<R: Read>(&mut self, mut reader: R) -> io::Result<usize> {
-        let room = self
-            .room(CHUNK)
-            .map_err(|error| io::Error::new(kind_of(&error), error))?;
+        let room = self.room(CHUNK)?;
         let count = loop {
             match reader.read(room) {
                 Err(error) if error.kind() == ErrorKind::Interrupted => {}
@@ -145,6 +145,33 @@ impl Decoder {
         };
         self.advance(count);
         Ok(count)
+    }
+
+    /// The items of a reader up to its end, in one loop. Each is an [`OwnedItem`], with bytes of its own. A loop over
+    /// [`Decoder::read_from`] and [`Decoder::items`] copies no bytes.
+    ///
+    /// An item comes as soon as it is whole. An error of the reader is returned as it is, after all items before it.
+    /// The next call reads on. An error of the stream, also that it ended within an item, is an [`io::Error`] with the
+    /// [`Error`] in it, and ends the iteration.
+    ///
+    /// ```
+    /// use pendratsoa::{Decoder, Item};
+    ///
+    /// let input = &[0, 3, 0, 0, 0, 0, 0, 0, 0, 3, 0, 0, 0, 0, 0, 0][..];
+    /// for item in Decoder::new(8)?.read(input) {
+    ///     let item = item?;
+    ///     if let Item::Message(message) = item.item() {
+    ///         assert_eq!(message.type_name()?, "End");
+    ///     }
+    /// }
+    /// # Ok::<(), Box<dyn std::error::Error>>(())
+    /// ```
+    pub fn read<R: Read>(&mut self, reader: R) -> ReadItems<'_, R> {
+        ReadItems {
+            decoder: self,
+            reader,
+            has_ended: false,
+        }
     }
 
     /// Room for more bytes of the stream, of this number, for a reader that [`Decoder::read_from`] cannot take, as one
@@ -191,14 +218,20 @@ impl Decoder {
     /// let mut decoder = Decoder::new(8)?;
     /// decoder.feed(&[0, 3, 0, 0, 0, 0, 0, 0, 0, 3])?;
     /// assert_eq!(decoder.items().count(), 1);
-    /// assert_eq!(decoder.finish(), Err(Error::Incomplete(2)));
+    /// match decoder.finish() {
+    ///     Err(Error::Incomplete(error)) => assert_eq!((error.offset, error.rest), (8, 2)),
+    ///     other => panic!("{other:?}"),
+    /// }
     /// # Ok::<(), Error>(())
     /// ```
     pub fn finish(&self) -> Result<(), Error> {
-        match (&self.ended, self.rest()) {
-            (Some(error), _) => Err(error.clone()),
-            (None, 0) => Ok(()),
-            (None, rest) => Err(Error::Incomplete(rest)),
+        match &self.ended {
+            Some(error) => Err(error.clone()),
+            None if self.rest() == 0 => Ok(()),
+            None => {
+                let rest = &self.bytes[self.begin..self.end];
+                Err(Error::Incomplete(Incomplete::of(rest, self.taken)))
+            }
         }
     }
 
@@ -245,7 +278,33 @@ impl Decoder {
         }
     }
 
+    /// The next of the whole items, with bytes of its own, or `None` if no whole one is left. The errors are those of
+    /// [`Decoder::items`], and `Error::OutOfMemory`, which leaves the item where it is.
+    ///
+    /// ```
+    /// use pendratsoa::Decoder;
+    ///
+    /// let mut decoder = Decoder::new(8)?;
+    /// decoder.feed(&[0, 3, 0, 0, 0, 0, 0, 0])?;
+    /// let item = decoder.next_owned().unwrap()?;
+    /// // the decoder is free
+    /// decoder.feed(&[0, 3])?;
+    /// assert_eq!(item.to_string(), "End 0");
+    /// assert!(decoder.next_owned().is_none());
+    /// # Ok::<(), pendratsoa::Error>(())
+    /// ```
+    pub fn next_owned(&mut self) -> Option<Result<OwnedItem, Error>> {
+        let (begin, taken) = (self.begin, self.taken);
+        let owned = self.items().next()?.and_then(Item::into_owned);
+        if owned.is_err() {
+            self.begin = begin;
+            self.taken = taken;
+        }
+        Some(owned)
+    }
+
     /// The number of bytes that are in no item yet.
+    #[must_use]
     pub fn rest(&self) -> usize {
         self.end - self.begin
     }
@@ -277,6 +336,7 @@ impl<'a> Iterator for Items<'a> {
         let bytes = &self.bytes[*self.begin..];
         match next_item_within(self.version, self.max_message_size, bytes) {
             Ok(Next::Item { item, size }) => {
+                let item = item.with_offset(*self.taken);
                 *self.taken += size as u64;
                 *self.begin += size;
                 Some(Ok(item))
@@ -296,10 +356,44 @@ impl<'a> Iterator for Items<'a> {
 
 impl FusedIterator for Items<'_> {}
 
-/// What a reader that cannot give its bytes to a decoder reports.
-fn kind_of(error: &Error) -> ErrorKind {
-    match error {
-        Error::OutOfMemory => ErrorKind::OutOfMemory,
-        _ => ErrorKind::InvalidData,
+/// The items of a reader, by [`Decoder::read`].
+#[derive(Debug)]
+pub struct ReadItems<'a, R> {
+    decoder: &'a mut Decoder,
+    reader: R,
+    has_ended: bool,
+}
+
+impl<R: Read> Iterator for ReadItems<'_, R> {
+    type Item = io::Result<OwnedItem>;
+
+    fn next(&mut self) -> Option<io::Result<OwnedItem>> {
+        while !self.has_ended {
+            match self.decoder.next_owned() {
+                Some(Ok(item)) => return Some(Ok(item)),
+                Some(Err(Error::OutOfMemory)) => return Some(Err(Error::OutOfMemory.into())),
+                Some(Err(error)) => return self.end(Err(error)),
+                None => {}
+            }
+            match self.decoder.read_from(&mut self.reader) {
+                Ok(0) => {
+                    let finished = self.decoder.finish();
+                    return self.end(finished);
+                }
+                Ok(_) => {}
+                Err(error) => return Some(Err(error)),
+            }
+        }
+        None
     }
 }
+
+impl<R> ReadItems<'_, R> {
+    /// Ends the iteration, with this error if it is one.
+    fn end(&mut self, outcome: Result<(), Error>) -> Option<io::Result<OwnedItem>> {
+        self.has_ended = true;
+        outcome.err().map(|error| Err(error.into()))
+    }
+}
+
+impl<R: Read> FusedIterator for ReadItems<'_, R> {}

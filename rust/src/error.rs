@@ -2,7 +2,9 @@
 
 use std::error;
 use std::fmt;
+use std::io::{self, ErrorKind};
 
+use crate::calls::type_name;
 use crate::ffi::{About, Refusal};
 use crate::fields::FieldError;
 use crate::reading::JsonError;
@@ -35,8 +37,8 @@ pub enum Error {
     Json(JsonError),
     /// A field of a record cannot be encoded.
     Field(FieldError),
-    /// A stream ended within an item, after this number of bytes of it.
-    Incomplete(usize),
+    /// A stream ended within an item.
+    Incomplete(Incomplete),
     /// The library returned this, which the crate does not know, as a later version of the library may.
     Unexpected(String),
 }
@@ -57,12 +59,54 @@ pub enum Argument {
     PayloadLength(usize),
     /// The one payload of a call, of this length in bytes.
     Payload(usize),
+    /// The payload of a message.
+    MessagePayload(MessagePayload),
     /// A JSON text, of this length in bytes.
     Json(usize),
     /// The first payload of a call that has two, of this length in bytes.
     First(usize),
     /// The second payload of a call that has two, of this length in bytes.
     Second(usize),
+}
+
+/// The payload of a message: which message it is of, and how long it is.
+#[derive(Clone, Copy, Debug, PartialEq, Eq, Hash)]
+#[non_exhaustive]
+pub struct MessagePayload {
+    /// The code of the message's type.
+    pub code: u16,
+    /// Where the message begins in its stream, in bytes; `None` of one that came in no stream.
+    pub offset: Option<u64>,
+    /// The length of the payload in bytes.
+    pub length: usize,
+}
+
+/// The end of a stream within an item.
+#[derive(Clone, Copy, Debug, PartialEq, Eq, Hash)]
+#[non_exhaustive]
+pub struct Incomplete {
+    /// How many bytes of the item came.
+    pub rest: usize,
+    /// Where the item begins in the stream, in bytes.
+    pub offset: u64,
+    /// The code of its type; `None` if less than a header came.
+    pub code: Option<u16>,
+}
+
+impl Incomplete {
+    /// The end within the item that these bytes begin.
+    pub(crate) fn of(bytes: &[u8], offset: u64) -> Incomplete {
+        let code = announced(bytes).map(|(code, _)| code);
+        let rest = bytes.len();
+        Incomplete { rest, offset, code }
+    }
+}
+
+/// The code and the length that a header has, if these bytes begin with a whole one.
+fn announced(bytes: &[u8]) -> Option<(u16, u32)> {
+    let code = bytes.get(..2)?.try_into().ok()?;
+    let length = bytes.get(4..8)?.try_into().ok()?;
+    Some((u16::from_be_bytes(code), u32::from_be_bytes(length)))
 }
 
 /// A message whose payload has more bytes than is taken.
@@ -82,12 +126,7 @@ pub struct MessageTooLong {
 impl MessageTooLong {
     /// The message whose header these bytes begin with.
     pub(crate) fn of(bytes: &[u8], limit: u32) -> MessageTooLong {
-        let (code, length) = match *bytes {
-            [a, b, _, _, c, d, e, f, ..] => {
-                (u16::from_be_bytes([a, b]), u32::from_be_bytes([c, d, e, f]))
-            }
-            _ => (0, 0),
-        };
+        let (code, length) = announced(bytes).unwrap_or_default();
         MessageTooLong {
             code,
             length,
@@ -98,6 +137,75 @@ impl MessageTooLong {
 }
 
 impl Error {
+    /// The code of the type of the message, or of the item, that the error is about.
+    ///
+    /// That of a payload's error that a method of [`Message`](crate::Message) returned, of `Error::MessageTooLong`, and
+    /// of `Error::Incomplete` if a header came; otherwise `None`.
+    ///
+    /// ```
+    /// use pendratsoa::{Decoder, Item};
+    ///
+    /// let mut decoder = Decoder::new(8)?;
+    /// decoder.feed(&[0, 3, 0, 0, 0, 0, 0, 0, 4, 3, 0, 0, 0, 0, 0, 3, 0x0A, 5, b'a'])?;
+    /// for item in decoder.items() {
+    ///     let item = item?;
+    ///     if let Item::Message(message) = item {
+    ///         if let Err(error) = message.json() {
+    ///             assert_eq!((error.code(), error.offset()), (Some(0x0403), Some(8)));
+    ///             let text = "SetStateCommand at offset 8: the payload of 3 bytes is malformed";
+    ///             assert_eq!(error.to_string(), text);
+    ///         }
+    ///     }
+    /// }
+    /// # Ok::<(), pendratsoa::Error>(())
+    /// ```
+    #[must_use]
+    pub fn code(&self) -> Option<u16> {
+        match self {
+            Error::MessageTooLong(error) => Some(error.code),
+            Error::Incomplete(error) => error.code,
+            _ => self.message_payload().map(|payload| payload.code),
+        }
+    }
+
+    /// Where the message, or the item, that the error is about begins in its stream, in bytes; `None` of an error that
+    /// is about none, and of a message that came in no stream.
+    #[must_use]
+    pub fn offset(&self) -> Option<u64> {
+        match self {
+            Error::MessageTooLong(error) => Some(error.offset),
+            Error::Incomplete(error) => Some(error.offset),
+            _ => self.message_payload().and_then(|payload| payload.offset),
+        }
+    }
+
+    fn message_payload(&self) -> Option<&MessagePayload> {
+        match self {
+            Error::Malformed(Argument::MessagePayload(payload))
+            | Error::NoId(Argument::MessagePayload(payload))
+            | Error::NoResult(Argument::MessagePayload(payload)) => Some(payload),
+            _ => None,
+        }
+    }
+
+    /// The error, which says of which message it is if it is one of the payload.
+    pub(crate) fn of_message(self, code: u16, offset: Option<u64>) -> Error {
+        let within = |argument| match argument {
+            Argument::Payload(length) => Argument::MessagePayload(MessagePayload {
+                code,
+                offset,
+                length,
+            }),
+            argument => argument,
+        };
+        match self {
+            Error::Malformed(argument) => Error::Malformed(within(argument)),
+            Error::NoId(argument) => Error::NoId(within(argument)),
+            Error::NoResult(argument) => Error::NoResult(within(argument)),
+            error => error,
+        }
+    }
+
     /// The error for an error number, by the argument that it can be about.
     pub(crate) fn of(refusal: Refusal, argument: impl FnOnce(About) -> Argument) -> Error {
         match refusal {
@@ -155,13 +263,7 @@ impl fmt::Display for Error {
             }
             Error::Json(error) => write!(f, "the JSON text: {error}"),
             Error::Field(error) => write!(f, "the field {error}"),
-            Error::Incomplete(rest) => {
-                write!(
-                    f,
-                    "the stream ended within an item, after {} of it",
-                    bytes(*rest)
-                )
-            }
+            Error::Incomplete(error) => error.fmt(f),
             Error::Unexpected(what) => {
                 write!(
                     f,
@@ -185,6 +287,19 @@ fn write_unknown_version(f: &mut fmt::Formatter<'_>, number: u32) -> fmt::Result
 
 impl error::Error for Error {}
 
+/// The kind is `OutOfMemory` of a failed allocation, `UnexpectedEof` of `Error::Incomplete`, and otherwise
+/// `InvalidData`; `get_ref` has the [`Error`].
+impl From<Error> for io::Error {
+    fn from(error: Error) -> io::Error {
+        let kind = match error {
+            Error::OutOfMemory => ErrorKind::OutOfMemory,
+            Error::Incomplete(_) => ErrorKind::UnexpectedEof,
+            _ => ErrorKind::InvalidData,
+        };
+        io::Error::new(kind, error)
+    }
+}
+
 impl fmt::Display for MessageTooLong {
     fn fmt(&self, f: &mut fmt::Formatter<'_>) -> fmt::Result {
         let MessageTooLong {
@@ -202,6 +317,35 @@ impl fmt::Display for MessageTooLong {
 
 impl error::Error for MessageTooLong {}
 
+impl fmt::Display for Incomplete {
+    fn fmt(&self, f: &mut fmt::Formatter<'_>) -> fmt::Result {
+        let Incomplete { rest, offset, code } = self;
+        let item = code.map_or_else(|| "an item".to_owned(), name);
+        let came = bytes(*rest);
+        write!(
+            f,
+            "the stream ended within {item} at offset {offset}, after {came} of it"
+        )
+    }
+}
+
+impl error::Error for Incomplete {}
+
+impl fmt::Display for MessagePayload {
+    fn fmt(&self, f: &mut fmt::Formatter<'_>) -> fmt::Result {
+        f.write_str(&name(self.code))?;
+        if let Some(offset) = self.offset {
+            write!(f, " at offset {offset}")?;
+        }
+        write!(f, ": the payload of {}", bytes(self.length))
+    }
+}
+
+/// The name of a type, or its code if no type has it.
+fn name(code: u16) -> String {
+    type_name(code).unwrap_or_else(|_| format!("code {code:#06x}"))
+}
+
 impl fmt::Display for Argument {
     fn fmt(&self, f: &mut fmt::Formatter<'_>) -> fmt::Result {
         match self {
@@ -211,6 +355,7 @@ impl fmt::Display for Argument {
             Argument::Name(name) => write!(f, "the name {name:?}"),
             Argument::PayloadLength(length) => write!(f, "the payload length {length}"),
             Argument::Payload(length) => write!(f, "the payload of {}", bytes(*length)),
+            Argument::MessagePayload(payload) => payload.fmt(f),
             Argument::Json(length) => write!(f, "the JSON text of {}", bytes(*length)),
             Argument::First(length) => write!(f, "the first payload of {}", bytes(*length)),
             Argument::Second(length) => write!(f, "the second payload of {}", bytes(*length)),
@@ -289,8 +434,24 @@ mod tests {
                 "the first payload of 2 bytes has an id, and no result",
             ),
             (
-                Error::Incomplete(1),
-                "the stream ended within an item, after 1 byte of it",
+                Error::Incomplete(Incomplete::of(&[4], 17)),
+                "the stream ended within an item at offset 17, after 1 byte of it",
+            ),
+            (
+                Error::Incomplete(Incomplete::of(&[4, 3, 0, 0, 0, 0, 0, 1], 17)),
+                "the stream ended within SetStateCommand at offset 17, after 8 bytes of it",
+            ),
+            (
+                Error::Incomplete(Incomplete::of(&[0, 8, 0, 0, 0, 0, 0, 1, 2], 0)),
+                "the stream ended within code 0x0008 at offset 0, after 9 bytes of it",
+            ),
+            (
+                Error::NoId(Argument::Payload(2)).of_message(0x800D, Some(3)),
+                "CallCompletionNotification at offset 3: the payload of 2 bytes has no id",
+            ),
+            (
+                Error::Malformed(Argument::Payload(2)).of_message(0x0403, None),
+                "SetStateCommand: the payload of 2 bytes is malformed",
             ),
             (
                 Error::unexpected("the error", -12),

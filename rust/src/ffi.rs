@@ -170,7 +170,7 @@ mod tests {
             // SAFETY: there is room for it
             unsafe { out.copy_from_nonoverlapping(text.as_ptr(), text.len()) };
         }
-        text.len() as i64
+        i64::try_from(text.len()).unwrap()
     }
 
     #[test]

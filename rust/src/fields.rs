@@ -171,6 +171,8 @@ fn rejected(entries: &[Entry], schema: u32, number: u64, index: u64) -> Error {
 }
 
 /// What leads to the last of these entries, as `headers[2].key`.
+// a level is at most one hundred
+#[allow(clippy::cast_possible_truncation)]
 fn path(schema: usize, entries: &[Entry]) -> String {
     let mut levels: Vec<(usize, Vec<u64>)> = vec![(schema, Vec::new())];
     let mut names: Vec<String> = Vec::new();

@@ -1,6 +1,7 @@
 //! The items of streams.
 
 use std::fmt;
+use std::hash::{Hash, Hasher};
 use std::io::{self, Write};
 
 use crate::calls::{
@@ -15,7 +16,38 @@ use crate::messages::AnyMessage;
 use crate::notification::{notification, Notification};
 use crate::reading::from_json;
 
-/// An item of a stream. It borrows the bytes of the stream, and copies none.
+/// Where an item begins in its stream. It takes no part in a comparison: the same item may come twice.
+#[derive(Clone, Copy)]
+struct Place(u64);
+
+impl Place {
+    /// That of an item that came in no stream: an offset that no item has. An `Option` would be twice as long.
+    const NOWHERE: Place = Place(u64::MAX);
+
+    fn offset(self) -> Option<u64> {
+        (self.0 != u64::MAX).then_some(self.0)
+    }
+}
+
+impl PartialEq for Place {
+    fn eq(&self, _: &Place) -> bool {
+        true
+    }
+}
+
+impl Eq for Place {}
+
+impl Hash for Place {
+    fn hash<H: Hasher>(&self, _: &mut H) {}
+}
+
+impl fmt::Debug for Place {
+    fn fmt(&self, f: &mut fmt::Formatter<'_>) -> fmt::Result {
+        self.offset().fmt(f)
+    }
+}
+
+/// An item of a stream. It borrows the bytes of the stream, and copies none. Where it begins is not compared.
 #[derive(Clone, Copy, Debug, PartialEq, Eq, Hash)]
 pub enum Item<'a> {
     /// A message of a named type, or a custom entry.
@@ -40,6 +72,7 @@ pub struct Message<'a> {
     pub requested_ack: bool,
     /// The payload as it came, which need not be well-formed.
     pub payload: &'a [u8],
+    offset: Place,
 }
 
 /// Eight bytes of a stream whose code is no type's.
@@ -52,6 +85,7 @@ pub struct UnknownCode {
     pub code: u16,
     /// The eight bytes, as a big-endian number.
     pub word: u64,
+    offset: Place,
 }
 
 /// A message of an unknown type.
@@ -66,12 +100,97 @@ pub struct Skipped<'a> {
     pub word: u64,
     /// The payload that is skipped.
     pub payload: &'a [u8],
+    offset: Place,
 }
 
 impl<'a> Item<'a> {
+    /// Where the item begins in its stream, in bytes. An item of a [`Decoder`](crate::Decoder) has an offset; one of
+    /// [`next_item`] has none, since no stream is known there.
+    #[must_use]
+    pub fn offset(&self) -> Option<u64> {
+        match self {
+            Item::Message(message) => message.offset(),
+            Item::UnknownCode(unknown) => unknown.offset(),
+            Item::Skipped(skipped) => skipped.offset(),
+        }
+    }
+
+    /// The item as one that begins at this offset of its stream.
+    ///
+    /// ```
+    /// use pendratsoa::{next_item, Next};
+    ///
+    /// let stream = [0, 3, 0, 0, 0, 0, 0, 0, 0, 3, 0, 0, 0, 0, 0, 0];
+    /// let mut offset = 0;
+    /// while let Next::Item { item, size } = next_item(8, &stream[offset..])? {
+    ///     let item = item.with_offset(offset as u64);
+    ///     assert_eq!(item.offset(), Some(offset as u64));
+    ///     offset += size;
+    /// }
+    /// assert_eq!(offset, 16);
+    /// # Ok::<(), pendratsoa::Error>(())
+    /// ```
+    #[must_use]
+    pub fn with_offset(mut self, offset: u64) -> Item<'a> {
+        let place = match &mut self {
+            Item::Message(message) => &mut message.offset,
+            Item::UnknownCode(unknown) => &mut unknown.offset,
+            Item::Skipped(skipped) => &mut skipped.offset,
+        };
+        *place = Place(offset);
+        self
+    }
+
+    /// The record of the payload, if the item is a message of the type of that record, and otherwise `None`, as
+    /// [`Message::record`].
+    ///
+    /// ```
+    /// use pendratsoa::messages::SetStateCommandMessage;
+    /// use pendratsoa::Decoder;
+    ///
+    /// let mut decoder = Decoder::new(8)?;
+    /// decoder.feed(b"\0\x03\0\0\0\0\0\0\x04\x03\0\0\0\0\0\x03\n\x01a")?;
+    /// for item in decoder.items() {
+    ///     if let Some(command) = item?.record::<SetStateCommandMessage>()? {
+    ///         assert_eq!(*command.key, *b"a");
+    ///     }
+    /// }
+    /// # Ok::<(), pendratsoa::Error>(())
+    /// ```
+    pub fn record<R: MessageRecord<'a>>(&self) -> Result<Option<R>, Error> {
+        match self {
+            Item::Message(message) => message.record(),
+            Item::UnknownCode(_) | Item::Skipped(_) => Ok(None),
+        }
+    }
+
+    /// The item with bytes of its own. `Error::OutOfMemory`.
+    pub fn into_owned(self) -> Result<OwnedItem, Error> {
+        let (_, borrowed) = self.parts();
+        let mut payload = Vec::new();
+        payload
+            .try_reserve_exact(borrowed.len())
+            .map_err(|_| Error::OutOfMemory)?;
+        payload.extend_from_slice(borrowed);
+        Ok(OwnedItem {
+            item: self.with_payload(&[]),
+            payload,
+        })
+    }
+
+    /// The item with another payload, if it has one.
+    fn with_payload(self, payload: &[u8]) -> Item<'_> {
+        match self {
+            Item::Message(message) => Item::Message(Message { payload, ..message }),
+            Item::UnknownCode(unknown) => Item::UnknownCode(unknown),
+            Item::Skipped(skipped) => Item::Skipped(Skipped { payload, ..skipped }),
+        }
+    }
+
     /// The header, or the eight bytes of an unknown code, and the payload after it: together the item as it came.
     ///
     /// An item as it came is what a proxy passes on if it does not change it.
+    #[must_use]
     pub fn parts(&self) -> ([u8; 8], &'a [u8]) {
         let (word, payload) = match *self {
             Item::Message(message) => (message.word, message.payload),
@@ -138,6 +257,45 @@ impl fmt::Display for Item<'_> {
     }
 }
 
+/// An item with bytes of its own, of which [`OwnedItem::item`] is the item.
+#[derive(Clone, Debug, PartialEq, Eq, Hash)]
+pub struct OwnedItem {
+    /// The item, without its payload.
+    item: Item<'static>,
+    payload: Vec<u8>,
+}
+
+impl OwnedItem {
+    /// The item, which borrows the bytes of this one.
+    #[must_use]
+    pub fn item(&self) -> Item<'_> {
+        self.item.with_payload(&self.payload)
+    }
+}
+
+/// The line of a listing, as that of an [`Item`].
+impl fmt::Display for OwnedItem {
+    fn fmt(&self, f: &mut fmt::Formatter<'_>) -> fmt::Result {
+        self.item().fmt(f)
+    }
+}
+
+impl UnknownCode {
+    /// Where the eight bytes begin in their stream, in bytes, as [`Item::offset`].
+    #[must_use]
+    pub fn offset(&self) -> Option<u64> {
+        self.offset.offset()
+    }
+}
+
+impl Skipped<'_> {
+    /// Where the message begins in its stream, in bytes, as [`Item::offset`].
+    #[must_use]
+    pub fn offset(&self) -> Option<u64> {
+        self.offset.offset()
+    }
+}
+
 impl<'a> From<Message<'a>> for Item<'a> {
     fn from(message: Message<'a>) -> Item<'a> {
         Item::Message(message)
@@ -174,6 +332,7 @@ impl<'a> Message<'a> {
             word,
             requested_ack,
             payload,
+            offset: Place::NOWHERE,
         })
     }
 
@@ -202,7 +361,20 @@ impl<'a> Message<'a> {
         Message::new(version, code, buffer)
     }
 
+    /// Where the message begins in its stream, in bytes, as [`Item::offset`]; `None` of one that came in no stream. An
+    /// error of the payload has it too ([`Error::offset`]).
+    #[must_use]
+    pub fn offset(&self) -> Option<u64> {
+        self.offset.offset()
+    }
+
+    /// The error, which says of which message it is if it is one of the payload.
+    fn located(&self, error: Error) -> Error {
+        error.of_message(self.code, self.offset())
+    }
+
     /// The type, or `None` if this crate knows none of the code, as of a type that a later library has.
+    #[must_use]
     pub fn message_type(&self) -> Option<MessageType> {
         MessageType::from_code(self.code)
     }
@@ -255,6 +427,7 @@ impl<'a> Message<'a> {
         AnyMessage::read(schema, self.payload)
             .unwrap_or_else(|| Err(Error::unexpected("the schema", schema)))
             .map(Some)
+            .map_err(|error| self.located(error))
     }
 
     /// The record of the payload, if the message is of the type of that record, and otherwise `None`; it borrows the
@@ -277,17 +450,19 @@ impl<'a> Message<'a> {
         if self.code != R::TYPE.code() || self.schema()? != R::SCHEMA.number() {
             return Ok(None);
         }
-        R::decode(self.payload).map(Some)
+        R::decode(self.payload)
+            .map(Some)
+            .map_err(|error| self.located(error))
     }
 
     /// The JSON of what the payload means, as [`to_json`] writes it.
     pub fn json(&self) -> Result<String, Error> {
-        to_json(self.schema()?, self.payload)
+        to_json(self.schema()?, self.payload).map_err(|error| self.located(error))
     }
 
     /// The canonical encoding of the payload.
     pub fn canonical(&self) -> Result<Vec<u8>, Error> {
-        canonical(self.schema()?, self.payload)
+        canonical(self.schema()?, self.payload).map_err(|error| self.located(error))
     }
 
     /// The frame of the message at its own version: a header, and the canonical payload after it.
@@ -312,7 +487,8 @@ impl<'a> Message<'a> {
             Some(earlier) => {
                 append_earlier_frame(version, self.code, earlier, &self.canonical()?, out)
             }
-            None => append_frame(version, self.code, self.payload, out),
+            None => append_frame(version, self.code, self.payload, out)
+                .map_err(|error| self.located(error)),
         }
     }
 
@@ -334,17 +510,16 @@ impl<'a> Message<'a> {
     }
 
     /// Writes the frame of the message at its own version, as [`Message::frame`]. What is no error of the writer is one
-    /// of the kind `InvalidData` that holds the [`Error`].
+    /// that holds the [`Error`], of the kind `InvalidData`, or `OutOfMemory`.
     pub fn write_frame<W: Write>(&self, mut writer: W) -> io::Result<()> {
-        let frame = self
-            .frame()
-            .map_err(|error| io::Error::new(io::ErrorKind::InvalidData, error))?;
-        writer.write_all(&frame)
+        writer.write_all(&self.frame()?)
     }
 
     /// The id and the result, if it is a notification.
+    ///
+    /// `Error::Unknown` if it is none; `Error::Malformed`, `Error::NoId`, `Error::NoResult`, `Error::OutOfMemory`.
     pub fn notification(&self) -> Result<Notification, Error> {
-        notification(self.code, self.payload)
+        notification(self.code, self.payload).map_err(|error| self.located(error))
     }
 }
 
@@ -423,6 +598,7 @@ fn item_of(version: u32, bytes: &[u8], numbers: [u64; 6]) -> Result<Next<'_>, Er
     let payload = bytes
         .get(begin..size)
         .ok_or_else(|| Error::unexpected("the size", size))?;
+    let offset = Place::NOWHERE;
     let item = match kind {
         ITEM_MESSAGE => Item::Message(Message {
             version,
@@ -430,17 +606,20 @@ fn item_of(version: u32, bytes: &[u8], numbers: [u64; 6]) -> Result<Next<'_>, Er
             word,
             requested_ack: ack == 1,
             payload,
+            offset,
         }),
         ITEM_UNKNOWN_CODE => Item::UnknownCode(UnknownCode {
             version,
             code,
             word,
+            offset,
         }),
         ITEM_SKIPPED => Item::Skipped(Skipped {
             version,
             code,
             word,
             payload,
+            offset,
         }),
         kind => return Err(Error::unexpected("the kind of item", kind)),
     };
@@ -460,7 +639,7 @@ mod tests {
     #[test]
     fn each_kind_is_an_item() {
         let (version, code, word, payload) = (8, 0xFC01, 5, &BYTES[8..]);
-        let requested_ack = true;
+        let (requested_ack, offset) = (true, Place::NOWHERE);
         for (number, item) in [
             (
                 0,
@@ -470,6 +649,7 @@ mod tests {
                     word,
                     requested_ack,
                     payload,
+                    offset,
                 }),
             ),
             (
@@ -478,6 +658,7 @@ mod tests {
                     version,
                     code,
                     word,
+                    offset,
                 }),
             ),
             (
@@ -487,6 +668,7 @@ mod tests {
                     code,
                     word,
                     payload,
+                    offset,
                 }),
             ),
         ] {

@@ -24,7 +24,11 @@
 //! - Functions may be called from any thread at once, and every type here is [`Send`] and [`Sync`].
 //! - The deepest payloads take 32 KiB of stack, and 160 KiB in [`to_json`]; the deepest texts 320 KiB in [`from_json`].
 #![deny(unsafe_code, unsafe_op_in_unsafe_fn)]
-#![warn(missing_docs)]
+#![warn(missing_docs, clippy::pedantic)]
+// a sentence of each comment has the errors: a heading for each of them would be most of the page
+#![allow(clippy::missing_errors_doc)]
+// `if let .. else` in the place of a match is not shorter with a block for each
+#![allow(clippy::single_match_else)]
 
 #[cfg(doctest)]
 #[doc = include_str!("../README.md")]
@@ -33,6 +37,12 @@ struct Readme;
 mod calls;
 mod decoder;
 mod error;
+// the functions over each field are in one loop over the fields of a record; fields and their defaults are generated
+#[allow(
+    clippy::default_trait_access,
+    clippy::inline_always,
+    clippy::struct_field_names
+)]
 mod ffi;
 mod fields;
 mod item;
@@ -40,6 +50,13 @@ mod journals;
 #[rustfmt::skip]
 mod kinds;
 mod message_type;
+// generated: a record is written alike, however many fields it has; an older clippy does not know each of these
+#[allow(unknown_lints)]
+#[allow(
+    clippy::default_trait_access,
+    clippy::elidable_lifetime_names,
+    clippy::too_many_lines
+)]
 #[rustfmt::skip]
 pub mod messages;
 mod notification;
@@ -50,10 +67,10 @@ pub use calls::{
     append_frame, canonical, difference, frame, header, header_eq, is_well_formed, library_version,
     merge, schema, to_json, type_code, type_name,
 };
-pub use decoder::{Decoder, Items};
-pub use error::{Argument, Error, MessageTooLong};
+pub use decoder::{Decoder, Items, ReadItems};
+pub use error::{Argument, Error, Incomplete, MessagePayload, MessageTooLong};
 pub use fields::FieldError;
-pub use item::{next_item, next_item_within, Item, Message, Next, Skipped, UnknownCode};
+pub use item::{next_item, next_item_within, Item, Message, Next, OwnedItem, Skipped, UnknownCode};
 pub use journals::{compare_journals, Verdict, VerdictKind};
 pub use kinds::{FieldReason, Version};
 pub use message_type::MessageType;

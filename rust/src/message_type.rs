@@ -154,6 +154,7 @@ impl MessageType {
     ];
 
     /// The code of the type in headers.
+    #[must_use]
     pub const fn code(self) -> u16 {
         match self {
             MessageType::Start => 0x0000,
@@ -204,6 +205,7 @@ impl MessageType {
     /// The name of the type, as `SleepCommand`; that of every custom entry is `CustomEntry`.
     ///
     /// A type displays as its name, but a custom entry with its code, as `CustomEntry(64513)`.
+    #[must_use]
     pub const fn name(self) -> &'static str {
         match self {
             MessageType::Start => "Start",
@@ -262,6 +264,7 @@ impl MessageType {
     }
 
     /// The type that has the code, or `None` if no type has it.
+    #[must_use]
     pub const fn from_code(code: u16) -> Option<MessageType> {
         Some(match code {
             0x0000 => MessageType::Start,
@@ -311,6 +314,7 @@ impl MessageType {
     }
 
     /// The named type that has the name, or `None` if none has.
+    #[must_use]
     pub fn from_name(name: &str) -> Option<MessageType> {
         MessageType::NAMED
             .into_iter()
@@ -318,11 +322,13 @@ impl MessageType {
     }
 
     /// Whether it is a command, by its code. Custom entries count by their codes too.
+    #[must_use]
     pub fn is_command(self) -> bool {
         (0x0400..0x8000).contains(&self.code())
     }
 
     /// Whether it is a notification, by its code. Custom entries count by their codes too.
+    #[must_use]
     pub fn is_notification(self) -> bool {
         (0x8000..0xFC00).contains(&self.code())
     }

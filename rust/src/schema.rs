@@ -187,11 +187,13 @@ impl Schema {
     ];
 
     /// The number of the schema, from 0 on.
+    #[must_use]
     pub const fn number(self) -> u32 {
         self as u32
     }
 
     /// The name of the schema, as `SleepCommandMessage`. A schema displays as its name.
+    #[must_use]
     pub const fn name(self) -> &'static str {
         match self {
             Schema::Void => "Void",
@@ -267,11 +269,13 @@ impl Schema {
     }
 
     /// The schema that has the number, or `None` if none has it.
+    #[must_use]
     pub fn from_number(number: u32) -> Option<Schema> {
         Schema::ALL.get(usize::try_from(number).ok()?).copied()
     }
 
     /// The schema that has the name, or `None` if none has it.
+    #[must_use]
     pub fn from_name(name: &str) -> Option<Schema> {
         Schema::ALL.into_iter().find(|schema| schema.name() == name)
     }

@@ -71,7 +71,6 @@ fn suspensions_of_each_version() {
         (6, v6, 7, unknown(7)),
         (5, v6, 9, unknown(9)),
         (6, v6, 10, unknown(10)),
-        (6, b"\n\x04", 6, Err(Error::Malformed(Argument::Payload(2)))),
         (7, v7, 7, whole.clone()),
         (9, v7, 8, whole),
         (9, v7, 6, flattened.clone()),
@@ -85,6 +84,14 @@ fn suspensions_of_each_version() {
             assert_eq!(out[1..], wanted.unwrap_or_default());
         }
     }
+    let malformed = Message::new(6, MessageType::Suspension.code(), b"\n\x04").unwrap();
+    let (mut out, error) = (vec![7], malformed.frame().unwrap_err());
+    assert_eq!(
+        error.to_string(),
+        "Suspension: the payload of 2 bytes is malformed"
+    );
+    assert_eq!(malformed.append_frame(&mut out), Err(error));
+    assert_eq!(out, [7]);
 }
 
 #[test]
@@ -167,7 +174,10 @@ fn a_decoder_has_room_for_what_comes_in_another_way() {
     assert_eq!(decoder.rest(), 0);
     decoder.room(2).unwrap();
     decoder.advance(9);
-    assert_eq!(decoder.finish(), Err(Error::Incomplete(2)));
+    match decoder.finish() {
+        Err(Error::Incomplete(error)) => assert_eq!(error.rest, 2),
+        other => panic!("{other:?}"),
+    }
     assert_eq!(decoder.room(usize::MAX / 2), Err(Error::OutOfMemory));
     assert_eq!(decoder.rest(), 2);
     decoder.advance(1);

@@ -79,10 +79,14 @@ fn the_record_of_one_type() {
     // the payload of another type is not looked at
     let malformed = Message::new(8, code, &[10]).unwrap();
     assert_eq!(malformed.record::<ErrorMessage<'_>>(), Ok(None));
-    assert_eq!(
-        malformed.record::<SetStateCommandMessage<'_>>(),
-        Err(Error::Malformed(Argument::Payload(1)))
-    );
+    let error = malformed
+        .record::<SetStateCommandMessage<'_>>()
+        .unwrap_err();
+    assert!(matches!(
+        error,
+        Error::Malformed(Argument::MessagePayload(_))
+    ));
+    assert_eq!((error.code(), error.offset()), (Some(code), None));
     let entry = Message::new(8, 0xFC01, &[10]).unwrap();
     assert_eq!(entry.record::<SetStateCommandMessage<'_>>(), Ok(None));
     // a suspension has the record of its version

@@ -42,7 +42,7 @@ func list(input io.Reader, version int, output io.Writer) error {
 	decoder := pendratsoa.NewDecoder(input, version)
 	for {
 		item, err := decoder.Next()
-		if err == io.EOF || err == io.ErrUnexpectedEOF {
+		if err == io.EOF || errors.Is(err, io.ErrUnexpectedEOF) {
 			break
 		} else if err != nil {
 			return err

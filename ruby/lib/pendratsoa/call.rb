@@ -33,29 +33,34 @@ module Pendratsoa
       too_deep: "too deep"
     }.freeze
 
-    def initialize(name, **arguments)
+    # What checks each argument that is no String.
+    CHECKS = { version: :version, code: :code, schema: :schema, payload_length: :length, ignore_payloads: :flag }.freeze
+
+    # The code has to be that of this kind, as "a command".
+    def initialize(name, kind = "a type", **arguments)
       @name = name
+      @kind = kind
       @arguments = arguments
-      # of which kind the code has to be
-      @kind = "a type"
-      # how many bytes are passed
-      @size = 0
+    end
+
+    # All arguments, as the library takes them.
+    def checked
+      @arguments.each_key.map { |argument| public_send(CHECKS.fetch(argument, :data), argument) }
     end
 
     # The number of a version.
-    def version
-      unsigned(:version, 32)
+    def version(argument = :version)
+      unsigned(argument, 32)
     end
 
-    # The code of a type of this kind, as "a command".
-    def code(kind)
-      @kind = kind
-      unsigned(:code, 16)
+    # The code of a type.
+    def code(argument)
+      unsigned(argument, 16)
     end
 
     # The number of a schema, which may be given by the name of its record.
-    def schema
-      name = @arguments.fetch(:schema)
+    def schema(argument)
+      name = @arguments.fetch(argument)
       return unsigned(:schema, 32) unless name.is_a?(String)
 
       SCHEMA_NAMES.index(name) || raise(unknown(:schema))
@@ -71,41 +76,36 @@ module Pendratsoa
       number
     end
 
-    # Bytes and their number. They are a frozen copy, which shares what is long: no thread can change it.
+    # Whether something is so, as a number.
+    def flag(argument)
+      @arguments.fetch(argument) ? 1 : 0
+    end
+
+    # Bytes. They are a frozen copy, which shares what is long: no thread can change it.
     def data(argument)
       value = @arguments.fetch(argument)
       raise TypeError, "#{@name}: #{argument} must be a String, not #{value.class}" unless value.is_a?(String)
 
-      bytes = String.new(value).force_encoding(Encoding::BINARY).freeze
-      @size += bytes.bytesize
-      [bytes, bytes.bytesize]
+      String.new(value).force_encoding(Encoding::BINARY).freeze
     end
 
     # What a function returns, if that is no error.
-    def returned(function, *parameters)
-      number = Library.call(function, *parameters)
+    def returned(number)
       raise refused(number) if number.negative?
 
       number
     end
 
-    # The bytes that a function writes.
-    def written(function, *parameters)
-      # which is enough for most results, so that they are made once
-      room = 256 + (@size * 3 / 2)
+    # The bytes that a function writes, which has these parameters before them, into room that is tried first.
+    def written(function, parameters, room)
       loop do
-        Fiddle::Pointer.malloc(room, Fiddle::RUBY_FREE) do |out|
-          needed = returned(function, *parameters, out, room)
+        Fiddle::Pointer.malloc([room, 1].max, Fiddle::RUBY_FREE) do |out|
+          needed = returned(Library.call(function, *parameters, out, room))
           return out[0, needed] if needed <= room
 
           room = needed
         end
       end
-    end
-
-    # The text that a function writes.
-    def text(function, *parameters)
-      written(function, *parameters).force_encoding(Encoding::UTF_8)
     end
 
     # The error of a rejected JSON text: the reason, the offset, and the path to the rejected value.

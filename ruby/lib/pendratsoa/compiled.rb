@@ -1,16 +1,20 @@
 # frozen_string_literal: true
 
 module Pendratsoa
-  # The compiled module, where it is there for this Ruby: it reads and writes records without Fiddle. Where it is not,
-  # since there was no compiler or it is of another Ruby, or where PENDRATSOA_PURE is set, all of it is done in Ruby. It
-  # is used from the first call on, which loads the library; until then it leaves all to Ruby.
+  # The compiled module, where it is there for this Ruby: it makes all calls of the library, reads and writes records,
+  # and takes items from streams. Where it is not, since there was no compiler or it is of another Ruby, or where
+  # PENDRATSOA_PURE is set, all of it is done in Ruby, by Fiddle. The first call loads the library, whose functions the
+  # module takes by their addresses.
   module Compiled
     FILE = File.join(__dir__, RbConfig::CONFIG.fetch("ruby_version"), "compiled.so")
     SHAPES = %i[plain optional repeated member].freeze
 
     # The records, as the module takes them.
     def self.records
-      RECORDS.map { |record| [record, record.defaults, record.entries.values.flatten.map { |row| row_of(row) }] }
+      RECORDS.map do |record|
+        code = record < MessageRecord ? record::CODE : -1
+        [record, code, record.defaults, record.entries.values.flatten.map { |row| row_of(row) }]
+      end
     end
 
     def self.row_of(row)
@@ -33,13 +37,24 @@ module Pendratsoa
       false
     end
 
-    # Gives it the functions of the library, once that is loaded, and the records.
+    # Gives it the functions of the library, once that is loaded, and what else it takes; later other functions.
     def self.start(functions)
-      use(*%i[journal_fields journal_payload_of_fields].map { |name| functions.fetch(name).to_i }, records) if COMPILED
+      return unless COMPILED
+
+      addresses = CALLS.each_key.map { |name| functions.fetch(name).to_i }
+      return point(addresses) if @is_started
+
+      use(addresses, records, [Message, UnknownCode, Skipped], SCHEMA_NAMES.each_with_index.to_h.freeze)
+      @is_started = true
+    end
+
+    # What comes of a stream and is in no item yet.
+    def self.pending(version, limit)
+      (COMPILED ? self::Pending : Pendratsoa.const_get(:Pending)).new(version, limit)
     end
   end
   private_constant :Compiled
 
-  # Whether the compiled module reads and writes records.
+  # Whether the compiled module makes the calls.
   COMPILED = Compiled.load
 end

@@ -62,6 +62,31 @@ module Pendratsoa
     journal_verdict: %i[u32 slice slice u32 slice slice]
   }.freeze
 
+  # A call that is made by its name: its function, its name in this gem, what it takes of its caller, what its code has
+  # to be that of, how many numbers it writes, whether it writes bytes, and the room for them that is tried first: a
+  # multiple of the bytes that it reads, and more.
+  NamedCall = Struct.new(:function, :name, :takes, :kind, :numbers, :writes, :times, :more)
+
+  # In the order in which the compiled module has them.
+  NAMED_CALLS = [
+    NamedCall.new(:journal_library_version, "library_version", %i[], "a type", 0, true, 0, 16),
+    NamedCall.new(:journal_schema, "schema", %i[version code], "a named type", 0, false, 0, 0),
+    NamedCall.new(:journal_type_name, "type_name", %i[code], "a type", 0, true, 0, 64),
+    NamedCall.new(:journal_type_code, "type_code", %i[name], "a type", 0, false, 0, 0),
+    NamedCall.new(:journal_header, "header", %i[version code payload_length], "a type", 0, true, 0, 8),
+    NamedCall.new(:journal_frame, "frame", %i[version code payload], "a named type", 0, true, 1, 32),
+    NamedCall.new(:journal_is_well_formed, "well_formed?", %i[schema payload], "a type", 0, false, 0, 0),
+    NamedCall.new(:journal_canonical, "canonical", %i[schema payload], "a type", 0, true, 1, 16),
+    NamedCall.new(:journal_merge, "merge", %i[schema first second], "a type", 0, true, 1, 16),
+    NamedCall.new(:journal_json, "to_json", %i[schema payload], "a type", 0, true, 2, 128),
+    NamedCall.new(:journal_payload_of_json, "from_json", %i[schema json], "a type", 2, true, 1, 0),
+    NamedCall.new(:journal_notification, "notification", %i[code payload], "a notification", 4, true, 1, 16),
+    NamedCall.new(:journal_header_eq, "header_eq?", %i[code first second ignore_payloads], "a command", 0, false, 0, 0),
+    NamedCall.new(:journal_difference, "difference", %i[code first second], "a command", 0, true, 0, 256),
+    NamedCall.new(:journal_verdict, "compare_journals", %i[version recorded replayed ignore_payloads], "a type", 2,
+      true, 0, 1024)
+  ].freeze
+
   # The class of each error, and the arguments one of which it is about.
   ERRORS = {
     -1 => [:Malformed, %i[payload first]],
@@ -77,5 +102,5 @@ module Pendratsoa
     -53 => [:Unknown, %i[code name]]
   }.freeze
   private_constant :ITEM_NUMBERS, :READ_NUMBERS, :FIELD_NUMBERS, :WRITING_NUMBERS, :NOTIFICATION_NUMBERS,
-    :VERDICT_NUMBERS, :CALLS, :ERRORS
+    :VERDICT_NUMBERS, :CALLS, :NamedCall, :NAMED_CALLS, :ERRORS
 end

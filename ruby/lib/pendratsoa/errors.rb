@@ -89,13 +89,15 @@ module Pendratsoa
 
   # A stream ended within an item.
   class Incomplete < Error
-    # How many bytes of the item came, and where it begins in the stream.
-    attr_reader :rest, :offset
+    # How many bytes of the item came, where it begins in the stream, and the code of its type, which is nil if fewer
+    # bytes came than a header has.
+    attr_reader :rest, :offset, :code
 
-    def initialize(message = nil, rest: 0, offset: 0, **details)
+    def initialize(message = nil, rest: 0, offset: 0, code: nil, **details)
       super(message, **details)
       @rest = rest
       @offset = offset
+      @code = code
     end
   end
 

@@ -129,8 +129,8 @@ module Pendratsoa
         found = nil
         kind, index = Library.numbers(WRITING_NUMBERS) do |room|
           table = @numbers.pack("Q*"), @numbers.length / NUMBERS
-          parameters = @record::SCHEMA, *table, *call.data(:payload), room, WRITING_NUMBERS
-          found = call.written(:journal_payload_of_fields, *parameters)
+          parameters = @record::SCHEMA, *table, @bytes, @bytes.bytesize, room, WRITING_NUMBERS
+          found = call.written(:journal_payload_of_fields, parameters, 256 + @bytes.bytesize)
         end
         reason = call.kind([nil, *FIELD_REASONS], kind, "a table of fields")
         return found unless reason

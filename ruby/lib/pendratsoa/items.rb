@@ -57,7 +57,7 @@ module Pendratsoa
     attr_reader :word
 
     def initialize(version, code, payload, requested_ack = false, word: nil, offset: nil)
-      bytes, = Call.new("Message.new", payload: payload).data(:payload)
+      bytes = Call.new("Message.new", payload: payload).data(:payload)
       super(version, code, bytes, requested_ack ? true : false)
       @word = word
       @offset = offset
@@ -69,9 +69,9 @@ module Pendratsoa
     # is: `frame` rejects one that is malformed. Unknown if there is no such version or type.
     def self.of(type, payload = "", version: 8)
       code = code_of(type)
-      bytes, length = Call.new("Message.of", payload: payload).data(:payload)
+      bytes = Call.new("Message.of", payload: payload).data(:payload)
       # the flag is the high bit of the third byte
-      new(version, code, bytes, Pendratsoa.header(version, code, length).getbyte(2) >= 0x80)
+      new(version, code, bytes, Pendratsoa.header(version, code, bytes.bytesize).getbyte(2) >= 0x80)
     end
 
     # The message of a type that JSON means: a text in protobuf's form, or a Hash as `json` returns it. Its payload is

@@ -8,12 +8,12 @@ module Pendratsoa
       payload = encode
       type = self.class
       return Earlier.frame("frame", version, type::CODE, type::SCHEMA, payload) if type.const_defined?(:BEFORE_VERSION)
-      return Pendratsoa.frame(version, type::CODE, payload) if Earlier.schema(version, type::CODE)
 
-      # what `encode` returns is canonical, and is not read again
-      call = Call.new("frame", version: version, code: type::CODE, payload_length: payload.bytesize)
-      call.written(:journal_header, call.version, call.code("a named type"), call.length(:payload_length)) << payload
+      Pendratsoa.frame(version, type::CODE, payload)
     end
+    # of the compiled module, which has a `frame` of its own
+    alias frame_in_ruby frame
+    private :frame_in_ruby
   end
 
   # A member of a oneof where its class alone does not tell it apart: it holds a value.
@@ -81,7 +81,7 @@ module Pendratsoa
     class << self
       # The record that a payload means, in any encoding. Malformed if it is not well-formed.
       def decode(payload)
-        bytes, = Call.new("decode", payload: payload).data(:payload)
+        bytes = Call.new("decode", payload: payload).data(:payload)
         numbers, bytes = Fields.of(self::SCHEMA, bytes)
         Fields::Reader.new(numbers, bytes).record(self, 0)
       end

@@ -21,6 +21,13 @@ module Pendratsoa
     def self.code(code)
       format("0x%04x", code)
     end
+
+    # The name of a type, or its code if no type has it.
+    def self.type(code)
+      Pendratsoa.type_name(code)
+    rescue Unknown
+      "code #{code(code)}"
+    end
   end
   private_constant :Shown
 end

@@ -19,6 +19,10 @@ module Pendratsoa
     # How many bytes are read at a time.
     CHUNK = 1 << 16
 
+    # How many bytes a header has.
+    HEADER = 8
+    private_constant :HEADER
+
     attr_reader :version
 
     # Yields the items that come from what is open for reading. Without a block it returns an Enumerator. Bytes at its
@@ -32,39 +36,33 @@ module Pendratsoa
       @call = Call.new("Stream", version: version, max_message_size: max_message_size)
       @version = @call.version
       @limit = max_message_size && @call.length(:max_message_size)
-      # how many bytes items have taken, and the error that ended the stream
-      @offset = 0
+      # what came and is in no item yet, which may be used by several threads; the error that ended the stream
+      @pending = Compiled.pending(@version, @limit)
       @ended = nil
-      @lock = Mutex.new
-      # what came, where that which is in no item yet begins in it, and how many bytes of that the next item needs
-      @bytes = String.new
-      @begin = 0
-      @needed = 0
-      look
+      # that there is no such version is known before anything came
+      take
     end
 
     # Appends the bytes of a String, and returns the stream.
     def feed(data)
-      bytes, = Call.new("feed", data: data).data(:data)
-      @lock.synchronize do
-        check
-        # used bytes are dropped once they are the greater part
-        drop_used if @begin > @bytes.bytesize / 2
-        @bytes << bytes
-      end
+      bytes = Call.new("feed", data: data).data(:data)
+      check
+      @pending.feed(bytes)
       self
     end
 
     # The number of bytes that are in no item yet.
     def rest
-      @lock.synchronize { @bytes.bytesize - @begin }
+      @pending.rest
     end
 
     # Yields the items that are whole. Without a block it returns an Enumerator.
     def each
       return enum_for unless block_given?
 
-      while (item = take)
+      pending = @pending
+      while (item = pending.take)
+        refuse(item) if item.is_a?(Integer)
         yield item
       end
       self
@@ -107,15 +105,23 @@ module Pendratsoa
       count = rest
       return if count.zero?
 
-      text = "the stream ended within the item at offset #{@offset}, after #{count} byte#{"s" if count > 1} of it"
-      raise Incomplete.new("#{call}: #{text}", call: call, rest: count, offset: @offset)
+      offset = @pending.offset
+      code = code_of_rest
+      where = "#{code ? Shown.type(code) : "an item"} at offset #{offset}"
+      text = "the stream ended within #{where}, after #{count} byte#{"s" if count > 1} of it"
+      raise Incomplete.new("#{call}: #{text}", call: call, rest: count, offset: offset, code: code)
+    end
+
+    # The code of the item that the rest begins, or nil if its header is not all there.
+    def code_of_rest
+      head = @pending.head
+      head.unpack1("n") if head.bytesize == HEADER
     end
 
     # A copy goes on by itself.
     def initialize_copy(original)
       super
-      @lock = Mutex.new
-      @bytes = @bytes.dup
+      @pending = @pending.dup
     end
 
     # The next bytes of an input, and nil at its end.
@@ -128,56 +134,20 @@ module Pendratsoa
 
     # Takes the next item from the bytes, or nil if not all of it came.
     def take
-      @lock.synchronize do
-        check
-        next if @bytes.bytesize - @begin < @needed
-
-        missing, numbers = look
-        @needed = missing.zero? ? 0 : @bytes.bytesize - @begin + missing
-        cut(*numbers) if missing.zero?
-      end
+      item = @pending.take
+      item.is_a?(Integer) ? refuse(item) : item
     end
 
-    # Looks for an item: returns how many bytes are missing at least, and the numbers of an item that is whole.
-    def look
-      missing = nil
-      whole = Fiddle::Pointer[@bytes]
-      numbers = Library.numbers(ITEM_NUMBERS) do |room|
-        rest = whole + @begin, whole.size - @begin
-        missing =
-          if @limit
-            @call.returned(:journal_next_within, @version, @limit, *rest, room, ITEM_NUMBERS)
-          else
-            @call.returned(:journal_next, @version, *rest, room, ITEM_NUMBERS)
-          end
-      end
-      [missing, numbers]
-    rescue TooLong
-      code, _, length = @bytes.byteslice(@begin, 8).unpack("nnN")
-      @ended = @call.message_too_long(code, @offset, length, @limit)
-      @bytes = String.new
-      @begin = 0
+    # Raises the error of a negative number, or that of a kind of items that is not known.
+    def refuse(number)
+      @call.kind(ITEM_KINDS, number, "an item") unless number.negative?
+      check
+      error = @call.refused(number)
+      raise error unless error.is_a?(TooLong) && @limit
+
+      code, _, length = @pending.head.unpack("nnN")
+      @ended = @call.message_too_long(code, @pending.offset, length, @limit)
       raise @ended
-    end
-
-    def drop_used
-      @bytes = @bytes.byteslice(@begin..)
-      @begin = 0
-    end
-
-    # Cuts the item of these numbers from the bytes.
-    def cut(kind, word, code, requested_ack, size, payload_begin)
-      kind = @call.kind(ITEM_KINDS, kind, "an item")
-      # a copy; a slice of the String could keep all of it in memory
-      payload = Fiddle::Pointer[@bytes][@begin + payload_begin, size - payload_begin]
-      offset = @offset
-      @begin += size
-      @offset += size
-      case kind
-      when :message then Message.new(@version, code, payload, requested_ack == 1, word: word, offset: offset)
-      when :unknown_code then UnknownCode.new(@version, code, word, offset: offset)
-      else Skipped.new(@version, code, word, payload, offset: offset)
-      end
     end
   end
 end

@@ -189,7 +189,7 @@ pub(crate) fn append_struct<S: Struct>(
         guess: BESIDE,
         is_short_of_memory: false,
     };
-    let made = make(&mut lists);
+    let given = make(&mut lists);
     if lists.is_short_of_memory {
         return None;
     }
@@ -201,7 +201,7 @@ pub(crate) fn append_struct<S: Struct>(
     // long as `lists`
     unsafe {
         appended(out, lists.guess, |place, room| {
-            S::ENCODE(&made, place, room)
+            S::ENCODE(&given, place, room)
         })
     }
     .ok()

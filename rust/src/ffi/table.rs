@@ -127,6 +127,8 @@ impl<'a, 't> Table<'a, 't> {
     }
 
     /// The number of an enum.
+    // the same 64 bits, with a sign
+    #[allow(clippy::cast_possible_wrap)]
     #[inline]
     pub(crate) fn signed(&mut self, field: Field<'t>) -> i32 {
         i32::try_from(field.value() as i64).unwrap_or_else(|_| {

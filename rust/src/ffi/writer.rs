@@ -65,6 +65,8 @@ impl Writer {
         self.push([level, number, FIELD_BOOL, value.into(), 0, 0]);
     }
 
+    // the same 64 bits, without a sign
+    #[allow(clippy::cast_sign_loss)]
     pub(crate) fn signed(&mut self, level: u64, number: u64, value: i32) {
         self.push([level, number, FIELD_ENUM, i64::from(value) as u64, 0, 0]);
     }

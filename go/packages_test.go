@@ -1,0 +1,278 @@
+package pendratsoa
+
+import (
+	"bytes"
+	"encoding/hex"
+	"errors"
+	"fmt"
+	"io"
+	"math/big"
+	"regexp"
+	"strconv"
+	"strings"
+	"testing"
+	"testing/iotest"
+)
+
+// The cases of conformance/packages.cases, which its README specifies: what each kind of line returns for its words.
+var packageCases = map[string]func(t *testing.T, words []string) string{
+	"items": itemsCase, "read": readCase, "as": asCase, "compare": compareCase, "number": numberCase,
+}
+
+func TestPackages(t *testing.T) {
+	passed := 0
+	for _, line := range strings.Split(string(readFile(t, "conformance/packages.cases")), "\n") {
+		if line == "" || strings.HasPrefix(line, "#") {
+			continue
+		}
+		question, want, _ := strings.Cut(line, " = ")
+		words := strings.Split(question, " ")
+		result, isKnown := packageCases[words[0]]
+		if !isKnown {
+			t.Errorf("no such case: %s", line)
+		} else if found := result(t, words[1:]); found == want {
+			passed++
+		} else {
+			t.Errorf("%s\nreturned: %s", line, found)
+		}
+	}
+	if passed < 100 {
+		t.Errorf("%d cases passed", passed)
+	}
+}
+
+// bytesOf returns the bytes of a word.
+func bytesOf(t *testing.T, word string) []byte {
+	return unhex(t, strings.TrimPrefix(word, "-"))
+}
+
+// digitsOf returns bytes as a word.
+func digitsOf(bytes []byte) string {
+	if len(bytes) == 0 {
+		return "-"
+	}
+	return hex.EncodeToString(bytes)
+}
+
+// nameOf returns the name of a type, or - where no type has the code.
+func nameOf(name string) string {
+	if name == "" {
+		return "-"
+	}
+	return name
+}
+
+func itemsCase(t *testing.T, words []string) string {
+	version, limit := must(strconv.Atoi(words[0]))(t), words[1]
+	var readers []io.Reader
+	var stream []byte
+	for _, word := range words[2:] {
+		chunk := bytesOf(t, word)
+		stream = append(stream, chunk...)
+		readers = append(readers, bytes.NewReader(chunk))
+	}
+	found := streamCase(t, io.MultiReader(readers...), version, limit, stream)
+	for _, reader := range []io.Reader{bytes.NewReader(stream), iotest.OneByteReader(bytes.NewReader(stream))} {
+		if again := streamCase(t, reader, version, limit, stream); again != found {
+			t.Errorf("in other chunks: %s", again)
+		}
+	}
+	return found
+}
+
+// streamCase returns the items of a stream with their offsets, and how it ends.
+func streamCase(t *testing.T, reader io.Reader, version int, limit string, stream []byte) string {
+	decoder := NewDecoder(reader, version)
+	if limit != "-" {
+		decoder.SetMaxMessageSize(uint32(must(strconv.Atoi(limit))(t)))
+	}
+	items, err := all(decoder)
+	var lines []string
+	var came []byte
+	for _, item := range items {
+		lines = append(lines, fmt.Sprintf("%d %v", item.Offset(), item))
+		came = append(came, item.Bytes()...)
+	}
+	if !bytes.HasPrefix(stream, came) {
+		t.Errorf("the bytes of the items are %x", came)
+	}
+	if _, again := decoder.Next(); again == nil || again.Error() != err.Error() {
+		t.Errorf("first %v, and then %v", err, again)
+	}
+	ends := []string{endOf(err)}
+	if len(lines) > 0 {
+		ends = []string{strings.Join(lines, ", "), endOf(err)}
+	}
+	return strings.Join(ends, "; ")
+}
+
+// endOf returns how a stream ends.
+func endOf(err error) string {
+	var incomplete *IncompleteError
+	var long *MessageTooLong
+	switch {
+	case err == io.EOF:
+		return "whole"
+	case errors.As(err, &incomplete) && errors.Is(err, io.ErrUnexpectedEOF):
+		return fmt.Sprintf("incomplete %d %d %s", incomplete.Offset, incomplete.Rest, nameOf(incomplete.Type))
+	case errors.As(err, &long) && errors.Is(err, ErrTooLong):
+		name, _ := TypeName(long.Code)
+		return fmt.Sprintf("too_long %d %s %d", long.Offset, nameOf(name), long.Length)
+	}
+	return err.Error()
+}
+
+// itemsOf returns the items of a stream that is there as a whole.
+func itemsOf(t *testing.T, version string, word string) []Item {
+	items, err := all(NewDecoder(bytes.NewReader(bytesOf(t, word)), must(strconv.Atoi(version))(t)))
+	if err != io.EOF {
+		t.Errorf("%s ends with %v", word, err)
+	}
+	return items
+}
+
+// The calls that read the payload of a message.
+var readCalls = map[string]func(message Message) error{
+	"json":         func(message Message) error { _, err := message.JSON(); return err },
+	"canonical":    func(message Message) error { _, err := message.Canonical(); return err },
+	"frame":        func(message Message) error { _, err := message.Frame(message.Version); return err },
+	"notification": func(message Message) error { _, err := message.Notification(); return err },
+}
+
+func readCase(t *testing.T, words []string) string {
+	var results []string
+	for _, item := range itemsOf(t, words[1], words[2]) {
+		message, isMessage := item.(Message)
+		switch {
+		case !isMessage:
+			results = append(results, "none")
+		case words[0] == "record":
+			record, err := message.Record()
+			if record == nil && err == nil {
+				results = append(results, "none")
+			} else {
+				results = append(results, outcomeOf(t, message, err))
+			}
+		default:
+			results = append(results, outcomeOf(t, message, readCalls[words[0]](message)))
+		}
+	}
+	return strings.Join(results, ", ")
+}
+
+// outcomeOf returns what an error of a message is; one of its payload says which message it is of.
+func outcomeOf(t *testing.T, message Message, err error) string {
+	if err == nil {
+		return "ok"
+	}
+	if errors.Is(err, ErrUnknown) {
+		return "unknown"
+	}
+	var of *MessageError
+	if !errors.As(err, &of) {
+		return err.Error()
+	}
+	if of.Code != message.Code || !strings.Contains(err.Error(), fmt.Sprintf("%s at offset %d: ", of.Type, of.Offset)) {
+		t.Errorf("the error is %v", err)
+	}
+	for kind, wanted := range map[string]error{"malformed": ErrMalformed, "no_id": ErrNoID, "no_result": ErrNoResult} {
+		if errors.Is(err, wanted) {
+			return fmt.Sprintf("%s %s %d", kind, nameOf(of.Type), of.Offset)
+		}
+	}
+	return err.Error()
+}
+
+// asCall returns what As makes of an item, for the record of a type: the canonical payload of the record.
+func asCall[R Record](t *testing.T, item Item) string {
+	record, isRecord, err := As[R](item)
+	if err != nil {
+		return outcomeOf(t, item.(Message), err)
+	}
+	if !isRecord {
+		return "none"
+	}
+	return digitsOf(must(record.MarshalBinary())(t))
+}
+
+var asCalls = map[string]func(t *testing.T, item Item) string{
+	"EndMessage":             asCall[*EndMessage],
+	"InputCommandMessage":    asCall[*InputCommandMessage],
+	"SetStateCommandMessage": asCall[*SetStateCommandMessage],
+	"SleepCommandMessage":    asCall[*SleepCommandMessage],
+	"SuspensionMessage":      asCall[*SuspensionMessage],
+	"SuspensionMessageV6":    asCall[*SuspensionMessageV6],
+}
+
+func asCase(t *testing.T, words []string) string {
+	var results []string
+	for _, item := range itemsOf(t, words[1], words[2]) {
+		results = append(results, asCalls[words[0]](t, item))
+	}
+	return strings.Join(results, ", ")
+}
+
+func compareCase(t *testing.T, words []string) string {
+	recorded, replayed := bytesOf(t, words[2]), bytesOf(t, words[3])
+	version := must(strconv.Atoi(words[0]))(t)
+	verdict := must(CompareJournals(version, recorded, replayed, words[1] == "yes"))(t)
+	name := strings.TrimPrefix(verdict.Kind.String(), "Verdict")
+	snake := strings.ToLower(regexp.MustCompile(`(.)([A-Z])`).ReplaceAllString(name, "${1}_$2"))
+	return fmt.Sprintf("%s %d", snake, verdict.Index)
+}
+
+func numberCase(t *testing.T, words []string) string {
+	exact, isNumber := new(big.Int).SetString(words[1], 10)
+	if !isNumber {
+		return "no number"
+	}
+	number := int(exact.Int64())
+	var err error
+	switch {
+	case !exact.IsInt64():
+		return "unknown"
+	case words[0] == "version":
+		_, err = NewDecoder(strings.NewReader(""), number).Next()
+	case words[0] == "schema":
+		_, err = IsWellFormed(number, nil)
+	case number != int(uint16(number)):
+		return "unknown"
+	default:
+		_, err = TypeName(uint16(number))
+	}
+	if errors.Is(err, ErrUnknown) {
+		return "unknown"
+	}
+	return "known"
+}
+
+func TestErrorsOfAMessageThatDidNotCome(t *testing.T) {
+	message := Message{Version: 8, Code: CodeSetStateCommand, Payload: unhex(t, "0a0561")}
+	_, err := message.JSON()
+	var of *MessageError
+	if !errors.As(err, &of) || of.Offset != -1 || of.Code != CodeSetStateCommand || of.Type != "SetStateCommand" {
+		t.Error(err)
+	}
+	const text = "pendratsoa: ToJSON: SetStateCommand: payload of 3 bytes: not well-formed for its schema"
+	if err.Error() != text {
+		t.Error(err)
+	}
+	if items := []Item{message, UnknownCode{}, Skipped{}}; items[0].Offset() != -1 || items[1].Offset() != -1 ||
+		items[2].Offset() != -1 {
+		t.Error("an item that did not come has an offset")
+	}
+}
+
+func TestIncompleteErrorSaysWhere(t *testing.T) {
+	for digits, want := range map[string]string{
+		input + "04":                            "an item at offset 17, after 1 byte of it",
+		input + "0403000000000003" + "0a05":     "SetStateCommand at offset 17, after 10 bytes of it",
+		input + "fc01000000000001":              "CustomEntry(64513) at offset 17, after 8 bytes of it",
+		"00030000000000000403000000000003" + "": "SetStateCommand at offset 8, after 8 bytes of it",
+	} {
+		_, err := all(NewDecoder(bytes.NewReader(unhex(t, digits)), 8))
+		if err.Error() != "pendratsoa: the stream ended within "+want {
+			t.Error(err)
+		}
+	}
+}

@@ -1,0 +1,126 @@
+"""What came of a stream, from which items are taken: by ctypes, where the compiled module is not in use."""
+
+from __future__ import annotations
+
+import ctypes
+import threading
+from typing import List, Optional, Tuple, Union
+
+from ._declared import ITEM_NUMBERS
+from ._errors import ERRORS, TooLong
+from ._items import Item, Message, Skipped, UnknownCode, came, message_that_came
+from ._library import library
+
+# a type is made once
+ItemNumbers = ctypes.c_uint64 * ITEM_NUMBERS
+
+# how many bytes a header has
+HEADER = 8
+
+TOO_LONG = next(number for number, (kind, _) in ERRORS.items() if kind is TooLong)
+
+
+class Pending:
+    """What came and is in no item yet, of a stream of a version, and of a limit or None."""
+
+    def __init__(self, version: int, limit: Optional[int]) -> None:
+        self._version = version
+        self._limit = limit
+        self._lock = threading.Lock()
+        self._numbers = ItemNumbers()
+        # bytes, their address, and where what is in no item yet begins in them; they change together, also where a
+        # signal interrupts
+        self._left: Tuple[bytes, int, int] = (b"", 0, 0)
+        # what came after them, and is joined to them once it is enough
+        self._chunks: List[bytes] = []
+        self._chunks_size = 0
+        # how many bytes are missing after `_left` at least; 0 if this is not known
+        self._missing = 0
+        # how many bytes items have taken; the error that ended the stream, and the header that it is about
+        self._offset = 0
+        self._ended = 0
+        self._head = b""
+
+    def feed(self, chunk: bytes) -> None:
+        """Appends bytes, which are kept."""
+        with self._lock:
+            self._chunks.append(chunk)
+            self._chunks_size += len(chunk)
+
+    def take(self) -> Union[Item, int, None]:
+        """The next item, or None if not all of it came; or a number: an error of the library, or a kind of items that
+        is not known."""
+        with self._lock:
+            missing = self._ended or self._missing or self._look()
+            if 0 < missing <= self._chunks_size:
+                self._join()
+                missing = self._look()
+            self._missing = max(0, missing)
+            if missing == TOO_LONG and self._limit is not None and self._ended == 0:
+                self._end(missing)
+            return self._cut() if missing == 0 else missing if missing < 0 else None
+
+    def rest(self) -> int:
+        """The number of bytes that are in no item yet."""
+        with self._lock:
+            data, _, begin = self._left
+            return len(data) - begin + self._chunks_size
+
+    def offset(self) -> int:
+        """The number of bytes that items have taken."""
+        return self._offset
+
+    def head(self) -> bytes:
+        """The first eight bytes of what is in no item yet, or fewer if fewer came; once a message is longer than the
+        limit, its header."""
+        with self._lock:
+            if self._ended:
+                return self._head
+            data, _, begin = self._left
+            head = data[begin : begin + HEADER]
+            for chunk in self._chunks:
+                if len(head) == HEADER:
+                    break
+                head += chunk[: HEADER - len(head)]
+            return head
+
+    def _look(self) -> int:
+        """Looks for an item: how many bytes are missing at least, or an error."""
+        data, address, begin = self._left
+        rest = address + begin, len(data) - begin, self._numbers, ITEM_NUMBERS
+        if self._limit is None:
+            return library.journal_next(self._version, *rest)
+        return library.journal_next_within(self._version, self._limit, *rest)
+
+    def _end(self, number: int) -> None:
+        """Ends the stream by an error, and drops what came."""
+        data, _, begin = self._left
+        self._ended, self._head = number, data[begin : begin + HEADER]
+        self._left = b"", 0, 0
+        self._chunks.clear()
+        self._chunks_size = 0
+
+    def _join(self) -> None:
+        """Joins what came to what is left, so that each byte is joined twice at most."""
+        data, _, begin = self._left
+        chunks = [data[begin:], *self._chunks] if begin < len(data) else self._chunks
+        data = chunks[0] if len(chunks) == 1 else b"".join(chunks)
+        self._left = data, ctypes.cast(ctypes.c_char_p(data), ctypes.c_void_p).value or 0, 0
+        self._chunks.clear()
+        self._chunks_size = 0
+
+    def _cut(self) -> Union[Item, int]:
+        """The item that was found, which is taken from the bytes, or its kind if that is not known."""
+        kind, word, code, requested_ack, size, payload_begin = self._numbers
+        if kind > 2:
+            return int(kind)
+        data, address, begin = self._left
+        payload = data[begin + payload_begin : begin + size]
+        offset = self._offset
+        self._left = data, address, begin + size
+        self._offset = offset + size
+        if kind == 0:
+            return message_that_came(Message(self._version, code, payload, requested_ack == 1), word, offset)
+        if kind == 1:
+            return came(UnknownCode(self._version, code, word), offset)
+        return came(Skipped(self._version, code, word, payload), offset)

@@ -1,0 +1,213 @@
+"""What every package promises beyond the calls: the cases of conformance/packages.cases, which its README specifies."""
+
+import asyncio
+import io
+import unittest
+
+import pendratsoa
+from pendratsoa import Incomplete, JournalError, Malformed, Message, NoId, NoResult, Skipped, Stream, TooLong
+from pendratsoa import Unknown, UnknownCode, compare_journals, is_well_formed, messages, type_name
+from support import SET_STATE_COMMAND, TOP
+
+CASES = [
+    line
+    for line in (TOP / "conformance/packages.cases").read_text().splitlines()
+    if line and not line.startswith("#")
+]
+
+READS = {
+    "json": Message.json,
+    "canonical": Message.canonical,
+    "frame": Message.frame,
+    "record": lambda message: message.message,
+    "notification": Message.notification,
+}
+KINDS = {Malformed: "malformed", NoId: "no_id", NoResult: "no_result"}
+NUMBERS = {"version": Stream, "code": type_name, "schema": lambda number: is_well_formed(number, b"")}
+
+
+def bytes_of(word):
+    """The bytes of a word."""
+    return b"" if word == "-" else bytes.fromhex(word)
+
+
+def name_of(code):
+    """The name of a type by its code, or - where there is none."""
+    try:
+        return "-" if code is None else type_name(code)
+    except Unknown:
+        return "-"
+
+
+def raised(call, *arguments):
+    """The error of a call, or None."""
+    try:
+        call(*arguments)
+    except JournalError as error:
+        return error
+    return None
+
+
+def listing(items, ended):
+    """The items of a stream, and how it ended."""
+    if ended is None:
+        end = "whole"
+    elif isinstance(ended, Incomplete):
+        end = f"incomplete {ended.offset} {ended.rest} {name_of(ended.code)}"
+    elif isinstance(ended, TooLong):
+        end = f"too_long {ended.offset} {name_of(ended.code)} {ended.length}"
+    else:
+        raise ended
+    lines = ", ".join(f"{item.offset} {item}" for item in items)
+    return f"{lines}; {end}" if lines else end
+
+
+def items_of(version, word):
+    """The items of a stream that is there as a whole."""
+    return list(Stream(int(version)).read(io.BytesIO(bytes_of(word)), strict=True))
+
+
+class Chunks:
+    """A reader that has these chunks, for `read` and `read_async`; an empty one would be its end."""
+
+    def __init__(self, chunks):
+        self.left = [chunk for chunk in chunks if chunk]
+
+    def next(self):
+        return self.left.pop(0) if self.left else b""
+
+    async def read(self, size):
+        return self.next()
+
+
+class TestPackages(unittest.TestCase):
+    def test_the_cases(self):
+        self.assertGreater(len(CASES), 100)
+        for line in CASES:
+            question, expected = line.split(" = ")
+            kind, *words = question.split()
+            with self.subTest(line):
+                self.assertEqual(getattr(self, f"{kind}_result")(*words), expected)
+
+    def items_result(self, version, limit, *words):
+        chunks = [bytes_of(word) for word in words]
+        given = int(version), None if limit == "-" else int(limit)
+        whole = b"".join(chunks)
+        found = self.fed(given, chunks)
+        for other in (chunks, [whole], [whole[at : at + 1] for at in range(len(whole))]):
+            for way in (self.fed, self.read, self.read_async):
+                self.assertEqual(way(given, other), found)
+        return found
+
+    def fed(self, given, chunks):
+        """The listing of a stream that is fed these chunks."""
+        stream = Stream(*given)
+        found = []
+
+        def take():
+            for chunk in chunks:
+                stream.feed(chunk)
+                for item in stream:
+                    found.append(item)
+            stream.finish()
+
+        return self.checked(stream, chunks, found, raised(take))
+
+    def read(self, given, chunks):
+        """The listing of a stream that reads these chunks."""
+        stream = Stream(*given)
+        found = []
+        reader = Chunks(chunks)
+        reader.read = lambda size: reader.next()
+
+        def take():
+            for item in stream.read(reader, strict=True):
+                found.append(item)
+
+        return self.checked(stream, chunks, found, raised(take))
+
+    def read_async(self, given, chunks):
+        """The listing of a stream that reads these chunks asynchronously."""
+        stream = Stream(*given)
+        found = []
+
+        async def take():
+            async for item in stream.read_async(Chunks(chunks), strict=True):
+                found.append(item)
+
+        return self.checked(stream, chunks, found, raised(lambda: asyncio.run(take())))
+
+    def checked(self, stream, chunks, found, ended):
+        """The listing of what came. The error stays, and the items are the first bytes of the stream."""
+        if isinstance(ended, TooLong):
+            for call in (stream.finish, lambda: next(iter(stream)), lambda: stream.feed(b"x")):
+                self.assertIs(raised(call), ended)
+        elif ended is not None:
+            again = raised(stream.finish)
+            self.assertEqual(str(again).partition(": ")[2], str(ended).partition(": ")[2])
+            name = name_of(ended.code) if ended.code is not None else "an item"
+            name = f"code {ended.code:#x}" if name == "-" else name
+            self.assertIn(f": the stream ended within {name} at offset {ended.offset}, after ", str(ended))
+        came = b"".join(map(bytes, found))
+        self.assertTrue(b"".join(chunks).startswith(came))
+        return listing(found, ended)
+
+    def read_result(self, call, version, word):
+        return ", ".join(self.reading(item, READS[call]) for item in items_of(version, word))
+
+    def reading(self, item, call):
+        """How a call ends that reads a message."""
+        if not isinstance(item, Message):
+            return "none"
+        try:
+            return "none" if call(item) is None else "ok"
+        except JournalError as error:
+            return self.failure(item, error)
+
+    def failure(self, item, error):
+        """An error of a payload, which has the type and the offset of its message."""
+        if type(error) is Unknown:
+            return "unknown"
+        self.assertEqual((error.code, error.offset), (item.code, item.offset))
+        self.assertTrue(str(error).startswith(f"{error.call}: {item.type} at offset {item.offset}: payload "), error)
+        return f"{KINDS[type(error)]} {name_of(error.code)} {error.offset}"
+
+    def as_result(self, name, version, word):
+        return ", ".join(self.narrowed(item, getattr(messages, name)) for item in items_of(version, word))
+
+    def narrowed(self, item, record):
+        """The payload of the record of one type."""
+        try:
+            found = item.record(record)
+        except JournalError as error:
+            return self.failure(item, error)
+        if found is None:
+            return "none"
+        self.assertIs(type(found), record)
+        return found.encode().hex() or "-"
+
+    def compare_result(self, version, ignore, recorded, replayed):
+        journals = bytes_of(recorded), bytes_of(replayed)
+        verdict = compare_journals(int(version), *journals, ignore_payloads=ignore == "yes")
+        return f"{verdict.kind} {verdict.index}"
+
+    def number_result(self, what, number):
+        error = raised(NUMBERS[what], int(number))
+        if error is None:
+            return "known"
+        self.assertIs(type(error), Unknown)
+        return "unknown"
+
+
+class TestMadeByHand(unittest.TestCase):
+    def test_there_is_no_offset(self):
+        message = Message(8, SET_STATE_COMMAND, bytes.fromhex("0a0561"))
+        self.assertEqual([item.offset for item in (message, UnknownCode(8, 8, 0), Skipped(9, 8, 0, b""))], [None] * 3)
+        with self.assertRaises(Malformed) as error:
+            message.json()
+        self.assertEqual((error.exception.code, error.exception.offset), (SET_STATE_COMMAND, None))
+        self.assertEqual(str(error.exception), "json: SetStateCommand: payload b'\\n\\x05a' is not well-formed")
+
+
+if __name__ == "__main__":
+    unittest.main()

@@ -1,0 +1,50 @@
+# frozen_string_literal: true
+
+module Pendratsoa
+  # The calls of the library by their names in this gem. They are those of the compiled module, where it is in use,
+  # which has a `call` of its own, and otherwise made here, by Fiddle. What they take, and what is wrong with it, is one
+  # list for both.
+  module Named
+    NAMED_CALLS.each_with_index { |call, place| const_set(call.function.name.delete_prefix("journal_").upcase, place) }
+
+    # The call at a place of the list, by a name, with its arguments: a number, the bytes that it writes, or these and
+    # the numbers that it writes.
+    def self.call(place, name, *given)
+      row = NAMED_CALLS[place]
+      call = request(place, name, given)
+      values = call.checked
+      parameters = values.flat_map { |value| value.is_a?(String) ? [value, value.bytesize] : [value] }
+      return call.returned(Library.call(row.function, *parameters)) unless row.writes
+
+      room = row.more + (row.times * values.sum { |value| value.is_a?(String) ? value.bytesize : 0 })
+      return call.written(row.function, parameters, room) if row.numbers.zero?
+
+      found = nil
+      numbers = Library.numbers(row.numbers) do |out|
+        found = call.written(row.function, [*parameters, out, row.numbers], room)
+      end
+      [found, *numbers]
+    end
+    # of the compiled module, which has a `call` of its own
+    singleton_class.alias_method :call_by_fiddle, :call
+    private_class_method :call_by_fiddle
+
+    # A call with its arguments by their names.
+    def self.request(place, name, given)
+      row = NAMED_CALLS[place]
+      Call.new(name, row.kind, **row.takes.zip(given).to_h)
+    end
+    private_class_method :request
+
+    # The arguments of a call as the library takes them; raises what is wrong with one.
+    def self.checked(place, name, given)
+      request(place, name, given).checked
+    end
+
+    # Raises the error of a negative number that a call returned.
+    def self.refused(place, name, given, number)
+      raise request(place, name, given).refused(number)
+    end
+  end
+  private_constant :Named
+end

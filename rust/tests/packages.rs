@@ -1,0 +1,341 @@
+//! What every package promises beyond the calls: the cases of `conformance/packages.cases`, which its README specifies.
+
+use std::fs;
+use std::io::{self, Cursor, Read};
+
+use pendratsoa::messages::{
+    EndMessage, InputCommandMessage, MessageRecord, SetStateCommandMessage, SleepCommandMessage,
+    SuspensionMessage, SuspensionMessageV6,
+};
+use pendratsoa::{
+    compare_journals, is_well_formed, type_name, Decoder, Error, Item, Message, VerdictKind,
+};
+
+/// The bytes of a word.
+fn bytes(word: &str) -> Vec<u8> {
+    let digits = word.strip_prefix('-').unwrap_or(word);
+    (0..digits.len())
+        .step_by(2)
+        .map(|at| u8::from_str_radix(&digits[at..at + 2], 16).unwrap())
+        .collect()
+}
+
+/// Bytes as a word.
+fn word(bytes: &[u8]) -> String {
+    if bytes.is_empty() {
+        return "-".to_owned();
+    }
+    bytes.iter().map(|byte| format!("{byte:02x}")).collect()
+}
+
+/// The name of a type, or - where no type has the code.
+fn name(code: Option<u16>) -> String {
+    code.and_then(|code| type_name(code).ok())
+        .unwrap_or_else(|| "-".to_owned())
+}
+
+/// How a stream ends.
+fn end(finished: Result<(), Error>) -> String {
+    match finished {
+        Ok(()) => "whole".to_owned(),
+        Err(Error::Incomplete(error)) => {
+            format!(
+                "incomplete {} {} {}",
+                error.offset,
+                error.rest,
+                name(error.code)
+            )
+        }
+        Err(Error::MessageTooLong(error)) => {
+            let name = name(Some(error.code));
+            format!("too_long {} {name} {}", error.offset, error.length)
+        }
+        Err(error) => error.to_string(),
+    }
+}
+
+/// Lines of items, and how their stream ends.
+fn listing(lines: &[String], finished: Result<(), Error>) -> String {
+    let mut parts = Vec::new();
+    if !lines.is_empty() {
+        parts.push(lines.join(", "));
+    }
+    parts.push(end(finished));
+    parts.join("; ")
+}
+
+fn line(item: &Item<'_>) -> String {
+    format!("{} {item}", item.offset().unwrap())
+}
+
+fn decoder(version: u32, limit: Option<u32>) -> Decoder {
+    match limit {
+        Some(limit) => Decoder::with_max_message_size(version, limit),
+        None => Decoder::new(version),
+    }
+    .unwrap()
+}
+
+/// The result of a stream in chunks that are fed.
+fn fed(mut decoder: Decoder, chunks: &[&[u8]]) -> String {
+    let (mut lines, mut came) = (Vec::new(), Vec::new());
+    let mut take = |decoder: &mut Decoder| -> Result<(), Error> {
+        for item in decoder.items() {
+            let item = item?;
+            lines.push(line(&item));
+            item.append_to(&mut came)?;
+        }
+        Ok(())
+    };
+    let fed = chunks.iter().try_for_each(|chunk| {
+        decoder.feed(chunk)?;
+        take(&mut decoder)
+    });
+    if let Err(error) = &fed {
+        // each later call is the same error
+        assert_eq!(decoder.items().next(), Some(Err(error.clone())));
+        assert_eq!(decoder.feed(&[0]), Err(error.clone()));
+        assert_eq!(decoder.finish(), Err(error.clone()));
+    }
+    let finished = fed.and_then(|()| decoder.finish());
+    assert!(chunks.concat().starts_with(&came));
+    listing(&lines, finished)
+}
+
+/// The result of a stream that is read.
+fn read(mut decoder: Decoder, reader: impl Read) -> String {
+    let mut lines = Vec::new();
+    let mut finished = Ok(());
+    let mut items = decoder.read(reader);
+    for item in &mut items {
+        match item {
+            Ok(item) => lines.push(line(&item.item())),
+            Err(error) => finished = Err(of(&error)),
+        }
+    }
+    assert!(items.next().is_none());
+    listing(&lines, finished)
+}
+
+/// The error that an error of a reader holds.
+fn of(error: &io::Error) -> Error {
+    let held = error.get_ref().unwrap().downcast_ref::<Error>().unwrap();
+    let kind = match held {
+        Error::Incomplete(_) => io::ErrorKind::UnexpectedEof,
+        _ => io::ErrorKind::InvalidData,
+    };
+    assert_eq!(error.kind(), kind);
+    held.clone()
+}
+
+/// A reader that gives a byte at a time.
+struct Bytewise<'a>(&'a [u8]);
+
+impl Read for Bytewise<'_> {
+    fn read(&mut self, room: &mut [u8]) -> io::Result<usize> {
+        let least = room.len().min(1);
+        self.0.read(&mut room[..least])
+    }
+}
+
+fn items_case(words: &[&str]) -> String {
+    let version = words[0].parse().unwrap();
+    let limit = words[1].parse().ok();
+    let chunks: Vec<Vec<u8>> = words[2..].iter().map(|word| bytes(word)).collect();
+    let chunks: Vec<&[u8]> = chunks.iter().map(Vec::as_slice).collect();
+    let stream = chunks.concat();
+    let found = fed(decoder(version, limit), &chunks);
+    let bytewise: Vec<&[u8]> = stream.chunks(1).collect();
+    for other in [&[&stream[..]][..], &bytewise] {
+        assert_eq!(fed(decoder(version, limit), other), found);
+    }
+    assert_eq!(read(decoder(version, limit), Cursor::new(&stream)), found);
+    assert_eq!(read(decoder(version, limit), Bytewise(&stream)), found);
+    found
+}
+
+/// What is made of each item of a stream that is there as a whole.
+fn each(version: &str, stream: &str, result: impl Fn(&Item<'_>) -> String) -> String {
+    let mut decoder = decoder(version.parse().unwrap(), None);
+    decoder.feed(&bytes(stream)).unwrap();
+    let results: Vec<String> = decoder.items().map(|item| result(&item.unwrap())).collect();
+    decoder.finish().unwrap();
+    results.join(", ")
+}
+
+fn failure(error: &Error, message: Message<'_>) -> String {
+    let kind = match error {
+        Error::Unknown(_) => return "unknown".to_owned(),
+        Error::Malformed(_) => "malformed",
+        Error::NoId(_) => "no_id",
+        Error::NoResult(_) => "no_result",
+        error => return error.to_string(),
+    };
+    assert_eq!(error.code(), Some(message.code));
+    let (name, offset) = (name(error.code()), error.offset().unwrap());
+    let text = error.to_string();
+    assert!(
+        text.starts_with(&format!("{name} at offset {offset}: ")),
+        "{text}"
+    );
+    format!("{kind} {name} {offset}")
+}
+
+fn read_case(words: &[&str]) -> String {
+    each(words[1], words[2], |item| {
+        let message = match item {
+            Item::Message(message) => *message,
+            _ => return "none".to_owned(),
+        };
+        let outcome = match words[0] {
+            "json" => message.json().map(|_| true),
+            "canonical" => message.canonical().map(|_| true),
+            "frame" => message.frame().map(|_| true),
+            "record" => message.message().map(|record| record.is_some()),
+            "notification" => message.notification().map(|_| true),
+            call => panic!("{call}"),
+        };
+        match outcome {
+            Ok(true) => "ok".to_owned(),
+            Ok(false) => "none".to_owned(),
+            Err(error) => failure(&error, message),
+        }
+    })
+}
+
+/// The canonical payload of the record of one type.
+fn payload_of<'a, R: MessageRecord<'a>>(item: &Item<'a>) -> Result<Option<Vec<u8>>, Error> {
+    item.record::<R>()?
+        .map(|record| record.encode())
+        .transpose()
+}
+
+fn as_case(words: &[&str]) -> String {
+    each(words[1], words[2], |item| {
+        let payload = match words[0] {
+            "EndMessage" => payload_of::<EndMessage>(item),
+            "InputCommandMessage" => payload_of::<InputCommandMessage>(item),
+            "SetStateCommandMessage" => payload_of::<SetStateCommandMessage>(item),
+            "SleepCommandMessage" => payload_of::<SleepCommandMessage>(item),
+            "SuspensionMessage" => payload_of::<SuspensionMessage>(item),
+            "SuspensionMessageV6" => payload_of::<SuspensionMessageV6>(item),
+            name => panic!("{name}"),
+        };
+        match (payload, item) {
+            (Ok(payload), _) => payload.map_or_else(|| "none".to_owned(), |bytes| word(&bytes)),
+            (Err(error), Item::Message(message)) => failure(&error, *message),
+            (Err(error), _) => panic!("{error}"),
+        }
+    })
+}
+
+fn compare_case(words: &[&str]) -> String {
+    let (recorded, replayed) = (bytes(words[2]), bytes(words[3]));
+    let version = words[0].parse().unwrap();
+    let verdict = compare_journals(version, &recorded, &replayed, words[1] == "yes").unwrap();
+    let kind = match verdict.kind {
+        VerdictKind::Same => "same",
+        VerdictKind::RecordedEnded => "recorded_ended",
+        VerdictKind::ReplayedEnded => "replayed_ended",
+        VerdictKind::TypeMismatch => "type_mismatch",
+        VerdictKind::HeaderMismatch => "header_mismatch",
+        VerdictKind::BadRecorded => "bad_recorded",
+        VerdictKind::BadReplayed => "bad_replayed",
+        kind => panic!("{kind:?}"),
+    };
+    format!("{kind} {}", verdict.index)
+}
+
+fn number_case(words: &[&str]) -> String {
+    let known = match (words[0], words[1].parse::<u32>(), words[1].parse::<u16>()) {
+        ("version", Ok(version), _) => Decoder::new(version).map(|_| ()),
+        ("schema", Ok(schema), _) => is_well_formed(schema, &[]).map(|_| ()),
+        ("code", _, Ok(code)) => type_name(code).map(|_| ()),
+        _ => return "unknown".to_owned(),
+    };
+    match known {
+        Ok(()) => "known".to_owned(),
+        Err(Error::Unknown(_)) => "unknown".to_owned(),
+        Err(error) => error.to_string(),
+    }
+}
+
+#[test]
+fn each_case_has_its_result() {
+    let text = fs::read_to_string("../conformance/packages.cases").unwrap();
+    let mut count = 0;
+    for line in text
+        .lines()
+        .filter(|line| !line.is_empty() && !line.starts_with('#'))
+    {
+        let (question, expected) = line.split_once(" = ").unwrap();
+        let words: Vec<&str> = question.split(' ').collect();
+        let result = match words[0] {
+            "items" => items_case(&words[1..]),
+            "read" => read_case(&words[1..]),
+            "as" => as_case(&words[1..]),
+            "compare" => compare_case(&words[1..]),
+            "number" => number_case(&words[1..]),
+            kind => panic!("{kind}"),
+        };
+        assert_eq!(result, expected, "{line}");
+        count += 1;
+    }
+    assert!(count > 100, "{count} cases");
+}
+
+#[test]
+fn where_an_item_begins_is_not_compared() {
+    let message = Message::new(8, 0x0403, &[0x0A, 5, b'a']).unwrap();
+    assert_eq!(message.offset(), None);
+    let item = Item::from(message);
+    let (first, second) = (item.with_offset(0), item.with_offset(8));
+    assert_eq!((first.offset(), second.offset()), (Some(0), Some(8)));
+    assert_eq!(first, second);
+    assert_eq!(first, item);
+    let error = message.json().unwrap_err();
+    assert_eq!((error.code(), error.offset()), (Some(0x0403), None));
+    assert_eq!(
+        error.to_string(),
+        "SetStateCommand: the payload of 3 bytes is malformed"
+    );
+    let owned = second.into_owned().unwrap();
+    assert_eq!((owned.item(), owned.item().offset()), (second, Some(8)));
+    assert_eq!(owned.to_string(), "SetStateCommand 3");
+}
+
+/// A reader that fails once, after its first bytes.
+struct Failing(Vec<io::Result<Vec<u8>>>);
+
+impl Read for Failing {
+    fn read(&mut self, room: &mut [u8]) -> io::Result<usize> {
+        match self.0.pop() {
+            None => Ok(0),
+            Some(given) => {
+                let bytes = given?;
+                room[..bytes.len()].copy_from_slice(&bytes);
+                Ok(bytes.len())
+            }
+        }
+    }
+}
+
+#[test]
+fn a_reader_that_fails_is_read_on() {
+    let fails = || Err(io::Error::from(io::ErrorKind::WouldBlock));
+    // the last is read first
+    let reader = Failing(vec![
+        Ok(vec![0, 0, 0]),
+        fails(),
+        Ok(vec![0, 3, 0, 0, 0, 0, 0, 0, 0, 3, 0, 0, 0]),
+    ]);
+    let mut decoder = Decoder::new(8).unwrap();
+    let mut items = decoder.read(reader);
+    let offset = |item: io::Result<pendratsoa::OwnedItem>| item.unwrap().item().offset();
+    assert_eq!(items.next().and_then(offset), Some(0));
+    let error = items.next().unwrap().unwrap_err();
+    assert_eq!(error.kind(), io::ErrorKind::WouldBlock);
+    assert_eq!(items.next().and_then(offset), Some(8));
+    assert!(items.next().is_none());
+    assert!(items.next().is_none());
+}

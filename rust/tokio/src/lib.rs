@@ -1,0 +1,161 @@
+//! The items of a journal stream as a codec of `tokio_util`, over the crate `pendratsoa`.
+//!
+//! ```
+//! use bytes::BytesMut;
+//! use pendratsoa_tokio::ItemCodec;
+//! use tokio_util::codec::Decoder;
+//!
+//! let mut codec = ItemCodec::new(8)?;
+//! let mut buffer = BytesMut::from(&[0, 3, 0, 0, 0, 0, 0, 0, 0, 3][..]);
+//! let item = codec.decode(&mut buffer)?.unwrap();
+//! assert_eq!(item.to_string(), "End 0");
+//! assert!(codec.decode(&mut buffer)?.is_none());
+//! // the stream ends within an item
+//! assert!(codec.decode_eof(&mut buffer).is_err());
+//! # Ok::<(), std::io::Error>(())
+//! ```
+#![forbid(unsafe_code)]
+#![warn(missing_docs, clippy::pedantic)]
+// a sentence of each comment has the errors
+#![allow(clippy::missing_errors_doc)]
+
+use std::io;
+
+use bytes::BytesMut;
+use pendratsoa::{Error, Item, OwnedItem};
+use tokio_util::codec::{Decoder, Encoder};
+
+/// The codec of a stream of one version: it decodes items, and encodes them as they came.
+#[derive(Clone, Debug)]
+pub struct ItemCodec {
+    decoder: pendratsoa::Decoder,
+}
+
+impl ItemCodec {
+    /// A codec at a version from 5 to 9, without a limit on the size of a message: `Error::Unknown` at another.
+    pub fn new(version: u32) -> Result<ItemCodec, Error> {
+        pendratsoa::Decoder::new(version).map(|decoder| ItemCodec { decoder })
+    }
+
+    /// A codec at a version from 5 to 9 that takes no message whose payload has more bytes than this. A longer message
+    /// is `Error::MessageTooLong` as soon as its header came, and of each call from then on.
+    pub fn with_max_message_size(version: u32, size: u32) -> Result<ItemCodec, Error> {
+        pendratsoa::Decoder::with_max_message_size(version, size)
+            .map(|decoder| ItemCodec { decoder })
+    }
+}
+
+impl Decoder for ItemCodec {
+    type Item = OwnedItem;
+    type Error = io::Error;
+
+    /// The next item, which has bytes of its own. What came is taken out of the buffer, and kept by the codec.
+    fn decode(&mut self, source: &mut BytesMut) -> io::Result<Option<OwnedItem>> {
+        self.decoder.feed(source)?;
+        source.clear();
+        self.decoder
+            .next_owned()
+            .transpose()
+            .map_err(io::Error::from)
+    }
+
+    /// The next item; after the last one `None`, or `Error::Incomplete` where the stream ended within an item.
+    fn decode_eof(&mut self, source: &mut BytesMut) -> io::Result<Option<OwnedItem>> {
+        let item = self.decode(source)?;
+        if item.is_none() {
+            self.decoder.finish()?;
+        }
+        Ok(item)
+    }
+}
+
+impl Encoder<Item<'_>> for ItemCodec {
+    type Error = io::Error;
+
+    /// Appends the item as it came, byte for byte.
+    fn encode(&mut self, item: Item<'_>, out: &mut BytesMut) -> io::Result<()> {
+        let (header, payload) = item.parts();
+        out.reserve(header.len() + payload.len());
+        out.extend_from_slice(&header);
+        out.extend_from_slice(payload);
+        Ok(())
+    }
+}
+
+impl Encoder<OwnedItem> for ItemCodec {
+    type Error = io::Error;
+
+    /// Appends the item as it came, byte for byte.
+    fn encode(&mut self, item: OwnedItem, out: &mut BytesMut) -> io::Result<()> {
+        self.encode(item.item(), out)
+    }
+}
+
+#[cfg(test)]
+mod tests {
+    use super::*;
+
+    const STREAM: [u8; 19] = [0, 3, 0, 0, 0, 0, 0, 0, 4, 3, 0, 0, 0, 0, 0, 3, 10, 1, b'a'];
+
+    /// The items of a stream in chunks of a size, up to its end.
+    fn decoded(mut codec: ItemCodec, stream: &[u8], size: usize) -> io::Result<Vec<OwnedItem>> {
+        let (mut items, mut buffer) = (Vec::new(), BytesMut::new());
+        for chunk in stream.chunks(size) {
+            buffer.extend_from_slice(chunk);
+            while let Some(item) = codec.decode(&mut buffer)? {
+                items.push(item);
+            }
+        }
+        while let Some(item) = codec.decode_eof(&mut buffer)? {
+            items.push(item);
+        }
+        Ok(items)
+    }
+
+    /// The error that an error of a reader holds.
+    fn held(error: &io::Error) -> &Error {
+        error.get_ref().unwrap().downcast_ref().unwrap()
+    }
+
+    #[test]
+    fn items_of_any_chunks_are_written_as_they_came() {
+        for size in 1..=STREAM.len() {
+            let mut codec = ItemCodec::new(8).unwrap();
+            let items = decoded(codec.clone(), &STREAM, size).unwrap();
+            let lines: Vec<String> = items.iter().map(OwnedItem::to_string).collect();
+            assert_eq!(lines, ["End 0", "SetStateCommand 3"]);
+            let offsets: Vec<Option<u64>> = items.iter().map(|item| item.item().offset()).collect();
+            assert_eq!(offsets, [Some(0), Some(8)]);
+            let mut out = BytesMut::new();
+            for item in items {
+                codec.encode(item, &mut out).unwrap();
+            }
+            assert_eq!(out, STREAM[..]);
+        }
+    }
+
+    #[test]
+    fn a_stream_that_ends_within_an_item() {
+        for end in 9..STREAM.len() {
+            let codec = ItemCodec::new(8).unwrap();
+            let error = decoded(codec, &STREAM[..end], 5).unwrap_err();
+            assert_eq!(error.kind(), io::ErrorKind::UnexpectedEof);
+            assert_eq!(held(&error).offset(), Some(8));
+        }
+        assert!(ItemCodec::new(4).is_err());
+    }
+
+    #[test]
+    fn a_message_over_the_limit_is_an_error_of_each_call() {
+        let mut codec = ItemCodec::with_max_message_size(8, 2).unwrap();
+        let mut buffer = BytesMut::from(&STREAM[..16]);
+        assert!(codec.decode(&mut buffer).unwrap().is_some());
+        for _ in 0..3 {
+            let error = codec.decode(&mut buffer).unwrap_err();
+            assert_eq!(error.kind(), io::ErrorKind::InvalidData);
+            assert!(matches!(held(&error), Error::MessageTooLong(error) if error.offset == 8));
+            buffer.extend_from_slice(&[1]);
+        }
+        assert!(codec.decode_eof(&mut buffer).is_err());
+    }
+}
