@@ -22,7 +22,11 @@ KEY_CODES = {"Enter": 13, "Escape": 27, "Tab": 9}
 
 
 class Browser:
-    """A browser with one page. `messages` are the errors of the console, `requests` what addresses were requested."""
+    """A browser with one page. `messages` are the errors of the console, `requests` what addresses were requested.
+
+    The protocol: each command and each answer is an object of JSON that ends with a zero byte; a command has a number,
+    which its answer has too, and what has none is an event.
+    """
 
     def __init__(self, width=1440, height=900):
         self.folder = tempfile.TemporaryDirectory()
@@ -184,6 +188,7 @@ class Browser:
         self.call("Emulation.setDeviceMetricsOverride", width=width, height=height, deviceScaleFactor=1, mobile=False)
 
     def emulate(self, media="", dark=False):
+        """Shows the page as on this medium, `print` or by default a screen, and in dark colors if they are wanted."""
         scheme = {"name": "prefers-color-scheme", "value": "dark" if dark else "light"}
         self.call("Emulation.setEmulatedMedia", media=media, features=[scheme])
 

@@ -4,6 +4,7 @@ A dump from a file is anybody's text: each line is read, and only what journal d
 the page finds a message's fields to be of their kinds.
 """
 import base64
+import collections
 import hashlib
 import json
 import re
@@ -62,6 +63,10 @@ class Reader:
 
     def __init__(self, protocol):
         self.protocol = protocol
+
+    def is_command(self, name):
+        """Whether the type of this name, which may be none, is a command's."""
+        return self.protocol["types"].get(name, {}).get("direction") == "command"
 
     def value(self, value, kind, at, level):
         """The value of a field of a kind."""
@@ -212,18 +217,43 @@ class Progress:
 
 
 class Lines:
-    """The lines of a journal that a page keeps: the first `most`, as far as there is room; the others are counted."""
+    """The lines of a journal that a page keeps, as many as there is room for; the others are counted. They are the
+    first ones, or, of a journal that has more than that, those from the command with the index `start` on."""
 
-    def __init__(self, most):
-        self.most, self.lines, self.items, self.characters, self.is_full = most, [], 0, 0, False
+    def __init__(self, most, start=0):
+        self.most, self.start = most, start
+        self.lines = collections.deque()  # each with whether it is a command's
+        self.items = self.commands = self.characters = 0
+        self.first_item = self.first_command = 0  # how many items and commands come before those that are kept
+        self.is_full = False
 
-    def add(self, line):
+    def add(self, line, is_command):
+        """Counts an item, and keeps its line if there is room."""
         self.items += 1
+        self.commands += is_command
+        if self.is_full:
+            return
         kept = line if len(line) <= LINE_CHARACTERS else shortened(line)
-        self.is_full = self.is_full or len(self.lines) == self.most or self.characters + len(kept) > JOURNAL_CHARACTERS
-        if not self.is_full:
-            self.lines.append(kept)
-            self.characters += len(kept)
+        self.lines.append((kept, is_command))
+        self.characters += len(kept)
+        while len(self.lines) > self.most or self.characters > JOURNAL_CHARACTERS:
+            if self.first_command >= self.start:
+                self.characters -= len(self.lines.pop()[0])
+                self.is_full = True
+                return
+            self.drop_first()
+
+    def drop_first(self):
+        """Drops the first line that is kept."""
+        line, is_command = self.lines.popleft()
+        self.characters -= len(line)
+        self.first_item += 1
+        self.first_command += is_command
+
+    def begin_at(self, command):
+        """Drops what comes before a command, by its index."""
+        while self.lines and self.first_command < command:
+            self.drop_first()
 
     def journal(self, name, rest, **more):
         """The journal for the page, whose last line is that of the rest."""
@@ -231,16 +261,20 @@ class Lines:
         return {
             "name": name,
             "items": self.items,
+            "commands": self.commands,
             "shown": len(self.lines),
+            "firstItem": self.first_item,
+            "firstCommand": self.first_command,
             "bytes": end_of(rest),
-            "lines": [*self.lines, last if len(last) <= LINE_CHARACTERS else shortened(last)],
+            "lines": [*(line for line, _ in self.lines), last if len(last) <= LINE_CHARACTERS else shortened(last)],
             **more,
         }
 
 
-def read_dump(file, name, reader, most, total=None):
-    """A journal of the lines of a dump, of which a file has the bytes. Raises Wrong with the number of a line."""
-    kept, rest, end, gaps = Lines(most), None, 0, 0
+def read_dump(file, name, reader, kept, total=None):
+    """What is kept of the lines of a dump, of which a file has the bytes, and what makes the journal for the page of
+    it. Raises Wrong with the number of a line."""
+    rest, end, gaps = None, 0, 0
     progress = Progress(name, total)
     characters = 0
     for number, data in enumerate(file, 1):
@@ -261,9 +295,9 @@ def read_dump(file, name, reader, most, total=None):
         if "rest" in item:
             rest = item
         else:
-            kept.add(compact(item))
+            kept.add(compact(item), reader.is_command(item.get("type")))
             progress.count(characters)
     progress.end()
     # a dump that ends early has no line of the rest
     is_whole = rest is not None
-    return kept.journal(name, rest or {"offset": end, "rest": 0}, dump={"isWhole": is_whole, "gaps": gaps})
+    return {"name": name, "rest": rest or {"offset": end, "rest": 0}, "dump": {"isWhole": is_whole, "gaps": gaps}}

@@ -36,6 +36,12 @@ SCRIPTS = (
 # How many items a page shows, of all its journals, by default.
 ITEMS = 200_000
 
+# How many commands before the first difference of two long journals a page begins.
+BEFORE = 1_000
+
+# What a line of journal dump begins with, of an item whose type has a name.
+TYPE = re.compile(r'\{"offset":\d+,"type":"(\w+)"')
+
 # What the first line of journal diff says: the kind of the verdict, by a pattern that has the index of the command.
 VERDICTS = (
     ("same", re.compile(r"same, (?P<index>\d+) commands?$")),
@@ -74,10 +80,17 @@ def parse_arguments(words):
     parser.add_argument(
         "--items", type=int, default=ITEMS, metavar="N", help=f"how many items the page shows, {ITEMS:,} by default"
     )
+    parser.add_argument(
+        "--from", type=int, dest="begin", metavar="N",
+        help="the index of the first command that the page shows; by default the beginning, or, of two journals with "
+        f"more items, {BEFORE:,} commands before the first difference",
+    )  # fmt: skip
     parser.add_argument("--unproved", action="store_true", help="takes programs that are built without the proofs")
     arguments = parser.parse_args(words)
     if arguments.items < 1:
         parser.error("--items is at least 1")
+    if arguments.begin is not None and arguments.begin < 0:
+        parser.error("--from is at least 0")
     if arguments.stream == arguments.other == "-":
         parser.error("- is one of two journals at most")
     return arguments
@@ -126,10 +139,10 @@ def program(unproved):
     return path
 
 
-def read_stream(words, path, source, most):
-    """A journal for the page, of `path` and read at `source`: its lines as journal dump prints them, the last of them
-    that of the rest. `most` items are kept; the others are counted."""
-    kept, last = dumps.Lines(most), None
+def read_stream(words, path, source, kept, reader):
+    """Keeps the lines of a journal, of `path` and read at `source`, as journal dump prints them. Returns what makes the
+    journal for the page of them: its name, and the last line, that of the rest."""
+    last = None
     words = [*words, "--", source]
     progress = dumps.Progress(shown(path), os.stat(source).st_size)
     with (
@@ -140,7 +153,8 @@ def read_stream(words, path, source, most):
     ):
         for line in dump.stdout:
             if last is not None:
-                kept.add(last)
+                found = TYPE.match(last)
+                kept.add(last, found is not None and reader.is_command(found[1]))
                 progress.count(offset_of(last))
             last = line.rstrip("\n")
         dump.wait()
@@ -156,7 +170,7 @@ def read_stream(words, path, source, most):
         print(f"view: {path}: the journal is empty", file=sys.stderr)
     if rest is None:
         raise Failure(f"view: {path}: journal dump ended with the status {dump.returncode}", dump.returncode or 1)
-    return kept.journal(shown(path), rest)
+    return {"name": shown(path), "rest": rest}
 
 
 def offset_of(line):
@@ -170,11 +184,11 @@ def is_dump(source):
         return dumps.DUMP.match(file.read(4096)) is not None
 
 
-def read_dump(reader, path, source, most):
-    """A journal for the page, of the lines of a dump."""
+def read_dump(path, source, kept, reader):
+    """Keeps the lines of a dump, as `read_stream` does."""
     try:
         with open(source, "rb") as file:
-            return dumps.read_dump(file, shown(path), reader, most, os.fstat(file.fileno()).st_size)
+            return dumps.read_dump(file, shown(path), reader, kept, os.fstat(file.fileno()).st_size)
     except dumps.Wrong as wrong:
         raise Failure(f"view: {path}:{wrong}") from None
 
@@ -187,16 +201,26 @@ def verdict_of(text):
     return None
 
 
-def compare(words, paths):
-    """The verdict on two journals, or why there is none: a command that is malformed."""
-    diff = subprocess.run(
-        [*words, "--", *paths], stdin=subprocess.DEVNULL, capture_output=True, encoding="utf-8", errors="replace"
-    )
-    verdict = verdict_of((diff.stdout or diff.stderr).rstrip("\n"))
-    if verdict is None:
-        sys.stderr.write(diff.stderr)
-        raise Failure(f"view: journal diff ended with the status {diff.returncode}", diff.returncode or 1)
-    return verdict
+class Comparison:
+    """What journal diff says of two journals."""
+
+    def __init__(self, words, paths):
+        self.diff = subprocess.run(
+            [*words, "--", *paths], stdin=subprocess.DEVNULL, capture_output=True, encoding="utf-8", errors="replace"
+        )
+        self.found = verdict_of((self.diff.stdout or self.diff.stderr).rstrip("\n"))
+
+    def verdict(self):
+        """The verdict, or why there is none: a command that is malformed."""
+        if self.found is None:
+            sys.stderr.write(self.diff.stderr)
+            raise Failure(f"view: journal diff ended with the status {self.diff.returncode}", self.diff.returncode or 1)
+        return self.found
+
+    def begin(self, most):
+        """The command that a page of long journals begins with, each with `most` items, or an earlier one."""
+        differs = self.found is not None and self.found["kind"] != "same"
+        return max(0, self.found["index"] - min(BEFORE, most // 10)) if differs else 0
 
 
 def script_of(words, paths):
@@ -253,7 +277,8 @@ def page(journals, verdict, version, ignores_payloads, script=None):
         "ignoresPayloads": ignores_payloads,
         "verdict": verdict,
         # the proved alignment, where journal diff gives one: each difference in order, as an object with `change`
-        # (inserted, removed or changed) and how many commands of the `recorded` and the `replayed` come before it
+        # (inserted, removed or changed) and how many commands of the `recorded` and the `replayed` come before it,
+        # counted from the beginnings of the journals
         "script": script,
         "journals": [{name: value for name, value in journal.items() if name != "lines"} for journal in journals],
         **messages_of(version),
@@ -307,30 +332,45 @@ def write_file(path, text):
         raise Failure(f"view: {path}: {error.strerror}") from error
 
 
+def begun_alike(kept, begin):
+    """Has the journals of a page begin with the same command: the one asked for, or else the first that all have."""
+    first = max(one.first_command for one in kept) if begin is None else begin
+    if begin is not None and all(one.commands <= begin for one in kept):
+        raise Failure(f"view: there is no command {begin}: --from is its index")
+    for one in kept:
+        one.begin_at(first)
+
+
 def run(arguments):
     """Makes the page and writes it."""
     paths = [path for path in (arguments.stream, arguments.other) if path is not None]
     protocol = ["--protocol", str(arguments.protocol)]
+    comparison = verdict = script = None
     with contextlib.ExitStack() as files:
         sources = [files.enter_context(opened(path)) for path in paths]
         of_dumps = [is_dump(source) for source in sources]
         # a page of dumps takes no program
         journal = None if all(of_dumps) else program(arguments.unproved)
-        reader = dumps.Reader(messages_of(arguments.protocol))
-        most = max(1, arguments.items // len(paths))
-        journals = [
-            read_dump(reader, path, source, most)
-            if is_lines
-            else read_stream([journal, "dump", *protocol], path, source, most)
-            for path, source, is_lines in zip(paths, sources, of_dumps)
-        ]
-        verdict = script = None
         if len(paths) == 2 and not any(of_dumps):
             options = [*protocol, *(["--ignore-payloads"] if arguments.ignore_payloads else [])]
-            verdict = compare([journal, "diff", *options], sources)
-            # it has all commands, and so has to have the page
-            if all(one["items"] == one["shown"] for one in journals):
-                script = script_of([journal, "diff", *options], sources)
+            comparison = Comparison([journal, "diff", *options], sources)
+        most = max(1, arguments.items // len(paths))
+        begin = arguments.begin
+        if begin is None:
+            begin = comparison.begin(most) if comparison else 0
+        reader = dumps.Reader(messages_of(arguments.protocol))
+        kept = [dumps.Lines(most, begin) for _ in paths]
+        ends = [
+            read_dump(path, source, one, reader)
+            if is_lines
+            else read_stream([journal, "dump", *protocol], path, source, one, reader)
+            for path, source, is_lines, one in zip(paths, sources, of_dumps, kept)
+        ]
+        begun_alike(kept, arguments.begin)
+        journals = [one.journal(**end) for one, end in zip(kept, ends)]
+        if comparison:
+            verdict = comparison.verdict()
+            script = script_of([journal, "diff", *options], sources)
     text = page(journals, verdict, arguments.protocol, arguments.ignore_payloads, script)
     if arguments.output == "-":
         put(text)

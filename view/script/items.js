@@ -121,18 +121,22 @@ const failureText = (failure) => `${failure.code ?? 0}: ${failure.message ?? ""}
 /** The items of a key, by their roles. */
 const emptyThread = () => ({ requests: [], proposes: [], acknowledges: [], completes: [], awaits: [] });
 
-/** The items of a journal in order, last the rest; and what joins them: the items of each key by their roles. */
+/**
+ * The items of a journal in order, last the rest; and what joins them: the items of each key by their roles. An item
+ * has its number in the journal, of which the page may begin later, and its place here.
+ */
 function readJournal(side) {
   const lines = byId(`journal-${side}`).textContent.trim().split("\n");
+  const { firstItem, firstCommand } = about.journals[side];
   const threads = new Map();
   const commands = [];
   const items = lines.map((line, place) => {
     const dump = JSON.parse(line);
-    const item = { dump, line, side, number: place, direction: directionOf(dump), command: null };
+    const item = { dump, line, side, place, number: firstItem + place, direction: directionOf(dump), command: null };
     item.size = dump.rest ?? HEADER + (dump.length ?? 0);
     item.failure = failureOf(item);
     item.parts = partsOf(item);
-    if (item.direction === "command") item.command = commands.push(item) - 1;
+    if (item.direction === "command") item.command = firstCommand + commands.push(item) - 1;
     for (const { key, role } of item.parts) {
       if (!threads.has(key)) threads.set(key, emptyThread());
       threads.get(key)[role].push(item);
@@ -152,7 +156,8 @@ const isProblem = (item) =>
 
 /** The command that an error belongs to, or undefined. */
 function relatedCommand({ dump, side }) {
-  return dump.type === "Error" ? journals[side].commands[dump.message?.relatedCommandIndex] : undefined;
+  if (dump.type !== "Error") return undefined;
+  return journals[side].commands[dump.message?.relatedCommandIndex - about.journals[side].firstCommand];
 }
 
 /** Where one goes from an item: to the completion of a command, to the command of a completion or of an error. */

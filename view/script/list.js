@@ -194,5 +194,6 @@ const placeOf = (item) => `${SIDES[item.side]}-${item.number}`;
 /** The item of a place in the page, as item-12, or undefined. */
 function itemAt(name) {
   const [, word, digits] = name.match(/^(\w+)-(\d+)$/) ?? [];
-  return journals[SIDES.indexOf(word)]?.items[Number(digits)];
+  const side = SIDES.indexOf(word);
+  return journals[side]?.items[Number(digits) - about.journals[side].firstItem];
 }

@@ -62,14 +62,16 @@ function stateTable(place) {
     return item ? stateAfter(side, item.number) : new Map();
   });
   const keys = [...new Set(states.flatMap((state) => [...state.keys()]))];
-  if (keys.length === 0) return element("p", "form", "No state is known here.");
+  const isLater = about.journals.some(({ firstItem }) => firstItem > 0);
+  const note = isLater ? element("p", "form", "What was done before the first item that is shown is not known.") : null;
+  if (keys.length === 0) return note ?? element("p", "form", "No state is known here.");
   const differs = (key) => isPair && states[0].get(key)?.value !== states[1].get(key)?.value;
   const sorted = isPair ? [...keys.filter(differs), ...keys.filter((key) => !differs(key))] : keys;
   const lines = sorted.slice(0, STATE_ROWS).map((key) => tableRow(
     inRow(preview(key)), states.map((state) => stateCell(state.get(key))), differs(key) ? "differs" : ""));
   const rest = number(keys.length - STATE_ROWS);
   const more = keys.length > STATE_ROWS ? element("p", "form", `and ${rest} more keys`) : null;
-  return element("div", "", element("table", isPair ? "pair" : "single", isPair ? sidesHead() : null,
+  return element("div", "", note, element("table", isPair ? "pair" : "single", isPair ? sidesHead() : null,
     element("tbody", "", lines)), more);
 }
 

@@ -135,8 +135,7 @@ function drawTop() {
   byId("facts").append(element("span", "", about.journals.map(factsNode), version));
   const cut = about.journals.filter((journal) => journal.shown < journal.items);
   const notices = [
-    ...cut.map(({ name, shown: first, items }) =>
-      `Of ${name} the first ${number(first)} of ${number(items)} items are shown, counted and joined.`),
+    ...cut.map(partText),
     ...about.journals.flatMap(({ name, dump }) => dumpNotices(name, dump)),
   ];
   byId("notice").hidden = notices.length === 0;
@@ -161,6 +160,15 @@ function drawTop() {
   byId("help-next").textContent = "the next and the previous difference";
 }
 
+/** Which items of a journal are shown, of one that is longer. */
+function partText({ name, firstItem, firstCommand, shown, items }) {
+  const part = firstItem === 0
+    ? `the first ${number(shown)} of ${number(items)} items`
+    : `${number(shown)} of ${number(items)} items, those from item ${number(firstItem)} and command ` +
+      `${number(firstCommand)} on,`;
+  return `Of ${name} ${part} are shown and joined.`;
+}
+
 /** What a dump from a file does not have. */
 function dumpNotices(name, dump) {
   if (!dump) return [];
@@ -174,16 +182,17 @@ function dumpNotices(name, dump) {
 
 const fact = (text, className = "") => element("span", `fact ${className}`, text);
 
-/** How much is in a journal. */
+/** How much is in a journal, and in the part of it that is shown. */
 function factsNode(journal, side) {
-  const { commands, items } = journals[side];
+  const { items } = journals[side];
   const failures = items.filter(STATES.failure).length;
   const open = items.filter(isOpen).length;
   return element("span", `journal side-${side}`,
     isPair ? [element("b", "", `${SIDES[side]}: `), ...visible(journal.name)] : null,
     fact(counted(journal.bytes, "byte")),
     fact(counted(journal.items, "item")),
-    fact(counted(commands.length, "command")),
+    fact(counted(journal.commands, "command")),
+    journal.shown < journal.items ? fact(`${number(journal.shown)} shown`) : null,
     open > 0 ? fact(`${number(open)} open`) : null,
     failures > 0 ? fact(counted(failures, "failure"), "failure") : null);
 }

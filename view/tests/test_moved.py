@@ -141,7 +141,8 @@ class Alignments(PageTest):
         for name, items in (("recorded", recorded), ("replayed", replayed)):
             lines = [json.dumps({"offset": 11 * place, "code": 0x0411, "length": 3, **item}).encode()
                      for place, item in enumerate(items)]
-            journals.append(make_page.dumps.read_dump(lines, name, reader, 1 << 20))
+            kept = make_page.dumps.Lines(1 << 20)
+            journals.append(kept.journal(**make_page.dumps.read_dump(lines, name, reader, kept)))
         path = WORK / "aligned.html"
         path.write_text(make_page.page(journals, verdict, 8, False, script))
         browser.open(path)

@@ -566,16 +566,45 @@ class Sizes(PageTest):
 
     def test_items_beyond_the_limit(self):
         self.open(written("many", frame("End") * 5000), "--items", "1000")
-        self.assertEqual(self.text("#notice"), "Of many the first 1,000 of 5,000 items are shown, counted and joined.")
+        self.assertEqual(self.text("#notice"), "Of many the first 1,000 of 5,000 items are shown and joined.")
         self.assertEqual(self.rows(), 1000)
+        self.assertIn("5,000 items", self.text("#facts"))
+        self.assertIn("1,000 shown", self.text("#facts"))
 
-    def test_a_difference_beyond_the_limit(self):
+    def test_the_items_are_those_around_the_first_difference(self):
+        same = b"".join(frame("RunCommand", name=b"%d" % place) + frame("End") for place in range(50))
+        left = written("left", same + frame("SetStateCommand", key=b"a") + same)
+        right = written("right", same + frame("SetStateCommand", key=b"b") + same)
+        self.open(left, right, "--items", "40")
+        self.assertIn("The journals part at command 50, SetStateCommand", self.text("#sentence"))
+        self.assertIn("after it are the same", self.text("#sentence"))
+        self.assertIn("Of left 20 of 201 items, those from item 95 and command 48 on, are shown and joined.",
+                      self.text("#notice"))
+        self.assertIn("101 commands", self.text("#facts"))
+        self.assertEqual(self.value("rows[difference][0].command"), 50)
+        self.assertEqual(self.value("rows[difference][0].number"), 100)
+        self.assertEqual(self.value("itemAt('recorded-100').command"), 50)
+        self.search("cmd:50")
+        self.assertEqual(self.rows(), 1)
+
+    def test_from_a_command(self):
+        items = (frame("RunCommand", name=b"%d" % place) + frame("End") for place in range(50))
+        stream = written("many", b"".join(items))
+        self.open(stream, "--from", "48")
+        self.assertEqual(self.rows(), 5)
+        self.assertEqual(self.value("journals[0].commands.map(({ command }) => command)"), [48, 49])
+
+    def test_a_difference_before_the_first_item(self):
+        same = frame("ClearAllStateCommand") * 10
+        left, right = written("left", frame("End") + same), written("right", frame("OutputCommand") + same)
+        self.open(left, right, "--from", "5")
+        self.assertIn("The recorded journal ends before command", self.text("#sentence"))
+
+    def test_the_end_of_a_journal_beyond_the_limit(self):
         same = frame("ClearAllStateCommand") * 10
         left, right = written("left", same + frame("End")), written("right", same + frame("OutputCommand"))
         self.open(left, right, "--items", "8")
-        self.assertIn("The recorded journal ends before command 10, which is past the items of this page.",
-                      self.text("#sentence"))
-        self.assertEqual(self.value("difference"), -1)
+        self.assertIn("The recorded journal ends before command 10, where the replayed one has", self.text("#sentence"))
 
 
 class Media(PageTest):
