@@ -1,5 +1,5 @@
-// The package in browsers, and wherever else nothing of Node is there: over the WebAssembly module, which is fetched from
-// beside this file.
+// The package in browsers, and wherever else nothing of Node is there: over the WebAssembly module, which is fetched
+// from beside this file.
 
 import { useCalls } from './lib/addon.js';
 import { callsOf } from './lib/module.js';

@@ -1,7 +1,7 @@
 #!/usr/bin/env python3
 """Builds the library for C as a WebAssembly module, where it is not there or older than a source:
 
-    wasm.py             wasm/out/pendratsoa.wasm, which has a 32-bit memory, and pendratsoa64.wasm, which has a 64-bit one
+    wasm.py             wasm/out/pendratsoa.wasm, with a 32-bit memory, and pendratsoa64.wasm, with a 64-bit one
     wasm.py --compare   compares what this makes with what the toolchain makes for wasm64, of the calls without a heap
     wasm.py --of OUT.wasm SOURCE.c..    makes a module of sources in C, for tests
 
@@ -90,8 +90,7 @@ def linked(kit: pathlib.Path, sources: list[pathlib.Path], target: pathlib.Path)
         # the toolchain's linker takes it as a static library of its own, with its own helpers
         run([kit / "toolchain/bin/llvm-ar", "--format=gnu", "rcs", archive, *objects])
         wide = target.with_name(f"{target.stem}64.wasm")
-        run([kit / "bin/rattle-link", "--target", "wasm64-unknown-unknown", "--toolchain", kit / "toolchain", "-o", wide,
-             archive])
+        run([kit / "bin/rattle-link", *WASM64, "--toolchain", kit / "toolchain", "-o", wide, archive])
     made = target.with_suffix(".new")
     tool("lower.py", wide, made)
     made.replace(target)

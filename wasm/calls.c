@@ -100,8 +100,8 @@ double js_header(uint32_t version, uint32_t code, uint32_t payload_length, uint3
 int64_t journal_frame(uint32_t version, uint16_t code, const uint8_t *payload, size_t payload_length, uint8_t *out,
                       size_t room);
 EXPORT(js_frame)
-double js_frame(uint32_t version, uint32_t code, uint32_t payload, uint32_t payload_length, uint32_t out, uint32_t room)
-                {
+double js_frame(uint32_t version, uint32_t code, uint32_t payload, uint32_t payload_length, uint32_t out,
+                uint32_t room) {
     return (double)journal_frame(version, (uint16_t)code, (const uint8_t *)(size_t)payload, payload_length,
                                  (uint8_t *)(size_t)out, room);
 }
@@ -202,7 +202,8 @@ double js_verdict(uint32_t version, uint32_t recorded, uint32_t recorded_length,
                   uint32_t out, uint32_t room) {
     return (double)journal_verdict(version, (const uint8_t *)(size_t)recorded, recorded_length,
                                    (const uint8_t *)(size_t)replayed, replayed_length, ignore_payloads,
-                                   (struct journal_verdict *)(size_t)verdict, verdict_room, (uint8_t *)(size_t)out, room);
+                                   (struct journal_verdict *)(size_t)verdict, verdict_room, (uint8_t *)(size_t)out,
+                                   room);
 }
 
 #include "../node/src/items.h"

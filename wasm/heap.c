@@ -3,8 +3,8 @@
  * toolchain's crate `libc` declares them, and what the host asks for, the room and the limit.
  *
  * The memory, from its front: the stack, the constants, the room, and the blocks. The room is for what the host gives a
- * call and takes of it. Of each size there is a list of free blocks; they are not joined. While no block is taken, which
- * is so between two calls unless one leaves something behind, new room drops all blocks: so nothing stays in pieces.
+ * call and takes of it. Of each size there is a list of free blocks; they are not joined. Between two calls no block is
+ * taken, unless one leaves something behind. New room drops all blocks then, so gaps do not add up.
  */
 typedef __SIZE_TYPE__ size_t;
 typedef unsigned long long uint64_t;
@@ -55,7 +55,7 @@ static size_t bytes_of(unsigned size) {
     return size < 4 ? (size_t)(size + 1) << 4 : (size_t)(5 + size % 4) << (size / 4 + 3);
 }
 
-/* The index of the least size that has so many bytes; more than zero of them, and less than 2^63. */
+/* The index of the least size that has a number of bytes: more than zero, and less than 2^63. */
 static unsigned size_of(uint64_t bytes) {
     if (bytes <= 64) {
         return (unsigned)((bytes - 1) >> 4);
@@ -65,7 +65,7 @@ static unsigned size_of(uint64_t bytes) {
     return (power - 5) * 4 + quarter;
 }
 
-/* Whether there is memory for so many bytes from a place on, with what grows. */
+/* Whether there is memory for a number of bytes from a place on, with what grows. */
 static bool reach(unsigned char *from, size_t bytes) {
     if ((size_t)from > limit || bytes > limit - (size_t)from) {
         return false;
@@ -145,7 +145,7 @@ struct tried rattle_realloc(void *p, uint64_t kept, uint64_t bytes, uint64_t ali
     return fresh;
 }
 
-/* Room of so many bytes for what the host gives and takes; null if there is no memory for it. It ends the last one. */
+/* Room for what the host gives and takes, in bytes; null if there is no memory for it. It ends the last room. */
 EXPORT(pendratsoa_room)
 unsigned char *pendratsoa_room(size_t bytes) {
     if (room_block != NULL) {

@@ -3,7 +3,7 @@
 
 Both targets have pointers of 64 bits, the same sizes and alignments, and the least significant byte first. What rattle
 itself makes for wasm64 has two things more, which are added here: at the entry of each function a check that the stack
-is not used up, and around each call from the host a guard, which refuses every call after a trap. same_module.py
+is not used up, and around each call from the host a guard, which traps in every call after a trap. same_module.py
 compares both for what needs no heap.
 
 It stops at whatever the module says that is not plain: inline assembly, but for the empty one, which orders memory; an
@@ -76,7 +76,7 @@ def checked(function: str) -> str:
 
 
 def guarded(function: str, number: int) -> str:
-    """A function that the host calls: it is behind the guard."""
+    """A function that the host calls, with the guard around it."""
     head = re.match(r"define (?P<kind>(?:noundef )?\w+) @(?P<name>\w+)\((?P<given>.*)\) #\d+ \{\n", function)
     if not head:
         refuse(f"an export of another form: {function}")

@@ -5,8 +5,8 @@ import { CALLS } from './module_calls.js';
 import { renew, useInstances } from './module_memory.js';
 
 /**
- * The calls over a compiled module. With `memoryLimit` no instance has more memory than so many bytes, and a call that
- * would need more is out of memory.
+ * The calls over a compiled module. With `memoryLimit`, in bytes, no instance has more memory, and a call that would
+ * need more is out of memory.
  */
 export function callsOf(module, { memoryLimit } = {}) {
   useInstances(() => {

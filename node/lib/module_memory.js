@@ -3,7 +3,7 @@
 
 import { TOO_LONG, UNKNOWN_CODE, UNKNOWN_SCHEMA, UNKNOWN_VERSION } from './declared.js';
 
-// An instance whose memory became larger is let go after the call, since no memory of a module shrinks.
+// An instance whose memory became larger is dropped after the call, since no memory of a module shrinks.
 const MOST_KEPT = 2 ** 23;
 // The room that is made at least, so that most calls find it.
 const LEAST_ROOM = 2 ** 18;
@@ -44,7 +44,7 @@ export function aligned(size) {
   return size + 15 - ((size + 15) % 16);
 }
 
-/** Where there is room for so many bytes; 0 if there is no memory for it. */
+/** Where there is room for a number of bytes; 0 if there is no memory for it. */
 export function reserve(size) {
   if (size > room) {
     const wanted = Math.max(size, LEAST_ROOM);
@@ -103,7 +103,7 @@ function renewViews() {
   }
 }
 
-/** What a call returned, after which an instance with much memory is let go, unless something is left in it. */
+/** What a call returned, after which an instance with much memory is dropped, unless something is left in it. */
 export function finished(returned) {
   renewViews();
   if (bytes.length > MOST_KEPT && instance.pendratsoa_blocks() === 0n) {

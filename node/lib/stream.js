@@ -39,7 +39,7 @@ export class Stream {
   // the halves of the numbers of the items that were found, of which those from #at on are not taken yet
   #found = NONE_FOUND;
   #at = 0;
-  // the next item is not whole before so many bytes are there
+  // the number of bytes before which the next item is not whole
   #needed = HEADER_SIZE;
 
   static {

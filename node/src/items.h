@@ -7,8 +7,8 @@
 
 /*
  * Finds the items that bytes begin with, by journal_next_within, and writes the six numbers of each into a table, as
- * many as there is room for. Returns how many they are. It is 0 if the first is not whole, and the number of an error if
- * the first is refused; a later one that is refused is not counted, and the next call returns its error.
+ * many as there is room for. Returns how many they are: 0 if the first is not whole. If the first is an error, it
+ * returns the number of that; a later error ends the table, and a call from there returns it.
  */
 static inline int64_t journal_items_of(uint32_t version, uint32_t limit, const uint8_t *bytes, size_t length,
                                        struct journal_item *items, size_t room) {

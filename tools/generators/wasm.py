@@ -62,7 +62,7 @@ def c_call(call):
     head = filled(", ".join(f"uint32_t\u00a0{name}" for name, _ in given) + ")\u00a0{", start, " " * len(start))
     start = f"    return (double){call.symbol()}("
     passed = ", ".join(word.replace(" ", "\u00a0") for _, word in given)
-    made = filled(passed, start, " " * len(start)) + ");"
+    made = filled(f"{passed});", start, " " * len(start))
     text = f"\n{c_declaration(call)}EXPORT(js_{call.call})\n{head}\n{made}\n}}\n"
     return text.replace("\u00a0", " ")
 
