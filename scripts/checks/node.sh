@@ -109,7 +109,7 @@ fi
 # The package as a user has it: the files that package.json lists, in node_modules.
 user=$work/user
 package=$user/node_modules/pendratsoa
-mkdir -p "$package/build"
+mkdir -p "$package"
 for file in package.json $(node -p "JSON.parse(require('fs').readFileSync('node/package.json')).files.join(' ')"); do
   case_of "a copy of $file" cp -R "$tree/node/$file" "$package/$file"
 done
