@@ -72,7 +72,7 @@ export function putBytes(value, length, at) {
 }
 
 export function putNumbers(numbers, count, at) {
-  if (count <= 6) {
+  if (count <= 16) {
     for (let index = 0; index < count; index += 1) {
       words[at / 8 + index] = numbers[index];
     }

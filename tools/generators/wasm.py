@@ -34,6 +34,11 @@ double js_items(uint32_t version, uint32_t limit, uint32_t bytes, uint32_t lengt
 """
 
 
+def given(call):
+    """The struct that a call reads, and whether it changes it."""
+    return getattr(call, "given", None), getattr(call, "changes", False)
+
+
 def c_struct(entry):
     fields = "".join(f"    uint64_t {field};\n" for field, _ in entry["fields"])
     return f"\nstruct journal_{entry['struct']} {{\n{fields}}};\n"
@@ -41,17 +46,20 @@ def c_struct(entry):
 
 def c_call(call):
     """A function that JavaScript calls."""
-    given = [(name, f"(uint16_t){name}" if BITS[name] == 16 else name) for name in call.takes]
+    words = [(name, f"(uint16_t){name}" if BITS[name] == 16 else name) for name in call.takes]
 
     def slice_of(kind, name, count):
-        given.extend([(name, f"({kind} *)(size_t){name}"), (count, count)])
+        words.extend([(name, f"({kind} *)(size_t){name}"), (count, count)])
 
     if call.entries:
         slice_of(f"const struct journal_{call.entries}", f"{call.entries}s", "count")
     for name in call.reads:
         slice_of("const uint8_t", name, "length" if name == "bytes" else f"{name}_length")
     if call.flag:
-        given.append((call.flag, call.flag))
+        words.append((call.flag, call.flag))
+    struct, is_changed = given(call)
+    if struct:
+        slice_of(f"{'' if is_changed else 'const '}struct journal_{struct}", struct, f"{struct}_room")
     if call.numbers:
         slice_of(f"struct journal_{call.numbers}", call.numbers, f"{call.numbers}_room")
     if call.table:
@@ -59,9 +67,9 @@ def c_call(call):
     if call.writes:
         slice_of("uint8_t", "out", "room")
     start = f"double js_{call.call}("
-    head = filled(", ".join(f"uint32_t\u00a0{name}" for name, _ in given) + ")\u00a0{", start, " " * len(start))
+    head = filled(", ".join(f"uint32_t\u00a0{name}" for name, _ in words) + ")\u00a0{", start, " " * len(start))
     start = f"    return (double){call.symbol()}("
-    passed = ", ".join(word.replace(" ", "\u00a0") for _, word in given)
+    passed = ", ".join(word.replace(" ", "\u00a0") for _, word in words)
     made = filled(f"{passed});", start, " " * len(start))
     text = f"\n{c_declaration(call)}EXPORT(js_{call.call})\n{head}\n{made}\n}}\n"
     return text.replace("\u00a0", " ")
@@ -127,13 +135,14 @@ class Function:
         self.lengths.append(f"flagIn('{name}', {name});")
         self.given.append(f"{name} ? 1 : 0")
 
-    def numbers(self, count):
-        """The numbers of a struct, which a call reads as well as writes."""
-        self.length_of("numbers", f"Math.min(numbersIn('numbers', numbers), {count})")
-        self.slices.append(("numbers", "8 * numbersLength"))
-        self.puts.append("putNumbers(numbers, numbersLength, numbersAt);")
-        self.given += ["numbersAt", "numbersLength"]
-        self.takes.append("takeNumbers(numbers, returned < 0 ? 0 : numbersLength, numbersAt);")
+    def numbers(self, name, count, is_written=True):
+        """The numbers of a struct. What a call leaves as it is comes back as it was."""
+        self.length_of(name, f"Math.min(numbersIn('{name}', {name}), {count})")
+        self.slices.append((name, f"8 * {name}Length"))
+        self.puts.append(f"putNumbers({name}, {name}Length, {name}At);")
+        self.given += [f"{name}At", f"{name}Length"]
+        if is_written:
+            self.takes.append(f"takeNumbers({name}, returned < 0 ? 0 : {name}Length, {name}At);")
 
     def entries(self, count):
         """A table that a call reads."""
@@ -203,8 +212,11 @@ def js_call(call):
         function.bytes(argument(name, bool(call.entries)))
     if call.flag:
         function.flag(argument(call.flag))
+    struct, is_changed = given(call)
+    if struct:
+        function.numbers(argument(struct), len(structs()[struct]["fields"]), is_changed)
     if call.numbers:
-        function.numbers(len(structs()[call.numbers]["fields"]))
+        function.numbers("numbers", len(structs()[call.numbers]["fields"]))
     if call.table:
         function.table(len(structs()[call.table]["fields"]))
     if call.writes:

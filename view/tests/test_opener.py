@@ -74,8 +74,8 @@ class OneJournal(OpenerTest):
 
     def test_an_adversarial_stream(self):
         # malformed payloads, flags in headers, a custom entry, a text that is markup
-        data = samples.audited()[0] + raw_frame(0x0403, b"\x0a\xff") + raw_frame(5, b"", flag=0x8000)
-        data += raw_frame(0xFC01, b"\x00\xff") + raw_frame(0x0400, b"", flag=0x8001) + raw_frame(1, b"\x0a\x01\x11")
+        data = samples.audited()[0] + raw_frame(0x0403, b"\x0a\xff") + raw_frame(5, b"", flag=1)
+        data += raw_frame(0xFC01, b"\x00\xff") + b"\x04\x00\x00\x01" + bytes(4) + raw_frame(0x0400, b"", flag=1) + raw_frame(1, b"\x0a\x01\x11")
         data += frame("RunCommand", name="</script><img src=x onerror=alert(1)>", result_completion_id=1) + b"\x04"
         self.check("<b>adversarial</b>", data)
         self.check("early", data, 5)

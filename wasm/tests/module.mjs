@@ -151,9 +151,8 @@ test('a call whose memory may not grow says so, changes nothing, and is right wi
   }
 });
 
-test('each call that allocates was refused', () => {
-  const camel = (name) => name.replace(/_(.)/g, (_, letter) => letter.toUpperCase());
-  assert.deepEqual([...kinds].sort(), listed.filter((entry) => entry.allocates).map(({ call }) => camel(call)).sort());
+test('each of these calls was refused', () => {
+  assert.deepEqual([...kinds].sort(), [...new Set(allocating.map(([name]) => name))].sort());
   assert.ok(refusals > 1000, `${refusals} refusals`);
 });
 
