@@ -228,8 +228,7 @@ def npm(release: Release) -> None:
         addon.parent.mkdir()
         (folder / "build/pendratsoa.node").rename(addon)
         run(f"{machine.tools}strip", "--strip-unneeded", addon)
-    run(sys.executable, "-B", "scripts/wasm.py")
-    shutil.copyfile(ROOT / "wasm/out/pendratsoa.wasm", folder / "build/pendratsoa.wasm")
+    shutil.copyfile(wasm_module(), folder / "build/pendratsoa.wasm")
     # what npm takes of a package: what it lists, and these
     description = json.loads((folder / "package.json").read_text())
     packed = release.work / "npm"
@@ -239,6 +238,17 @@ def npm(release: Release) -> None:
     del description["scripts"]
     package.write(packed / "package.json", json.dumps(description, indent=2) + "\n")
     release.archive(packed, f"pendratsoa-{version()}.tgz", "package")
+
+
+def page(release: Release) -> None:
+    """The page that opens journals, with the module in it."""
+    run(sys.executable, "-B", "view/make_opener.py", wasm_module(), release.out / "journal_view.html")
+
+
+def wasm_module() -> pathlib.Path:
+    """The WebAssembly module, which is built where it is not up to date."""
+    run(sys.executable, "-B", "scripts/wasm.py")
+    return ROOT / "wasm/out/pendratsoa.wasm"
 
 
 def rust(release: Release) -> None:
@@ -271,7 +281,7 @@ def go_module(release: Release) -> None:
 # The kinds of files: those that are made for each processor, in an order in which none takes in what another adds, and
 # those that have the library for all.
 FOR_EACH = (wheel, gem, deb, tarball)
-FOR_ALL = (npm, rust, go_module)
+FOR_ALL = (npm, page, rust, go_module)
 
 
 def results(options: argparse.Namespace) -> dict[str, str]:
