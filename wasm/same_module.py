@@ -1,9 +1,9 @@
 #!/usr/bin/env python3
 """Whether two LLVM modules are the same but for the names of values and labels: same_module.py ONE.ll OTHER.ll
 
-Functions and constants are compared by their names, attributes where they are used. The check of the stack may be
-anywhere in the first block of a function; that both have it is compared. It prints how many there are of each kind and
-how many differ; the status is 1 where any does.
+Functions, constants and declarations are compared by their names, attributes where they are used. Of an intrinsic LLVM
+has the declaration itself. The check of the stack may be anywhere in the first block of a function; that both have it is
+compared. It prints how many there are of each kind and how many differ; the status is 1 where any does.
 """
 from __future__ import annotations
 
@@ -29,16 +29,14 @@ class Module:
         defined = re.findall(r"^define .*?^}\n", text, re.M | re.S)
         self.functions = {NAME.search(function)[1]: self.compared(function) for function in defined}
         self.constants = dict(re.findall(r"^(@[\w.]+) = (.*)$", text, re.M))
-        self.declarations = dict(map(self.declared, re.findall(r"^declare .*$", text, re.M)))
+        declared = [line for line in re.findall(r"^declare .*$", text, re.M) if "@llvm." not in line]
+        self.declarations = dict(map(self.declared, declared))
         self.target = re.findall(r"^target .*$", text, re.M)
 
-    def declared(self, line: str) -> tuple[str, object]:
-        """A declaration with its attributes; those of an intrinsic LLVM knows itself."""
-        name = NAME.search(line)[1]
+    def declared(self, line: str) -> tuple[str, tuple[str, str]]:
+        """A declaration with its attributes."""
         group = re.search(r" (#\d+)$", line)
-        if name.startswith("llvm."):
-            return name, None
-        return name, (re.sub(r" #\d+$", "", line), self.groups[group[1]] if group else None)
+        return NAME.search(line)[1], (re.sub(r" #\d+$", "", line), self.groups[group[1]] if group else "")
 
     def compared(self, function: str) -> tuple[str, list[str], bool]:
         """A function without its check of the stack, its values and labels numbered as they come; its attributes;
