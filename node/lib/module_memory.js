@@ -56,9 +56,9 @@ export function reserve(size) {
   return base;
 }
 
-/** The first number of several that is not 0. */
-export function firstOf(...refused) {
-  return refused.find((number) => number !== 0) ?? 0;
+/** The first of up to three numbers that is not 0. */
+export function firstOf(one, other, third = 0) {
+  return one || other || third;
 }
 
 export function putBytes(value, length, at) {
