@@ -1,6 +1,6 @@
 #!/usr/bin/env python3
-"""The page that opens journals, in a headless Chromium from its file: what it shows of streams that are dropped on it or
-chosen is what the page that the programs make shows, and it requests nothing. test_opener.py MODULE.wasm"""
+"""The page that opens journals, in a headless Chromium from its file: of streams that are dropped on it or chosen it
+shows what the page shows that the programs make, and it requests nothing. test_opener.py MODULE.wasm"""
 import base64
 import json
 import pathlib
@@ -75,7 +75,8 @@ class OneJournal(OpenerTest):
     def test_an_adversarial_stream(self):
         # malformed payloads, flags in headers, a custom entry, a text that is markup
         data = samples.audited()[0] + raw_frame(0x0403, b"\x0a\xff") + raw_frame(5, b"", flag=1)
-        data += raw_frame(0xFC01, b"\x00\xff") + b"\x04\x00\x00\x01" + bytes(4) + raw_frame(0x0400, b"", flag=1) + raw_frame(1, b"\x0a\x01\x11")
+        data += raw_frame(0xFC01, b"\x00\xff") + b"\x04\x00\x00\x01" + bytes(4) + raw_frame(0x0400, b"", flag=1)
+        data += raw_frame(1, b"\x0a\x01\x11")
         data += frame("RunCommand", name="</script><img src=x onerror=alert(1)>", result_completion_id=1) + b"\x04"
         self.check("<b>adversarial</b>", data)
         self.check("early", data, 5)
