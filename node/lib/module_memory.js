@@ -46,7 +46,7 @@ export function aligned(size) {
 
 /** Where there is room for a number of bytes; 0 if there is no memory for it. */
 export function reserve(size) {
-  if (size > room) {
+  if (size > room || base === 0) {
     const wanted = Math.max(size, LEAST_ROOM);
     // an older instance may have no room in one piece
     base = Number(instance.pendratsoa_room(BigInt(wanted)));

@@ -109,6 +109,7 @@ const allocating = [
   ['json', [1, long], 0, 200_000],
   ['canonical', [1, long], 0, 200_000],
   ['merge', [1, long, long], 0, 200_000],
+  ['payloadOfFields', [1, tableOf(1, long), long], 2, 200_000],
 ];
 
 /** What a call returns and writes. */
@@ -204,9 +205,9 @@ test('a stack that ends is an error, and the next call works', () => {
 
 test('a module that is damaged', () => {
   for (const damage of [
-    (bytes) => bytes.subarray(0, bytes.length / 2),
+    (bytes) => bytes.subarray(0, 300_000),
     (bytes) => bytes.fill(0, 0, 4),
-    (bytes) => bytes.fill(0xff, bytes.length / 3, bytes.length / 3 + 64),
+    (bytes) => bytes.fill(0xff, 200_000, 200_064),
     () => new Uint8Array(0),
   ]) {
     const said = ran(`import 'pendratsoa';`, { damage });
