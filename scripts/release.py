@@ -248,7 +248,7 @@ def page(release: Release) -> None:
 def wasm_module() -> pathlib.Path:
     """The WebAssembly module, which is built where it is not up to date."""
     run(sys.executable, "-B", "scripts/wasm.py")
-    return ROOT / "wasm/out/pendratsoa.wasm"
+    return ROOT / "crates/journal_ffi/out/wasm/pendratsoa.wasm"
 
 
 def rust(release: Release) -> None:

@@ -1,7 +1,7 @@
 #!/usr/bin/env python3
 """Builds the library for C as a WebAssembly module, where it is not there or older than a source:
 
-    wasm.py             wasm/out/pendratsoa.wasm, with a 32-bit memory, and pendratsoa64.wasm, with a 64-bit one
+    wasm.py             crates/journal_ffi/out/wasm/pendratsoa.wasm; beside it pendratsoa64.wasm, with a 64-bit memory
     wasm.py --compare   compares what this makes with what the toolchain makes for wasm64, of the calls without a heap
     wasm.py --of OUT.wasm SOURCE.c..    makes a module of sources in C, for tests
 
@@ -28,7 +28,7 @@ from crates import ROOT
 
 CRATE = "journal_ffi"
 FOLDER = ROOT / "wasm"
-OUT = FOLDER / "out"
+OUT = ROOT / "crates" / CRATE / "out/wasm"
 MODULE = OUT / "pendratsoa.wasm"
 # what a module is made of besides the crate
 PARTS = [*(FOLDER / name for name in ("calls.c", "heap.c", "retarget.py", "lower.py")), ROOT / "node/src/items.h",

@@ -120,7 +120,7 @@ installed_library() {
 
 # wasm_module: $module is the WebAssembly module over the proved library; where it cannot be built it is empty
 wasm_module() {
-  module=$PWD/wasm/out/pendratsoa.wasm
+  module=$PWD/crates/journal_ffi/out/wasm/pendratsoa.wasm
   python3 -B scripts/wasm.py
   case $? in
     0) ;;

@@ -33,13 +33,13 @@ printf '\0asm\1\0\0\0\2\7\1\1a\1b\0\0' > "$work/import.wasm"
 python3 -B wasm/lower.py "$work/import.wasm" "$work/lowered.wasm" > "$out" 2>&1
 [ $? -eq 1 ] && grep -qx 'lower.py: an import' "$out"
 outcome 'lower.py refuses an import' $?
-retargeted=wasm/out/retargeted.ll
+retargeted=crates/journal_ffi/out/wasm/retargeted.ll
 sed '0,/ icmp ult /s// icmp ule /' $retargeted > "$work/planted.ll"
 python3 -B wasm/same_module.py $retargeted "$work/planted.ll" > "$out" 2> "$err"
 [ $? -eq 1 ] && grep -q '^functions: .*, 1 differ ' "$out"
 outcome 'same_module.py finds a comparison that is changed' $?
 for added in 'declare i64 @clock(i64)' '  call void asm sideeffect "cpuid", ""()'; do
-  { cat wasm/out/library.ll && echo "$added"; } > "$work/planted.ll"
+  { cat crates/journal_ffi/out/wasm/library.ll && echo "$added"; } > "$work/planted.ll"
   python3 -B wasm/retarget.py "$work/planted.ll" "$work/retargeted.ll" > "$out" 2>&1
   [ $? -eq 1 ] && grep -q '^retarget.py: ' "$out"
   outcome "retarget.py refuses '$added'" $?
