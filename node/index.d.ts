@@ -640,6 +640,15 @@ export class FieldError extends JournalError {
   readonly path: string;
 }
 
+/**
+ * The WebAssembly module stopped in a call, as where the stack of the engine ends; the cause says why. Nothing was
+ * written, and the next call has a new module. A call of the addon never throws it.
+ */
+export class Trapped extends JournalError {
+  readonly code: 'JOURNAL_TRAPPED';
+  readonly cause: unknown;
+}
+
 /** A source, or a stream that `finish` was called of, ended within an item. */
 export class Incomplete extends JournalError {
   readonly code: 'JOURNAL_INCOMPLETE';

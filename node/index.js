@@ -1,4 +1,5 @@
-// The journal protocol of the Restate SDKs. index.d.ts says what each name is.
+// The journal protocol of the Restate SDKs. index.d.ts says what each name is; node.js and browser.js, from which it is
+// imported, say where the calls come from.
 
 export {
   FIRST_VERSION,
@@ -33,6 +34,7 @@ export {
   NotCanonical,
   OutOfMemory,
   TooLong,
+  Trapped,
   Unknown,
 } from './lib/errors.js';
 export { Message, Skipped, UnknownCode } from './lib/items.js';

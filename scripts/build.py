@@ -81,19 +81,25 @@ def place(crate: str, machine: Machine) -> pathlib.Path:
 
 def built(crate: str, machine: Machine, kit: pathlib.Path, file: pathlib.Path) -> str:
     """Builds the library, or the object of the program, over the libraries below, which are proved; what is printed."""
+    return compiled(crate, kit, file, ["--target", machine.target, "--toolchain", kit / "toolchain"])
+
+
+def compiled(crate: str, kit: pathlib.Path, file: pathlib.Path, target: list[str | pathlib.Path],
+             folder: pathlib.Path | None = None) -> str:
+    """The same by the words that say for which target, of the sources of the crate or of another folder."""
     listed = crates.uses()
     words: list[str | pathlib.Path] = [kit / "bin/rattle", "build", "--crate-name", crate]
     words += ["src/main.rt"] if crate in PROGRAMS else ["src/lib.rt", "--crate-type", "staticlib"]
     for name in ["std", *listed[crate]]:
         # what is no crate of this repository is one of the toolchain's
         words += ["--extern", f"{name}={(rlib(name) if name in listed else kit / 'rlibs') / name}.rlib"]
-    for folder in [kit / "rlibs", *map(rlib, below(crate))]:
-        words += ["-L", f"dependency={folder}"]
+    for place_of in [kit / "rlibs", *map(rlib, below(crate))]:
+        words += ["-L", f"dependency={place_of}"]
     words += ["--antt-project", kit / "rattle/logic/antt-project.json", "--logic-built", kit / "logic_built"]
     words += ["--incremental", "out/incremental", "--jobs", "2", "--links", f"{crate}=", "--backend", "llvm"]
-    words += ["--target", machine.target, "--toolchain", kit / "toolchain", "-o", file]
+    words += [*target, "-o", file]
     file.parent.mkdir(parents=True, exist_ok=True)
-    return run(words, ROOT / "crates" / crate)
+    return run(words, folder or ROOT / "crates" / crate)
 
 
 def link(machine: Machine, compiled: pathlib.Path, program: pathlib.Path) -> None:

@@ -71,6 +71,9 @@ Each program and each call of the library is proved to do what its contract says
 the clause of each promise, and the programs and `journal_ffi` are proved for either processor. The packages for
 Python, Ruby, Node, Rust and Go make those calls, and are tested.
 
+The WebAssembly module of the package for Node is compiled of `journal_ffi` as it is proved for x86-64. It is not proved
+for WebAssembly: what is between the two, and how that is tested, is below.
+
 ## Needs
 
 {needs}
@@ -216,20 +219,36 @@ def gem(release: Release, machine: Machine) -> None:
     shutil.copyfile(made, release.out / made.name)
 
 
-def npm(release: Release, machine: Machine) -> None:
-    """The package for Node and TypeScript, with its addon, which has the library in it."""
-    folder = release.copy("node", f"node-{machine.name}")
-    run("sh", folder / "build.sh", release.prefixes[machine.name], CC=f"{machine.tools}gcc")
-    run(f"{machine.tools}strip", "--strip-unneeded", folder / "build/pendratsoa.node")
+def npm(release: Release) -> None:
+    """The package for Node and TypeScript, for any machine: the WebAssembly module, and an addon for each processor."""
+    folder = release.copy("node")
+    for machine in release.machines:
+        run("sh", folder / "build.sh", release.prefixes[machine.name], CC=f"{machine.tools}gcc")
+        addon = folder / f"build/linux-{machine.node}/pendratsoa.node"
+        addon.parent.mkdir()
+        (folder / "build/pendratsoa.node").rename(addon)
+        run(f"{machine.tools}strip", "--strip-unneeded", addon)
+    shutil.copyfile(wasm_module(), folder / "build/pendratsoa.wasm")
     # what npm takes of a package: what it lists, and these
     description = json.loads((folder / "package.json").read_text())
-    packed = release.work / f"npm-{machine.name}"
+    packed = release.work / "npm"
     for name in ["README.md", *release.licences, *description["files"]]:
         (packed / name).parent.mkdir(parents=True, exist_ok=True)
         (folder / name).rename(packed / name)
     del description["scripts"]
-    package.write(packed / "package.json", json.dumps({**description, "cpu": [machine.node]}, indent=2) + "\n")
-    release.archive(packed, f"pendratsoa-{version()}-linux-{machine.node}.tgz", "package")
+    package.write(packed / "package.json", json.dumps(description, indent=2) + "\n")
+    release.archive(packed, f"pendratsoa-{version()}.tgz", "package")
+
+
+def page(release: Release) -> None:
+    """The page that opens journals, with the module in it."""
+    run(sys.executable, "-B", "view/make_opener.py", wasm_module(), release.out / "journal_view.html")
+
+
+def wasm_module() -> pathlib.Path:
+    """The WebAssembly module, which is built where it is not up to date."""
+    run(sys.executable, "-B", "scripts/wasm.py")
+    return ROOT / "crates/journal_ffi/out/wasm/pendratsoa.wasm"
 
 
 def rust(release: Release) -> None:
@@ -261,8 +280,8 @@ def go_module(release: Release) -> None:
 
 # The kinds of files: those that are made for each processor, in an order in which none takes in what another adds, and
 # those that have the library for all.
-FOR_EACH = (wheel, gem, npm, deb, tarball)
-FOR_ALL = (rust, go_module)
+FOR_EACH = (wheel, gem, deb, tarball)
+FOR_ALL = (npm, page, rust, go_module)
 
 
 def results(options: argparse.Namespace) -> dict[str, str]:

@@ -57,6 +57,7 @@ FOLDERS = (
     "crates/*/src",
     "crates/*/specs",
     "crates/*/proofs",
+    "wasm",
 )
 
 

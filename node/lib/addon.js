@@ -1,16 +1,9 @@
-// The addon: the calls of the library, as src/addon.c has them.
+// The calls of the library: those of the addon in C, src/addon.c, or those of the WebAssembly module, module.js.
 
-import { createRequire } from 'node:module';
+/** The calls, each of which takes and returns what the one of the addon does. */
+export let addon;
 
-function load() {
-  try {
-    return createRequire(import.meta.url)('../build/pendratsoa.node');
-  } catch (error) {
-    if (error.code !== 'MODULE_NOT_FOUND') {
-      throw error;
-    }
-    throw new Error("the addon is not built; 'sh build.sh' in the folder of the package builds it", { cause: error });
-  }
+/** Takes calls, before any is made. */
+export function useCalls(calls) {
+  addon = calls;
 }
-
-export const addon = load();

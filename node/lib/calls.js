@@ -2,19 +2,22 @@
 
 import { addon } from './addon.js';
 import {
+  FIRST_VERSION,
   ID_KINDS,
+  LAST_VERSION,
   NOTIFICATION_NUMBERS,
   READINGS,
   READ_NUMBERS,
   RESULT_KINDS,
+  UNKNOWN_SCHEMA,
   VERDICT_KINDS,
   VERDICT_NUMBERS,
 } from './declared.js';
 import { notKnown, notTaken, refusal, wrongKind } from './errors.js';
 import { schemaNumber } from './schemas.js';
+import { texts } from './text.js';
 
-/** The versions from the first to the last. */
-export const { FIRST_VERSION, LAST_VERSION } = addon;
+export { FIRST_VERSION, LAST_VERSION };
 
 const encoder = new TextEncoder();
 
@@ -149,19 +152,25 @@ function bytes(found) {
 
 /** Bytes that were written, as a text. */
 function text(found) {
-  return Buffer.from(found.buffer, found.byteOffset, found.byteLength).toString('utf8');
+  return texts.utf8(found, 0, found.length);
 }
 
 /** A text as UTF-8. Half a surrogate, which has none, becomes a byte that is in no text; nothing after it matters. */
 function utf8Of(json) {
   const end = json.search(/\p{Surrogate}/u);
-  return end < 0 ? encoder.encode(json) : Buffer.concat([encoder.encode(json.slice(0, end)), Buffer.of(0xff)]);
+  if (end < 0) {
+    return encoder.encode(json);
+  }
+  const before = encoder.encode(json.slice(0, end));
+  const bytes = new Uint8Array(before.length + 1).fill(0xff);
+  bytes.set(before);
+  return bytes;
 }
 
 /** The number of a schema. What is neither a number nor a name, the addon does not take. */
 function known(schema, given) {
   const isUnknownName = typeof schema === 'string' && schemaNumber(schema) === undefined;
-  return isUnknownName ? checked(addon.UNKNOWN_SCHEMA, given) : schemaNumber(schema);
+  return isUnknownName ? checked(UNKNOWN_SCHEMA, given) : schemaNumber(schema);
 }
 
 function kindOf(kinds, number, given, what) {

@@ -1,10 +1,8 @@
 // The errors, and which of them a negative number of the library is.
 
-import { inspect } from 'node:util';
-
-import { addon } from './addon.js';
-import { ERRORS } from './declared.js';
+import { ERRORS, FIRST_VERSION, LAST_VERSION } from './declared.js';
 import { SCHEMA_NAMES } from './protocol.js';
+import { texts } from './text.js';
 
 /** A call failed. */
 export class JournalError extends Error {
@@ -127,6 +125,18 @@ export class FieldError extends JournalError {
   }
 }
 
+/** The WebAssembly module stopped in a call. */
+export class Trapped extends JournalError {
+  static {
+    identify(this, 'JOURNAL_TRAPPED');
+  }
+
+  constructor(message, { cause, ...details } = {}) {
+    super(message, details);
+    this.cause = cause;
+  }
+}
+
 /** A source ended within an item. */
 export class Incomplete extends JournalError {
   static {
@@ -186,7 +196,7 @@ const LONG = ['payloadLength', 'maxMessageSize', 'json', 'payload', 'first'];
 
 // What is said of each argument that can be unknown.
 const UNKNOWN = {
-  version: (value) => `protocol version ${shown(value)} (${addon.FIRST_VERSION} to ${addon.LAST_VERSION})`,
+  version: (value) => `protocol version ${shown(value)} (${FIRST_VERSION} to ${LAST_VERSION})`,
   schema: (value) => `schema ${shown(value)}${typeof value === 'string' ? '' : ` (0 to ${SCHEMA_NAMES.length - 1})`}`,
   code: (value) => `code ${codeText(value)}, or not of the kind that the call is for`,
   name: (value) => `name ${shown(value)}`,
@@ -269,12 +279,12 @@ export function wrongKind(argument, value, wanted) {
   return error;
 }
 
-/** A value within a message: bytes by their number, all else as Node prints it on a line. */
+/** A value within a message: bytes by their number, all else on a line. */
 function shown(value) {
   if (ArrayBuffer.isView(value)) {
     return `of ${byteCount(value.byteLength)}`;
   }
-  return inspect(value, { breakLength: Infinity, customInspect: false, depth: 0, maxStringLength: 64 });
+  return texts.shown(value);
 }
 
 /** The code of a type as a text, as 0x0400; what is no code as it is. */

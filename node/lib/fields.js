@@ -3,10 +3,19 @@
 
 import { addon } from './addon.js';
 import { canonical, checked } from './calls.js';
-import { FIELD, FIELD_KINDS, FIELD_NUMBERS, WRITING, WRITINGS, WRITING_NUMBERS } from './declared.js';
+import {
+  FIELD,
+  FIELD_KINDS,
+  FIELD_NUMBERS,
+  UNKNOWN_SCHEMA,
+  WRITING,
+  WRITINGS,
+  WRITING_NUMBERS,
+} from './declared.js';
 import { NOT_CANONICAL, fieldError, notKnown, wrongKind } from './errors.js';
 import { RECORDS } from './records.js';
 import { schemaNumber } from './schemas.js';
+import { texts } from './text.js';
 
 // The kinds of fields that are told apart here, by the numbers of the library.
 const U64 = FIELD_KINDS.indexOf('fieldUint64');
@@ -29,11 +38,9 @@ const LENGTH = 2 * FIELD.length;
 const HALVES = 2 * FIELD_NUMBERS;
 
 // Up to how many bytes a payload is made a text at once, and up to how many units a text is looked through here: of
-// what is short the calls of Buffer are most of the time.
+// what is short the calls are most of the time.
 const SHORT_PAYLOAD = 1024;
 const SHORT_TEXT = 128;
-
-const { latin1Slice, utf8Slice } = Buffer.prototype;
 
 /** The numbers of entries, each also as its two halves, which are numbers of JavaScript. */
 function Table(entries) {
@@ -120,9 +127,9 @@ class Reader {
   text(begin, end) {
     const { data } = this;
     if (data.length > SHORT_PAYLOAD || !areAscii(data, begin, end)) {
-      return utf8Slice.call(data, begin, end);
+      return texts.utf8(data, begin, end);
     }
-    this.units ??= latin1Slice.call(data, 0, data.length);
+    this.units ??= texts.latin1(data);
     return this.units.slice(begin, end);
   }
 
@@ -203,7 +210,7 @@ export function writeRecord(schema, record) {
 /** The number of a schema that is given by its number or its name. */
 function known(schema, call) {
   const number = schemaNumber(schema);
-  return RECORDS[number] === undefined ? checked(addon.UNKNOWN_SCHEMA, { call, schema }) : number;
+  return RECORDS[number] === undefined ? checked(UNKNOWN_SCHEMA, { call, schema }) : number;
 }
 
 class Writer {
@@ -211,7 +218,7 @@ class Writer {
   // the numbers of a table of so many entries, once they were needed
   parts = [];
   count = 0;
-  bytes = Buffer.allocUnsafeSlow(1024);
+  bytes = texts.unwritten(1024);
   size = 0;
 
   payload(schema, value) {
@@ -345,7 +352,7 @@ class Writer {
       this.place(row, level, value.length);
       return;
     }
-    const written = this.bytes.utf8Write(value, this.size);
+    const written = texts.writeUtf8(this.bytes, value, this.size);
     if (!isWellFormed(value)) {
       // half a surrogate is in no text; the library says so of a byte that is in none
       this.bytes[this.size] = 0xff;
@@ -368,7 +375,7 @@ class Writer {
 
   room(count) {
     if (this.bytes.length - this.size < count) {
-      const bytes = Buffer.allocUnsafeSlow(2 * (this.size + count));
+      const bytes = texts.unwritten(2 * (this.size + count));
       bytes.set(this.bytes.subarray(0, this.size));
       this.bytes = bytes;
     }

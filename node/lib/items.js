@@ -19,6 +19,7 @@ import { payloadOf, recordOf } from './fields.js';
 import { isCommandCode, isNotificationCode } from './protocol.js';
 import { RECORDS } from './records.js';
 import { schemaNumber } from './schemas.js';
+import { texts } from './text.js';
 
 // The items of a stream, each with the offset at which it begins there. One class for what they share would make each
 // seven times as slow to construct.
@@ -158,7 +159,7 @@ export class Message {
 
   toJSON() {
     const { kind, version, code, requestedAck } = this;
-    return { kind, version, code, type: nameOf(code), requestedAck, payload: base64(this.payload) };
+    return { kind, version, code, type: nameOf(code), requestedAck, payload: texts.base64(this.payload) };
   }
 }
 
@@ -225,10 +226,6 @@ export function nameOf(code) {
 
 function hexOf(code) {
   return `0x${code.toString(16)}`;
-}
-
-function base64(bytes) {
-  return Buffer.from(bytes.buffer, bytes.byteOffset, bytes.byteLength).toString('base64');
 }
 
 /** The eight bytes of a word. */
@@ -331,6 +328,6 @@ export class Skipped {
 
   toJSON() {
     const { kind, version, code, word } = this;
-    return { kind, version, code, word: word.toString(), payload: base64(this.payload) };
+    return { kind, version, code, word: word.toString(), payload: texts.base64(this.payload) };
   }
 }

@@ -8,9 +8,19 @@ import { messageThatCame, nameOf, skippedThatCame, unknownCodeThatCame } from '.
 
 const NOTHING = new Uint8Array(0);
 const HEADER_SIZE = 8;
+const NO_LIMIT = 0xffffffff;
 
-// The numbers of an item. No JavaScript runs between a call and the reading of it.
-const numbers = new BigUint64Array(ITEM_NUMBERS);
+// How many items are looked for at once, since a call costs more than finding one; and in how many bytes, which are
+// copied for it, but for an item that is longer.
+const MOST_ITEMS = 256;
+const MOST_BYTES = 2 ** 15;
+
+// The numbers of items, also as two halves each, which are numbers of JavaScript. No JavaScript runs between a call and
+// the reading of what it wrote.
+const numbers = new BigUint64Array(ITEM_NUMBERS * MOST_ITEMS);
+const halves = new Uint32Array(numbers.buffer);
+const HALVES = 2 * ITEM_NUMBERS;
+const NONE_FOUND = new Uint32Array(0);
 
 /** Throws if a stream has bytes that are in no item. */
 let atEnd;
@@ -26,6 +36,11 @@ export class Stream {
   #bytes = NOTHING;
   #begin = 0;
   #end = 0;
+  // the halves of the numbers of the items that were found, of which those from #at on are not taken yet
+  #found = NONE_FOUND;
+  #at = 0;
+  // the number of bytes before which the next item is not whole
+  #needed = HEADER_SIZE;
 
   static {
     atEnd = (stream, call) => stream.#atEnd(call);
@@ -93,14 +108,31 @@ export class Stream {
     return addon.nextWithin(this.#version, this.#limit, bytes, numbers);
   }
 
-  /** Looks for an item. A message that is longer than the limit ends the stream: what came of it is dropped. */
-  #look(rest) {
+  /** Looks for items, and returns whether there are any. */
+  #look() {
+    while (this.rest >= this.#needed) {
+      const end = Math.min(this.#end, this.#begin + Math.max(MOST_BYTES, this.#needed));
+      const bytes = this.#bytes.subarray(this.#begin, end);
+      const count = this.#refused(addon.items(this.#version, this.#limit ?? NO_LIMIT, bytes, numbers), bytes);
+      if (count > 0) {
+        this.#found = halves.slice(0, HALVES * count);
+        this.#at = 0;
+        this.#needed = HEADER_SIZE;
+        return true;
+      }
+      this.#needed = bytes.length + this.#refused(this.#next(bytes), bytes);
+    }
+    return false;
+  }
+
+  /** What is no error. A message that is longer than the limit ends the stream: what came of it is dropped. */
+  #refused(returned, bytes) {
     const given = { call: 'Stream', version: this.#version, maxMessageSize: this.#limit };
     try {
-      return checked(this.#next(rest), given);
+      return checked(returned, given);
     } catch (error) {
       if (error instanceof TooLong) {
-        this.#ended = messageTooLong(given, rest, this.#offset);
+        this.#ended = messageTooLong(given, bytes, this.#offset);
         this.#clear();
         throw this.#ended;
       }
@@ -112,6 +144,8 @@ export class Stream {
     this.#bytes = NOTHING;
     this.#begin = 0;
     this.#end = 0;
+    this.#found = NONE_FOUND;
+    this.#at = 0;
   }
 
   /** Moves what is in no item yet to the beginning of new memory, with room for more bytes. */
@@ -128,12 +162,13 @@ export class Stream {
   /** Takes the item that the rest begins with, if it is whole. An error takes nothing. */
   #take() {
     this.#check();
-    const rest = this.#bytes.subarray(this.#begin, this.#end);
-    if (this.#look(rest) > 0) {
+    if (this.#at === this.#found.length && !this.#look()) {
       return undefined;
     }
-    const item = itemOf(this.#version, this.#offset, rest);
-    const size = Number(numbers[ITEM.size]);
+    const size = wholeOf(this.#found, this.#at + 2 * ITEM.size);
+    const bytes = this.#bytes.subarray(this.#begin, this.#begin + size);
+    const item = itemOf(this.#version, this.#offset, this.#found, this.#at, bytes);
+    this.#at += HALVES;
     this.#begin += size;
     this.#offset += size;
     if (this.#begin === this.#end) {
@@ -143,19 +178,26 @@ export class Stream {
   }
 }
 
-/** The item at an offset whose numbers were written, with a payload in memory of its own. */
-function itemOf(version, offset, bytes) {
-  const code = Number(numbers[ITEM.code]);
-  const payload = () => bytes.slice(Number(numbers[ITEM.payload]), Number(numbers[ITEM.size]));
-  switch (ITEM_KINDS[Number(numbers[ITEM.kind])]) {
+/** The number that is two halves, which is exact. */
+function wholeOf(found, at) {
+  return found[at + 1] * 2 ** 32 + found[at];
+}
+
+/** The item at an offset whose numbers are in a table, with a payload in memory of its own. */
+function itemOf(version, offset, found, at, bytes) {
+  const code = found[at + 2 * ITEM.code];
+  const word = (BigInt(found[at + 2 * ITEM.word + 1]) << 32n) | BigInt(found[at + 2 * ITEM.word]);
+  const payload = () => bytes.slice(found[at + 2 * ITEM.payload]);
+  const kind = wholeOf(found, at + 2 * ITEM.kind);
+  switch (ITEM_KINDS[kind]) {
     case 'message':
-      return messageThatCame(offset, numbers[ITEM.word], version, code, payload(), numbers[ITEM.requestedAck] === 1n);
+      return messageThatCame(offset, word, version, code, payload(), found[at + 2 * ITEM.requestedAck] === 1);
     case 'unknownCode':
-      return unknownCodeThatCame(offset, version, code, numbers[ITEM.word]);
+      return unknownCodeThatCame(offset, version, code, word);
     case 'skipped':
-      return skippedThatCame(offset, version, code, numbers[ITEM.word], payload());
+      return skippedThatCame(offset, version, code, word, payload());
     default:
-      throw notKnown('Stream', 'kind of item', numbers[ITEM.kind]);
+      throw notKnown('Stream', 'kind of item', kind);
   }
 }
 

@@ -6,6 +6,7 @@
 #include <pendratsoa.h>
 
 #include "arguments.h"
+#include "items.h"
 
 /* A function: its name, what makes the call, and its parameters. */
 struct function {
@@ -16,6 +17,12 @@ struct function {
 
 #include "calls.h"
 
+/* The items that a chunk begins with, in a table: in one call, since a call costs more than finding an item. */
+static int64_t items(const struct arguments *arguments) {
+    return journal_items_of(arguments->version, arguments->limit, arguments->first.bytes, arguments->first.length,
+                            (void *)arguments->numbers, arguments->numbers_room / JOURNAL_ITEM_NUMBERS);
+}
+
 /* The length of a chunk, by which its kind is checked before it is copied. */
 static int64_t chunk_length(const struct arguments *arguments) {
     return (int64_t)arguments->first.length;
@@ -24,17 +31,8 @@ static int64_t chunk_length(const struct arguments *arguments) {
 /* All functions. Node-API takes a pointer to each as its data, and nothing writes to them. */
 static const struct function FUNCTIONS[] = {
     CALLS
+    {"items", items, {VERSION, LIMIT, CHUNK, NUMBERS}},
     {"chunkLength", chunk_length, {CHUNK}},
-};
-
-/* The constants of the header that the folder lib takes. */
-static const struct {
-    const char *name;
-    int64_t value;
-} CONSTANTS[] = {
-    {"FIRST_VERSION", JOURNAL_FIRST_VERSION},
-    {"LAST_VERSION", JOURNAL_LAST_VERSION},
-    {"UNKNOWN_SCHEMA", JOURNAL_UNKNOWN_SCHEMA},
 };
 
 /* Runs the function that `info` has as its data. */
@@ -81,14 +79,6 @@ NAPI_MODULE_INIT() {
         if (!succeeded(env, napi_create_function(env, FUNCTIONS[i].name, NAPI_AUTO_LENGTH, run,
                                                  (void *)(uintptr_t)&FUNCTIONS[i], &function)) ||
             !succeeded(env, napi_set_named_property(env, exports, FUNCTIONS[i].name, function))) {
-            return NULL;
-        }
-    }
-    for (size_t i = 0; i < sizeof CONSTANTS / sizeof CONSTANTS[0]; i++) {
-        napi_value value = NULL;
-
-        if (!succeeded(env, napi_create_int64(env, CONSTANTS[i].value, &value)) ||
-            !succeeded(env, napi_set_named_property(env, exports, CONSTANTS[i].name, value))) {
             return NULL;
         }
     }

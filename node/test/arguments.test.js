@@ -67,7 +67,7 @@ const CALLS = {
   compareJournals: { version: 8, recorded: NONE, replayed: NONE },
 };
 
-// The calls as the addon has them.
+// The calls as the addon and the module have them.
 const ADDON_CALLS = {
   libraryVersion: [new Uint8Array(8)],
   schema: [8, 0],
@@ -76,6 +76,7 @@ const ADDON_CALLS = {
   chunkLength: [NONE],
   next: [8, NONE, new BigUint64Array(6)],
   nextWithin: [8, 9, NONE, new BigUint64Array(6)],
+  items: [8, 9, NONE, new BigUint64Array(12)],
   header: [8, 0, 0, new Uint8Array(8)],
   frame: [8, 0, NONE, new Uint8Array(8)],
   isWellFormed: [0, NONE],
@@ -160,7 +161,7 @@ test('a view that is out of the bounds of its buffer is empty', { skip: !('resiz
   assert.deepEqual(views.map((view) => addon.chunkLength(view)), [16, 12, 4]);
 });
 
-test('the addon itself takes any values', () => {
+test('the calls themselves take any values', () => {
   assert.deepEqual(
     Object.keys(addon).filter((name) => typeof addon[name] === 'function').sort(),
     Object.keys(ADDON_CALLS).sort(),

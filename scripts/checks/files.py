@@ -12,7 +12,7 @@ import checks
 import release
 
 # What is made, each with a stage of its own.
-KINDS = ("wheel", "gem", "npm", "deb", "tarball", "rust", "go_module")
+KINDS = ("wheel", "gem", "npm", "page", "deb", "tarball", "rust", "go_module")
 
 
 def used(check: checks.Check, folder: pathlib.Path) -> None:

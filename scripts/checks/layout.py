@@ -27,8 +27,10 @@ IS_KEPT = re.compile(r' *((ghost )?use \S+?(\{[^,]*\})?( as \w+)?;?$|#\[)|.*"')
 IS_MADE = re.compile(r" *ghost use ")
 
 # The sources that no formatter lays out, but for those that say in their first line that they are generated.
-HAND_WRITTEN = ("scripts", "tools", "bench", "view", "python", "go", "ruby", "rust", "node", "examples", "tests")
-ENDINGS = (".sh", ".py", ".c", ".h", ".rs", ".go", ".rb", ".gemspec", ".js", ".ts", ".html", ".css")
+HAND_WRITTEN = (
+    "scripts", "tools", "bench", "view", "python", "go", "ruby", "rust", "node", "examples", "tests", "wasm",
+)
+ENDINGS = (".sh", ".py", ".c", ".h", ".rs", ".go", ".rb", ".gemspec", ".js", ".mjs", ".ts", ".html", ".css")
 
 
 def files(*folders: str, endings: tuple[str, ...]) -> list[pathlib.Path]:

@@ -118,6 +118,17 @@ installed_library() {
   export PKG_CONFIG_PATH PENDRATSOA_LIBRARY LD_LIBRARY_PATH
 }
 
+# wasm_module: $module is the WebAssembly module over the proved library; where it cannot be built it is empty
+wasm_module() {
+  module=$PWD/crates/journal_ffi/out/wasm/pendratsoa.wasm
+  python3 -B scripts/wasm.py
+  case $? in
+    0) ;;
+    2) module= ;;
+    *) failed=$((failed + 1)); finish ;;
+  esac
+}
+
 # program_of NAME: $program is a proved program, which rt ci or scripts/run.sh --proved leaves in out/ of its crate, or
 # a link of this name to it; where there is none, or a source is newer, $program is empty and $why says so
 program_of() {

@@ -1,8 +1,9 @@
 #!/bin/sh
-# The package for Node: its addon, its tests and types, the test vectors by its calls, an example in TypeScript.
+# The package for Node: its tests, the test vectors, types and examples, over its addon and over the WebAssembly module.
 #
 # It builds the addon in a copy of node/, over the proved static library, as scripts/checks/c.sh takes it, and over
-# another one in its place, which returns what this package does not know. It uses no network.
+# another one in its place, which returns what this package does not know; the module as scripts/wasm.py does. The tests
+# run over both, and in headless Chromium the test vectors by the page's entry. It uses no network.
 set -u
 cd "$(dirname "$0")/../.." || exit 1
 . scripts/checks/lib.sh
@@ -23,10 +24,13 @@ copy() {
   done
 }
 
-# tested NAME FILE..: the tests of files of $tree/node, by the lines in which node counts them
+# tested CALLS NAME FILE..: the tests of files of $tree/node over the addon or the module, by the lines in which node
+# counts them
 tested() {
-  name=$1
-  shift
+  name="$2, over the $1"
+  PENDRATSOA_CALLS=$1
+  export PENDRATSOA_CALLS
+  shift 2
   (cd "$tree/node" && node --test --test-reporter=tap "$@") > "$out" 2> "$err" < /dev/null
   ended=$?
   good=$(sed -n 's/^# pass //p' "$out")
@@ -83,15 +87,29 @@ readelf -d "$addon" | sed -n 's/.*(NEEDED).*\[\(.*\)\]$/\1/p' > "$out"
 echo libc.so.6 > "$work/wanted"
 same 'what the addon needs' "$work/wanted" "$out"
 
-# Its tests, and the test vectors.
-# shellcheck disable=SC2046 # the names are split
-tested 'the tests of the package' $(cd "$tree/node" && ls test/*.test.js)
-counted 'the test vectors' node "$tree/node/test/conformance.js"
+# Its tests, and the test vectors, over both.
+wasm_module
+if [ -n "$module" ]; then
+  cp "$module" "$tree/node/build/pendratsoa.wasm"
+else
+  without 'the WebAssembly module' rt
+fi
+for calls in addon ${module:+module}; do
+  # shellcheck disable=SC2046 # the names are split
+  tested $calls 'the tests of the package' $(cd "$tree/node" && ls test/*.test.js)
+  counted "the test vectors over the $calls" node "$tree/node/test/conformance.js"
+done
+unset PENDRATSOA_CALLS
+if [ -z "$module" ] || ! command -v chromium > /dev/null; then
+  without 'the package in a browser' 'chromium, or no module'
+else
+  counted 'the package in a browser' python3 -B scripts/checks/browser_vectors.py "$tree"
+fi
 
 # The package as a user has it: the files that package.json lists, in node_modules.
 user=$work/user
 package=$user/node_modules/pendratsoa
-mkdir -p "$package/build"
+mkdir -p "$package"
 for file in package.json $(node -p "JSON.parse(require('fs').readFileSync('node/package.json')).files.join(' ')"); do
   case_of "a copy of $file" cp -R "$tree/node/$file" "$package/$file"
 done
@@ -146,6 +164,11 @@ case_of 'later_library.c' cc -std=c11 -O2 -fPIC -Wall -Wextra -Werror -I include
   -o "$work/later.o"
 case_of 'its archive' ar rcsD "$work/other/lib/libpendratsoa.a" "$work/later.o"
 case_of 'build.sh with another library' sh "$tree/node/build.sh" "$work/other"
-tested 'what a later library returns' test/later_library.js
+tested addon 'what a later library returns' test/later_library.js
+if [ -n "$module" ]; then
+  case_of 'a module with another library' python3 -B scripts/wasm.py --of "$tree/node/build/pendratsoa.wasm" \
+    wasm/heap.c wasm/calls.c node/test/later_library.c
+  tested module 'what a later library returns' test/later_library.js
+fi
 
 finish

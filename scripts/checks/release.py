@@ -225,10 +225,11 @@ class Trial:
         self.check.case(f"the compiled module of {language}, {self.machine.name}", is_right, ended)
 
     def node(self) -> None:
-        """The package for Node, in a user's folder: by npm where that is there and this is its processor."""
+        """The package for Node, in a user's folder, over its addon and its module: by npm where that is there and this
+        is its processor."""
         user = self.inside / "user"
         package = user / "node_modules/pendratsoa"
-        file = self.release / pathlib.Path(self.file(f"pendratsoa-{VERSION}-linux-{self.machine.node}.tgz")).name
+        file = self.release / pathlib.Path(self.file(f"pendratsoa-{VERSION}.tgz")).name
         user.mkdir()
         (user / "package.json").write_text('{"private": true}\n')
         if not self.machine.tools and self.check.has("npm", "npm install"):
@@ -237,12 +238,14 @@ class Trial:
         else:
             package.mkdir(parents=True)
             self.check.command("tar", ["tar", "-xf", file, "-C", package, "--strip-components=1"])
-        self.needs_at_most("the addon", LIBRARY_GLIBC, package / "build/pendratsoa.node")
+        addon = package / f"build/linux-{self.machine.node}/pendratsoa.node"
+        self.needs_at_most("the addon", LIBRARY_GLIBC, addon)
         # the tests are beside the package's files, and find the vectors two folders above
         shutil.copytree("node/test", package / "test")
         (user / "node_modules/conformance").symlink_to("/trial/conformance")
         test = "user/node_modules/pendratsoa/test/conformance.js"
-        self.vectors("the test vectors in JavaScript", "/usr/bin/node", test)
+        for calls in ("addon", "module"):
+            self.vectors(f"the test vectors in JavaScript, {calls}", "/usr/bin/node", test, PENDRATSOA_CALLS=calls)
         if self.check.has("tsc", "the example in TypeScript"):
             shutil.copy("examples/typescript/listing.mts", user)
             words = ["tsc", "--strict", "--target", "es2022", "--module", "node16", user / "listing.mts"]

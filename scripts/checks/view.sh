@@ -21,6 +21,12 @@ elif ! timeout 120 chromium --headless --no-sandbox --disable-gpu --user-data-di
 else
   counted 'the page in a browser' timeout 900 python3 view/tests/test_page.py
   counted 'what moved, in a browser' timeout 900 python3 view/tests/test_moved.py
+  wasm_module
+  if [ -n "$module" ]; then
+    counted 'the page that opens journals' timeout 900 python3 view/tests/test_opener.py "$module"
+  else
+    without 'the page that opens journals' rt
+  fi
   counted 'the picture of the page' timeout 300 python3 view/picture.py --check
 fi
 

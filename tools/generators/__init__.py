@@ -33,6 +33,7 @@ NAMES = (
     "bindings",
     "typed_messages",
     "calls",
+    "wasm",
     "records",
     "borrowed",
     "frames",

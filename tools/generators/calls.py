@@ -500,11 +500,24 @@ def ruby():
 
 # Node.
 
+# The errors that JavaScript returns itself, and what they are called there.
+NODE_ERRORS = {
+    "OUT_OF_MEMORY": "NO_MEMORY",
+    "TOO_LONG": "TOO_LONG",
+    "UNKNOWN_VERSION": "UNKNOWN_VERSION",
+    "UNKNOWN_SCHEMA": "UNKNOWN_SCHEMA",
+    "UNKNOWN_TYPE": "UNKNOWN_CODE",
+}
+
+
 def node():
     text = (
         "// What the library for C declares: the kinds that calls write, how many numbers each struct has, and the "
         "errors.\n"
     )
+    first, last = described()["versions"]
+    text += f"\n/** The versions from the first to the last. */\nexport const FIRST_VERSION = {first};\n"
+    text += f"export const LAST_VERSION = {last};\n"
     for entry in kinds():
         names = "  undefined,\n" * entry.get("first", 0)
         names += "".join(f"  '{camel(name, False, with_capitals=False)}',\n" for name, _ in entry["values"])
@@ -519,7 +532,11 @@ def node():
     for error in returned_errors():
         names = ", ".join(f"'{camel(name, False)}'" for name in error["about"])
         text += f"  [{error['number']}, ['{class_name(error)}', [{names}]]],\n"
-    return text + "]);\n"
+    text += "]);\n\n/** The numbers of errors that calls return before the library is called. */\n"
+    for error, name in NODE_ERRORS.items():
+        number = next(each["number"] for each in errors() if each["name"] == error)
+        text += f"export const {name} = {number};\n"
+    return text
 
 
 # What a parameter of JavaScript is read into, by its name.

@@ -1,0 +1,36 @@
+// The calls of the library over its WebAssembly module.
+
+import { Trapped } from './errors.js';
+import { CALLS } from './module_calls.js';
+import { renew, useInstances } from './module_memory.js';
+
+/**
+ * The calls over a compiled module. With `memoryLimit`, in bytes, no instance has more memory, and a call that would
+ * need more is out of memory.
+ */
+export function callsOf(module, { memoryLimit } = {}) {
+  useInstances(() => {
+    const { exports } = new WebAssembly.Instance(module);
+    if (memoryLimit !== undefined) {
+      exports.pendratsoa_limit(BigInt(memoryLimit));
+    }
+    return exports;
+  });
+  return Object.fromEntries(Object.entries(CALLS).map(([name, call]) => [name, guarded(name, call)]));
+}
+
+/** A call that may trap, as where the stack of the engine ends: the next call has a new instance. */
+function guarded(name, call) {
+  return (...given) => {
+    try {
+      return call(...given);
+    } catch (error) {
+      // what is wrong with an argument has a code, and was found before the call
+      if (error.code !== undefined) {
+        throw error;
+      }
+      renew();
+      throw new Trapped(`${name}: the WebAssembly module stopped: ${error.message}`, { call: name, cause: error });
+    }
+  };
+}

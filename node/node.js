@@ -1,0 +1,5 @@
+// The package in Node, Deno and Bun.
+
+import './lib/node.js';
+
+export * from './index.js';

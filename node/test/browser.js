@@ -1,0 +1,165 @@
+// The test vectors in a browser, by the page's entry of the package; scripts/checks/browser_vectors.py serves it.
+//
+// It leaves what is found as `window.result`. Nothing of Node is there. Lines of `record` have no call.
+
+import {
+  JournalError,
+  JsonError,
+  Malformed,
+  Message,
+  Stream,
+  canonical,
+  compareJournals,
+  decode,
+  difference,
+  frame,
+  fromJson,
+  headerEq,
+  items,
+  libraryVersion,
+  merge,
+  readRecord,
+  toJson,
+  typeCode,
+  writeRecord,
+} from '../browser.js';
+
+function hex(digits) {
+  return Uint8Array.from(digits === '-' ? [] : digits.match(/../g), (pair) => Number.parseInt(pair, 16));
+}
+
+function digitsOf(bytes) {
+  return Array.from(bytes, (byte) => byte.toString(16).padStart(2, '0')).join('');
+}
+
+function same(one, other) {
+  if (digitsOf(one) !== digitsOf(other)) {
+    throw new Error(`${digitsOf(one)} and not ${digitsOf(other)}`);
+  }
+}
+
+function listed(item) {
+  const code = `0x${item.code.toString(16)}`;
+  switch (item.kind) {
+    case 'message':
+      return `${item.type} ${item.payload.length}${item.requestedAck ? ' ack' : ''}`;
+    case 'unknownCode':
+      return `unknown ${code}`;
+    default:
+      return `skipped ${code} ${item.payload.length}`;
+  }
+}
+
+const KINDS = {
+  payload(name, payload) {
+    const result = canonical(name, hex(payload));
+    same(writeRecord(name, readRecord(name, hex(payload))), result);
+    return digitsOf(result);
+  },
+  json(name, payload) {
+    const json = toJson(name, hex(payload));
+    same(fromJson(name, json), canonical(name, hex(payload)));
+    return json;
+  },
+  read(name, text) {
+    try {
+      return digitsOf(fromJson(name, hex(text)));
+    } catch (error) {
+      if (!(error instanceof JsonError)) {
+        throw error;
+      }
+      const reason = error.reason.replace(/[A-Z]/g, (letter) => `_${letter.toLowerCase()}`);
+      return `${reason} ${error.offset ?? error.path}`.trimEnd();
+    }
+  },
+  merge(name, first, ...others) {
+    return digitsOf(others.reduce((merged, other) => merge(name, merged, hex(other)), canonical(name, hex(first))));
+  },
+  frame(type, version, payload) {
+    return digitsOf(frame(Number(version), typeCode(type), hex(payload)));
+  },
+  compare(type, first, second) {
+    const [code, one, other] = [typeCode(type), hex(first), hex(second)];
+    const compared = [false, true].map((ignorePayloads) => headerEq(code, one, other, { ignorePayloads }));
+    const text = new TextEncoder().encode(difference(code, one, other));
+    return [...compared.map((isSame) => (isSame ? 'same' : 'other')), digitsOf(text) || '-'].join(' ');
+  },
+  stream(version, ...chunks) {
+    const stream = new Stream(Number(version));
+    const lines = chunks.flatMap((chunk) => {
+      stream.feed(hex(chunk));
+      return Array.from(stream, listed);
+    });
+    return [...lines, `rest ${stream.rest}`].join(', ');
+  },
+};
+
+function resultOf(question) {
+  const [kind, ...words] = question.split(' ');
+  if (KINDS[kind] === undefined) {
+    return undefined;
+  }
+  try {
+    return KINDS[kind](...words) || '-';
+  } catch (error) {
+    if (error instanceof Malformed) {
+      return 'malformed';
+    }
+    return String(error);
+  }
+}
+
+let passed = 0;
+let failed = 0;
+const said = [];
+
+function outcome(name, isGood) {
+  if (isGood) {
+    passed += 1;
+  } else {
+    failed += 1;
+    said.push(name.slice(0, 300));
+  }
+}
+
+const vectors = await (await fetch('/vectors.txt')).text();
+for (const line of vectors.split('\n').filter((each) => each !== '' && !each.startsWith('#'))) {
+  const end = line.indexOf(' = ');
+  const found = resultOf(line.slice(0, end));
+  if (found !== undefined) {
+    outcome(`${line.slice(0, end)}: ${found}`, found === line.slice(end + 3));
+  }
+}
+
+// The sources that the web has: a body of a response, a blob, and a transform of its stream.
+const address = '/examples/streams/recorded';
+const bytes = new Uint8Array(await (await fetch(address)).arrayBuffer());
+const direct = new Stream();
+direct.feed(bytes);
+const lines = Array.from(direct, String).join();
+const chunks = async (source) => {
+  const found = [];
+  for await (const item of source) {
+    found.push(String(item));
+  }
+  return found.join();
+};
+outcome('the body of a response', (await chunks(items((await fetch(address)).body))) === lines && lines !== '');
+outcome('the stream of a blob', (await chunks(items(new Blob([bytes]).stream()))) === lines);
+outcome('a transform', (await chunks(new Blob([bytes]).stream().pipeThrough(decode()))) === lines);
+outcome('two journals', compareJournals(8, bytes, bytes).kind === 'same');
+outcome('a message', JSON.stringify(Message.of('SetStateCommand', { key: hex('61') })).includes('"payload":"CgFh"'));
+outcome('the version', /^\d+\.\d+\.\d+$/.test(libraryVersion()));
+for (const wrong of ['text', 5n, Symbol('5'), null, undefined, {}, [1], () => 1, 'x'.repeat(100)]) {
+  for (const call of [() => canonical(wrong, bytes), () => canonical(0, wrong), () => typeCode(wrong)]) {
+    let error;
+    try {
+      call();
+    } catch (thrown) {
+      error = thrown;
+    }
+    outcome(`a wrong argument: ${error}`, error instanceof JournalError || error instanceof TypeError);
+  }
+}
+outcome('nothing of Node is there', globalThis.Buffer === undefined && globalThis.process === undefined);
+window.result = { passed, failed, said: said.slice(0, 10) };
