@@ -179,8 +179,8 @@ def rules() -> Found:
     """The test vectors of each rule: `FILE, N: BEGINNING` in a page names the N lines of FILE under the one heading
     that begins so, and every heading of the files that are not random is named."""
     rule = re.compile(r"    ([a-z]*\.txt), ([0-9]*): (.*)")
-    page = "docs/PAYLOADS.md"
-    found = [rule.fullmatch(line) for each in (page, "docs/FORMAT.md") for line in lines(each)]
+    page = "conformance/README.md"
+    found = [rule.fullmatch(line) for line in lines(page)]
     named = [(match[1], int(match[2]), match[3]) for match in found if match]
     seen: collections.Counter[tuple[str, int, str]] = collections.Counter()
     for file in (f"{name}.txt" for name in VECTORS):
