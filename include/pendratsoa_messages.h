@@ -55,6 +55,7 @@ struct journal_arena {
     uint32_t rejected_number;
 };
 
+/* The arena of a block of memory, which is free. */
 static inline struct journal_arena journal_arena_of(void *memory, size_t size) {
     struct journal_arena arena = {(uint8_t *)memory, size, 0, 0, 0, 0};
 
@@ -1007,88 +1008,138 @@ union journal_record {
  * number of a oneof's member is that of none, which journal_write_NAME says, otherwise JOURNAL_TOO_LONG. None allocates.
  */
 
+/* Writes the payload of the record Void. */
 int64_t journal_encode_Void(const struct journal_Void *record, uint8_t *out, size_t room);
+/* Writes the payload of the record Value. */
 int64_t journal_encode_Value(const struct journal_Value *record, uint8_t *out, size_t room);
+/* Writes the payload of the record Failure. */
 int64_t journal_encode_Failure(const struct journal_Failure *record, uint8_t *out, size_t room);
+/* Writes the payload of the record FailureMetadata. */
 int64_t journal_encode_FailureMetadata(const struct journal_FailureMetadata *record, uint8_t *out, size_t room);
+/* Writes the payload of the record Header. */
 int64_t journal_encode_Header(const struct journal_Header *record, uint8_t *out, size_t room);
+/* Writes the payload of the record StateKeys. */
 int64_t journal_encode_StateKeys(const struct journal_StateKeys *record, uint8_t *out, size_t room);
+/* Writes the payload of the record StateEntry. */
 int64_t journal_encode_StateEntry(const struct journal_StateEntry *record, uint8_t *out, size_t room);
+/* Writes the payload of the record WorkflowTarget. */
 int64_t journal_encode_WorkflowTarget(const struct journal_WorkflowTarget *record, uint8_t *out, size_t room);
+/* Writes the payload of the record IdempotentRequestTarget. */
 int64_t journal_encode_IdempotentRequestTarget(const struct journal_IdempotentRequestTarget *record, uint8_t *out,
                                                size_t room);
+/* Writes the payload of the record StartMessage. */
 int64_t journal_encode_StartMessage(const struct journal_StartMessage *record, uint8_t *out, size_t room);
+/* Writes the payload of the record SuspensionMessageV6. */
 int64_t journal_encode_SuspensionMessageV6(const struct journal_SuspensionMessageV6 *record, uint8_t *out, size_t room);
+/* Writes the payload of the record ErrorMessage. */
 int64_t journal_encode_ErrorMessage(const struct journal_ErrorMessage *record, uint8_t *out, size_t room);
+/* Writes the payload of the record EndMessage. */
 int64_t journal_encode_EndMessage(const struct journal_EndMessage *record, uint8_t *out, size_t room);
+/* Writes the payload of the record ProposeRunCompletionMessage. */
 int64_t journal_encode_ProposeRunCompletionMessage(const struct journal_ProposeRunCompletionMessage *record,
                                                    uint8_t *out, size_t room);
+/* Writes the payload of the record ProposeRunCompletionAckMessage. */
 int64_t journal_encode_ProposeRunCompletionAckMessage(const struct journal_ProposeRunCompletionAckMessage *record,
                                                       uint8_t *out, size_t room);
+/* Writes the payload of the record GetStateEphemeralCommandMessage. */
 int64_t journal_encode_GetStateEphemeralCommandMessage(const struct journal_GetStateEphemeralCommandMessage *record,
                                                        uint8_t *out, size_t room);
+/* Writes the payload of the record GetStateEphemeralNotificationMessage. */
 int64_t journal_encode_GetStateEphemeralNotificationMessage(
     const struct journal_GetStateEphemeralNotificationMessage *record, uint8_t *out, size_t room);
+/* Writes the payload of the record InputCommandMessage. */
 int64_t journal_encode_InputCommandMessage(const struct journal_InputCommandMessage *record, uint8_t *out, size_t room);
+/* Writes the payload of the record OutputCommandMessage. */
 int64_t journal_encode_OutputCommandMessage(const struct journal_OutputCommandMessage *record, uint8_t *out,
                                             size_t room);
+/* Writes the payload of the record GetLazyStateCommandMessage. */
 int64_t journal_encode_GetLazyStateCommandMessage(const struct journal_GetLazyStateCommandMessage *record, uint8_t *out,
                                                   size_t room);
+/* Writes the payload of the record SetStateCommandMessage. */
 int64_t journal_encode_SetStateCommandMessage(const struct journal_SetStateCommandMessage *record, uint8_t *out,
                                               size_t room);
+/* Writes the payload of the record ClearStateCommandMessage. */
 int64_t journal_encode_ClearStateCommandMessage(const struct journal_ClearStateCommandMessage *record, uint8_t *out,
                                                 size_t room);
+/* Writes the payload of the record ClearAllStateCommandMessage. */
 int64_t journal_encode_ClearAllStateCommandMessage(const struct journal_ClearAllStateCommandMessage *record,
                                                    uint8_t *out, size_t room);
+/* Writes the payload of the record GetLazyStateKeysCommandMessage. */
 int64_t journal_encode_GetLazyStateKeysCommandMessage(const struct journal_GetLazyStateKeysCommandMessage *record,
                                                       uint8_t *out, size_t room);
+/* Writes the payload of the record GetEagerStateCommandMessage. */
 int64_t journal_encode_GetEagerStateCommandMessage(const struct journal_GetEagerStateCommandMessage *record,
                                                    uint8_t *out, size_t room);
+/* Writes the payload of the record GetEagerStateKeysCommandMessage. */
 int64_t journal_encode_GetEagerStateKeysCommandMessage(const struct journal_GetEagerStateKeysCommandMessage *record,
                                                        uint8_t *out, size_t room);
+/* Writes the payload of the record GetPromiseCommandMessage. */
 int64_t journal_encode_GetPromiseCommandMessage(const struct journal_GetPromiseCommandMessage *record, uint8_t *out,
                                                 size_t room);
+/* Writes the payload of the record PeekPromiseCommandMessage. */
 int64_t journal_encode_PeekPromiseCommandMessage(const struct journal_PeekPromiseCommandMessage *record, uint8_t *out,
                                                  size_t room);
+/* Writes the payload of the record CompletePromiseCommandMessage. */
 int64_t journal_encode_CompletePromiseCommandMessage(const struct journal_CompletePromiseCommandMessage *record,
                                                      uint8_t *out, size_t room);
+/* Writes the payload of the record SleepCommandMessage. */
 int64_t journal_encode_SleepCommandMessage(const struct journal_SleepCommandMessage *record, uint8_t *out, size_t room);
+/* Writes the payload of the record CallCommandMessage. */
 int64_t journal_encode_CallCommandMessage(const struct journal_CallCommandMessage *record, uint8_t *out, size_t room);
+/* Writes the payload of the record OneWayCallCommandMessage. */
 int64_t journal_encode_OneWayCallCommandMessage(const struct journal_OneWayCallCommandMessage *record, uint8_t *out,
                                                 size_t room);
+/* Writes the payload of the record SendSignalCommandMessage. */
 int64_t journal_encode_SendSignalCommandMessage(const struct journal_SendSignalCommandMessage *record, uint8_t *out,
                                                 size_t room);
+/* Writes the payload of the record RunCommandMessage. */
 int64_t journal_encode_RunCommandMessage(const struct journal_RunCommandMessage *record, uint8_t *out, size_t room);
+/* Writes the payload of the record AttachInvocationCommandMessage. */
 int64_t journal_encode_AttachInvocationCommandMessage(const struct journal_AttachInvocationCommandMessage *record,
                                                       uint8_t *out, size_t room);
+/* Writes the payload of the record GetInvocationOutputCommandMessage. */
 int64_t journal_encode_GetInvocationOutputCommandMessage(const struct journal_GetInvocationOutputCommandMessage *record,
                                                          uint8_t *out, size_t room);
+/* Writes the payload of the record CompleteAwakeableCommandMessage. */
 int64_t journal_encode_CompleteAwakeableCommandMessage(const struct journal_CompleteAwakeableCommandMessage *record,
                                                        uint8_t *out, size_t room);
+/* Writes the payload of the record GetLazyStateCompletionNotificationMessage. */
 int64_t journal_encode_GetLazyStateCompletionNotificationMessage(
     const struct journal_GetLazyStateCompletionNotificationMessage *record, uint8_t *out, size_t room);
+/* Writes the payload of the record GetPromiseCompletionNotificationMessage. */
 int64_t journal_encode_GetPromiseCompletionNotificationMessage(
     const struct journal_GetPromiseCompletionNotificationMessage *record, uint8_t *out, size_t room);
+/* Writes the payload of the record PeekPromiseCompletionNotificationMessage. */
 int64_t journal_encode_PeekPromiseCompletionNotificationMessage(
     const struct journal_PeekPromiseCompletionNotificationMessage *record, uint8_t *out, size_t room);
+/* Writes the payload of the record GetInvocationOutputCompletionNotificationMessage. */
 int64_t journal_encode_GetInvocationOutputCompletionNotificationMessage(
     const struct journal_GetInvocationOutputCompletionNotificationMessage *record, uint8_t *out, size_t room);
+/* Writes the payload of the record CompletePromiseCompletionNotificationMessage. */
 int64_t journal_encode_CompletePromiseCompletionNotificationMessage(
     const struct journal_CompletePromiseCompletionNotificationMessage *record, uint8_t *out, size_t room);
+/* Writes the payload of the record CallCompletionNotificationMessage. */
 int64_t journal_encode_CallCompletionNotificationMessage(const struct journal_CallCompletionNotificationMessage *record,
                                                          uint8_t *out, size_t room);
+/* Writes the payload of the record RunCompletionNotificationMessage. */
 int64_t journal_encode_RunCompletionNotificationMessage(const struct journal_RunCompletionNotificationMessage *record,
                                                         uint8_t *out, size_t room);
+/* Writes the payload of the record AttachInvocationCompletionNotificationMessage. */
 int64_t journal_encode_AttachInvocationCompletionNotificationMessage(
     const struct journal_AttachInvocationCompletionNotificationMessage *record, uint8_t *out, size_t room);
+/* Writes the payload of the record SleepCompletionNotificationMessage. */
 int64_t journal_encode_SleepCompletionNotificationMessage(
     const struct journal_SleepCompletionNotificationMessage *record, uint8_t *out, size_t room);
+/* Writes the payload of the record GetLazyStateKeysCompletionNotificationMessage. */
 int64_t journal_encode_GetLazyStateKeysCompletionNotificationMessage(
     const struct journal_GetLazyStateKeysCompletionNotificationMessage *record, uint8_t *out, size_t room);
+/* Writes the payload of the record CallInvocationIdCompletionNotificationMessage. */
 int64_t journal_encode_CallInvocationIdCompletionNotificationMessage(
     const struct journal_CallInvocationIdCompletionNotificationMessage *record, uint8_t *out, size_t room);
+/* Writes the payload of the record SignalNotificationMessage. */
 int64_t journal_encode_SignalNotificationMessage(const struct journal_SignalNotificationMessage *record, uint8_t *out,
                                                  size_t room);
+/* Writes the payload of the record NotificationTemplate. */
 int64_t journal_encode_NotificationTemplate(const struct journal_NotificationTemplate *record, uint8_t *out,
                                             size_t room);
 
@@ -3859,6 +3910,7 @@ static inline void journal_put_NotificationTemplate_(struct journal_writer_ *wri
  * Each record, read and written.
  */
 
+/* Reads the record Void from a payload. */
 static inline int64_t journal_read_Void(const uint8_t *payload, size_t payload_length, struct journal_Void *record,
                                         struct journal_arena *arena) {
     struct journal_reader_ reader;
@@ -3870,6 +3922,7 @@ static inline int64_t journal_read_Void(const uint8_t *payload, size_t payload_l
     return journal_end_reading_(&reader, arena, record, sizeof *record);
 }
 
+/* Writes the canonical payload of the record Void. */
 static inline int64_t journal_write_Void(const struct journal_Void *record, struct journal_arena *arena, uint8_t *out,
                                          size_t room) {
     struct journal_writer_ writer;
@@ -3884,6 +3937,7 @@ static inline int64_t journal_write_Void(const struct journal_Void *record, stru
     return journal_end_writing_(&writer, JOURNAL_SCHEMA_VOID, arena, out, room);
 }
 
+/* Reads the record Value from a payload. */
 static inline int64_t journal_read_Value(const uint8_t *payload, size_t payload_length, struct journal_Value *record,
                                          struct journal_arena *arena) {
     struct journal_reader_ reader;
@@ -3895,6 +3949,7 @@ static inline int64_t journal_read_Value(const uint8_t *payload, size_t payload_
     return journal_end_reading_(&reader, arena, record, sizeof *record);
 }
 
+/* Writes the canonical payload of the record Value. */
 static inline int64_t journal_write_Value(const struct journal_Value *record, struct journal_arena *arena, uint8_t *out,
                                           size_t room) {
     struct journal_writer_ writer;
@@ -3909,6 +3964,7 @@ static inline int64_t journal_write_Value(const struct journal_Value *record, st
     return journal_end_writing_(&writer, JOURNAL_SCHEMA_VALUE, arena, out, room);
 }
 
+/* Reads the record Failure from a payload. */
 static inline int64_t journal_read_Failure(const uint8_t *payload, size_t payload_length,
                                            struct journal_Failure *record, struct journal_arena *arena) {
     struct journal_reader_ reader;
@@ -3920,6 +3976,7 @@ static inline int64_t journal_read_Failure(const uint8_t *payload, size_t payloa
     return journal_end_reading_(&reader, arena, record, sizeof *record);
 }
 
+/* Writes the canonical payload of the record Failure. */
 static inline int64_t journal_write_Failure(const struct journal_Failure *record, struct journal_arena *arena,
                                             uint8_t *out, size_t room) {
     struct journal_writer_ writer;
@@ -3934,6 +3991,7 @@ static inline int64_t journal_write_Failure(const struct journal_Failure *record
     return journal_end_writing_(&writer, JOURNAL_SCHEMA_FAILURE, arena, out, room);
 }
 
+/* Reads the record FailureMetadata from a payload. */
 static inline int64_t journal_read_FailureMetadata(const uint8_t *payload, size_t payload_length,
                                                    struct journal_FailureMetadata *record,
                                                    struct journal_arena *arena) {
@@ -3946,6 +4004,7 @@ static inline int64_t journal_read_FailureMetadata(const uint8_t *payload, size_
     return journal_end_reading_(&reader, arena, record, sizeof *record);
 }
 
+/* Writes the canonical payload of the record FailureMetadata. */
 static inline int64_t journal_write_FailureMetadata(const struct journal_FailureMetadata *record,
                                                     struct journal_arena *arena, uint8_t *out, size_t room) {
     struct journal_writer_ writer;
@@ -3960,6 +4019,7 @@ static inline int64_t journal_write_FailureMetadata(const struct journal_Failure
     return journal_end_writing_(&writer, JOURNAL_SCHEMA_FAILURE_METADATA, arena, out, room);
 }
 
+/* Reads the record Header from a payload. */
 static inline int64_t journal_read_Header(const uint8_t *payload, size_t payload_length, struct journal_Header *record,
                                           struct journal_arena *arena) {
     struct journal_reader_ reader;
@@ -3971,6 +4031,7 @@ static inline int64_t journal_read_Header(const uint8_t *payload, size_t payload
     return journal_end_reading_(&reader, arena, record, sizeof *record);
 }
 
+/* Writes the canonical payload of the record Header. */
 static inline int64_t journal_write_Header(const struct journal_Header *record, struct journal_arena *arena,
                                            uint8_t *out, size_t room) {
     struct journal_writer_ writer;
@@ -3985,6 +4046,7 @@ static inline int64_t journal_write_Header(const struct journal_Header *record, 
     return journal_end_writing_(&writer, JOURNAL_SCHEMA_HEADER, arena, out, room);
 }
 
+/* Reads the record StateKeys from a payload. */
 static inline int64_t journal_read_StateKeys(const uint8_t *payload, size_t payload_length,
                                              struct journal_StateKeys *record, struct journal_arena *arena) {
     struct journal_reader_ reader;
@@ -3996,6 +4058,7 @@ static inline int64_t journal_read_StateKeys(const uint8_t *payload, size_t payl
     return journal_end_reading_(&reader, arena, record, sizeof *record);
 }
 
+/* Writes the canonical payload of the record StateKeys. */
 static inline int64_t journal_write_StateKeys(const struct journal_StateKeys *record, struct journal_arena *arena,
                                               uint8_t *out, size_t room) {
     struct journal_writer_ writer;
@@ -4010,6 +4073,7 @@ static inline int64_t journal_write_StateKeys(const struct journal_StateKeys *re
     return journal_end_writing_(&writer, JOURNAL_SCHEMA_STATE_KEYS, arena, out, room);
 }
 
+/* Reads the record StateEntry from a payload. */
 static inline int64_t journal_read_StateEntry(const uint8_t *payload, size_t payload_length,
                                               struct journal_StateEntry *record, struct journal_arena *arena) {
     struct journal_reader_ reader;
@@ -4021,6 +4085,7 @@ static inline int64_t journal_read_StateEntry(const uint8_t *payload, size_t pay
     return journal_end_reading_(&reader, arena, record, sizeof *record);
 }
 
+/* Writes the canonical payload of the record StateEntry. */
 static inline int64_t journal_write_StateEntry(const struct journal_StateEntry *record, struct journal_arena *arena,
                                                uint8_t *out, size_t room) {
     struct journal_writer_ writer;
@@ -4035,6 +4100,7 @@ static inline int64_t journal_write_StateEntry(const struct journal_StateEntry *
     return journal_end_writing_(&writer, JOURNAL_SCHEMA_STATE_ENTRY, arena, out, room);
 }
 
+/* Reads the record Future from a payload. */
 static inline int64_t journal_read_Future(const uint8_t *payload, size_t payload_length, struct journal_Future *record,
                                           struct journal_arena *arena) {
     struct journal_reader_ reader;
@@ -4046,6 +4112,7 @@ static inline int64_t journal_read_Future(const uint8_t *payload, size_t payload
     return journal_end_reading_(&reader, arena, record, sizeof *record);
 }
 
+/* Writes the canonical payload of the record Future. */
 static inline int64_t journal_write_Future(const struct journal_Future *record, struct journal_arena *arena,
                                            uint8_t *out, size_t room) {
     struct journal_writer_ writer = journal_writer_of_(arena);
@@ -4054,6 +4121,7 @@ static inline int64_t journal_write_Future(const struct journal_Future *record, 
     return journal_end_writing_(&writer, JOURNAL_SCHEMA_FUTURE, arena, out, room);
 }
 
+/* Reads the record WorkflowTarget from a payload. */
 static inline int64_t journal_read_WorkflowTarget(const uint8_t *payload, size_t payload_length,
                                                   struct journal_WorkflowTarget *record, struct journal_arena *arena) {
     struct journal_reader_ reader;
@@ -4065,6 +4133,7 @@ static inline int64_t journal_read_WorkflowTarget(const uint8_t *payload, size_t
     return journal_end_reading_(&reader, arena, record, sizeof *record);
 }
 
+/* Writes the canonical payload of the record WorkflowTarget. */
 static inline int64_t journal_write_WorkflowTarget(const struct journal_WorkflowTarget *record,
                                                    struct journal_arena *arena, uint8_t *out, size_t room) {
     struct journal_writer_ writer;
@@ -4079,6 +4148,7 @@ static inline int64_t journal_write_WorkflowTarget(const struct journal_Workflow
     return journal_end_writing_(&writer, JOURNAL_SCHEMA_WORKFLOW_TARGET, arena, out, room);
 }
 
+/* Reads the record IdempotentRequestTarget from a payload. */
 static inline int64_t journal_read_IdempotentRequestTarget(const uint8_t *payload, size_t payload_length,
                                                            struct journal_IdempotentRequestTarget *record,
                                                            struct journal_arena *arena) {
@@ -4092,6 +4162,7 @@ static inline int64_t journal_read_IdempotentRequestTarget(const uint8_t *payloa
     return journal_end_reading_(&reader, arena, record, sizeof *record);
 }
 
+/* Writes the canonical payload of the record IdempotentRequestTarget. */
 static inline int64_t journal_write_IdempotentRequestTarget(const struct journal_IdempotentRequestTarget *record,
                                                             struct journal_arena *arena, uint8_t *out, size_t room) {
     struct journal_writer_ writer;
@@ -4106,6 +4177,7 @@ static inline int64_t journal_write_IdempotentRequestTarget(const struct journal
     return journal_end_writing_(&writer, JOURNAL_SCHEMA_IDEMPOTENT_REQUEST_TARGET, arena, out, room);
 }
 
+/* Reads the record StartMessage from a payload. */
 static inline int64_t journal_read_StartMessage(const uint8_t *payload, size_t payload_length,
                                                 struct journal_StartMessage *record, struct journal_arena *arena) {
     struct journal_reader_ reader;
@@ -4117,6 +4189,7 @@ static inline int64_t journal_read_StartMessage(const uint8_t *payload, size_t p
     return journal_end_reading_(&reader, arena, record, sizeof *record);
 }
 
+/* Writes the canonical payload of the record StartMessage. */
 static inline int64_t journal_write_StartMessage(const struct journal_StartMessage *record, struct journal_arena *arena,
                                                  uint8_t *out, size_t room) {
     struct journal_writer_ writer;
@@ -4131,6 +4204,7 @@ static inline int64_t journal_write_StartMessage(const struct journal_StartMessa
     return journal_end_writing_(&writer, JOURNAL_SCHEMA_START, arena, out, room);
 }
 
+/* Reads the record SuspensionMessage from a payload. */
 static inline int64_t journal_read_SuspensionMessage(const uint8_t *payload, size_t payload_length,
                                                      struct journal_SuspensionMessage *record,
                                                      struct journal_arena *arena) {
@@ -4143,6 +4217,7 @@ static inline int64_t journal_read_SuspensionMessage(const uint8_t *payload, siz
     return journal_end_reading_(&reader, arena, record, sizeof *record);
 }
 
+/* Writes the canonical payload of the record SuspensionMessage. */
 static inline int64_t journal_write_SuspensionMessage(const struct journal_SuspensionMessage *record,
                                                       struct journal_arena *arena, uint8_t *out, size_t room) {
     struct journal_writer_ writer = journal_writer_of_(arena);
@@ -4151,6 +4226,7 @@ static inline int64_t journal_write_SuspensionMessage(const struct journal_Suspe
     return journal_end_writing_(&writer, JOURNAL_SCHEMA_SUSPENSION, arena, out, room);
 }
 
+/* Reads the record SuspensionMessageV6 from a payload. */
 static inline int64_t journal_read_SuspensionMessageV6(const uint8_t *payload, size_t payload_length,
                                                        struct journal_SuspensionMessageV6 *record,
                                                        struct journal_arena *arena) {
@@ -4163,6 +4239,7 @@ static inline int64_t journal_read_SuspensionMessageV6(const uint8_t *payload, s
     return journal_end_reading_(&reader, arena, record, sizeof *record);
 }
 
+/* Writes the canonical payload of the record SuspensionMessageV6. */
 static inline int64_t journal_write_SuspensionMessageV6(const struct journal_SuspensionMessageV6 *record,
                                                         struct journal_arena *arena, uint8_t *out, size_t room) {
     struct journal_writer_ writer;
@@ -4177,6 +4254,7 @@ static inline int64_t journal_write_SuspensionMessageV6(const struct journal_Sus
     return journal_end_writing_(&writer, JOURNAL_SCHEMA_SUSPENSION_V6, arena, out, room);
 }
 
+/* Reads the record ErrorMessage from a payload. */
 static inline int64_t journal_read_ErrorMessage(const uint8_t *payload, size_t payload_length,
                                                 struct journal_ErrorMessage *record, struct journal_arena *arena) {
     struct journal_reader_ reader;
@@ -4188,6 +4266,7 @@ static inline int64_t journal_read_ErrorMessage(const uint8_t *payload, size_t p
     return journal_end_reading_(&reader, arena, record, sizeof *record);
 }
 
+/* Writes the canonical payload of the record ErrorMessage. */
 static inline int64_t journal_write_ErrorMessage(const struct journal_ErrorMessage *record, struct journal_arena *arena,
                                                  uint8_t *out, size_t room) {
     struct journal_writer_ writer;
@@ -4202,6 +4281,7 @@ static inline int64_t journal_write_ErrorMessage(const struct journal_ErrorMessa
     return journal_end_writing_(&writer, JOURNAL_SCHEMA_ERROR, arena, out, room);
 }
 
+/* Reads the record EndMessage from a payload. */
 static inline int64_t journal_read_EndMessage(const uint8_t *payload, size_t payload_length,
                                               struct journal_EndMessage *record, struct journal_arena *arena) {
     struct journal_reader_ reader;
@@ -4213,6 +4293,7 @@ static inline int64_t journal_read_EndMessage(const uint8_t *payload, size_t pay
     return journal_end_reading_(&reader, arena, record, sizeof *record);
 }
 
+/* Writes the canonical payload of the record EndMessage. */
 static inline int64_t journal_write_EndMessage(const struct journal_EndMessage *record, struct journal_arena *arena,
                                                uint8_t *out, size_t room) {
     struct journal_writer_ writer;
@@ -4227,6 +4308,7 @@ static inline int64_t journal_write_EndMessage(const struct journal_EndMessage *
     return journal_end_writing_(&writer, JOURNAL_SCHEMA_END, arena, out, room);
 }
 
+/* Reads the record ProposeRunCompletionMessage from a payload. */
 static inline int64_t journal_read_ProposeRunCompletionMessage(const uint8_t *payload, size_t payload_length,
                                                                struct journal_ProposeRunCompletionMessage *record,
                                                                struct journal_arena *arena) {
@@ -4239,6 +4321,7 @@ static inline int64_t journal_read_ProposeRunCompletionMessage(const uint8_t *pa
     return journal_end_reading_(&reader, arena, record, sizeof *record);
 }
 
+/* Writes the canonical payload of the record ProposeRunCompletionMessage. */
 static inline int64_t journal_write_ProposeRunCompletionMessage(
     const struct journal_ProposeRunCompletionMessage *record, struct journal_arena *arena, uint8_t *out, size_t room) {
     struct journal_writer_ writer;
@@ -4253,6 +4336,7 @@ static inline int64_t journal_write_ProposeRunCompletionMessage(
     return journal_end_writing_(&writer, JOURNAL_SCHEMA_PROPOSE_RUN_COMPLETION, arena, out, room);
 }
 
+/* Reads the record AwaitingOnMessage from a payload. */
 static inline int64_t journal_read_AwaitingOnMessage(const uint8_t *payload, size_t payload_length,
                                                      struct journal_AwaitingOnMessage *record,
                                                      struct journal_arena *arena) {
@@ -4265,6 +4349,7 @@ static inline int64_t journal_read_AwaitingOnMessage(const uint8_t *payload, siz
     return journal_end_reading_(&reader, arena, record, sizeof *record);
 }
 
+/* Writes the canonical payload of the record AwaitingOnMessage. */
 static inline int64_t journal_write_AwaitingOnMessage(const struct journal_AwaitingOnMessage *record,
                                                       struct journal_arena *arena, uint8_t *out, size_t room) {
     struct journal_writer_ writer = journal_writer_of_(arena);
@@ -4273,6 +4358,7 @@ static inline int64_t journal_write_AwaitingOnMessage(const struct journal_Await
     return journal_end_writing_(&writer, JOURNAL_SCHEMA_AWAITING_ON, arena, out, room);
 }
 
+/* Reads the record ProposeRunCompletionAckMessage from a payload. */
 static inline int64_t journal_read_ProposeRunCompletionAckMessage(const uint8_t *payload, size_t payload_length,
                                                                   struct journal_ProposeRunCompletionAckMessage *record,
                                                                   struct journal_arena *arena) {
@@ -4286,6 +4372,7 @@ static inline int64_t journal_read_ProposeRunCompletionAckMessage(const uint8_t 
     return journal_end_reading_(&reader, arena, record, sizeof *record);
 }
 
+/* Writes the canonical payload of the record ProposeRunCompletionAckMessage. */
 static inline int64_t journal_write_ProposeRunCompletionAckMessage(
     const struct journal_ProposeRunCompletionAckMessage *record, struct journal_arena *arena, uint8_t *out,
     size_t room) {
@@ -4301,6 +4388,7 @@ static inline int64_t journal_write_ProposeRunCompletionAckMessage(
     return journal_end_writing_(&writer, JOURNAL_SCHEMA_PROPOSE_RUN_COMPLETION_ACK, arena, out, room);
 }
 
+/* Reads the record GetStateEphemeralCommandMessage from a payload. */
 static inline int64_t journal_read_GetStateEphemeralCommandMessage(
     const uint8_t *payload, size_t payload_length, struct journal_GetStateEphemeralCommandMessage *record,
     struct journal_arena *arena) {
@@ -4314,6 +4402,7 @@ static inline int64_t journal_read_GetStateEphemeralCommandMessage(
     return journal_end_reading_(&reader, arena, record, sizeof *record);
 }
 
+/* Writes the canonical payload of the record GetStateEphemeralCommandMessage. */
 static inline int64_t journal_write_GetStateEphemeralCommandMessage(
     const struct journal_GetStateEphemeralCommandMessage *record, struct journal_arena *arena, uint8_t *out,
     size_t room) {
@@ -4329,6 +4418,7 @@ static inline int64_t journal_write_GetStateEphemeralCommandMessage(
     return journal_end_writing_(&writer, JOURNAL_SCHEMA_GET_STATE_EPHEMERAL_COMMAND, arena, out, room);
 }
 
+/* Reads the record GetStateEphemeralNotificationMessage from a payload. */
 static inline int64_t journal_read_GetStateEphemeralNotificationMessage(
     const uint8_t *payload, size_t payload_length, struct journal_GetStateEphemeralNotificationMessage *record,
     struct journal_arena *arena) {
@@ -4342,6 +4432,7 @@ static inline int64_t journal_read_GetStateEphemeralNotificationMessage(
     return journal_end_reading_(&reader, arena, record, sizeof *record);
 }
 
+/* Writes the canonical payload of the record GetStateEphemeralNotificationMessage. */
 static inline int64_t journal_write_GetStateEphemeralNotificationMessage(
     const struct journal_GetStateEphemeralNotificationMessage *record, struct journal_arena *arena, uint8_t *out,
     size_t room) {
@@ -4357,6 +4448,7 @@ static inline int64_t journal_write_GetStateEphemeralNotificationMessage(
     return journal_end_writing_(&writer, JOURNAL_SCHEMA_GET_STATE_EPHEMERAL_NOTIFICATION, arena, out, room);
 }
 
+/* Reads the record InputCommandMessage from a payload. */
 static inline int64_t journal_read_InputCommandMessage(const uint8_t *payload, size_t payload_length,
                                                        struct journal_InputCommandMessage *record,
                                                        struct journal_arena *arena) {
@@ -4369,6 +4461,7 @@ static inline int64_t journal_read_InputCommandMessage(const uint8_t *payload, s
     return journal_end_reading_(&reader, arena, record, sizeof *record);
 }
 
+/* Writes the canonical payload of the record InputCommandMessage. */
 static inline int64_t journal_write_InputCommandMessage(const struct journal_InputCommandMessage *record,
                                                         struct journal_arena *arena, uint8_t *out, size_t room) {
     struct journal_writer_ writer;
@@ -4383,6 +4476,7 @@ static inline int64_t journal_write_InputCommandMessage(const struct journal_Inp
     return journal_end_writing_(&writer, JOURNAL_SCHEMA_INPUT_COMMAND, arena, out, room);
 }
 
+/* Reads the record OutputCommandMessage from a payload. */
 static inline int64_t journal_read_OutputCommandMessage(const uint8_t *payload, size_t payload_length,
                                                         struct journal_OutputCommandMessage *record,
                                                         struct journal_arena *arena) {
@@ -4395,6 +4489,7 @@ static inline int64_t journal_read_OutputCommandMessage(const uint8_t *payload, 
     return journal_end_reading_(&reader, arena, record, sizeof *record);
 }
 
+/* Writes the canonical payload of the record OutputCommandMessage. */
 static inline int64_t journal_write_OutputCommandMessage(const struct journal_OutputCommandMessage *record,
                                                          struct journal_arena *arena, uint8_t *out, size_t room) {
     struct journal_writer_ writer;
@@ -4409,6 +4504,7 @@ static inline int64_t journal_write_OutputCommandMessage(const struct journal_Ou
     return journal_end_writing_(&writer, JOURNAL_SCHEMA_OUTPUT_COMMAND, arena, out, room);
 }
 
+/* Reads the record GetLazyStateCommandMessage from a payload. */
 static inline int64_t journal_read_GetLazyStateCommandMessage(const uint8_t *payload, size_t payload_length,
                                                               struct journal_GetLazyStateCommandMessage *record,
                                                               struct journal_arena *arena) {
@@ -4421,6 +4517,7 @@ static inline int64_t journal_read_GetLazyStateCommandMessage(const uint8_t *pay
     return journal_end_reading_(&reader, arena, record, sizeof *record);
 }
 
+/* Writes the canonical payload of the record GetLazyStateCommandMessage. */
 static inline int64_t journal_write_GetLazyStateCommandMessage(const struct journal_GetLazyStateCommandMessage *record,
                                                                struct journal_arena *arena, uint8_t *out, size_t room) {
     struct journal_writer_ writer;
@@ -4435,6 +4532,7 @@ static inline int64_t journal_write_GetLazyStateCommandMessage(const struct jour
     return journal_end_writing_(&writer, JOURNAL_SCHEMA_GET_LAZY_STATE_COMMAND, arena, out, room);
 }
 
+/* Reads the record SetStateCommandMessage from a payload. */
 static inline int64_t journal_read_SetStateCommandMessage(const uint8_t *payload, size_t payload_length,
                                                           struct journal_SetStateCommandMessage *record,
                                                           struct journal_arena *arena) {
@@ -4447,6 +4545,7 @@ static inline int64_t journal_read_SetStateCommandMessage(const uint8_t *payload
     return journal_end_reading_(&reader, arena, record, sizeof *record);
 }
 
+/* Writes the canonical payload of the record SetStateCommandMessage. */
 static inline int64_t journal_write_SetStateCommandMessage(const struct journal_SetStateCommandMessage *record,
                                                            struct journal_arena *arena, uint8_t *out, size_t room) {
     struct journal_writer_ writer;
@@ -4461,6 +4560,7 @@ static inline int64_t journal_write_SetStateCommandMessage(const struct journal_
     return journal_end_writing_(&writer, JOURNAL_SCHEMA_SET_STATE_COMMAND, arena, out, room);
 }
 
+/* Reads the record ClearStateCommandMessage from a payload. */
 static inline int64_t journal_read_ClearStateCommandMessage(const uint8_t *payload, size_t payload_length,
                                                             struct journal_ClearStateCommandMessage *record,
                                                             struct journal_arena *arena) {
@@ -4473,6 +4573,7 @@ static inline int64_t journal_read_ClearStateCommandMessage(const uint8_t *paylo
     return journal_end_reading_(&reader, arena, record, sizeof *record);
 }
 
+/* Writes the canonical payload of the record ClearStateCommandMessage. */
 static inline int64_t journal_write_ClearStateCommandMessage(const struct journal_ClearStateCommandMessage *record,
                                                              struct journal_arena *arena, uint8_t *out, size_t room) {
     struct journal_writer_ writer;
@@ -4487,6 +4588,7 @@ static inline int64_t journal_write_ClearStateCommandMessage(const struct journa
     return journal_end_writing_(&writer, JOURNAL_SCHEMA_CLEAR_STATE_COMMAND, arena, out, room);
 }
 
+/* Reads the record ClearAllStateCommandMessage from a payload. */
 static inline int64_t journal_read_ClearAllStateCommandMessage(const uint8_t *payload, size_t payload_length,
                                                                struct journal_ClearAllStateCommandMessage *record,
                                                                struct journal_arena *arena) {
@@ -4500,6 +4602,7 @@ static inline int64_t journal_read_ClearAllStateCommandMessage(const uint8_t *pa
     return journal_end_reading_(&reader, arena, record, sizeof *record);
 }
 
+/* Writes the canonical payload of the record ClearAllStateCommandMessage. */
 static inline int64_t journal_write_ClearAllStateCommandMessage(
     const struct journal_ClearAllStateCommandMessage *record, struct journal_arena *arena, uint8_t *out, size_t room) {
     struct journal_writer_ writer;
@@ -4514,6 +4617,7 @@ static inline int64_t journal_write_ClearAllStateCommandMessage(
     return journal_end_writing_(&writer, JOURNAL_SCHEMA_CLEAR_ALL_STATE_COMMAND, arena, out, room);
 }
 
+/* Reads the record GetLazyStateKeysCommandMessage from a payload. */
 static inline int64_t journal_read_GetLazyStateKeysCommandMessage(const uint8_t *payload, size_t payload_length,
                                                                   struct journal_GetLazyStateKeysCommandMessage *record,
                                                                   struct journal_arena *arena) {
@@ -4527,6 +4631,7 @@ static inline int64_t journal_read_GetLazyStateKeysCommandMessage(const uint8_t 
     return journal_end_reading_(&reader, arena, record, sizeof *record);
 }
 
+/* Writes the canonical payload of the record GetLazyStateKeysCommandMessage. */
 static inline int64_t journal_write_GetLazyStateKeysCommandMessage(
     const struct journal_GetLazyStateKeysCommandMessage *record, struct journal_arena *arena, uint8_t *out,
     size_t room) {
@@ -4542,6 +4647,7 @@ static inline int64_t journal_write_GetLazyStateKeysCommandMessage(
     return journal_end_writing_(&writer, JOURNAL_SCHEMA_GET_LAZY_STATE_KEYS_COMMAND, arena, out, room);
 }
 
+/* Reads the record GetEagerStateCommandMessage from a payload. */
 static inline int64_t journal_read_GetEagerStateCommandMessage(const uint8_t *payload, size_t payload_length,
                                                                struct journal_GetEagerStateCommandMessage *record,
                                                                struct journal_arena *arena) {
@@ -4555,6 +4661,7 @@ static inline int64_t journal_read_GetEagerStateCommandMessage(const uint8_t *pa
     return journal_end_reading_(&reader, arena, record, sizeof *record);
 }
 
+/* Writes the canonical payload of the record GetEagerStateCommandMessage. */
 static inline int64_t journal_write_GetEagerStateCommandMessage(
     const struct journal_GetEagerStateCommandMessage *record, struct journal_arena *arena, uint8_t *out, size_t room) {
     struct journal_writer_ writer;
@@ -4569,6 +4676,7 @@ static inline int64_t journal_write_GetEagerStateCommandMessage(
     return journal_end_writing_(&writer, JOURNAL_SCHEMA_GET_EAGER_STATE_COMMAND, arena, out, room);
 }
 
+/* Reads the record GetEagerStateKeysCommandMessage from a payload. */
 static inline int64_t journal_read_GetEagerStateKeysCommandMessage(
     const uint8_t *payload, size_t payload_length, struct journal_GetEagerStateKeysCommandMessage *record,
     struct journal_arena *arena) {
@@ -4582,6 +4690,7 @@ static inline int64_t journal_read_GetEagerStateKeysCommandMessage(
     return journal_end_reading_(&reader, arena, record, sizeof *record);
 }
 
+/* Writes the canonical payload of the record GetEagerStateKeysCommandMessage. */
 static inline int64_t journal_write_GetEagerStateKeysCommandMessage(
     const struct journal_GetEagerStateKeysCommandMessage *record, struct journal_arena *arena, uint8_t *out,
     size_t room) {
@@ -4597,6 +4706,7 @@ static inline int64_t journal_write_GetEagerStateKeysCommandMessage(
     return journal_end_writing_(&writer, JOURNAL_SCHEMA_GET_EAGER_STATE_KEYS_COMMAND, arena, out, room);
 }
 
+/* Reads the record GetPromiseCommandMessage from a payload. */
 static inline int64_t journal_read_GetPromiseCommandMessage(const uint8_t *payload, size_t payload_length,
                                                             struct journal_GetPromiseCommandMessage *record,
                                                             struct journal_arena *arena) {
@@ -4609,6 +4719,7 @@ static inline int64_t journal_read_GetPromiseCommandMessage(const uint8_t *paylo
     return journal_end_reading_(&reader, arena, record, sizeof *record);
 }
 
+/* Writes the canonical payload of the record GetPromiseCommandMessage. */
 static inline int64_t journal_write_GetPromiseCommandMessage(const struct journal_GetPromiseCommandMessage *record,
                                                              struct journal_arena *arena, uint8_t *out, size_t room) {
     struct journal_writer_ writer;
@@ -4623,6 +4734,7 @@ static inline int64_t journal_write_GetPromiseCommandMessage(const struct journa
     return journal_end_writing_(&writer, JOURNAL_SCHEMA_GET_PROMISE_COMMAND, arena, out, room);
 }
 
+/* Reads the record PeekPromiseCommandMessage from a payload. */
 static inline int64_t journal_read_PeekPromiseCommandMessage(const uint8_t *payload, size_t payload_length,
                                                              struct journal_PeekPromiseCommandMessage *record,
                                                              struct journal_arena *arena) {
@@ -4635,6 +4747,7 @@ static inline int64_t journal_read_PeekPromiseCommandMessage(const uint8_t *payl
     return journal_end_reading_(&reader, arena, record, sizeof *record);
 }
 
+/* Writes the canonical payload of the record PeekPromiseCommandMessage. */
 static inline int64_t journal_write_PeekPromiseCommandMessage(const struct journal_PeekPromiseCommandMessage *record,
                                                               struct journal_arena *arena, uint8_t *out, size_t room) {
     struct journal_writer_ writer;
@@ -4649,6 +4762,7 @@ static inline int64_t journal_write_PeekPromiseCommandMessage(const struct journ
     return journal_end_writing_(&writer, JOURNAL_SCHEMA_PEEK_PROMISE_COMMAND, arena, out, room);
 }
 
+/* Reads the record CompletePromiseCommandMessage from a payload. */
 static inline int64_t journal_read_CompletePromiseCommandMessage(const uint8_t *payload, size_t payload_length,
                                                                  struct journal_CompletePromiseCommandMessage *record,
                                                                  struct journal_arena *arena) {
@@ -4662,6 +4776,7 @@ static inline int64_t journal_read_CompletePromiseCommandMessage(const uint8_t *
     return journal_end_reading_(&reader, arena, record, sizeof *record);
 }
 
+/* Writes the canonical payload of the record CompletePromiseCommandMessage. */
 static inline int64_t journal_write_CompletePromiseCommandMessage(
     const struct journal_CompletePromiseCommandMessage *record, struct journal_arena *arena, uint8_t *out,
     size_t room) {
@@ -4677,6 +4792,7 @@ static inline int64_t journal_write_CompletePromiseCommandMessage(
     return journal_end_writing_(&writer, JOURNAL_SCHEMA_COMPLETE_PROMISE_COMMAND, arena, out, room);
 }
 
+/* Reads the record SleepCommandMessage from a payload. */
 static inline int64_t journal_read_SleepCommandMessage(const uint8_t *payload, size_t payload_length,
                                                        struct journal_SleepCommandMessage *record,
                                                        struct journal_arena *arena) {
@@ -4689,6 +4805,7 @@ static inline int64_t journal_read_SleepCommandMessage(const uint8_t *payload, s
     return journal_end_reading_(&reader, arena, record, sizeof *record);
 }
 
+/* Writes the canonical payload of the record SleepCommandMessage. */
 static inline int64_t journal_write_SleepCommandMessage(const struct journal_SleepCommandMessage *record,
                                                         struct journal_arena *arena, uint8_t *out, size_t room) {
     struct journal_writer_ writer;
@@ -4703,6 +4820,7 @@ static inline int64_t journal_write_SleepCommandMessage(const struct journal_Sle
     return journal_end_writing_(&writer, JOURNAL_SCHEMA_SLEEP_COMMAND, arena, out, room);
 }
 
+/* Reads the record CallCommandMessage from a payload. */
 static inline int64_t journal_read_CallCommandMessage(const uint8_t *payload, size_t payload_length,
                                                       struct journal_CallCommandMessage *record,
                                                       struct journal_arena *arena) {
@@ -4715,6 +4833,7 @@ static inline int64_t journal_read_CallCommandMessage(const uint8_t *payload, si
     return journal_end_reading_(&reader, arena, record, sizeof *record);
 }
 
+/* Writes the canonical payload of the record CallCommandMessage. */
 static inline int64_t journal_write_CallCommandMessage(const struct journal_CallCommandMessage *record,
                                                        struct journal_arena *arena, uint8_t *out, size_t room) {
     struct journal_writer_ writer;
@@ -4729,6 +4848,7 @@ static inline int64_t journal_write_CallCommandMessage(const struct journal_Call
     return journal_end_writing_(&writer, JOURNAL_SCHEMA_CALL_COMMAND, arena, out, room);
 }
 
+/* Reads the record OneWayCallCommandMessage from a payload. */
 static inline int64_t journal_read_OneWayCallCommandMessage(const uint8_t *payload, size_t payload_length,
                                                             struct journal_OneWayCallCommandMessage *record,
                                                             struct journal_arena *arena) {
@@ -4741,6 +4861,7 @@ static inline int64_t journal_read_OneWayCallCommandMessage(const uint8_t *paylo
     return journal_end_reading_(&reader, arena, record, sizeof *record);
 }
 
+/* Writes the canonical payload of the record OneWayCallCommandMessage. */
 static inline int64_t journal_write_OneWayCallCommandMessage(const struct journal_OneWayCallCommandMessage *record,
                                                              struct journal_arena *arena, uint8_t *out, size_t room) {
     struct journal_writer_ writer;
@@ -4755,6 +4876,7 @@ static inline int64_t journal_write_OneWayCallCommandMessage(const struct journa
     return journal_end_writing_(&writer, JOURNAL_SCHEMA_ONE_WAY_CALL_COMMAND, arena, out, room);
 }
 
+/* Reads the record SendSignalCommandMessage from a payload. */
 static inline int64_t journal_read_SendSignalCommandMessage(const uint8_t *payload, size_t payload_length,
                                                             struct journal_SendSignalCommandMessage *record,
                                                             struct journal_arena *arena) {
@@ -4767,6 +4889,7 @@ static inline int64_t journal_read_SendSignalCommandMessage(const uint8_t *paylo
     return journal_end_reading_(&reader, arena, record, sizeof *record);
 }
 
+/* Writes the canonical payload of the record SendSignalCommandMessage. */
 static inline int64_t journal_write_SendSignalCommandMessage(const struct journal_SendSignalCommandMessage *record,
                                                              struct journal_arena *arena, uint8_t *out, size_t room) {
     struct journal_writer_ writer;
@@ -4781,6 +4904,7 @@ static inline int64_t journal_write_SendSignalCommandMessage(const struct journa
     return journal_end_writing_(&writer, JOURNAL_SCHEMA_SEND_SIGNAL_COMMAND, arena, out, room);
 }
 
+/* Reads the record RunCommandMessage from a payload. */
 static inline int64_t journal_read_RunCommandMessage(const uint8_t *payload, size_t payload_length,
                                                      struct journal_RunCommandMessage *record,
                                                      struct journal_arena *arena) {
@@ -4793,6 +4917,7 @@ static inline int64_t journal_read_RunCommandMessage(const uint8_t *payload, siz
     return journal_end_reading_(&reader, arena, record, sizeof *record);
 }
 
+/* Writes the canonical payload of the record RunCommandMessage. */
 static inline int64_t journal_write_RunCommandMessage(const struct journal_RunCommandMessage *record,
                                                       struct journal_arena *arena, uint8_t *out, size_t room) {
     struct journal_writer_ writer;
@@ -4807,6 +4932,7 @@ static inline int64_t journal_write_RunCommandMessage(const struct journal_RunCo
     return journal_end_writing_(&writer, JOURNAL_SCHEMA_RUN_COMMAND, arena, out, room);
 }
 
+/* Reads the record AttachInvocationCommandMessage from a payload. */
 static inline int64_t journal_read_AttachInvocationCommandMessage(const uint8_t *payload, size_t payload_length,
                                                                   struct journal_AttachInvocationCommandMessage *record,
                                                                   struct journal_arena *arena) {
@@ -4820,6 +4946,7 @@ static inline int64_t journal_read_AttachInvocationCommandMessage(const uint8_t 
     return journal_end_reading_(&reader, arena, record, sizeof *record);
 }
 
+/* Writes the canonical payload of the record AttachInvocationCommandMessage. */
 static inline int64_t journal_write_AttachInvocationCommandMessage(
     const struct journal_AttachInvocationCommandMessage *record, struct journal_arena *arena, uint8_t *out,
     size_t room) {
@@ -4835,6 +4962,7 @@ static inline int64_t journal_write_AttachInvocationCommandMessage(
     return journal_end_writing_(&writer, JOURNAL_SCHEMA_ATTACH_INVOCATION_COMMAND, arena, out, room);
 }
 
+/* Reads the record GetInvocationOutputCommandMessage from a payload. */
 static inline int64_t journal_read_GetInvocationOutputCommandMessage(
     const uint8_t *payload, size_t payload_length, struct journal_GetInvocationOutputCommandMessage *record,
     struct journal_arena *arena) {
@@ -4848,6 +4976,7 @@ static inline int64_t journal_read_GetInvocationOutputCommandMessage(
     return journal_end_reading_(&reader, arena, record, sizeof *record);
 }
 
+/* Writes the canonical payload of the record GetInvocationOutputCommandMessage. */
 static inline int64_t journal_write_GetInvocationOutputCommandMessage(
     const struct journal_GetInvocationOutputCommandMessage *record, struct journal_arena *arena, uint8_t *out,
     size_t room) {
@@ -4863,6 +4992,7 @@ static inline int64_t journal_write_GetInvocationOutputCommandMessage(
     return journal_end_writing_(&writer, JOURNAL_SCHEMA_GET_INVOCATION_OUTPUT_COMMAND, arena, out, room);
 }
 
+/* Reads the record CompleteAwakeableCommandMessage from a payload. */
 static inline int64_t journal_read_CompleteAwakeableCommandMessage(
     const uint8_t *payload, size_t payload_length, struct journal_CompleteAwakeableCommandMessage *record,
     struct journal_arena *arena) {
@@ -4876,6 +5006,7 @@ static inline int64_t journal_read_CompleteAwakeableCommandMessage(
     return journal_end_reading_(&reader, arena, record, sizeof *record);
 }
 
+/* Writes the canonical payload of the record CompleteAwakeableCommandMessage. */
 static inline int64_t journal_write_CompleteAwakeableCommandMessage(
     const struct journal_CompleteAwakeableCommandMessage *record, struct journal_arena *arena, uint8_t *out,
     size_t room) {
@@ -4891,6 +5022,7 @@ static inline int64_t journal_write_CompleteAwakeableCommandMessage(
     return journal_end_writing_(&writer, JOURNAL_SCHEMA_COMPLETE_AWAKEABLE_COMMAND, arena, out, room);
 }
 
+/* Reads the record GetLazyStateCompletionNotificationMessage from a payload. */
 static inline int64_t journal_read_GetLazyStateCompletionNotificationMessage(
     const uint8_t *payload, size_t payload_length, struct journal_GetLazyStateCompletionNotificationMessage *record,
     struct journal_arena *arena) {
@@ -4904,6 +5036,7 @@ static inline int64_t journal_read_GetLazyStateCompletionNotificationMessage(
     return journal_end_reading_(&reader, arena, record, sizeof *record);
 }
 
+/* Writes the canonical payload of the record GetLazyStateCompletionNotificationMessage. */
 static inline int64_t journal_write_GetLazyStateCompletionNotificationMessage(
     const struct journal_GetLazyStateCompletionNotificationMessage *record, struct journal_arena *arena, uint8_t *out,
     size_t room) {
@@ -4919,6 +5052,7 @@ static inline int64_t journal_write_GetLazyStateCompletionNotificationMessage(
     return journal_end_writing_(&writer, JOURNAL_SCHEMA_GET_LAZY_STATE_COMPLETION_NOTIFICATION, arena, out, room);
 }
 
+/* Reads the record GetPromiseCompletionNotificationMessage from a payload. */
 static inline int64_t journal_read_GetPromiseCompletionNotificationMessage(
     const uint8_t *payload, size_t payload_length, struct journal_GetPromiseCompletionNotificationMessage *record,
     struct journal_arena *arena) {
@@ -4932,6 +5066,7 @@ static inline int64_t journal_read_GetPromiseCompletionNotificationMessage(
     return journal_end_reading_(&reader, arena, record, sizeof *record);
 }
 
+/* Writes the canonical payload of the record GetPromiseCompletionNotificationMessage. */
 static inline int64_t journal_write_GetPromiseCompletionNotificationMessage(
     const struct journal_GetPromiseCompletionNotificationMessage *record, struct journal_arena *arena, uint8_t *out,
     size_t room) {
@@ -4947,6 +5082,7 @@ static inline int64_t journal_write_GetPromiseCompletionNotificationMessage(
     return journal_end_writing_(&writer, JOURNAL_SCHEMA_GET_PROMISE_COMPLETION_NOTIFICATION, arena, out, room);
 }
 
+/* Reads the record PeekPromiseCompletionNotificationMessage from a payload. */
 static inline int64_t journal_read_PeekPromiseCompletionNotificationMessage(
     const uint8_t *payload, size_t payload_length, struct journal_PeekPromiseCompletionNotificationMessage *record,
     struct journal_arena *arena) {
@@ -4960,6 +5096,7 @@ static inline int64_t journal_read_PeekPromiseCompletionNotificationMessage(
     return journal_end_reading_(&reader, arena, record, sizeof *record);
 }
 
+/* Writes the canonical payload of the record PeekPromiseCompletionNotificationMessage. */
 static inline int64_t journal_write_PeekPromiseCompletionNotificationMessage(
     const struct journal_PeekPromiseCompletionNotificationMessage *record, struct journal_arena *arena, uint8_t *out,
     size_t room) {
@@ -4975,6 +5112,7 @@ static inline int64_t journal_write_PeekPromiseCompletionNotificationMessage(
     return journal_end_writing_(&writer, JOURNAL_SCHEMA_PEEK_PROMISE_COMPLETION_NOTIFICATION, arena, out, room);
 }
 
+/* Reads the record GetInvocationOutputCompletionNotificationMessage from a payload. */
 static inline int64_t journal_read_GetInvocationOutputCompletionNotificationMessage(
     const uint8_t *payload, size_t payload_length,
     struct journal_GetInvocationOutputCompletionNotificationMessage *record, struct journal_arena *arena) {
@@ -4988,6 +5126,7 @@ static inline int64_t journal_read_GetInvocationOutputCompletionNotificationMess
     return journal_end_reading_(&reader, arena, record, sizeof *record);
 }
 
+/* Writes the canonical payload of the record GetInvocationOutputCompletionNotificationMessage. */
 static inline int64_t journal_write_GetInvocationOutputCompletionNotificationMessage(
     const struct journal_GetInvocationOutputCompletionNotificationMessage *record, struct journal_arena *arena,
     uint8_t *out, size_t room) {
@@ -5004,6 +5143,7 @@ static inline int64_t journal_write_GetInvocationOutputCompletionNotificationMes
                                 room);
 }
 
+/* Reads the record CompletePromiseCompletionNotificationMessage from a payload. */
 static inline int64_t journal_read_CompletePromiseCompletionNotificationMessage(
     const uint8_t *payload, size_t payload_length, struct journal_CompletePromiseCompletionNotificationMessage *record,
     struct journal_arena *arena) {
@@ -5017,6 +5157,7 @@ static inline int64_t journal_read_CompletePromiseCompletionNotificationMessage(
     return journal_end_reading_(&reader, arena, record, sizeof *record);
 }
 
+/* Writes the canonical payload of the record CompletePromiseCompletionNotificationMessage. */
 static inline int64_t journal_write_CompletePromiseCompletionNotificationMessage(
     const struct journal_CompletePromiseCompletionNotificationMessage *record, struct journal_arena *arena,
     uint8_t *out, size_t room) {
@@ -5032,6 +5173,7 @@ static inline int64_t journal_write_CompletePromiseCompletionNotificationMessage
     return journal_end_writing_(&writer, JOURNAL_SCHEMA_COMPLETE_PROMISE_COMPLETION_NOTIFICATION, arena, out, room);
 }
 
+/* Reads the record CallCompletionNotificationMessage from a payload. */
 static inline int64_t journal_read_CallCompletionNotificationMessage(
     const uint8_t *payload, size_t payload_length, struct journal_CallCompletionNotificationMessage *record,
     struct journal_arena *arena) {
@@ -5045,6 +5187,7 @@ static inline int64_t journal_read_CallCompletionNotificationMessage(
     return journal_end_reading_(&reader, arena, record, sizeof *record);
 }
 
+/* Writes the canonical payload of the record CallCompletionNotificationMessage. */
 static inline int64_t journal_write_CallCompletionNotificationMessage(
     const struct journal_CallCompletionNotificationMessage *record, struct journal_arena *arena, uint8_t *out,
     size_t room) {
@@ -5060,6 +5203,7 @@ static inline int64_t journal_write_CallCompletionNotificationMessage(
     return journal_end_writing_(&writer, JOURNAL_SCHEMA_CALL_COMPLETION_NOTIFICATION, arena, out, room);
 }
 
+/* Reads the record RunCompletionNotificationMessage from a payload. */
 static inline int64_t journal_read_RunCompletionNotificationMessage(
     const uint8_t *payload, size_t payload_length, struct journal_RunCompletionNotificationMessage *record,
     struct journal_arena *arena) {
@@ -5073,6 +5217,7 @@ static inline int64_t journal_read_RunCompletionNotificationMessage(
     return journal_end_reading_(&reader, arena, record, sizeof *record);
 }
 
+/* Writes the canonical payload of the record RunCompletionNotificationMessage. */
 static inline int64_t journal_write_RunCompletionNotificationMessage(
     const struct journal_RunCompletionNotificationMessage *record, struct journal_arena *arena, uint8_t *out,
     size_t room) {
@@ -5088,6 +5233,7 @@ static inline int64_t journal_write_RunCompletionNotificationMessage(
     return journal_end_writing_(&writer, JOURNAL_SCHEMA_RUN_COMPLETION_NOTIFICATION, arena, out, room);
 }
 
+/* Reads the record AttachInvocationCompletionNotificationMessage from a payload. */
 static inline int64_t journal_read_AttachInvocationCompletionNotificationMessage(
     const uint8_t *payload, size_t payload_length, struct journal_AttachInvocationCompletionNotificationMessage *record,
     struct journal_arena *arena) {
@@ -5101,6 +5247,7 @@ static inline int64_t journal_read_AttachInvocationCompletionNotificationMessage
     return journal_end_reading_(&reader, arena, record, sizeof *record);
 }
 
+/* Writes the canonical payload of the record AttachInvocationCompletionNotificationMessage. */
 static inline int64_t journal_write_AttachInvocationCompletionNotificationMessage(
     const struct journal_AttachInvocationCompletionNotificationMessage *record, struct journal_arena *arena,
     uint8_t *out, size_t room) {
@@ -5116,6 +5263,7 @@ static inline int64_t journal_write_AttachInvocationCompletionNotificationMessag
     return journal_end_writing_(&writer, JOURNAL_SCHEMA_ATTACH_INVOCATION_COMPLETION_NOTIFICATION, arena, out, room);
 }
 
+/* Reads the record SleepCompletionNotificationMessage from a payload. */
 static inline int64_t journal_read_SleepCompletionNotificationMessage(
     const uint8_t *payload, size_t payload_length, struct journal_SleepCompletionNotificationMessage *record,
     struct journal_arena *arena) {
@@ -5129,6 +5277,7 @@ static inline int64_t journal_read_SleepCompletionNotificationMessage(
     return journal_end_reading_(&reader, arena, record, sizeof *record);
 }
 
+/* Writes the canonical payload of the record SleepCompletionNotificationMessage. */
 static inline int64_t journal_write_SleepCompletionNotificationMessage(
     const struct journal_SleepCompletionNotificationMessage *record, struct journal_arena *arena, uint8_t *out,
     size_t room) {
@@ -5144,6 +5293,7 @@ static inline int64_t journal_write_SleepCompletionNotificationMessage(
     return journal_end_writing_(&writer, JOURNAL_SCHEMA_SLEEP_COMPLETION_NOTIFICATION, arena, out, room);
 }
 
+/* Reads the record GetLazyStateKeysCompletionNotificationMessage from a payload. */
 static inline int64_t journal_read_GetLazyStateKeysCompletionNotificationMessage(
     const uint8_t *payload, size_t payload_length, struct journal_GetLazyStateKeysCompletionNotificationMessage *record,
     struct journal_arena *arena) {
@@ -5157,6 +5307,7 @@ static inline int64_t journal_read_GetLazyStateKeysCompletionNotificationMessage
     return journal_end_reading_(&reader, arena, record, sizeof *record);
 }
 
+/* Writes the canonical payload of the record GetLazyStateKeysCompletionNotificationMessage. */
 static inline int64_t journal_write_GetLazyStateKeysCompletionNotificationMessage(
     const struct journal_GetLazyStateKeysCompletionNotificationMessage *record, struct journal_arena *arena,
     uint8_t *out, size_t room) {
@@ -5172,6 +5323,7 @@ static inline int64_t journal_write_GetLazyStateKeysCompletionNotificationMessag
     return journal_end_writing_(&writer, JOURNAL_SCHEMA_GET_LAZY_STATE_KEYS_COMPLETION_NOTIFICATION, arena, out, room);
 }
 
+/* Reads the record CallInvocationIdCompletionNotificationMessage from a payload. */
 static inline int64_t journal_read_CallInvocationIdCompletionNotificationMessage(
     const uint8_t *payload, size_t payload_length, struct journal_CallInvocationIdCompletionNotificationMessage *record,
     struct journal_arena *arena) {
@@ -5185,6 +5337,7 @@ static inline int64_t journal_read_CallInvocationIdCompletionNotificationMessage
     return journal_end_reading_(&reader, arena, record, sizeof *record);
 }
 
+/* Writes the canonical payload of the record CallInvocationIdCompletionNotificationMessage. */
 static inline int64_t journal_write_CallInvocationIdCompletionNotificationMessage(
     const struct journal_CallInvocationIdCompletionNotificationMessage *record, struct journal_arena *arena,
     uint8_t *out, size_t room) {
@@ -5200,6 +5353,7 @@ static inline int64_t journal_write_CallInvocationIdCompletionNotificationMessag
     return journal_end_writing_(&writer, JOURNAL_SCHEMA_CALL_INVOCATION_ID_COMPLETION_NOTIFICATION, arena, out, room);
 }
 
+/* Reads the record SignalNotificationMessage from a payload. */
 static inline int64_t journal_read_SignalNotificationMessage(const uint8_t *payload, size_t payload_length,
                                                              struct journal_SignalNotificationMessage *record,
                                                              struct journal_arena *arena) {
@@ -5212,6 +5366,7 @@ static inline int64_t journal_read_SignalNotificationMessage(const uint8_t *payl
     return journal_end_reading_(&reader, arena, record, sizeof *record);
 }
 
+/* Writes the canonical payload of the record SignalNotificationMessage. */
 static inline int64_t journal_write_SignalNotificationMessage(const struct journal_SignalNotificationMessage *record,
                                                               struct journal_arena *arena, uint8_t *out, size_t room) {
     struct journal_writer_ writer;
@@ -5226,6 +5381,7 @@ static inline int64_t journal_write_SignalNotificationMessage(const struct journ
     return journal_end_writing_(&writer, JOURNAL_SCHEMA_SIGNAL_NOTIFICATION, arena, out, room);
 }
 
+/* Reads the record NotificationTemplate from a payload. */
 static inline int64_t journal_read_NotificationTemplate(const uint8_t *payload, size_t payload_length,
                                                         struct journal_NotificationTemplate *record,
                                                         struct journal_arena *arena) {
@@ -5238,6 +5394,7 @@ static inline int64_t journal_read_NotificationTemplate(const uint8_t *payload, 
     return journal_end_reading_(&reader, arena, record, sizeof *record);
 }
 
+/* Writes the canonical payload of the record NotificationTemplate. */
 static inline int64_t journal_write_NotificationTemplate(const struct journal_NotificationTemplate *record,
                                                          struct journal_arena *arena, uint8_t *out, size_t room) {
     struct journal_writer_ writer;
@@ -5280,6 +5437,7 @@ static inline int64_t journal_framed_(uint32_t version, uint16_t code, int64_t l
     return length + 8;
 }
 
+/* Writes the frame of a message from its record StartMessage. */
 static inline int64_t journal_frame_StartMessage(uint32_t version, const struct journal_StartMessage *record,
                                                  struct journal_arena *arena, uint8_t *out, size_t room) {
     int64_t length = journal_header(version, JOURNAL_TYPE_START, 0, NULL, 0);
@@ -5290,6 +5448,7 @@ static inline int64_t journal_frame_StartMessage(uint32_t version, const struct 
     return journal_framed_(version, JOURNAL_TYPE_START, length, out, room);
 }
 
+/* Writes the frame of a message from its record SuspensionMessage. */
 static inline int64_t journal_frame_SuspensionMessage(uint32_t version, const struct journal_SuspensionMessage *record,
                                                       struct journal_arena *arena, uint8_t *out, size_t room) {
     int64_t length = journal_header(version, JOURNAL_TYPE_SUSPENSION, 0, NULL, 0);
@@ -5317,6 +5476,7 @@ static inline int64_t journal_frame_SuspensionMessage(uint32_t version, const st
     return journal_framed_(version, JOURNAL_TYPE_SUSPENSION, length, out, room);
 }
 
+/* Writes the frame of a message from its record ErrorMessage. */
 static inline int64_t journal_frame_ErrorMessage(uint32_t version, const struct journal_ErrorMessage *record,
                                                  struct journal_arena *arena, uint8_t *out, size_t room) {
     int64_t length = journal_header(version, JOURNAL_TYPE_ERROR, 0, NULL, 0);
@@ -5327,6 +5487,7 @@ static inline int64_t journal_frame_ErrorMessage(uint32_t version, const struct 
     return journal_framed_(version, JOURNAL_TYPE_ERROR, length, out, room);
 }
 
+/* Writes the frame of a message from its record EndMessage. */
 static inline int64_t journal_frame_EndMessage(uint32_t version, const struct journal_EndMessage *record,
                                                struct journal_arena *arena, uint8_t *out, size_t room) {
     int64_t length = journal_header(version, JOURNAL_TYPE_END, 0, NULL, 0);
@@ -5337,6 +5498,7 @@ static inline int64_t journal_frame_EndMessage(uint32_t version, const struct jo
     return journal_framed_(version, JOURNAL_TYPE_END, length, out, room);
 }
 
+/* Writes the frame of a message from its record ProposeRunCompletionMessage. */
 static inline int64_t journal_frame_ProposeRunCompletionMessage(
     uint32_t version, const struct journal_ProposeRunCompletionMessage *record, struct journal_arena *arena,
     uint8_t *out, size_t room) {
@@ -5349,6 +5511,7 @@ static inline int64_t journal_frame_ProposeRunCompletionMessage(
     return journal_framed_(version, JOURNAL_TYPE_PROPOSE_RUN_COMPLETION, length, out, room);
 }
 
+/* Writes the frame of a message from its record AwaitingOnMessage. */
 static inline int64_t journal_frame_AwaitingOnMessage(uint32_t version, const struct journal_AwaitingOnMessage *record,
                                                       struct journal_arena *arena, uint8_t *out, size_t room) {
     int64_t length = journal_header(version, JOURNAL_TYPE_AWAITING_ON, 0, NULL, 0);
@@ -5360,6 +5523,7 @@ static inline int64_t journal_frame_AwaitingOnMessage(uint32_t version, const st
     return journal_framed_(version, JOURNAL_TYPE_AWAITING_ON, length, out, room);
 }
 
+/* Writes the frame of a message from its record ProposeRunCompletionAckMessage. */
 static inline int64_t journal_frame_ProposeRunCompletionAckMessage(
     uint32_t version, const struct journal_ProposeRunCompletionAckMessage *record, struct journal_arena *arena,
     uint8_t *out, size_t room) {
@@ -5372,6 +5536,7 @@ static inline int64_t journal_frame_ProposeRunCompletionAckMessage(
     return journal_framed_(version, JOURNAL_TYPE_PROPOSE_RUN_COMPLETION_ACK, length, out, room);
 }
 
+/* Writes the frame of a message from its record GetStateEphemeralCommandMessage. */
 static inline int64_t journal_frame_GetStateEphemeralCommandMessage(
     uint32_t version, const struct journal_GetStateEphemeralCommandMessage *record, struct journal_arena *arena,
     uint8_t *out, size_t room) {
@@ -5384,6 +5549,7 @@ static inline int64_t journal_frame_GetStateEphemeralCommandMessage(
     return journal_framed_(version, JOURNAL_TYPE_GET_STATE_EPHEMERAL_COMMAND, length, out, room);
 }
 
+/* Writes the frame of a message from its record GetStateEphemeralNotificationMessage. */
 static inline int64_t journal_frame_GetStateEphemeralNotificationMessage(
     uint32_t version, const struct journal_GetStateEphemeralNotificationMessage *record, struct journal_arena *arena,
     uint8_t *out, size_t room) {
@@ -5396,6 +5562,7 @@ static inline int64_t journal_frame_GetStateEphemeralNotificationMessage(
     return journal_framed_(version, JOURNAL_TYPE_GET_STATE_EPHEMERAL_NOTIFICATION, length, out, room);
 }
 
+/* Writes the frame of a message from its record InputCommandMessage. */
 static inline int64_t journal_frame_InputCommandMessage(uint32_t version,
                                                         const struct journal_InputCommandMessage *record,
                                                         struct journal_arena *arena, uint8_t *out, size_t room) {
@@ -5408,6 +5575,7 @@ static inline int64_t journal_frame_InputCommandMessage(uint32_t version,
     return journal_framed_(version, JOURNAL_TYPE_INPUT_COMMAND, length, out, room);
 }
 
+/* Writes the frame of a message from its record OutputCommandMessage. */
 static inline int64_t journal_frame_OutputCommandMessage(uint32_t version,
                                                          const struct journal_OutputCommandMessage *record,
                                                          struct journal_arena *arena, uint8_t *out, size_t room) {
@@ -5420,6 +5588,7 @@ static inline int64_t journal_frame_OutputCommandMessage(uint32_t version,
     return journal_framed_(version, JOURNAL_TYPE_OUTPUT_COMMAND, length, out, room);
 }
 
+/* Writes the frame of a message from its record GetLazyStateCommandMessage. */
 static inline int64_t journal_frame_GetLazyStateCommandMessage(uint32_t version,
                                                                const struct journal_GetLazyStateCommandMessage *record,
                                                                struct journal_arena *arena, uint8_t *out, size_t room) {
@@ -5432,6 +5601,7 @@ static inline int64_t journal_frame_GetLazyStateCommandMessage(uint32_t version,
     return journal_framed_(version, JOURNAL_TYPE_GET_LAZY_STATE_COMMAND, length, out, room);
 }
 
+/* Writes the frame of a message from its record SetStateCommandMessage. */
 static inline int64_t journal_frame_SetStateCommandMessage(uint32_t version,
                                                            const struct journal_SetStateCommandMessage *record,
                                                            struct journal_arena *arena, uint8_t *out, size_t room) {
@@ -5444,6 +5614,7 @@ static inline int64_t journal_frame_SetStateCommandMessage(uint32_t version,
     return journal_framed_(version, JOURNAL_TYPE_SET_STATE_COMMAND, length, out, room);
 }
 
+/* Writes the frame of a message from its record ClearStateCommandMessage. */
 static inline int64_t journal_frame_ClearStateCommandMessage(uint32_t version,
                                                              const struct journal_ClearStateCommandMessage *record,
                                                              struct journal_arena *arena, uint8_t *out, size_t room) {
@@ -5456,6 +5627,7 @@ static inline int64_t journal_frame_ClearStateCommandMessage(uint32_t version,
     return journal_framed_(version, JOURNAL_TYPE_CLEAR_STATE_COMMAND, length, out, room);
 }
 
+/* Writes the frame of a message from its record ClearAllStateCommandMessage. */
 static inline int64_t journal_frame_ClearAllStateCommandMessage(
     uint32_t version, const struct journal_ClearAllStateCommandMessage *record, struct journal_arena *arena,
     uint8_t *out, size_t room) {
@@ -5468,6 +5640,7 @@ static inline int64_t journal_frame_ClearAllStateCommandMessage(
     return journal_framed_(version, JOURNAL_TYPE_CLEAR_ALL_STATE_COMMAND, length, out, room);
 }
 
+/* Writes the frame of a message from its record GetLazyStateKeysCommandMessage. */
 static inline int64_t journal_frame_GetLazyStateKeysCommandMessage(
     uint32_t version, const struct journal_GetLazyStateKeysCommandMessage *record, struct journal_arena *arena,
     uint8_t *out, size_t room) {
@@ -5480,6 +5653,7 @@ static inline int64_t journal_frame_GetLazyStateKeysCommandMessage(
     return journal_framed_(version, JOURNAL_TYPE_GET_LAZY_STATE_KEYS_COMMAND, length, out, room);
 }
 
+/* Writes the frame of a message from its record GetEagerStateCommandMessage. */
 static inline int64_t journal_frame_GetEagerStateCommandMessage(
     uint32_t version, const struct journal_GetEagerStateCommandMessage *record, struct journal_arena *arena,
     uint8_t *out, size_t room) {
@@ -5492,6 +5666,7 @@ static inline int64_t journal_frame_GetEagerStateCommandMessage(
     return journal_framed_(version, JOURNAL_TYPE_GET_EAGER_STATE_COMMAND, length, out, room);
 }
 
+/* Writes the frame of a message from its record GetEagerStateKeysCommandMessage. */
 static inline int64_t journal_frame_GetEagerStateKeysCommandMessage(
     uint32_t version, const struct journal_GetEagerStateKeysCommandMessage *record, struct journal_arena *arena,
     uint8_t *out, size_t room) {
@@ -5504,6 +5679,7 @@ static inline int64_t journal_frame_GetEagerStateKeysCommandMessage(
     return journal_framed_(version, JOURNAL_TYPE_GET_EAGER_STATE_KEYS_COMMAND, length, out, room);
 }
 
+/* Writes the frame of a message from its record GetPromiseCommandMessage. */
 static inline int64_t journal_frame_GetPromiseCommandMessage(uint32_t version,
                                                              const struct journal_GetPromiseCommandMessage *record,
                                                              struct journal_arena *arena, uint8_t *out, size_t room) {
@@ -5516,6 +5692,7 @@ static inline int64_t journal_frame_GetPromiseCommandMessage(uint32_t version,
     return journal_framed_(version, JOURNAL_TYPE_GET_PROMISE_COMMAND, length, out, room);
 }
 
+/* Writes the frame of a message from its record PeekPromiseCommandMessage. */
 static inline int64_t journal_frame_PeekPromiseCommandMessage(uint32_t version,
                                                               const struct journal_PeekPromiseCommandMessage *record,
                                                               struct journal_arena *arena, uint8_t *out, size_t room) {
@@ -5528,6 +5705,7 @@ static inline int64_t journal_frame_PeekPromiseCommandMessage(uint32_t version,
     return journal_framed_(version, JOURNAL_TYPE_PEEK_PROMISE_COMMAND, length, out, room);
 }
 
+/* Writes the frame of a message from its record CompletePromiseCommandMessage. */
 static inline int64_t journal_frame_CompletePromiseCommandMessage(
     uint32_t version, const struct journal_CompletePromiseCommandMessage *record, struct journal_arena *arena,
     uint8_t *out, size_t room) {
@@ -5540,6 +5718,7 @@ static inline int64_t journal_frame_CompletePromiseCommandMessage(
     return journal_framed_(version, JOURNAL_TYPE_COMPLETE_PROMISE_COMMAND, length, out, room);
 }
 
+/* Writes the frame of a message from its record SleepCommandMessage. */
 static inline int64_t journal_frame_SleepCommandMessage(uint32_t version,
                                                         const struct journal_SleepCommandMessage *record,
                                                         struct journal_arena *arena, uint8_t *out, size_t room) {
@@ -5552,6 +5731,7 @@ static inline int64_t journal_frame_SleepCommandMessage(uint32_t version,
     return journal_framed_(version, JOURNAL_TYPE_SLEEP_COMMAND, length, out, room);
 }
 
+/* Writes the frame of a message from its record CallCommandMessage. */
 static inline int64_t journal_frame_CallCommandMessage(uint32_t version,
                                                        const struct journal_CallCommandMessage *record,
                                                        struct journal_arena *arena, uint8_t *out, size_t room) {
@@ -5564,6 +5744,7 @@ static inline int64_t journal_frame_CallCommandMessage(uint32_t version,
     return journal_framed_(version, JOURNAL_TYPE_CALL_COMMAND, length, out, room);
 }
 
+/* Writes the frame of a message from its record OneWayCallCommandMessage. */
 static inline int64_t journal_frame_OneWayCallCommandMessage(uint32_t version,
                                                              const struct journal_OneWayCallCommandMessage *record,
                                                              struct journal_arena *arena, uint8_t *out, size_t room) {
@@ -5576,6 +5757,7 @@ static inline int64_t journal_frame_OneWayCallCommandMessage(uint32_t version,
     return journal_framed_(version, JOURNAL_TYPE_ONE_WAY_CALL_COMMAND, length, out, room);
 }
 
+/* Writes the frame of a message from its record SendSignalCommandMessage. */
 static inline int64_t journal_frame_SendSignalCommandMessage(uint32_t version,
                                                              const struct journal_SendSignalCommandMessage *record,
                                                              struct journal_arena *arena, uint8_t *out, size_t room) {
@@ -5588,6 +5770,7 @@ static inline int64_t journal_frame_SendSignalCommandMessage(uint32_t version,
     return journal_framed_(version, JOURNAL_TYPE_SEND_SIGNAL_COMMAND, length, out, room);
 }
 
+/* Writes the frame of a message from its record RunCommandMessage. */
 static inline int64_t journal_frame_RunCommandMessage(uint32_t version, const struct journal_RunCommandMessage *record,
                                                       struct journal_arena *arena, uint8_t *out, size_t room) {
     int64_t length = journal_header(version, JOURNAL_TYPE_RUN_COMMAND, 0, NULL, 0);
@@ -5599,6 +5782,7 @@ static inline int64_t journal_frame_RunCommandMessage(uint32_t version, const st
     return journal_framed_(version, JOURNAL_TYPE_RUN_COMMAND, length, out, room);
 }
 
+/* Writes the frame of a message from its record AttachInvocationCommandMessage. */
 static inline int64_t journal_frame_AttachInvocationCommandMessage(
     uint32_t version, const struct journal_AttachInvocationCommandMessage *record, struct journal_arena *arena,
     uint8_t *out, size_t room) {
@@ -5611,6 +5795,7 @@ static inline int64_t journal_frame_AttachInvocationCommandMessage(
     return journal_framed_(version, JOURNAL_TYPE_ATTACH_INVOCATION_COMMAND, length, out, room);
 }
 
+/* Writes the frame of a message from its record GetInvocationOutputCommandMessage. */
 static inline int64_t journal_frame_GetInvocationOutputCommandMessage(
     uint32_t version, const struct journal_GetInvocationOutputCommandMessage *record, struct journal_arena *arena,
     uint8_t *out, size_t room) {
@@ -5623,6 +5808,7 @@ static inline int64_t journal_frame_GetInvocationOutputCommandMessage(
     return journal_framed_(version, JOURNAL_TYPE_GET_INVOCATION_OUTPUT_COMMAND, length, out, room);
 }
 
+/* Writes the frame of a message from its record CompleteAwakeableCommandMessage. */
 static inline int64_t journal_frame_CompleteAwakeableCommandMessage(
     uint32_t version, const struct journal_CompleteAwakeableCommandMessage *record, struct journal_arena *arena,
     uint8_t *out, size_t room) {
@@ -5635,6 +5821,7 @@ static inline int64_t journal_frame_CompleteAwakeableCommandMessage(
     return journal_framed_(version, JOURNAL_TYPE_COMPLETE_AWAKEABLE_COMMAND, length, out, room);
 }
 
+/* Writes the frame of a message from its record GetLazyStateCompletionNotificationMessage. */
 static inline int64_t journal_frame_GetLazyStateCompletionNotificationMessage(
     uint32_t version, const struct journal_GetLazyStateCompletionNotificationMessage *record,
     struct journal_arena *arena, uint8_t *out, size_t room) {
@@ -5647,6 +5834,7 @@ static inline int64_t journal_frame_GetLazyStateCompletionNotificationMessage(
     return journal_framed_(version, JOURNAL_TYPE_GET_LAZY_STATE_COMPLETION_NOTIFICATION, length, out, room);
 }
 
+/* Writes the frame of a message from its record GetPromiseCompletionNotificationMessage. */
 static inline int64_t journal_frame_GetPromiseCompletionNotificationMessage(
     uint32_t version, const struct journal_GetPromiseCompletionNotificationMessage *record, struct journal_arena *arena,
     uint8_t *out, size_t room) {
@@ -5659,6 +5847,7 @@ static inline int64_t journal_frame_GetPromiseCompletionNotificationMessage(
     return journal_framed_(version, JOURNAL_TYPE_GET_PROMISE_COMPLETION_NOTIFICATION, length, out, room);
 }
 
+/* Writes the frame of a message from its record PeekPromiseCompletionNotificationMessage. */
 static inline int64_t journal_frame_PeekPromiseCompletionNotificationMessage(
     uint32_t version, const struct journal_PeekPromiseCompletionNotificationMessage *record,
     struct journal_arena *arena, uint8_t *out, size_t room) {
@@ -5671,6 +5860,7 @@ static inline int64_t journal_frame_PeekPromiseCompletionNotificationMessage(
     return journal_framed_(version, JOURNAL_TYPE_PEEK_PROMISE_COMPLETION_NOTIFICATION, length, out, room);
 }
 
+/* Writes the frame of a message from its record GetInvocationOutputCompletionNotificationMessage. */
 static inline int64_t journal_frame_GetInvocationOutputCompletionNotificationMessage(
     uint32_t version, const struct journal_GetInvocationOutputCompletionNotificationMessage *record,
     struct journal_arena *arena, uint8_t *out, size_t room) {
@@ -5684,6 +5874,7 @@ static inline int64_t journal_frame_GetInvocationOutputCompletionNotificationMes
     return journal_framed_(version, JOURNAL_TYPE_GET_INVOCATION_OUTPUT_COMPLETION_NOTIFICATION, length, out, room);
 }
 
+/* Writes the frame of a message from its record CompletePromiseCompletionNotificationMessage. */
 static inline int64_t journal_frame_CompletePromiseCompletionNotificationMessage(
     uint32_t version, const struct journal_CompletePromiseCompletionNotificationMessage *record,
     struct journal_arena *arena, uint8_t *out, size_t room) {
@@ -5696,6 +5887,7 @@ static inline int64_t journal_frame_CompletePromiseCompletionNotificationMessage
     return journal_framed_(version, JOURNAL_TYPE_COMPLETE_PROMISE_COMPLETION_NOTIFICATION, length, out, room);
 }
 
+/* Writes the frame of a message from its record CallCompletionNotificationMessage. */
 static inline int64_t journal_frame_CallCompletionNotificationMessage(
     uint32_t version, const struct journal_CallCompletionNotificationMessage *record, struct journal_arena *arena,
     uint8_t *out, size_t room) {
@@ -5708,6 +5900,7 @@ static inline int64_t journal_frame_CallCompletionNotificationMessage(
     return journal_framed_(version, JOURNAL_TYPE_CALL_COMPLETION_NOTIFICATION, length, out, room);
 }
 
+/* Writes the frame of a message from its record RunCompletionNotificationMessage. */
 static inline int64_t journal_frame_RunCompletionNotificationMessage(
     uint32_t version, const struct journal_RunCompletionNotificationMessage *record, struct journal_arena *arena,
     uint8_t *out, size_t room) {
@@ -5720,6 +5913,7 @@ static inline int64_t journal_frame_RunCompletionNotificationMessage(
     return journal_framed_(version, JOURNAL_TYPE_RUN_COMPLETION_NOTIFICATION, length, out, room);
 }
 
+/* Writes the frame of a message from its record AttachInvocationCompletionNotificationMessage. */
 static inline int64_t journal_frame_AttachInvocationCompletionNotificationMessage(
     uint32_t version, const struct journal_AttachInvocationCompletionNotificationMessage *record,
     struct journal_arena *arena, uint8_t *out, size_t room) {
@@ -5732,6 +5926,7 @@ static inline int64_t journal_frame_AttachInvocationCompletionNotificationMessag
     return journal_framed_(version, JOURNAL_TYPE_ATTACH_INVOCATION_COMPLETION_NOTIFICATION, length, out, room);
 }
 
+/* Writes the frame of a message from its record SleepCompletionNotificationMessage. */
 static inline int64_t journal_frame_SleepCompletionNotificationMessage(
     uint32_t version, const struct journal_SleepCompletionNotificationMessage *record, struct journal_arena *arena,
     uint8_t *out, size_t room) {
@@ -5744,6 +5939,7 @@ static inline int64_t journal_frame_SleepCompletionNotificationMessage(
     return journal_framed_(version, JOURNAL_TYPE_SLEEP_COMPLETION_NOTIFICATION, length, out, room);
 }
 
+/* Writes the frame of a message from its record GetLazyStateKeysCompletionNotificationMessage. */
 static inline int64_t journal_frame_GetLazyStateKeysCompletionNotificationMessage(
     uint32_t version, const struct journal_GetLazyStateKeysCompletionNotificationMessage *record,
     struct journal_arena *arena, uint8_t *out, size_t room) {
@@ -5756,6 +5952,7 @@ static inline int64_t journal_frame_GetLazyStateKeysCompletionNotificationMessag
     return journal_framed_(version, JOURNAL_TYPE_GET_LAZY_STATE_KEYS_COMPLETION_NOTIFICATION, length, out, room);
 }
 
+/* Writes the frame of a message from its record CallInvocationIdCompletionNotificationMessage. */
 static inline int64_t journal_frame_CallInvocationIdCompletionNotificationMessage(
     uint32_t version, const struct journal_CallInvocationIdCompletionNotificationMessage *record,
     struct journal_arena *arena, uint8_t *out, size_t room) {
@@ -5768,6 +5965,7 @@ static inline int64_t journal_frame_CallInvocationIdCompletionNotificationMessag
     return journal_framed_(version, JOURNAL_TYPE_CALL_INVOCATION_ID_COMPLETION_NOTIFICATION, length, out, room);
 }
 
+/* Writes the frame of a message from its record SignalNotificationMessage. */
 static inline int64_t journal_frame_SignalNotificationMessage(uint32_t version,
                                                               const struct journal_SignalNotificationMessage *record,
                                                               struct journal_arena *arena, uint8_t *out, size_t room) {

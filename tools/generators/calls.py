@@ -388,7 +388,8 @@ def python():
     text += "from typing import Dict, NamedTuple, Protocol, Tuple, Union\n\n"
     text += "from ._kinds import BytesLike, Kind, Schema\n\n"
     first, last = described()["versions"]
-    text += f"FIRST_VERSION = {first}\nLAST_VERSION = {last}\n\n"
+    text += f"# the first protocol version\nFIRST_VERSION = {first}\n"
+    text += f"# the last protocol version; a later library may have further ones\nLAST_VERSION = {last}\n\n"
     text += "# the parameters of each call: the bits of a number, a slice, or the struct that is written\n"
     text += "CALLS: Dict[str, Tuple[str, ...]] = {\n"
     for call in calls():
@@ -469,7 +470,8 @@ def ruby():
         "module Pendratsoa\n"
     )
     first, last = described()["versions"]
-    text += f"  FIRST_VERSION = {first}\n  LAST_VERSION = {last}\n"
+    text += f"  # The first protocol version.\n  FIRST_VERSION = {first}\n"
+    text += f"  # The last protocol version. A later library may have further ones.\n  LAST_VERSION = {last}\n"
     for entry in kinds():
         said = entry.get("what", " ".join(entry["comment"]))
         text += "\n" + commented([said], "  # ")

@@ -3,7 +3,9 @@
 
 # What the library for C declares: its calls, the numbers that they write, and their errors.
 module Pendratsoa
+  # The first protocol version.
   FIRST_VERSION = 5
+  # The last protocol version. A later library may have further ones.
   LAST_VERSION = 9
 
   # The kinds of items: a message; a code that is no type's, whose eight bytes are skipped (before version 9); a message
