@@ -2,22 +2,21 @@
 /*
  * pendratsoa: the records of the journal protocol as structs, for C99 and C++, over the calls of pendratsoa.h.
  *
- * Of each record there is a struct, with the names and the comments of the protocol's description; journal_read_NAME,
- * which reads one from a payload, and journal_write_NAME, which writes the canonical payload of one. These functions
- * are static inline: there is nothing to link but the library. Nothing here knows how a payload is encoded: the library
- * does, which is given a struct as it is (journal_encode_NAME), or a table of its fields.
+ * Each record has a struct, with the names and the comments of the protocol's description. journal_read_NAME reads one
+ * from a payload, and journal_write_NAME writes the canonical payload of one. These functions are static inline: there
+ * is nothing to link but the library. Nothing here knows how a payload is encoded: the library does, which is given a
+ * struct as it is (journal_encode_NAME), or a table of its fields.
  *
- * Members. A text and bytes are slices. What may be absent has a bool, has_NAME; what is repeated has a pointer, and
- * NAME_count; of a oneof NAME_case says which member of the struct NAME is there, as a field number, or 0 if none is. A
- * record in another one is a struct in it. A struct whose bytes are all 0 is the record of an empty payload.
+ * Members. A text and bytes are slices. What may be absent has a bool, has_NAME. What is repeated has a pointer, and
+ * NAME_count. A oneof has NAME_case: the field number of the member of the struct NAME that is there, or 0. A record in
+ * another one is a struct in it. A struct whose bytes are all 0 is the record of an empty payload.
  *
  * Memory. The caller owns all of it, and nothing is allocated but what the calls allocate while they run. Slices that
- * are read point into the payload, which has to stay for as long as they are used; if it is not canonical, its
- * canonical encoding is made in the arena, and they point there. An arena is memory of the caller's: what is repeated
+ * are read point into the payload, which has to stay for as long as they are used. If it is not canonical, its
+ * canonical encoding is made in the arena, and they point there. An arena is caller-provided memory: what is repeated
  * is taken from its end, and stays until the caller sets `left` to what it was before. While reading runs it takes 48
- * bytes more for each field that is there, from the front. Writing takes nothing; but for a record with a future in it,
- * and for one that is rejected, whose field is named: while that runs, these take as much for each field, and room for
- * their slices.
+ * bytes more for each field that is there, from the front. Writing takes nothing, except for a record with a future in
+ * it, and for a rejected one, whose field is named. These take as much for each field, and room for their slices.
  *
  * Errors are those of the calls. After an error of reading the record is empty, after any the arena has what it had.
  */
@@ -41,7 +40,7 @@ struct journal_slice {
     size_t length;
 };
 
-/* Memory of the caller's, of any alignment. journal_arena_of makes one. */
+/* Caller-provided memory, of any alignment. journal_arena_of makes one. */
 struct journal_arena {
     uint8_t *memory; /* where it begins */
     size_t left;     /* how many bytes at its front are free */
@@ -1189,8 +1188,8 @@ static inline size_t journal_table_room_(const struct journal_arena *arena, size
  * Reading.
  */
 
-/* The entries that are left, what their offsets are in, the memory for elements, of which the end is taken, and the
-   first error; how much memory there was, and what was left of the arena before. */
+/* The entries that are left, what their offsets are in, the memory for elements, whose end is taken, and the first
+   error; how much memory there was, and what was left of the arena before. */
 struct journal_reader_ {
     const struct journal_field *next;
     const struct journal_field *end;
@@ -3931,7 +3930,7 @@ static inline int64_t journal_write_Void(const struct journal_Void *record, stru
     if (length != JOURNAL_MALFORMED) {
         return length;
     }
-    /* a table says which field is rejected, and why */
+    /* a table has the field that is rejected, and why */
     writer = journal_writer_of_(arena);
     (void)record;
     return journal_end_writing_(&writer, JOURNAL_SCHEMA_VOID, arena, out, room);
@@ -3958,7 +3957,7 @@ static inline int64_t journal_write_Value(const struct journal_Value *record, st
     if (length != JOURNAL_MALFORMED) {
         return length;
     }
-    /* a table says which field is rejected, and why */
+    /* a table has the field that is rejected, and why */
     writer = journal_writer_of_(arena);
     journal_put_Value_(&writer, 0, record);
     return journal_end_writing_(&writer, JOURNAL_SCHEMA_VALUE, arena, out, room);
@@ -3985,7 +3984,7 @@ static inline int64_t journal_write_Failure(const struct journal_Failure *record
     if (length != JOURNAL_MALFORMED) {
         return length;
     }
-    /* a table says which field is rejected, and why */
+    /* a table has the field that is rejected, and why */
     writer = journal_writer_of_(arena);
     journal_put_Failure_(&writer, 0, record);
     return journal_end_writing_(&writer, JOURNAL_SCHEMA_FAILURE, arena, out, room);
@@ -4013,7 +4012,7 @@ static inline int64_t journal_write_FailureMetadata(const struct journal_Failure
     if (length != JOURNAL_MALFORMED) {
         return length;
     }
-    /* a table says which field is rejected, and why */
+    /* a table has the field that is rejected, and why */
     writer = journal_writer_of_(arena);
     journal_put_FailureMetadata_(&writer, 0, record);
     return journal_end_writing_(&writer, JOURNAL_SCHEMA_FAILURE_METADATA, arena, out, room);
@@ -4040,7 +4039,7 @@ static inline int64_t journal_write_Header(const struct journal_Header *record, 
     if (length != JOURNAL_MALFORMED) {
         return length;
     }
-    /* a table says which field is rejected, and why */
+    /* a table has the field that is rejected, and why */
     writer = journal_writer_of_(arena);
     journal_put_Header_(&writer, 0, record);
     return journal_end_writing_(&writer, JOURNAL_SCHEMA_HEADER, arena, out, room);
@@ -4067,7 +4066,7 @@ static inline int64_t journal_write_StateKeys(const struct journal_StateKeys *re
     if (length != JOURNAL_MALFORMED) {
         return length;
     }
-    /* a table says which field is rejected, and why */
+    /* a table has the field that is rejected, and why */
     writer = journal_writer_of_(arena);
     journal_put_StateKeys_(&writer, 0, record);
     return journal_end_writing_(&writer, JOURNAL_SCHEMA_STATE_KEYS, arena, out, room);
@@ -4094,7 +4093,7 @@ static inline int64_t journal_write_StateEntry(const struct journal_StateEntry *
     if (length != JOURNAL_MALFORMED) {
         return length;
     }
-    /* a table says which field is rejected, and why */
+    /* a table has the field that is rejected, and why */
     writer = journal_writer_of_(arena);
     journal_put_StateEntry_(&writer, 0, record);
     return journal_end_writing_(&writer, JOURNAL_SCHEMA_STATE_ENTRY, arena, out, room);
@@ -4142,7 +4141,7 @@ static inline int64_t journal_write_WorkflowTarget(const struct journal_Workflow
     if (length != JOURNAL_MALFORMED) {
         return length;
     }
-    /* a table says which field is rejected, and why */
+    /* a table has the field that is rejected, and why */
     writer = journal_writer_of_(arena);
     journal_put_WorkflowTarget_(&writer, 0, record);
     return journal_end_writing_(&writer, JOURNAL_SCHEMA_WORKFLOW_TARGET, arena, out, room);
@@ -4171,7 +4170,7 @@ static inline int64_t journal_write_IdempotentRequestTarget(const struct journal
     if (length != JOURNAL_MALFORMED) {
         return length;
     }
-    /* a table says which field is rejected, and why */
+    /* a table has the field that is rejected, and why */
     writer = journal_writer_of_(arena);
     journal_put_IdempotentRequestTarget_(&writer, 0, record);
     return journal_end_writing_(&writer, JOURNAL_SCHEMA_IDEMPOTENT_REQUEST_TARGET, arena, out, room);
@@ -4198,7 +4197,7 @@ static inline int64_t journal_write_StartMessage(const struct journal_StartMessa
     if (length != JOURNAL_MALFORMED) {
         return length;
     }
-    /* a table says which field is rejected, and why */
+    /* a table has the field that is rejected, and why */
     writer = journal_writer_of_(arena);
     journal_put_StartMessage_(&writer, 0, record);
     return journal_end_writing_(&writer, JOURNAL_SCHEMA_START, arena, out, room);
@@ -4248,7 +4247,7 @@ static inline int64_t journal_write_SuspensionMessageV6(const struct journal_Sus
     if (length != JOURNAL_MALFORMED) {
         return length;
     }
-    /* a table says which field is rejected, and why */
+    /* a table has the field that is rejected, and why */
     writer = journal_writer_of_(arena);
     journal_put_SuspensionMessageV6_(&writer, 0, record);
     return journal_end_writing_(&writer, JOURNAL_SCHEMA_SUSPENSION_V6, arena, out, room);
@@ -4275,7 +4274,7 @@ static inline int64_t journal_write_ErrorMessage(const struct journal_ErrorMessa
     if (length != JOURNAL_MALFORMED) {
         return length;
     }
-    /* a table says which field is rejected, and why */
+    /* a table has the field that is rejected, and why */
     writer = journal_writer_of_(arena);
     journal_put_ErrorMessage_(&writer, 0, record);
     return journal_end_writing_(&writer, JOURNAL_SCHEMA_ERROR, arena, out, room);
@@ -4302,7 +4301,7 @@ static inline int64_t journal_write_EndMessage(const struct journal_EndMessage *
     if (length != JOURNAL_MALFORMED) {
         return length;
     }
-    /* a table says which field is rejected, and why */
+    /* a table has the field that is rejected, and why */
     writer = journal_writer_of_(arena);
     (void)record;
     return journal_end_writing_(&writer, JOURNAL_SCHEMA_END, arena, out, room);
@@ -4330,7 +4329,7 @@ static inline int64_t journal_write_ProposeRunCompletionMessage(
     if (length != JOURNAL_MALFORMED) {
         return length;
     }
-    /* a table says which field is rejected, and why */
+    /* a table has the field that is rejected, and why */
     writer = journal_writer_of_(arena);
     journal_put_ProposeRunCompletionMessage_(&writer, 0, record);
     return journal_end_writing_(&writer, JOURNAL_SCHEMA_PROPOSE_RUN_COMPLETION, arena, out, room);
@@ -4382,7 +4381,7 @@ static inline int64_t journal_write_ProposeRunCompletionAckMessage(
     if (length != JOURNAL_MALFORMED) {
         return length;
     }
-    /* a table says which field is rejected, and why */
+    /* a table has the field that is rejected, and why */
     writer = journal_writer_of_(arena);
     journal_put_ProposeRunCompletionAckMessage_(&writer, 0, record);
     return journal_end_writing_(&writer, JOURNAL_SCHEMA_PROPOSE_RUN_COMPLETION_ACK, arena, out, room);
@@ -4412,7 +4411,7 @@ static inline int64_t journal_write_GetStateEphemeralCommandMessage(
     if (length != JOURNAL_MALFORMED) {
         return length;
     }
-    /* a table says which field is rejected, and why */
+    /* a table has the field that is rejected, and why */
     writer = journal_writer_of_(arena);
     journal_put_GetStateEphemeralCommandMessage_(&writer, 0, record);
     return journal_end_writing_(&writer, JOURNAL_SCHEMA_GET_STATE_EPHEMERAL_COMMAND, arena, out, room);
@@ -4442,7 +4441,7 @@ static inline int64_t journal_write_GetStateEphemeralNotificationMessage(
     if (length != JOURNAL_MALFORMED) {
         return length;
     }
-    /* a table says which field is rejected, and why */
+    /* a table has the field that is rejected, and why */
     writer = journal_writer_of_(arena);
     journal_put_GetStateEphemeralNotificationMessage_(&writer, 0, record);
     return journal_end_writing_(&writer, JOURNAL_SCHEMA_GET_STATE_EPHEMERAL_NOTIFICATION, arena, out, room);
@@ -4470,7 +4469,7 @@ static inline int64_t journal_write_InputCommandMessage(const struct journal_Inp
     if (length != JOURNAL_MALFORMED) {
         return length;
     }
-    /* a table says which field is rejected, and why */
+    /* a table has the field that is rejected, and why */
     writer = journal_writer_of_(arena);
     journal_put_InputCommandMessage_(&writer, 0, record);
     return journal_end_writing_(&writer, JOURNAL_SCHEMA_INPUT_COMMAND, arena, out, room);
@@ -4498,7 +4497,7 @@ static inline int64_t journal_write_OutputCommandMessage(const struct journal_Ou
     if (length != JOURNAL_MALFORMED) {
         return length;
     }
-    /* a table says which field is rejected, and why */
+    /* a table has the field that is rejected, and why */
     writer = journal_writer_of_(arena);
     journal_put_OutputCommandMessage_(&writer, 0, record);
     return journal_end_writing_(&writer, JOURNAL_SCHEMA_OUTPUT_COMMAND, arena, out, room);
@@ -4526,7 +4525,7 @@ static inline int64_t journal_write_GetLazyStateCommandMessage(const struct jour
     if (length != JOURNAL_MALFORMED) {
         return length;
     }
-    /* a table says which field is rejected, and why */
+    /* a table has the field that is rejected, and why */
     writer = journal_writer_of_(arena);
     journal_put_GetLazyStateCommandMessage_(&writer, 0, record);
     return journal_end_writing_(&writer, JOURNAL_SCHEMA_GET_LAZY_STATE_COMMAND, arena, out, room);
@@ -4554,7 +4553,7 @@ static inline int64_t journal_write_SetStateCommandMessage(const struct journal_
     if (length != JOURNAL_MALFORMED) {
         return length;
     }
-    /* a table says which field is rejected, and why */
+    /* a table has the field that is rejected, and why */
     writer = journal_writer_of_(arena);
     journal_put_SetStateCommandMessage_(&writer, 0, record);
     return journal_end_writing_(&writer, JOURNAL_SCHEMA_SET_STATE_COMMAND, arena, out, room);
@@ -4582,7 +4581,7 @@ static inline int64_t journal_write_ClearStateCommandMessage(const struct journa
     if (length != JOURNAL_MALFORMED) {
         return length;
     }
-    /* a table says which field is rejected, and why */
+    /* a table has the field that is rejected, and why */
     writer = journal_writer_of_(arena);
     journal_put_ClearStateCommandMessage_(&writer, 0, record);
     return journal_end_writing_(&writer, JOURNAL_SCHEMA_CLEAR_STATE_COMMAND, arena, out, room);
@@ -4611,7 +4610,7 @@ static inline int64_t journal_write_ClearAllStateCommandMessage(
     if (length != JOURNAL_MALFORMED) {
         return length;
     }
-    /* a table says which field is rejected, and why */
+    /* a table has the field that is rejected, and why */
     writer = journal_writer_of_(arena);
     journal_put_ClearAllStateCommandMessage_(&writer, 0, record);
     return journal_end_writing_(&writer, JOURNAL_SCHEMA_CLEAR_ALL_STATE_COMMAND, arena, out, room);
@@ -4641,7 +4640,7 @@ static inline int64_t journal_write_GetLazyStateKeysCommandMessage(
     if (length != JOURNAL_MALFORMED) {
         return length;
     }
-    /* a table says which field is rejected, and why */
+    /* a table has the field that is rejected, and why */
     writer = journal_writer_of_(arena);
     journal_put_GetLazyStateKeysCommandMessage_(&writer, 0, record);
     return journal_end_writing_(&writer, JOURNAL_SCHEMA_GET_LAZY_STATE_KEYS_COMMAND, arena, out, room);
@@ -4670,7 +4669,7 @@ static inline int64_t journal_write_GetEagerStateCommandMessage(
     if (length != JOURNAL_MALFORMED) {
         return length;
     }
-    /* a table says which field is rejected, and why */
+    /* a table has the field that is rejected, and why */
     writer = journal_writer_of_(arena);
     journal_put_GetEagerStateCommandMessage_(&writer, 0, record);
     return journal_end_writing_(&writer, JOURNAL_SCHEMA_GET_EAGER_STATE_COMMAND, arena, out, room);
@@ -4700,7 +4699,7 @@ static inline int64_t journal_write_GetEagerStateKeysCommandMessage(
     if (length != JOURNAL_MALFORMED) {
         return length;
     }
-    /* a table says which field is rejected, and why */
+    /* a table has the field that is rejected, and why */
     writer = journal_writer_of_(arena);
     journal_put_GetEagerStateKeysCommandMessage_(&writer, 0, record);
     return journal_end_writing_(&writer, JOURNAL_SCHEMA_GET_EAGER_STATE_KEYS_COMMAND, arena, out, room);
@@ -4728,7 +4727,7 @@ static inline int64_t journal_write_GetPromiseCommandMessage(const struct journa
     if (length != JOURNAL_MALFORMED) {
         return length;
     }
-    /* a table says which field is rejected, and why */
+    /* a table has the field that is rejected, and why */
     writer = journal_writer_of_(arena);
     journal_put_GetPromiseCommandMessage_(&writer, 0, record);
     return journal_end_writing_(&writer, JOURNAL_SCHEMA_GET_PROMISE_COMMAND, arena, out, room);
@@ -4756,7 +4755,7 @@ static inline int64_t journal_write_PeekPromiseCommandMessage(const struct journ
     if (length != JOURNAL_MALFORMED) {
         return length;
     }
-    /* a table says which field is rejected, and why */
+    /* a table has the field that is rejected, and why */
     writer = journal_writer_of_(arena);
     journal_put_PeekPromiseCommandMessage_(&writer, 0, record);
     return journal_end_writing_(&writer, JOURNAL_SCHEMA_PEEK_PROMISE_COMMAND, arena, out, room);
@@ -4786,7 +4785,7 @@ static inline int64_t journal_write_CompletePromiseCommandMessage(
     if (length != JOURNAL_MALFORMED) {
         return length;
     }
-    /* a table says which field is rejected, and why */
+    /* a table has the field that is rejected, and why */
     writer = journal_writer_of_(arena);
     journal_put_CompletePromiseCommandMessage_(&writer, 0, record);
     return journal_end_writing_(&writer, JOURNAL_SCHEMA_COMPLETE_PROMISE_COMMAND, arena, out, room);
@@ -4814,7 +4813,7 @@ static inline int64_t journal_write_SleepCommandMessage(const struct journal_Sle
     if (length != JOURNAL_MALFORMED) {
         return length;
     }
-    /* a table says which field is rejected, and why */
+    /* a table has the field that is rejected, and why */
     writer = journal_writer_of_(arena);
     journal_put_SleepCommandMessage_(&writer, 0, record);
     return journal_end_writing_(&writer, JOURNAL_SCHEMA_SLEEP_COMMAND, arena, out, room);
@@ -4842,7 +4841,7 @@ static inline int64_t journal_write_CallCommandMessage(const struct journal_Call
     if (length != JOURNAL_MALFORMED) {
         return length;
     }
-    /* a table says which field is rejected, and why */
+    /* a table has the field that is rejected, and why */
     writer = journal_writer_of_(arena);
     journal_put_CallCommandMessage_(&writer, 0, record);
     return journal_end_writing_(&writer, JOURNAL_SCHEMA_CALL_COMMAND, arena, out, room);
@@ -4870,7 +4869,7 @@ static inline int64_t journal_write_OneWayCallCommandMessage(const struct journa
     if (length != JOURNAL_MALFORMED) {
         return length;
     }
-    /* a table says which field is rejected, and why */
+    /* a table has the field that is rejected, and why */
     writer = journal_writer_of_(arena);
     journal_put_OneWayCallCommandMessage_(&writer, 0, record);
     return journal_end_writing_(&writer, JOURNAL_SCHEMA_ONE_WAY_CALL_COMMAND, arena, out, room);
@@ -4898,7 +4897,7 @@ static inline int64_t journal_write_SendSignalCommandMessage(const struct journa
     if (length != JOURNAL_MALFORMED) {
         return length;
     }
-    /* a table says which field is rejected, and why */
+    /* a table has the field that is rejected, and why */
     writer = journal_writer_of_(arena);
     journal_put_SendSignalCommandMessage_(&writer, 0, record);
     return journal_end_writing_(&writer, JOURNAL_SCHEMA_SEND_SIGNAL_COMMAND, arena, out, room);
@@ -4926,7 +4925,7 @@ static inline int64_t journal_write_RunCommandMessage(const struct journal_RunCo
     if (length != JOURNAL_MALFORMED) {
         return length;
     }
-    /* a table says which field is rejected, and why */
+    /* a table has the field that is rejected, and why */
     writer = journal_writer_of_(arena);
     journal_put_RunCommandMessage_(&writer, 0, record);
     return journal_end_writing_(&writer, JOURNAL_SCHEMA_RUN_COMMAND, arena, out, room);
@@ -4956,7 +4955,7 @@ static inline int64_t journal_write_AttachInvocationCommandMessage(
     if (length != JOURNAL_MALFORMED) {
         return length;
     }
-    /* a table says which field is rejected, and why */
+    /* a table has the field that is rejected, and why */
     writer = journal_writer_of_(arena);
     journal_put_AttachInvocationCommandMessage_(&writer, 0, record);
     return journal_end_writing_(&writer, JOURNAL_SCHEMA_ATTACH_INVOCATION_COMMAND, arena, out, room);
@@ -4986,7 +4985,7 @@ static inline int64_t journal_write_GetInvocationOutputCommandMessage(
     if (length != JOURNAL_MALFORMED) {
         return length;
     }
-    /* a table says which field is rejected, and why */
+    /* a table has the field that is rejected, and why */
     writer = journal_writer_of_(arena);
     journal_put_GetInvocationOutputCommandMessage_(&writer, 0, record);
     return journal_end_writing_(&writer, JOURNAL_SCHEMA_GET_INVOCATION_OUTPUT_COMMAND, arena, out, room);
@@ -5016,7 +5015,7 @@ static inline int64_t journal_write_CompleteAwakeableCommandMessage(
     if (length != JOURNAL_MALFORMED) {
         return length;
     }
-    /* a table says which field is rejected, and why */
+    /* a table has the field that is rejected, and why */
     writer = journal_writer_of_(arena);
     journal_put_CompleteAwakeableCommandMessage_(&writer, 0, record);
     return journal_end_writing_(&writer, JOURNAL_SCHEMA_COMPLETE_AWAKEABLE_COMMAND, arena, out, room);
@@ -5046,7 +5045,7 @@ static inline int64_t journal_write_GetLazyStateCompletionNotificationMessage(
     if (length != JOURNAL_MALFORMED) {
         return length;
     }
-    /* a table says which field is rejected, and why */
+    /* a table has the field that is rejected, and why */
     writer = journal_writer_of_(arena);
     journal_put_GetLazyStateCompletionNotificationMessage_(&writer, 0, record);
     return journal_end_writing_(&writer, JOURNAL_SCHEMA_GET_LAZY_STATE_COMPLETION_NOTIFICATION, arena, out, room);
@@ -5076,7 +5075,7 @@ static inline int64_t journal_write_GetPromiseCompletionNotificationMessage(
     if (length != JOURNAL_MALFORMED) {
         return length;
     }
-    /* a table says which field is rejected, and why */
+    /* a table has the field that is rejected, and why */
     writer = journal_writer_of_(arena);
     journal_put_GetPromiseCompletionNotificationMessage_(&writer, 0, record);
     return journal_end_writing_(&writer, JOURNAL_SCHEMA_GET_PROMISE_COMPLETION_NOTIFICATION, arena, out, room);
@@ -5106,7 +5105,7 @@ static inline int64_t journal_write_PeekPromiseCompletionNotificationMessage(
     if (length != JOURNAL_MALFORMED) {
         return length;
     }
-    /* a table says which field is rejected, and why */
+    /* a table has the field that is rejected, and why */
     writer = journal_writer_of_(arena);
     journal_put_PeekPromiseCompletionNotificationMessage_(&writer, 0, record);
     return journal_end_writing_(&writer, JOURNAL_SCHEMA_PEEK_PROMISE_COMPLETION_NOTIFICATION, arena, out, room);
@@ -5136,7 +5135,7 @@ static inline int64_t journal_write_GetInvocationOutputCompletionNotificationMes
     if (length != JOURNAL_MALFORMED) {
         return length;
     }
-    /* a table says which field is rejected, and why */
+    /* a table has the field that is rejected, and why */
     writer = journal_writer_of_(arena);
     journal_put_GetInvocationOutputCompletionNotificationMessage_(&writer, 0, record);
     return journal_end_writing_(&writer, JOURNAL_SCHEMA_GET_INVOCATION_OUTPUT_COMPLETION_NOTIFICATION, arena, out,
@@ -5167,7 +5166,7 @@ static inline int64_t journal_write_CompletePromiseCompletionNotificationMessage
     if (length != JOURNAL_MALFORMED) {
         return length;
     }
-    /* a table says which field is rejected, and why */
+    /* a table has the field that is rejected, and why */
     writer = journal_writer_of_(arena);
     journal_put_CompletePromiseCompletionNotificationMessage_(&writer, 0, record);
     return journal_end_writing_(&writer, JOURNAL_SCHEMA_COMPLETE_PROMISE_COMPLETION_NOTIFICATION, arena, out, room);
@@ -5197,7 +5196,7 @@ static inline int64_t journal_write_CallCompletionNotificationMessage(
     if (length != JOURNAL_MALFORMED) {
         return length;
     }
-    /* a table says which field is rejected, and why */
+    /* a table has the field that is rejected, and why */
     writer = journal_writer_of_(arena);
     journal_put_CallCompletionNotificationMessage_(&writer, 0, record);
     return journal_end_writing_(&writer, JOURNAL_SCHEMA_CALL_COMPLETION_NOTIFICATION, arena, out, room);
@@ -5227,7 +5226,7 @@ static inline int64_t journal_write_RunCompletionNotificationMessage(
     if (length != JOURNAL_MALFORMED) {
         return length;
     }
-    /* a table says which field is rejected, and why */
+    /* a table has the field that is rejected, and why */
     writer = journal_writer_of_(arena);
     journal_put_RunCompletionNotificationMessage_(&writer, 0, record);
     return journal_end_writing_(&writer, JOURNAL_SCHEMA_RUN_COMPLETION_NOTIFICATION, arena, out, room);
@@ -5257,7 +5256,7 @@ static inline int64_t journal_write_AttachInvocationCompletionNotificationMessag
     if (length != JOURNAL_MALFORMED) {
         return length;
     }
-    /* a table says which field is rejected, and why */
+    /* a table has the field that is rejected, and why */
     writer = journal_writer_of_(arena);
     journal_put_AttachInvocationCompletionNotificationMessage_(&writer, 0, record);
     return journal_end_writing_(&writer, JOURNAL_SCHEMA_ATTACH_INVOCATION_COMPLETION_NOTIFICATION, arena, out, room);
@@ -5287,7 +5286,7 @@ static inline int64_t journal_write_SleepCompletionNotificationMessage(
     if (length != JOURNAL_MALFORMED) {
         return length;
     }
-    /* a table says which field is rejected, and why */
+    /* a table has the field that is rejected, and why */
     writer = journal_writer_of_(arena);
     journal_put_SleepCompletionNotificationMessage_(&writer, 0, record);
     return journal_end_writing_(&writer, JOURNAL_SCHEMA_SLEEP_COMPLETION_NOTIFICATION, arena, out, room);
@@ -5317,7 +5316,7 @@ static inline int64_t journal_write_GetLazyStateKeysCompletionNotificationMessag
     if (length != JOURNAL_MALFORMED) {
         return length;
     }
-    /* a table says which field is rejected, and why */
+    /* a table has the field that is rejected, and why */
     writer = journal_writer_of_(arena);
     journal_put_GetLazyStateKeysCompletionNotificationMessage_(&writer, 0, record);
     return journal_end_writing_(&writer, JOURNAL_SCHEMA_GET_LAZY_STATE_KEYS_COMPLETION_NOTIFICATION, arena, out, room);
@@ -5347,7 +5346,7 @@ static inline int64_t journal_write_CallInvocationIdCompletionNotificationMessag
     if (length != JOURNAL_MALFORMED) {
         return length;
     }
-    /* a table says which field is rejected, and why */
+    /* a table has the field that is rejected, and why */
     writer = journal_writer_of_(arena);
     journal_put_CallInvocationIdCompletionNotificationMessage_(&writer, 0, record);
     return journal_end_writing_(&writer, JOURNAL_SCHEMA_CALL_INVOCATION_ID_COMPLETION_NOTIFICATION, arena, out, room);
@@ -5375,7 +5374,7 @@ static inline int64_t journal_write_SignalNotificationMessage(const struct journ
     if (length != JOURNAL_MALFORMED) {
         return length;
     }
-    /* a table says which field is rejected, and why */
+    /* a table has the field that is rejected, and why */
     writer = journal_writer_of_(arena);
     journal_put_SignalNotificationMessage_(&writer, 0, record);
     return journal_end_writing_(&writer, JOURNAL_SCHEMA_SIGNAL_NOTIFICATION, arena, out, room);
@@ -5403,7 +5402,7 @@ static inline int64_t journal_write_NotificationTemplate(const struct journal_No
     if (length != JOURNAL_MALFORMED) {
         return length;
     }
-    /* a table says which field is rejected, and why */
+    /* a table has the field that is rejected, and why */
     writer = journal_writer_of_(arena);
     journal_put_NotificationTemplate_(&writer, 0, record);
     return journal_end_writing_(&writer, JOURNAL_SCHEMA_NOTIFICATION_TEMPLATE, arena, out, room);
@@ -5426,7 +5425,7 @@ static inline size_t journal_payload_room_(size_t room) {
     return room > 8 ? room - 8 : 0;
 }
 
-/* Puts the header before a payload of this length, if there is room for both. Of an error it is that error. */
+/* Puts the header before a payload of this length, if there is room for both. An error is returned as it is. */
 static inline int64_t journal_framed_(uint32_t version, uint16_t code, int64_t length, uint8_t *out, size_t room) {
     if (length < 0) {
         return length;
@@ -5978,7 +5977,7 @@ static inline int64_t journal_frame_SignalNotificationMessage(uint32_t version,
     return journal_framed_(version, JOURNAL_TYPE_SIGNAL_NOTIFICATION, length, out, room);
 }
 
-/* Each record, with the name of its schema but for JOURNAL_SCHEMA_. */
+/* Each record, with the name of its schema without JOURNAL_SCHEMA_. */
 #define JOURNAL_EACH_RECORD_(each) \
     each(Void, VOID) \
     each(Value, VALUE) \
@@ -6075,7 +6074,7 @@ static inline int64_t journal_write_record(uint32_t schema, const void *record, 
     }
 }
 
-/* Each message, with the name of its type but for JOURNAL_TYPE_. */
+/* Each message, with the name of its type without JOURNAL_TYPE_. */
 #define JOURNAL_EACH_MESSAGE_(each) \
     each(StartMessage, START) \
     each(SuspensionMessage, SUSPENSION) \

@@ -349,7 +349,7 @@ def functions():
             text += "    struct journal_writer_ writer;\n"
             text += f"    const int64_t length = journal_encode_{record.name}(record, out, room);\n\n"
             text += "    if (length != JOURNAL_MALFORMED) {\n        return length;\n    }\n"
-            text += "    /* a table says which field is rejected, and why */\n"
+            text += "    /* a table has the field that is rejected, and why */\n"
             text += "    writer = journal_writer_of_(arena);\n"
         text += f"    journal_put_{record.name}_(&writer, 0, record);\n" if has_rows else "    (void)record;\n"
         text += filled("    return journal_end_writing_(", ["&writer", schema, "arena", "out", "room"], ");") + "}\n\n"
