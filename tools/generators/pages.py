@@ -46,7 +46,6 @@ SPEED = re.compile(r"(<!-- Written by tools/generate\.py pages of docs/PERFORMAN
 MEASUREMENTS = "docs/PERFORMANCE.md"
 SPEED_ROWS = (
     ("items of a replay, out of one chunk", "Items of a stream", ("replay", "`items`", "whole")),
-    ("the same, borrowed from a slice", "Items of a stream", ("replay", "`item_refs`", "a slice")),
     ("its messages, each decoded to its record", "Typed messages", ("replay", "`messages`", "whole")),
     ("its frames, into a `Vec` that is used again", "Frames written", ("replay", "`encode_into`")),
     ("frames of all types, each into `Bytes` of its own", "Frames written", ("mixed", "`encode`")),
