@@ -1,5 +1,5 @@
 # A front for the scripts, which say more with --help: no rule of it does anything else.
-.PHONY: help quick test check generate view install uninstall package release python go ruby rust node bench
+.PHONY: help quick test check generate view install uninstall package release reference python go ruby rust node bench
 
 help:
 	@echo 'make quick                  what can be known in three minutes, without a proof (sh scripts/test.sh --quick)'
@@ -11,6 +11,7 @@ help:
 	@echo 'make uninstall PREFIX=..    removes them'
 	@echo 'make package                makes a Debian package of them in this folder (sh scripts/package.sh)'
 	@echo 'make release OUT=..         makes the files of a release in that folder (sh scripts/release.sh)'
+	@echo 'make reference OUT=..       makes the reference pages of all languages in that folder (sh scripts/reference.sh)'
 	@echo 'make python                 builds the package for Python, with the library in it (sh scripts/python.sh)'
 	@echo 'make go                     builds and vets the package for Go over the library that pkg-config finds'
 	@echo 'make ruby [PREFIX=..]       builds the gem for Ruby, with the library that is installed there'
@@ -44,6 +45,9 @@ package:
 
 release:
 	sh scripts/release.sh $(if $(OUT),'$(OUT)')
+
+reference:
+	sh scripts/reference.sh $(if $(OUT),'$(OUT)')
 
 python:
 	sh scripts/python.sh

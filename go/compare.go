@@ -40,6 +40,7 @@ func (kind VerdictKind) String() string {
 
 // A Verdict says how two journals compare.
 type Verdict struct {
+	// Kind is which verdict it is.
 	Kind VerdictKind
 	// Index is that of the first command that differs, is malformed or is one more, from 0; of VerdictSame it is the
 	// number of commands.

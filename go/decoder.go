@@ -52,6 +52,7 @@ type MessageTooLong struct {
 	Offset        int64
 }
 
+// Error returns a text as "pendratsoa: a message of type 0x0403 at offset 0 has 10 bytes, more than the limit of 9".
 func (e *MessageTooLong) Error() string {
 	return fmt.Sprintf("pendratsoa: a message of type %#04x at offset %d has %d bytes, more than the limit of %d",
 		e.Code, e.Offset, e.Length, e.Limit)

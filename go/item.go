@@ -21,9 +21,12 @@ type Item interface {
 
 // A Message is a message of a stream of a version.
 type Message struct {
-	Version      int
-	Code         uint16
-	Payload      []byte
+	// Version is that of its stream, and Code that of its type.
+	Version int
+	Code    uint16
+	// Payload is its payload, in any encoding.
+	Payload []byte
+	// RequestedAck says whether its header requests an acknowledgement.
 	RequestedAck bool
 	// came is the message as it came, or nil of one that did not
 	came     []byte
@@ -32,6 +35,7 @@ type Message struct {
 
 // An UnknownCode is eight bytes whose code is no type's, before version 9.
 type UnknownCode struct {
+	// Version is that of its stream, and Code the unassigned code.
 	Version int
 	Code    uint16
 	// Word is the eight bytes as one big-endian number.
@@ -41,10 +45,12 @@ type UnknownCode struct {
 
 // A Skipped is a message of an unknown type, which is skipped with its payload from version 9 on.
 type Skipped struct {
+	// Version is that of its stream, and Code the unassigned code.
 	Version int
 	Code    uint16
 	// Word is the eight bytes of the header as one big-endian number.
-	Word    uint64
+	Word uint64
+	// Payload is its payload.
 	Payload []byte
 	// came is the message as it came, or nil of one that did not
 	came     []byte

@@ -81,8 +81,8 @@ const (
 	verdictNumbers = C.JOURNAL_VERDICT_NUMBERS
 )
 
-// The kinds of items: a message; a code that is no type's, whose eight bytes are skipped (before version 9); a message
-// of an unknown type, skipped with its payload (version 9).
+// The kinds of items: a message; before version 9 an unassigned code, whose eight bytes are skipped; at version 9 a
+// message of an unknown type, skipped with its payload.
 const (
 	itemMessage     = C.JOURNAL_ITEM_MESSAGE
 	itemUnknownCode = C.JOURNAL_ITEM_UNKNOWN_CODE

@@ -21,11 +21,13 @@ func (kind ResultKind) String() string {
 
 // A Notification is the id and the result of a notification of any type.
 type Notification struct {
+	// IDKind is the kind of the id.
 	IDKind IDKind
 	// Number is the id of a completion or the number of a signal, and 0 if the id is a signal's name.
 	Number uint64
 	// Name is the name of a signal, and empty if the id is a number.
-	Name       string
+	Name string
+	// ResultKind is the kind of the result.
 	ResultKind ResultKind
 	// Result is the canonical payload of a Value, a Failure or StateKeys, or the text of an invocation id; of
 	// ResultVoid it is empty.

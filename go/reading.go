@@ -24,6 +24,7 @@ func (reason JSONReason) text() string {
 
 // A JSONError says why a JSON text means no value of its schema, and where. It wraps ErrJSON, and an Error wraps it.
 type JSONError struct {
+	// Reason is why the text is rejected.
 	Reason JSONReason
 	// Offset is where the text stops being JSON, in bytes, and -1 if it is JSON.
 	Offset int

@@ -2,22 +2,21 @@
 /*
  * pendratsoa: the records of the journal protocol as structs, for C99 and C++, over the calls of pendratsoa.h.
  *
- * Of each record there is a struct, with the names and the comments of the protocol's description; journal_read_NAME,
- * which reads one from a payload, and journal_write_NAME, which writes the canonical payload of one. These functions
- * are static inline: there is nothing to link but the library. Nothing here knows how a payload is encoded: the library
- * does, which is given a struct as it is (journal_encode_NAME), or a table of its fields.
+ * Each record has a struct, with the names and the comments of the protocol's description. journal_read_NAME reads one
+ * from a payload, and journal_write_NAME writes the canonical payload of one. These functions are static inline: there
+ * is nothing to link but the library. Nothing here knows how a payload is encoded: the library does, which is given a
+ * struct as it is (journal_encode_NAME), or a table of its fields.
  *
- * Members. A text and bytes are slices. What may be absent has a bool, has_NAME; what is repeated has a pointer, and
- * NAME_count; of a oneof NAME_case says which member of the struct NAME is there, as a field number, or 0 if none is. A
- * record in another one is a struct in it. A struct whose bytes are all 0 is the record of an empty payload.
+ * Members. A text and bytes are slices. What may be absent has a bool, has_NAME. What is repeated has a pointer, and
+ * NAME_count. A oneof has NAME_case: the field number of the member of the struct NAME that is there, or 0. A record in
+ * another one is a struct in it. A struct whose bytes are all 0 is the record of an empty payload.
  *
  * Memory. The caller owns all of it, and nothing is allocated but what the calls allocate while they run. Slices that
- * are read point into the payload, which has to stay for as long as they are used; if it is not canonical, its
- * canonical encoding is made in the arena, and they point there. An arena is memory of the caller's: what is repeated
+ * are read point into the payload, which has to stay for as long as they are used. If it is not canonical, its
+ * canonical encoding is made in the arena, and they point there. An arena is caller-provided memory: what is repeated
  * is taken from its end, and stays until the caller sets `left` to what it was before. While reading runs it takes 48
- * bytes more for each field that is there, from the front. Writing takes nothing; but for a record with a future in it,
- * and for one that is rejected, whose field is named: while that runs, these take as much for each field, and room for
- * their slices.
+ * bytes more for each field that is there, from the front. Writing takes nothing, except for a record with a future in
+ * it, and for a rejected one, whose field is named. These take as much for each field, and room for their slices.
  *
  * Errors are those of the calls. After an error of reading the record is empty, after any the arena has what it had.
  */
@@ -41,7 +40,7 @@ struct journal_slice {
     size_t length;
 };
 
-/* Memory of the caller's, of any alignment. journal_arena_of makes one. */
+/* Caller-provided memory, of any alignment. journal_arena_of makes one. */
 struct journal_arena {
     uint8_t *memory; /* where it begins */
     size_t left;     /* how many bytes at its front are free */
@@ -55,6 +54,7 @@ struct journal_arena {
     uint32_t rejected_number;
 };
 
+/* The arena of a block of memory, which is free. */
 static inline struct journal_arena journal_arena_of(void *memory, size_t size) {
     struct journal_arena arena = {(uint8_t *)memory, size, 0, 0, 0, 0};
 
@@ -1007,88 +1007,138 @@ union journal_record {
  * number of a oneof's member is that of none, which journal_write_NAME says, otherwise JOURNAL_TOO_LONG. None allocates.
  */
 
+/* Writes the payload of the record Void. */
 int64_t journal_encode_Void(const struct journal_Void *record, uint8_t *out, size_t room);
+/* Writes the payload of the record Value. */
 int64_t journal_encode_Value(const struct journal_Value *record, uint8_t *out, size_t room);
+/* Writes the payload of the record Failure. */
 int64_t journal_encode_Failure(const struct journal_Failure *record, uint8_t *out, size_t room);
+/* Writes the payload of the record FailureMetadata. */
 int64_t journal_encode_FailureMetadata(const struct journal_FailureMetadata *record, uint8_t *out, size_t room);
+/* Writes the payload of the record Header. */
 int64_t journal_encode_Header(const struct journal_Header *record, uint8_t *out, size_t room);
+/* Writes the payload of the record StateKeys. */
 int64_t journal_encode_StateKeys(const struct journal_StateKeys *record, uint8_t *out, size_t room);
+/* Writes the payload of the record StateEntry. */
 int64_t journal_encode_StateEntry(const struct journal_StateEntry *record, uint8_t *out, size_t room);
+/* Writes the payload of the record WorkflowTarget. */
 int64_t journal_encode_WorkflowTarget(const struct journal_WorkflowTarget *record, uint8_t *out, size_t room);
+/* Writes the payload of the record IdempotentRequestTarget. */
 int64_t journal_encode_IdempotentRequestTarget(const struct journal_IdempotentRequestTarget *record, uint8_t *out,
                                                size_t room);
+/* Writes the payload of the record StartMessage. */
 int64_t journal_encode_StartMessage(const struct journal_StartMessage *record, uint8_t *out, size_t room);
+/* Writes the payload of the record SuspensionMessageV6. */
 int64_t journal_encode_SuspensionMessageV6(const struct journal_SuspensionMessageV6 *record, uint8_t *out, size_t room);
+/* Writes the payload of the record ErrorMessage. */
 int64_t journal_encode_ErrorMessage(const struct journal_ErrorMessage *record, uint8_t *out, size_t room);
+/* Writes the payload of the record EndMessage. */
 int64_t journal_encode_EndMessage(const struct journal_EndMessage *record, uint8_t *out, size_t room);
+/* Writes the payload of the record ProposeRunCompletionMessage. */
 int64_t journal_encode_ProposeRunCompletionMessage(const struct journal_ProposeRunCompletionMessage *record,
                                                    uint8_t *out, size_t room);
+/* Writes the payload of the record ProposeRunCompletionAckMessage. */
 int64_t journal_encode_ProposeRunCompletionAckMessage(const struct journal_ProposeRunCompletionAckMessage *record,
                                                       uint8_t *out, size_t room);
+/* Writes the payload of the record GetStateEphemeralCommandMessage. */
 int64_t journal_encode_GetStateEphemeralCommandMessage(const struct journal_GetStateEphemeralCommandMessage *record,
                                                        uint8_t *out, size_t room);
+/* Writes the payload of the record GetStateEphemeralNotificationMessage. */
 int64_t journal_encode_GetStateEphemeralNotificationMessage(
     const struct journal_GetStateEphemeralNotificationMessage *record, uint8_t *out, size_t room);
+/* Writes the payload of the record InputCommandMessage. */
 int64_t journal_encode_InputCommandMessage(const struct journal_InputCommandMessage *record, uint8_t *out, size_t room);
+/* Writes the payload of the record OutputCommandMessage. */
 int64_t journal_encode_OutputCommandMessage(const struct journal_OutputCommandMessage *record, uint8_t *out,
                                             size_t room);
+/* Writes the payload of the record GetLazyStateCommandMessage. */
 int64_t journal_encode_GetLazyStateCommandMessage(const struct journal_GetLazyStateCommandMessage *record, uint8_t *out,
                                                   size_t room);
+/* Writes the payload of the record SetStateCommandMessage. */
 int64_t journal_encode_SetStateCommandMessage(const struct journal_SetStateCommandMessage *record, uint8_t *out,
                                               size_t room);
+/* Writes the payload of the record ClearStateCommandMessage. */
 int64_t journal_encode_ClearStateCommandMessage(const struct journal_ClearStateCommandMessage *record, uint8_t *out,
                                                 size_t room);
+/* Writes the payload of the record ClearAllStateCommandMessage. */
 int64_t journal_encode_ClearAllStateCommandMessage(const struct journal_ClearAllStateCommandMessage *record,
                                                    uint8_t *out, size_t room);
+/* Writes the payload of the record GetLazyStateKeysCommandMessage. */
 int64_t journal_encode_GetLazyStateKeysCommandMessage(const struct journal_GetLazyStateKeysCommandMessage *record,
                                                       uint8_t *out, size_t room);
+/* Writes the payload of the record GetEagerStateCommandMessage. */
 int64_t journal_encode_GetEagerStateCommandMessage(const struct journal_GetEagerStateCommandMessage *record,
                                                    uint8_t *out, size_t room);
+/* Writes the payload of the record GetEagerStateKeysCommandMessage. */
 int64_t journal_encode_GetEagerStateKeysCommandMessage(const struct journal_GetEagerStateKeysCommandMessage *record,
                                                        uint8_t *out, size_t room);
+/* Writes the payload of the record GetPromiseCommandMessage. */
 int64_t journal_encode_GetPromiseCommandMessage(const struct journal_GetPromiseCommandMessage *record, uint8_t *out,
                                                 size_t room);
+/* Writes the payload of the record PeekPromiseCommandMessage. */
 int64_t journal_encode_PeekPromiseCommandMessage(const struct journal_PeekPromiseCommandMessage *record, uint8_t *out,
                                                  size_t room);
+/* Writes the payload of the record CompletePromiseCommandMessage. */
 int64_t journal_encode_CompletePromiseCommandMessage(const struct journal_CompletePromiseCommandMessage *record,
                                                      uint8_t *out, size_t room);
+/* Writes the payload of the record SleepCommandMessage. */
 int64_t journal_encode_SleepCommandMessage(const struct journal_SleepCommandMessage *record, uint8_t *out, size_t room);
+/* Writes the payload of the record CallCommandMessage. */
 int64_t journal_encode_CallCommandMessage(const struct journal_CallCommandMessage *record, uint8_t *out, size_t room);
+/* Writes the payload of the record OneWayCallCommandMessage. */
 int64_t journal_encode_OneWayCallCommandMessage(const struct journal_OneWayCallCommandMessage *record, uint8_t *out,
                                                 size_t room);
+/* Writes the payload of the record SendSignalCommandMessage. */
 int64_t journal_encode_SendSignalCommandMessage(const struct journal_SendSignalCommandMessage *record, uint8_t *out,
                                                 size_t room);
+/* Writes the payload of the record RunCommandMessage. */
 int64_t journal_encode_RunCommandMessage(const struct journal_RunCommandMessage *record, uint8_t *out, size_t room);
+/* Writes the payload of the record AttachInvocationCommandMessage. */
 int64_t journal_encode_AttachInvocationCommandMessage(const struct journal_AttachInvocationCommandMessage *record,
                                                       uint8_t *out, size_t room);
+/* Writes the payload of the record GetInvocationOutputCommandMessage. */
 int64_t journal_encode_GetInvocationOutputCommandMessage(const struct journal_GetInvocationOutputCommandMessage *record,
                                                          uint8_t *out, size_t room);
+/* Writes the payload of the record CompleteAwakeableCommandMessage. */
 int64_t journal_encode_CompleteAwakeableCommandMessage(const struct journal_CompleteAwakeableCommandMessage *record,
                                                        uint8_t *out, size_t room);
+/* Writes the payload of the record GetLazyStateCompletionNotificationMessage. */
 int64_t journal_encode_GetLazyStateCompletionNotificationMessage(
     const struct journal_GetLazyStateCompletionNotificationMessage *record, uint8_t *out, size_t room);
+/* Writes the payload of the record GetPromiseCompletionNotificationMessage. */
 int64_t journal_encode_GetPromiseCompletionNotificationMessage(
     const struct journal_GetPromiseCompletionNotificationMessage *record, uint8_t *out, size_t room);
+/* Writes the payload of the record PeekPromiseCompletionNotificationMessage. */
 int64_t journal_encode_PeekPromiseCompletionNotificationMessage(
     const struct journal_PeekPromiseCompletionNotificationMessage *record, uint8_t *out, size_t room);
+/* Writes the payload of the record GetInvocationOutputCompletionNotificationMessage. */
 int64_t journal_encode_GetInvocationOutputCompletionNotificationMessage(
     const struct journal_GetInvocationOutputCompletionNotificationMessage *record, uint8_t *out, size_t room);
+/* Writes the payload of the record CompletePromiseCompletionNotificationMessage. */
 int64_t journal_encode_CompletePromiseCompletionNotificationMessage(
     const struct journal_CompletePromiseCompletionNotificationMessage *record, uint8_t *out, size_t room);
+/* Writes the payload of the record CallCompletionNotificationMessage. */
 int64_t journal_encode_CallCompletionNotificationMessage(const struct journal_CallCompletionNotificationMessage *record,
                                                          uint8_t *out, size_t room);
+/* Writes the payload of the record RunCompletionNotificationMessage. */
 int64_t journal_encode_RunCompletionNotificationMessage(const struct journal_RunCompletionNotificationMessage *record,
                                                         uint8_t *out, size_t room);
+/* Writes the payload of the record AttachInvocationCompletionNotificationMessage. */
 int64_t journal_encode_AttachInvocationCompletionNotificationMessage(
     const struct journal_AttachInvocationCompletionNotificationMessage *record, uint8_t *out, size_t room);
+/* Writes the payload of the record SleepCompletionNotificationMessage. */
 int64_t journal_encode_SleepCompletionNotificationMessage(
     const struct journal_SleepCompletionNotificationMessage *record, uint8_t *out, size_t room);
+/* Writes the payload of the record GetLazyStateKeysCompletionNotificationMessage. */
 int64_t journal_encode_GetLazyStateKeysCompletionNotificationMessage(
     const struct journal_GetLazyStateKeysCompletionNotificationMessage *record, uint8_t *out, size_t room);
+/* Writes the payload of the record CallInvocationIdCompletionNotificationMessage. */
 int64_t journal_encode_CallInvocationIdCompletionNotificationMessage(
     const struct journal_CallInvocationIdCompletionNotificationMessage *record, uint8_t *out, size_t room);
+/* Writes the payload of the record SignalNotificationMessage. */
 int64_t journal_encode_SignalNotificationMessage(const struct journal_SignalNotificationMessage *record, uint8_t *out,
                                                  size_t room);
+/* Writes the payload of the record NotificationTemplate. */
 int64_t journal_encode_NotificationTemplate(const struct journal_NotificationTemplate *record, uint8_t *out,
                                             size_t room);
 
@@ -1138,8 +1188,8 @@ static inline size_t journal_table_room_(const struct journal_arena *arena, size
  * Reading.
  */
 
-/* The entries that are left, what their offsets are in, the memory for elements, of which the end is taken, and the
-   first error; how much memory there was, and what was left of the arena before. */
+/* The entries that are left, what their offsets are in, the memory for elements, whose end is taken, and the first
+   error; how much memory there was, and what was left of the arena before. */
 struct journal_reader_ {
     const struct journal_field *next;
     const struct journal_field *end;
@@ -3859,6 +3909,7 @@ static inline void journal_put_NotificationTemplate_(struct journal_writer_ *wri
  * Each record, read and written.
  */
 
+/* Reads the record Void from a payload. */
 static inline int64_t journal_read_Void(const uint8_t *payload, size_t payload_length, struct journal_Void *record,
                                         struct journal_arena *arena) {
     struct journal_reader_ reader;
@@ -3870,6 +3921,7 @@ static inline int64_t journal_read_Void(const uint8_t *payload, size_t payload_l
     return journal_end_reading_(&reader, arena, record, sizeof *record);
 }
 
+/* Writes the canonical payload of the record Void. */
 static inline int64_t journal_write_Void(const struct journal_Void *record, struct journal_arena *arena, uint8_t *out,
                                          size_t room) {
     struct journal_writer_ writer;
@@ -3878,12 +3930,13 @@ static inline int64_t journal_write_Void(const struct journal_Void *record, stru
     if (length != JOURNAL_MALFORMED) {
         return length;
     }
-    /* a table says which field is rejected, and why */
+    /* a table has the field that is rejected, and why */
     writer = journal_writer_of_(arena);
     (void)record;
     return journal_end_writing_(&writer, JOURNAL_SCHEMA_VOID, arena, out, room);
 }
 
+/* Reads the record Value from a payload. */
 static inline int64_t journal_read_Value(const uint8_t *payload, size_t payload_length, struct journal_Value *record,
                                          struct journal_arena *arena) {
     struct journal_reader_ reader;
@@ -3895,6 +3948,7 @@ static inline int64_t journal_read_Value(const uint8_t *payload, size_t payload_
     return journal_end_reading_(&reader, arena, record, sizeof *record);
 }
 
+/* Writes the canonical payload of the record Value. */
 static inline int64_t journal_write_Value(const struct journal_Value *record, struct journal_arena *arena, uint8_t *out,
                                           size_t room) {
     struct journal_writer_ writer;
@@ -3903,12 +3957,13 @@ static inline int64_t journal_write_Value(const struct journal_Value *record, st
     if (length != JOURNAL_MALFORMED) {
         return length;
     }
-    /* a table says which field is rejected, and why */
+    /* a table has the field that is rejected, and why */
     writer = journal_writer_of_(arena);
     journal_put_Value_(&writer, 0, record);
     return journal_end_writing_(&writer, JOURNAL_SCHEMA_VALUE, arena, out, room);
 }
 
+/* Reads the record Failure from a payload. */
 static inline int64_t journal_read_Failure(const uint8_t *payload, size_t payload_length,
                                            struct journal_Failure *record, struct journal_arena *arena) {
     struct journal_reader_ reader;
@@ -3920,6 +3975,7 @@ static inline int64_t journal_read_Failure(const uint8_t *payload, size_t payloa
     return journal_end_reading_(&reader, arena, record, sizeof *record);
 }
 
+/* Writes the canonical payload of the record Failure. */
 static inline int64_t journal_write_Failure(const struct journal_Failure *record, struct journal_arena *arena,
                                             uint8_t *out, size_t room) {
     struct journal_writer_ writer;
@@ -3928,12 +3984,13 @@ static inline int64_t journal_write_Failure(const struct journal_Failure *record
     if (length != JOURNAL_MALFORMED) {
         return length;
     }
-    /* a table says which field is rejected, and why */
+    /* a table has the field that is rejected, and why */
     writer = journal_writer_of_(arena);
     journal_put_Failure_(&writer, 0, record);
     return journal_end_writing_(&writer, JOURNAL_SCHEMA_FAILURE, arena, out, room);
 }
 
+/* Reads the record FailureMetadata from a payload. */
 static inline int64_t journal_read_FailureMetadata(const uint8_t *payload, size_t payload_length,
                                                    struct journal_FailureMetadata *record,
                                                    struct journal_arena *arena) {
@@ -3946,6 +4003,7 @@ static inline int64_t journal_read_FailureMetadata(const uint8_t *payload, size_
     return journal_end_reading_(&reader, arena, record, sizeof *record);
 }
 
+/* Writes the canonical payload of the record FailureMetadata. */
 static inline int64_t journal_write_FailureMetadata(const struct journal_FailureMetadata *record,
                                                     struct journal_arena *arena, uint8_t *out, size_t room) {
     struct journal_writer_ writer;
@@ -3954,12 +4012,13 @@ static inline int64_t journal_write_FailureMetadata(const struct journal_Failure
     if (length != JOURNAL_MALFORMED) {
         return length;
     }
-    /* a table says which field is rejected, and why */
+    /* a table has the field that is rejected, and why */
     writer = journal_writer_of_(arena);
     journal_put_FailureMetadata_(&writer, 0, record);
     return journal_end_writing_(&writer, JOURNAL_SCHEMA_FAILURE_METADATA, arena, out, room);
 }
 
+/* Reads the record Header from a payload. */
 static inline int64_t journal_read_Header(const uint8_t *payload, size_t payload_length, struct journal_Header *record,
                                           struct journal_arena *arena) {
     struct journal_reader_ reader;
@@ -3971,6 +4030,7 @@ static inline int64_t journal_read_Header(const uint8_t *payload, size_t payload
     return journal_end_reading_(&reader, arena, record, sizeof *record);
 }
 
+/* Writes the canonical payload of the record Header. */
 static inline int64_t journal_write_Header(const struct journal_Header *record, struct journal_arena *arena,
                                            uint8_t *out, size_t room) {
     struct journal_writer_ writer;
@@ -3979,12 +4039,13 @@ static inline int64_t journal_write_Header(const struct journal_Header *record, 
     if (length != JOURNAL_MALFORMED) {
         return length;
     }
-    /* a table says which field is rejected, and why */
+    /* a table has the field that is rejected, and why */
     writer = journal_writer_of_(arena);
     journal_put_Header_(&writer, 0, record);
     return journal_end_writing_(&writer, JOURNAL_SCHEMA_HEADER, arena, out, room);
 }
 
+/* Reads the record StateKeys from a payload. */
 static inline int64_t journal_read_StateKeys(const uint8_t *payload, size_t payload_length,
                                              struct journal_StateKeys *record, struct journal_arena *arena) {
     struct journal_reader_ reader;
@@ -3996,6 +4057,7 @@ static inline int64_t journal_read_StateKeys(const uint8_t *payload, size_t payl
     return journal_end_reading_(&reader, arena, record, sizeof *record);
 }
 
+/* Writes the canonical payload of the record StateKeys. */
 static inline int64_t journal_write_StateKeys(const struct journal_StateKeys *record, struct journal_arena *arena,
                                               uint8_t *out, size_t room) {
     struct journal_writer_ writer;
@@ -4004,12 +4066,13 @@ static inline int64_t journal_write_StateKeys(const struct journal_StateKeys *re
     if (length != JOURNAL_MALFORMED) {
         return length;
     }
-    /* a table says which field is rejected, and why */
+    /* a table has the field that is rejected, and why */
     writer = journal_writer_of_(arena);
     journal_put_StateKeys_(&writer, 0, record);
     return journal_end_writing_(&writer, JOURNAL_SCHEMA_STATE_KEYS, arena, out, room);
 }
 
+/* Reads the record StateEntry from a payload. */
 static inline int64_t journal_read_StateEntry(const uint8_t *payload, size_t payload_length,
                                               struct journal_StateEntry *record, struct journal_arena *arena) {
     struct journal_reader_ reader;
@@ -4021,6 +4084,7 @@ static inline int64_t journal_read_StateEntry(const uint8_t *payload, size_t pay
     return journal_end_reading_(&reader, arena, record, sizeof *record);
 }
 
+/* Writes the canonical payload of the record StateEntry. */
 static inline int64_t journal_write_StateEntry(const struct journal_StateEntry *record, struct journal_arena *arena,
                                                uint8_t *out, size_t room) {
     struct journal_writer_ writer;
@@ -4029,12 +4093,13 @@ static inline int64_t journal_write_StateEntry(const struct journal_StateEntry *
     if (length != JOURNAL_MALFORMED) {
         return length;
     }
-    /* a table says which field is rejected, and why */
+    /* a table has the field that is rejected, and why */
     writer = journal_writer_of_(arena);
     journal_put_StateEntry_(&writer, 0, record);
     return journal_end_writing_(&writer, JOURNAL_SCHEMA_STATE_ENTRY, arena, out, room);
 }
 
+/* Reads the record Future from a payload. */
 static inline int64_t journal_read_Future(const uint8_t *payload, size_t payload_length, struct journal_Future *record,
                                           struct journal_arena *arena) {
     struct journal_reader_ reader;
@@ -4046,6 +4111,7 @@ static inline int64_t journal_read_Future(const uint8_t *payload, size_t payload
     return journal_end_reading_(&reader, arena, record, sizeof *record);
 }
 
+/* Writes the canonical payload of the record Future. */
 static inline int64_t journal_write_Future(const struct journal_Future *record, struct journal_arena *arena,
                                            uint8_t *out, size_t room) {
     struct journal_writer_ writer = journal_writer_of_(arena);
@@ -4054,6 +4120,7 @@ static inline int64_t journal_write_Future(const struct journal_Future *record, 
     return journal_end_writing_(&writer, JOURNAL_SCHEMA_FUTURE, arena, out, room);
 }
 
+/* Reads the record WorkflowTarget from a payload. */
 static inline int64_t journal_read_WorkflowTarget(const uint8_t *payload, size_t payload_length,
                                                   struct journal_WorkflowTarget *record, struct journal_arena *arena) {
     struct journal_reader_ reader;
@@ -4065,6 +4132,7 @@ static inline int64_t journal_read_WorkflowTarget(const uint8_t *payload, size_t
     return journal_end_reading_(&reader, arena, record, sizeof *record);
 }
 
+/* Writes the canonical payload of the record WorkflowTarget. */
 static inline int64_t journal_write_WorkflowTarget(const struct journal_WorkflowTarget *record,
                                                    struct journal_arena *arena, uint8_t *out, size_t room) {
     struct journal_writer_ writer;
@@ -4073,12 +4141,13 @@ static inline int64_t journal_write_WorkflowTarget(const struct journal_Workflow
     if (length != JOURNAL_MALFORMED) {
         return length;
     }
-    /* a table says which field is rejected, and why */
+    /* a table has the field that is rejected, and why */
     writer = journal_writer_of_(arena);
     journal_put_WorkflowTarget_(&writer, 0, record);
     return journal_end_writing_(&writer, JOURNAL_SCHEMA_WORKFLOW_TARGET, arena, out, room);
 }
 
+/* Reads the record IdempotentRequestTarget from a payload. */
 static inline int64_t journal_read_IdempotentRequestTarget(const uint8_t *payload, size_t payload_length,
                                                            struct journal_IdempotentRequestTarget *record,
                                                            struct journal_arena *arena) {
@@ -4092,6 +4161,7 @@ static inline int64_t journal_read_IdempotentRequestTarget(const uint8_t *payloa
     return journal_end_reading_(&reader, arena, record, sizeof *record);
 }
 
+/* Writes the canonical payload of the record IdempotentRequestTarget. */
 static inline int64_t journal_write_IdempotentRequestTarget(const struct journal_IdempotentRequestTarget *record,
                                                             struct journal_arena *arena, uint8_t *out, size_t room) {
     struct journal_writer_ writer;
@@ -4100,12 +4170,13 @@ static inline int64_t journal_write_IdempotentRequestTarget(const struct journal
     if (length != JOURNAL_MALFORMED) {
         return length;
     }
-    /* a table says which field is rejected, and why */
+    /* a table has the field that is rejected, and why */
     writer = journal_writer_of_(arena);
     journal_put_IdempotentRequestTarget_(&writer, 0, record);
     return journal_end_writing_(&writer, JOURNAL_SCHEMA_IDEMPOTENT_REQUEST_TARGET, arena, out, room);
 }
 
+/* Reads the record StartMessage from a payload. */
 static inline int64_t journal_read_StartMessage(const uint8_t *payload, size_t payload_length,
                                                 struct journal_StartMessage *record, struct journal_arena *arena) {
     struct journal_reader_ reader;
@@ -4117,6 +4188,7 @@ static inline int64_t journal_read_StartMessage(const uint8_t *payload, size_t p
     return journal_end_reading_(&reader, arena, record, sizeof *record);
 }
 
+/* Writes the canonical payload of the record StartMessage. */
 static inline int64_t journal_write_StartMessage(const struct journal_StartMessage *record, struct journal_arena *arena,
                                                  uint8_t *out, size_t room) {
     struct journal_writer_ writer;
@@ -4125,12 +4197,13 @@ static inline int64_t journal_write_StartMessage(const struct journal_StartMessa
     if (length != JOURNAL_MALFORMED) {
         return length;
     }
-    /* a table says which field is rejected, and why */
+    /* a table has the field that is rejected, and why */
     writer = journal_writer_of_(arena);
     journal_put_StartMessage_(&writer, 0, record);
     return journal_end_writing_(&writer, JOURNAL_SCHEMA_START, arena, out, room);
 }
 
+/* Reads the record SuspensionMessage from a payload. */
 static inline int64_t journal_read_SuspensionMessage(const uint8_t *payload, size_t payload_length,
                                                      struct journal_SuspensionMessage *record,
                                                      struct journal_arena *arena) {
@@ -4143,6 +4216,7 @@ static inline int64_t journal_read_SuspensionMessage(const uint8_t *payload, siz
     return journal_end_reading_(&reader, arena, record, sizeof *record);
 }
 
+/* Writes the canonical payload of the record SuspensionMessage. */
 static inline int64_t journal_write_SuspensionMessage(const struct journal_SuspensionMessage *record,
                                                       struct journal_arena *arena, uint8_t *out, size_t room) {
     struct journal_writer_ writer = journal_writer_of_(arena);
@@ -4151,6 +4225,7 @@ static inline int64_t journal_write_SuspensionMessage(const struct journal_Suspe
     return journal_end_writing_(&writer, JOURNAL_SCHEMA_SUSPENSION, arena, out, room);
 }
 
+/* Reads the record SuspensionMessageV6 from a payload. */
 static inline int64_t journal_read_SuspensionMessageV6(const uint8_t *payload, size_t payload_length,
                                                        struct journal_SuspensionMessageV6 *record,
                                                        struct journal_arena *arena) {
@@ -4163,6 +4238,7 @@ static inline int64_t journal_read_SuspensionMessageV6(const uint8_t *payload, s
     return journal_end_reading_(&reader, arena, record, sizeof *record);
 }
 
+/* Writes the canonical payload of the record SuspensionMessageV6. */
 static inline int64_t journal_write_SuspensionMessageV6(const struct journal_SuspensionMessageV6 *record,
                                                         struct journal_arena *arena, uint8_t *out, size_t room) {
     struct journal_writer_ writer;
@@ -4171,12 +4247,13 @@ static inline int64_t journal_write_SuspensionMessageV6(const struct journal_Sus
     if (length != JOURNAL_MALFORMED) {
         return length;
     }
-    /* a table says which field is rejected, and why */
+    /* a table has the field that is rejected, and why */
     writer = journal_writer_of_(arena);
     journal_put_SuspensionMessageV6_(&writer, 0, record);
     return journal_end_writing_(&writer, JOURNAL_SCHEMA_SUSPENSION_V6, arena, out, room);
 }
 
+/* Reads the record ErrorMessage from a payload. */
 static inline int64_t journal_read_ErrorMessage(const uint8_t *payload, size_t payload_length,
                                                 struct journal_ErrorMessage *record, struct journal_arena *arena) {
     struct journal_reader_ reader;
@@ -4188,6 +4265,7 @@ static inline int64_t journal_read_ErrorMessage(const uint8_t *payload, size_t p
     return journal_end_reading_(&reader, arena, record, sizeof *record);
 }
 
+/* Writes the canonical payload of the record ErrorMessage. */
 static inline int64_t journal_write_ErrorMessage(const struct journal_ErrorMessage *record, struct journal_arena *arena,
                                                  uint8_t *out, size_t room) {
     struct journal_writer_ writer;
@@ -4196,12 +4274,13 @@ static inline int64_t journal_write_ErrorMessage(const struct journal_ErrorMessa
     if (length != JOURNAL_MALFORMED) {
         return length;
     }
-    /* a table says which field is rejected, and why */
+    /* a table has the field that is rejected, and why */
     writer = journal_writer_of_(arena);
     journal_put_ErrorMessage_(&writer, 0, record);
     return journal_end_writing_(&writer, JOURNAL_SCHEMA_ERROR, arena, out, room);
 }
 
+/* Reads the record EndMessage from a payload. */
 static inline int64_t journal_read_EndMessage(const uint8_t *payload, size_t payload_length,
                                               struct journal_EndMessage *record, struct journal_arena *arena) {
     struct journal_reader_ reader;
@@ -4213,6 +4292,7 @@ static inline int64_t journal_read_EndMessage(const uint8_t *payload, size_t pay
     return journal_end_reading_(&reader, arena, record, sizeof *record);
 }
 
+/* Writes the canonical payload of the record EndMessage. */
 static inline int64_t journal_write_EndMessage(const struct journal_EndMessage *record, struct journal_arena *arena,
                                                uint8_t *out, size_t room) {
     struct journal_writer_ writer;
@@ -4221,12 +4301,13 @@ static inline int64_t journal_write_EndMessage(const struct journal_EndMessage *
     if (length != JOURNAL_MALFORMED) {
         return length;
     }
-    /* a table says which field is rejected, and why */
+    /* a table has the field that is rejected, and why */
     writer = journal_writer_of_(arena);
     (void)record;
     return journal_end_writing_(&writer, JOURNAL_SCHEMA_END, arena, out, room);
 }
 
+/* Reads the record ProposeRunCompletionMessage from a payload. */
 static inline int64_t journal_read_ProposeRunCompletionMessage(const uint8_t *payload, size_t payload_length,
                                                                struct journal_ProposeRunCompletionMessage *record,
                                                                struct journal_arena *arena) {
@@ -4239,6 +4320,7 @@ static inline int64_t journal_read_ProposeRunCompletionMessage(const uint8_t *pa
     return journal_end_reading_(&reader, arena, record, sizeof *record);
 }
 
+/* Writes the canonical payload of the record ProposeRunCompletionMessage. */
 static inline int64_t journal_write_ProposeRunCompletionMessage(
     const struct journal_ProposeRunCompletionMessage *record, struct journal_arena *arena, uint8_t *out, size_t room) {
     struct journal_writer_ writer;
@@ -4247,12 +4329,13 @@ static inline int64_t journal_write_ProposeRunCompletionMessage(
     if (length != JOURNAL_MALFORMED) {
         return length;
     }
-    /* a table says which field is rejected, and why */
+    /* a table has the field that is rejected, and why */
     writer = journal_writer_of_(arena);
     journal_put_ProposeRunCompletionMessage_(&writer, 0, record);
     return journal_end_writing_(&writer, JOURNAL_SCHEMA_PROPOSE_RUN_COMPLETION, arena, out, room);
 }
 
+/* Reads the record AwaitingOnMessage from a payload. */
 static inline int64_t journal_read_AwaitingOnMessage(const uint8_t *payload, size_t payload_length,
                                                      struct journal_AwaitingOnMessage *record,
                                                      struct journal_arena *arena) {
@@ -4265,6 +4348,7 @@ static inline int64_t journal_read_AwaitingOnMessage(const uint8_t *payload, siz
     return journal_end_reading_(&reader, arena, record, sizeof *record);
 }
 
+/* Writes the canonical payload of the record AwaitingOnMessage. */
 static inline int64_t journal_write_AwaitingOnMessage(const struct journal_AwaitingOnMessage *record,
                                                       struct journal_arena *arena, uint8_t *out, size_t room) {
     struct journal_writer_ writer = journal_writer_of_(arena);
@@ -4273,6 +4357,7 @@ static inline int64_t journal_write_AwaitingOnMessage(const struct journal_Await
     return journal_end_writing_(&writer, JOURNAL_SCHEMA_AWAITING_ON, arena, out, room);
 }
 
+/* Reads the record ProposeRunCompletionAckMessage from a payload. */
 static inline int64_t journal_read_ProposeRunCompletionAckMessage(const uint8_t *payload, size_t payload_length,
                                                                   struct journal_ProposeRunCompletionAckMessage *record,
                                                                   struct journal_arena *arena) {
@@ -4286,6 +4371,7 @@ static inline int64_t journal_read_ProposeRunCompletionAckMessage(const uint8_t 
     return journal_end_reading_(&reader, arena, record, sizeof *record);
 }
 
+/* Writes the canonical payload of the record ProposeRunCompletionAckMessage. */
 static inline int64_t journal_write_ProposeRunCompletionAckMessage(
     const struct journal_ProposeRunCompletionAckMessage *record, struct journal_arena *arena, uint8_t *out,
     size_t room) {
@@ -4295,12 +4381,13 @@ static inline int64_t journal_write_ProposeRunCompletionAckMessage(
     if (length != JOURNAL_MALFORMED) {
         return length;
     }
-    /* a table says which field is rejected, and why */
+    /* a table has the field that is rejected, and why */
     writer = journal_writer_of_(arena);
     journal_put_ProposeRunCompletionAckMessage_(&writer, 0, record);
     return journal_end_writing_(&writer, JOURNAL_SCHEMA_PROPOSE_RUN_COMPLETION_ACK, arena, out, room);
 }
 
+/* Reads the record GetStateEphemeralCommandMessage from a payload. */
 static inline int64_t journal_read_GetStateEphemeralCommandMessage(
     const uint8_t *payload, size_t payload_length, struct journal_GetStateEphemeralCommandMessage *record,
     struct journal_arena *arena) {
@@ -4314,6 +4401,7 @@ static inline int64_t journal_read_GetStateEphemeralCommandMessage(
     return journal_end_reading_(&reader, arena, record, sizeof *record);
 }
 
+/* Writes the canonical payload of the record GetStateEphemeralCommandMessage. */
 static inline int64_t journal_write_GetStateEphemeralCommandMessage(
     const struct journal_GetStateEphemeralCommandMessage *record, struct journal_arena *arena, uint8_t *out,
     size_t room) {
@@ -4323,12 +4411,13 @@ static inline int64_t journal_write_GetStateEphemeralCommandMessage(
     if (length != JOURNAL_MALFORMED) {
         return length;
     }
-    /* a table says which field is rejected, and why */
+    /* a table has the field that is rejected, and why */
     writer = journal_writer_of_(arena);
     journal_put_GetStateEphemeralCommandMessage_(&writer, 0, record);
     return journal_end_writing_(&writer, JOURNAL_SCHEMA_GET_STATE_EPHEMERAL_COMMAND, arena, out, room);
 }
 
+/* Reads the record GetStateEphemeralNotificationMessage from a payload. */
 static inline int64_t journal_read_GetStateEphemeralNotificationMessage(
     const uint8_t *payload, size_t payload_length, struct journal_GetStateEphemeralNotificationMessage *record,
     struct journal_arena *arena) {
@@ -4342,6 +4431,7 @@ static inline int64_t journal_read_GetStateEphemeralNotificationMessage(
     return journal_end_reading_(&reader, arena, record, sizeof *record);
 }
 
+/* Writes the canonical payload of the record GetStateEphemeralNotificationMessage. */
 static inline int64_t journal_write_GetStateEphemeralNotificationMessage(
     const struct journal_GetStateEphemeralNotificationMessage *record, struct journal_arena *arena, uint8_t *out,
     size_t room) {
@@ -4351,12 +4441,13 @@ static inline int64_t journal_write_GetStateEphemeralNotificationMessage(
     if (length != JOURNAL_MALFORMED) {
         return length;
     }
-    /* a table says which field is rejected, and why */
+    /* a table has the field that is rejected, and why */
     writer = journal_writer_of_(arena);
     journal_put_GetStateEphemeralNotificationMessage_(&writer, 0, record);
     return journal_end_writing_(&writer, JOURNAL_SCHEMA_GET_STATE_EPHEMERAL_NOTIFICATION, arena, out, room);
 }
 
+/* Reads the record InputCommandMessage from a payload. */
 static inline int64_t journal_read_InputCommandMessage(const uint8_t *payload, size_t payload_length,
                                                        struct journal_InputCommandMessage *record,
                                                        struct journal_arena *arena) {
@@ -4369,6 +4460,7 @@ static inline int64_t journal_read_InputCommandMessage(const uint8_t *payload, s
     return journal_end_reading_(&reader, arena, record, sizeof *record);
 }
 
+/* Writes the canonical payload of the record InputCommandMessage. */
 static inline int64_t journal_write_InputCommandMessage(const struct journal_InputCommandMessage *record,
                                                         struct journal_arena *arena, uint8_t *out, size_t room) {
     struct journal_writer_ writer;
@@ -4377,12 +4469,13 @@ static inline int64_t journal_write_InputCommandMessage(const struct journal_Inp
     if (length != JOURNAL_MALFORMED) {
         return length;
     }
-    /* a table says which field is rejected, and why */
+    /* a table has the field that is rejected, and why */
     writer = journal_writer_of_(arena);
     journal_put_InputCommandMessage_(&writer, 0, record);
     return journal_end_writing_(&writer, JOURNAL_SCHEMA_INPUT_COMMAND, arena, out, room);
 }
 
+/* Reads the record OutputCommandMessage from a payload. */
 static inline int64_t journal_read_OutputCommandMessage(const uint8_t *payload, size_t payload_length,
                                                         struct journal_OutputCommandMessage *record,
                                                         struct journal_arena *arena) {
@@ -4395,6 +4488,7 @@ static inline int64_t journal_read_OutputCommandMessage(const uint8_t *payload, 
     return journal_end_reading_(&reader, arena, record, sizeof *record);
 }
 
+/* Writes the canonical payload of the record OutputCommandMessage. */
 static inline int64_t journal_write_OutputCommandMessage(const struct journal_OutputCommandMessage *record,
                                                          struct journal_arena *arena, uint8_t *out, size_t room) {
     struct journal_writer_ writer;
@@ -4403,12 +4497,13 @@ static inline int64_t journal_write_OutputCommandMessage(const struct journal_Ou
     if (length != JOURNAL_MALFORMED) {
         return length;
     }
-    /* a table says which field is rejected, and why */
+    /* a table has the field that is rejected, and why */
     writer = journal_writer_of_(arena);
     journal_put_OutputCommandMessage_(&writer, 0, record);
     return journal_end_writing_(&writer, JOURNAL_SCHEMA_OUTPUT_COMMAND, arena, out, room);
 }
 
+/* Reads the record GetLazyStateCommandMessage from a payload. */
 static inline int64_t journal_read_GetLazyStateCommandMessage(const uint8_t *payload, size_t payload_length,
                                                               struct journal_GetLazyStateCommandMessage *record,
                                                               struct journal_arena *arena) {
@@ -4421,6 +4516,7 @@ static inline int64_t journal_read_GetLazyStateCommandMessage(const uint8_t *pay
     return journal_end_reading_(&reader, arena, record, sizeof *record);
 }
 
+/* Writes the canonical payload of the record GetLazyStateCommandMessage. */
 static inline int64_t journal_write_GetLazyStateCommandMessage(const struct journal_GetLazyStateCommandMessage *record,
                                                                struct journal_arena *arena, uint8_t *out, size_t room) {
     struct journal_writer_ writer;
@@ -4429,12 +4525,13 @@ static inline int64_t journal_write_GetLazyStateCommandMessage(const struct jour
     if (length != JOURNAL_MALFORMED) {
         return length;
     }
-    /* a table says which field is rejected, and why */
+    /* a table has the field that is rejected, and why */
     writer = journal_writer_of_(arena);
     journal_put_GetLazyStateCommandMessage_(&writer, 0, record);
     return journal_end_writing_(&writer, JOURNAL_SCHEMA_GET_LAZY_STATE_COMMAND, arena, out, room);
 }
 
+/* Reads the record SetStateCommandMessage from a payload. */
 static inline int64_t journal_read_SetStateCommandMessage(const uint8_t *payload, size_t payload_length,
                                                           struct journal_SetStateCommandMessage *record,
                                                           struct journal_arena *arena) {
@@ -4447,6 +4544,7 @@ static inline int64_t journal_read_SetStateCommandMessage(const uint8_t *payload
     return journal_end_reading_(&reader, arena, record, sizeof *record);
 }
 
+/* Writes the canonical payload of the record SetStateCommandMessage. */
 static inline int64_t journal_write_SetStateCommandMessage(const struct journal_SetStateCommandMessage *record,
                                                            struct journal_arena *arena, uint8_t *out, size_t room) {
     struct journal_writer_ writer;
@@ -4455,12 +4553,13 @@ static inline int64_t journal_write_SetStateCommandMessage(const struct journal_
     if (length != JOURNAL_MALFORMED) {
         return length;
     }
-    /* a table says which field is rejected, and why */
+    /* a table has the field that is rejected, and why */
     writer = journal_writer_of_(arena);
     journal_put_SetStateCommandMessage_(&writer, 0, record);
     return journal_end_writing_(&writer, JOURNAL_SCHEMA_SET_STATE_COMMAND, arena, out, room);
 }
 
+/* Reads the record ClearStateCommandMessage from a payload. */
 static inline int64_t journal_read_ClearStateCommandMessage(const uint8_t *payload, size_t payload_length,
                                                             struct journal_ClearStateCommandMessage *record,
                                                             struct journal_arena *arena) {
@@ -4473,6 +4572,7 @@ static inline int64_t journal_read_ClearStateCommandMessage(const uint8_t *paylo
     return journal_end_reading_(&reader, arena, record, sizeof *record);
 }
 
+/* Writes the canonical payload of the record ClearStateCommandMessage. */
 static inline int64_t journal_write_ClearStateCommandMessage(const struct journal_ClearStateCommandMessage *record,
                                                              struct journal_arena *arena, uint8_t *out, size_t room) {
     struct journal_writer_ writer;
@@ -4481,12 +4581,13 @@ static inline int64_t journal_write_ClearStateCommandMessage(const struct journa
     if (length != JOURNAL_MALFORMED) {
         return length;
     }
-    /* a table says which field is rejected, and why */
+    /* a table has the field that is rejected, and why */
     writer = journal_writer_of_(arena);
     journal_put_ClearStateCommandMessage_(&writer, 0, record);
     return journal_end_writing_(&writer, JOURNAL_SCHEMA_CLEAR_STATE_COMMAND, arena, out, room);
 }
 
+/* Reads the record ClearAllStateCommandMessage from a payload. */
 static inline int64_t journal_read_ClearAllStateCommandMessage(const uint8_t *payload, size_t payload_length,
                                                                struct journal_ClearAllStateCommandMessage *record,
                                                                struct journal_arena *arena) {
@@ -4500,6 +4601,7 @@ static inline int64_t journal_read_ClearAllStateCommandMessage(const uint8_t *pa
     return journal_end_reading_(&reader, arena, record, sizeof *record);
 }
 
+/* Writes the canonical payload of the record ClearAllStateCommandMessage. */
 static inline int64_t journal_write_ClearAllStateCommandMessage(
     const struct journal_ClearAllStateCommandMessage *record, struct journal_arena *arena, uint8_t *out, size_t room) {
     struct journal_writer_ writer;
@@ -4508,12 +4610,13 @@ static inline int64_t journal_write_ClearAllStateCommandMessage(
     if (length != JOURNAL_MALFORMED) {
         return length;
     }
-    /* a table says which field is rejected, and why */
+    /* a table has the field that is rejected, and why */
     writer = journal_writer_of_(arena);
     journal_put_ClearAllStateCommandMessage_(&writer, 0, record);
     return journal_end_writing_(&writer, JOURNAL_SCHEMA_CLEAR_ALL_STATE_COMMAND, arena, out, room);
 }
 
+/* Reads the record GetLazyStateKeysCommandMessage from a payload. */
 static inline int64_t journal_read_GetLazyStateKeysCommandMessage(const uint8_t *payload, size_t payload_length,
                                                                   struct journal_GetLazyStateKeysCommandMessage *record,
                                                                   struct journal_arena *arena) {
@@ -4527,6 +4630,7 @@ static inline int64_t journal_read_GetLazyStateKeysCommandMessage(const uint8_t 
     return journal_end_reading_(&reader, arena, record, sizeof *record);
 }
 
+/* Writes the canonical payload of the record GetLazyStateKeysCommandMessage. */
 static inline int64_t journal_write_GetLazyStateKeysCommandMessage(
     const struct journal_GetLazyStateKeysCommandMessage *record, struct journal_arena *arena, uint8_t *out,
     size_t room) {
@@ -4536,12 +4640,13 @@ static inline int64_t journal_write_GetLazyStateKeysCommandMessage(
     if (length != JOURNAL_MALFORMED) {
         return length;
     }
-    /* a table says which field is rejected, and why */
+    /* a table has the field that is rejected, and why */
     writer = journal_writer_of_(arena);
     journal_put_GetLazyStateKeysCommandMessage_(&writer, 0, record);
     return journal_end_writing_(&writer, JOURNAL_SCHEMA_GET_LAZY_STATE_KEYS_COMMAND, arena, out, room);
 }
 
+/* Reads the record GetEagerStateCommandMessage from a payload. */
 static inline int64_t journal_read_GetEagerStateCommandMessage(const uint8_t *payload, size_t payload_length,
                                                                struct journal_GetEagerStateCommandMessage *record,
                                                                struct journal_arena *arena) {
@@ -4555,6 +4660,7 @@ static inline int64_t journal_read_GetEagerStateCommandMessage(const uint8_t *pa
     return journal_end_reading_(&reader, arena, record, sizeof *record);
 }
 
+/* Writes the canonical payload of the record GetEagerStateCommandMessage. */
 static inline int64_t journal_write_GetEagerStateCommandMessage(
     const struct journal_GetEagerStateCommandMessage *record, struct journal_arena *arena, uint8_t *out, size_t room) {
     struct journal_writer_ writer;
@@ -4563,12 +4669,13 @@ static inline int64_t journal_write_GetEagerStateCommandMessage(
     if (length != JOURNAL_MALFORMED) {
         return length;
     }
-    /* a table says which field is rejected, and why */
+    /* a table has the field that is rejected, and why */
     writer = journal_writer_of_(arena);
     journal_put_GetEagerStateCommandMessage_(&writer, 0, record);
     return journal_end_writing_(&writer, JOURNAL_SCHEMA_GET_EAGER_STATE_COMMAND, arena, out, room);
 }
 
+/* Reads the record GetEagerStateKeysCommandMessage from a payload. */
 static inline int64_t journal_read_GetEagerStateKeysCommandMessage(
     const uint8_t *payload, size_t payload_length, struct journal_GetEagerStateKeysCommandMessage *record,
     struct journal_arena *arena) {
@@ -4582,6 +4689,7 @@ static inline int64_t journal_read_GetEagerStateKeysCommandMessage(
     return journal_end_reading_(&reader, arena, record, sizeof *record);
 }
 
+/* Writes the canonical payload of the record GetEagerStateKeysCommandMessage. */
 static inline int64_t journal_write_GetEagerStateKeysCommandMessage(
     const struct journal_GetEagerStateKeysCommandMessage *record, struct journal_arena *arena, uint8_t *out,
     size_t room) {
@@ -4591,12 +4699,13 @@ static inline int64_t journal_write_GetEagerStateKeysCommandMessage(
     if (length != JOURNAL_MALFORMED) {
         return length;
     }
-    /* a table says which field is rejected, and why */
+    /* a table has the field that is rejected, and why */
     writer = journal_writer_of_(arena);
     journal_put_GetEagerStateKeysCommandMessage_(&writer, 0, record);
     return journal_end_writing_(&writer, JOURNAL_SCHEMA_GET_EAGER_STATE_KEYS_COMMAND, arena, out, room);
 }
 
+/* Reads the record GetPromiseCommandMessage from a payload. */
 static inline int64_t journal_read_GetPromiseCommandMessage(const uint8_t *payload, size_t payload_length,
                                                             struct journal_GetPromiseCommandMessage *record,
                                                             struct journal_arena *arena) {
@@ -4609,6 +4718,7 @@ static inline int64_t journal_read_GetPromiseCommandMessage(const uint8_t *paylo
     return journal_end_reading_(&reader, arena, record, sizeof *record);
 }
 
+/* Writes the canonical payload of the record GetPromiseCommandMessage. */
 static inline int64_t journal_write_GetPromiseCommandMessage(const struct journal_GetPromiseCommandMessage *record,
                                                              struct journal_arena *arena, uint8_t *out, size_t room) {
     struct journal_writer_ writer;
@@ -4617,12 +4727,13 @@ static inline int64_t journal_write_GetPromiseCommandMessage(const struct journa
     if (length != JOURNAL_MALFORMED) {
         return length;
     }
-    /* a table says which field is rejected, and why */
+    /* a table has the field that is rejected, and why */
     writer = journal_writer_of_(arena);
     journal_put_GetPromiseCommandMessage_(&writer, 0, record);
     return journal_end_writing_(&writer, JOURNAL_SCHEMA_GET_PROMISE_COMMAND, arena, out, room);
 }
 
+/* Reads the record PeekPromiseCommandMessage from a payload. */
 static inline int64_t journal_read_PeekPromiseCommandMessage(const uint8_t *payload, size_t payload_length,
                                                              struct journal_PeekPromiseCommandMessage *record,
                                                              struct journal_arena *arena) {
@@ -4635,6 +4746,7 @@ static inline int64_t journal_read_PeekPromiseCommandMessage(const uint8_t *payl
     return journal_end_reading_(&reader, arena, record, sizeof *record);
 }
 
+/* Writes the canonical payload of the record PeekPromiseCommandMessage. */
 static inline int64_t journal_write_PeekPromiseCommandMessage(const struct journal_PeekPromiseCommandMessage *record,
                                                               struct journal_arena *arena, uint8_t *out, size_t room) {
     struct journal_writer_ writer;
@@ -4643,12 +4755,13 @@ static inline int64_t journal_write_PeekPromiseCommandMessage(const struct journ
     if (length != JOURNAL_MALFORMED) {
         return length;
     }
-    /* a table says which field is rejected, and why */
+    /* a table has the field that is rejected, and why */
     writer = journal_writer_of_(arena);
     journal_put_PeekPromiseCommandMessage_(&writer, 0, record);
     return journal_end_writing_(&writer, JOURNAL_SCHEMA_PEEK_PROMISE_COMMAND, arena, out, room);
 }
 
+/* Reads the record CompletePromiseCommandMessage from a payload. */
 static inline int64_t journal_read_CompletePromiseCommandMessage(const uint8_t *payload, size_t payload_length,
                                                                  struct journal_CompletePromiseCommandMessage *record,
                                                                  struct journal_arena *arena) {
@@ -4662,6 +4775,7 @@ static inline int64_t journal_read_CompletePromiseCommandMessage(const uint8_t *
     return journal_end_reading_(&reader, arena, record, sizeof *record);
 }
 
+/* Writes the canonical payload of the record CompletePromiseCommandMessage. */
 static inline int64_t journal_write_CompletePromiseCommandMessage(
     const struct journal_CompletePromiseCommandMessage *record, struct journal_arena *arena, uint8_t *out,
     size_t room) {
@@ -4671,12 +4785,13 @@ static inline int64_t journal_write_CompletePromiseCommandMessage(
     if (length != JOURNAL_MALFORMED) {
         return length;
     }
-    /* a table says which field is rejected, and why */
+    /* a table has the field that is rejected, and why */
     writer = journal_writer_of_(arena);
     journal_put_CompletePromiseCommandMessage_(&writer, 0, record);
     return journal_end_writing_(&writer, JOURNAL_SCHEMA_COMPLETE_PROMISE_COMMAND, arena, out, room);
 }
 
+/* Reads the record SleepCommandMessage from a payload. */
 static inline int64_t journal_read_SleepCommandMessage(const uint8_t *payload, size_t payload_length,
                                                        struct journal_SleepCommandMessage *record,
                                                        struct journal_arena *arena) {
@@ -4689,6 +4804,7 @@ static inline int64_t journal_read_SleepCommandMessage(const uint8_t *payload, s
     return journal_end_reading_(&reader, arena, record, sizeof *record);
 }
 
+/* Writes the canonical payload of the record SleepCommandMessage. */
 static inline int64_t journal_write_SleepCommandMessage(const struct journal_SleepCommandMessage *record,
                                                         struct journal_arena *arena, uint8_t *out, size_t room) {
     struct journal_writer_ writer;
@@ -4697,12 +4813,13 @@ static inline int64_t journal_write_SleepCommandMessage(const struct journal_Sle
     if (length != JOURNAL_MALFORMED) {
         return length;
     }
-    /* a table says which field is rejected, and why */
+    /* a table has the field that is rejected, and why */
     writer = journal_writer_of_(arena);
     journal_put_SleepCommandMessage_(&writer, 0, record);
     return journal_end_writing_(&writer, JOURNAL_SCHEMA_SLEEP_COMMAND, arena, out, room);
 }
 
+/* Reads the record CallCommandMessage from a payload. */
 static inline int64_t journal_read_CallCommandMessage(const uint8_t *payload, size_t payload_length,
                                                       struct journal_CallCommandMessage *record,
                                                       struct journal_arena *arena) {
@@ -4715,6 +4832,7 @@ static inline int64_t journal_read_CallCommandMessage(const uint8_t *payload, si
     return journal_end_reading_(&reader, arena, record, sizeof *record);
 }
 
+/* Writes the canonical payload of the record CallCommandMessage. */
 static inline int64_t journal_write_CallCommandMessage(const struct journal_CallCommandMessage *record,
                                                        struct journal_arena *arena, uint8_t *out, size_t room) {
     struct journal_writer_ writer;
@@ -4723,12 +4841,13 @@ static inline int64_t journal_write_CallCommandMessage(const struct journal_Call
     if (length != JOURNAL_MALFORMED) {
         return length;
     }
-    /* a table says which field is rejected, and why */
+    /* a table has the field that is rejected, and why */
     writer = journal_writer_of_(arena);
     journal_put_CallCommandMessage_(&writer, 0, record);
     return journal_end_writing_(&writer, JOURNAL_SCHEMA_CALL_COMMAND, arena, out, room);
 }
 
+/* Reads the record OneWayCallCommandMessage from a payload. */
 static inline int64_t journal_read_OneWayCallCommandMessage(const uint8_t *payload, size_t payload_length,
                                                             struct journal_OneWayCallCommandMessage *record,
                                                             struct journal_arena *arena) {
@@ -4741,6 +4860,7 @@ static inline int64_t journal_read_OneWayCallCommandMessage(const uint8_t *paylo
     return journal_end_reading_(&reader, arena, record, sizeof *record);
 }
 
+/* Writes the canonical payload of the record OneWayCallCommandMessage. */
 static inline int64_t journal_write_OneWayCallCommandMessage(const struct journal_OneWayCallCommandMessage *record,
                                                              struct journal_arena *arena, uint8_t *out, size_t room) {
     struct journal_writer_ writer;
@@ -4749,12 +4869,13 @@ static inline int64_t journal_write_OneWayCallCommandMessage(const struct journa
     if (length != JOURNAL_MALFORMED) {
         return length;
     }
-    /* a table says which field is rejected, and why */
+    /* a table has the field that is rejected, and why */
     writer = journal_writer_of_(arena);
     journal_put_OneWayCallCommandMessage_(&writer, 0, record);
     return journal_end_writing_(&writer, JOURNAL_SCHEMA_ONE_WAY_CALL_COMMAND, arena, out, room);
 }
 
+/* Reads the record SendSignalCommandMessage from a payload. */
 static inline int64_t journal_read_SendSignalCommandMessage(const uint8_t *payload, size_t payload_length,
                                                             struct journal_SendSignalCommandMessage *record,
                                                             struct journal_arena *arena) {
@@ -4767,6 +4888,7 @@ static inline int64_t journal_read_SendSignalCommandMessage(const uint8_t *paylo
     return journal_end_reading_(&reader, arena, record, sizeof *record);
 }
 
+/* Writes the canonical payload of the record SendSignalCommandMessage. */
 static inline int64_t journal_write_SendSignalCommandMessage(const struct journal_SendSignalCommandMessage *record,
                                                              struct journal_arena *arena, uint8_t *out, size_t room) {
     struct journal_writer_ writer;
@@ -4775,12 +4897,13 @@ static inline int64_t journal_write_SendSignalCommandMessage(const struct journa
     if (length != JOURNAL_MALFORMED) {
         return length;
     }
-    /* a table says which field is rejected, and why */
+    /* a table has the field that is rejected, and why */
     writer = journal_writer_of_(arena);
     journal_put_SendSignalCommandMessage_(&writer, 0, record);
     return journal_end_writing_(&writer, JOURNAL_SCHEMA_SEND_SIGNAL_COMMAND, arena, out, room);
 }
 
+/* Reads the record RunCommandMessage from a payload. */
 static inline int64_t journal_read_RunCommandMessage(const uint8_t *payload, size_t payload_length,
                                                      struct journal_RunCommandMessage *record,
                                                      struct journal_arena *arena) {
@@ -4793,6 +4916,7 @@ static inline int64_t journal_read_RunCommandMessage(const uint8_t *payload, siz
     return journal_end_reading_(&reader, arena, record, sizeof *record);
 }
 
+/* Writes the canonical payload of the record RunCommandMessage. */
 static inline int64_t journal_write_RunCommandMessage(const struct journal_RunCommandMessage *record,
                                                       struct journal_arena *arena, uint8_t *out, size_t room) {
     struct journal_writer_ writer;
@@ -4801,12 +4925,13 @@ static inline int64_t journal_write_RunCommandMessage(const struct journal_RunCo
     if (length != JOURNAL_MALFORMED) {
         return length;
     }
-    /* a table says which field is rejected, and why */
+    /* a table has the field that is rejected, and why */
     writer = journal_writer_of_(arena);
     journal_put_RunCommandMessage_(&writer, 0, record);
     return journal_end_writing_(&writer, JOURNAL_SCHEMA_RUN_COMMAND, arena, out, room);
 }
 
+/* Reads the record AttachInvocationCommandMessage from a payload. */
 static inline int64_t journal_read_AttachInvocationCommandMessage(const uint8_t *payload, size_t payload_length,
                                                                   struct journal_AttachInvocationCommandMessage *record,
                                                                   struct journal_arena *arena) {
@@ -4820,6 +4945,7 @@ static inline int64_t journal_read_AttachInvocationCommandMessage(const uint8_t 
     return journal_end_reading_(&reader, arena, record, sizeof *record);
 }
 
+/* Writes the canonical payload of the record AttachInvocationCommandMessage. */
 static inline int64_t journal_write_AttachInvocationCommandMessage(
     const struct journal_AttachInvocationCommandMessage *record, struct journal_arena *arena, uint8_t *out,
     size_t room) {
@@ -4829,12 +4955,13 @@ static inline int64_t journal_write_AttachInvocationCommandMessage(
     if (length != JOURNAL_MALFORMED) {
         return length;
     }
-    /* a table says which field is rejected, and why */
+    /* a table has the field that is rejected, and why */
     writer = journal_writer_of_(arena);
     journal_put_AttachInvocationCommandMessage_(&writer, 0, record);
     return journal_end_writing_(&writer, JOURNAL_SCHEMA_ATTACH_INVOCATION_COMMAND, arena, out, room);
 }
 
+/* Reads the record GetInvocationOutputCommandMessage from a payload. */
 static inline int64_t journal_read_GetInvocationOutputCommandMessage(
     const uint8_t *payload, size_t payload_length, struct journal_GetInvocationOutputCommandMessage *record,
     struct journal_arena *arena) {
@@ -4848,6 +4975,7 @@ static inline int64_t journal_read_GetInvocationOutputCommandMessage(
     return journal_end_reading_(&reader, arena, record, sizeof *record);
 }
 
+/* Writes the canonical payload of the record GetInvocationOutputCommandMessage. */
 static inline int64_t journal_write_GetInvocationOutputCommandMessage(
     const struct journal_GetInvocationOutputCommandMessage *record, struct journal_arena *arena, uint8_t *out,
     size_t room) {
@@ -4857,12 +4985,13 @@ static inline int64_t journal_write_GetInvocationOutputCommandMessage(
     if (length != JOURNAL_MALFORMED) {
         return length;
     }
-    /* a table says which field is rejected, and why */
+    /* a table has the field that is rejected, and why */
     writer = journal_writer_of_(arena);
     journal_put_GetInvocationOutputCommandMessage_(&writer, 0, record);
     return journal_end_writing_(&writer, JOURNAL_SCHEMA_GET_INVOCATION_OUTPUT_COMMAND, arena, out, room);
 }
 
+/* Reads the record CompleteAwakeableCommandMessage from a payload. */
 static inline int64_t journal_read_CompleteAwakeableCommandMessage(
     const uint8_t *payload, size_t payload_length, struct journal_CompleteAwakeableCommandMessage *record,
     struct journal_arena *arena) {
@@ -4876,6 +5005,7 @@ static inline int64_t journal_read_CompleteAwakeableCommandMessage(
     return journal_end_reading_(&reader, arena, record, sizeof *record);
 }
 
+/* Writes the canonical payload of the record CompleteAwakeableCommandMessage. */
 static inline int64_t journal_write_CompleteAwakeableCommandMessage(
     const struct journal_CompleteAwakeableCommandMessage *record, struct journal_arena *arena, uint8_t *out,
     size_t room) {
@@ -4885,12 +5015,13 @@ static inline int64_t journal_write_CompleteAwakeableCommandMessage(
     if (length != JOURNAL_MALFORMED) {
         return length;
     }
-    /* a table says which field is rejected, and why */
+    /* a table has the field that is rejected, and why */
     writer = journal_writer_of_(arena);
     journal_put_CompleteAwakeableCommandMessage_(&writer, 0, record);
     return journal_end_writing_(&writer, JOURNAL_SCHEMA_COMPLETE_AWAKEABLE_COMMAND, arena, out, room);
 }
 
+/* Reads the record GetLazyStateCompletionNotificationMessage from a payload. */
 static inline int64_t journal_read_GetLazyStateCompletionNotificationMessage(
     const uint8_t *payload, size_t payload_length, struct journal_GetLazyStateCompletionNotificationMessage *record,
     struct journal_arena *arena) {
@@ -4904,6 +5035,7 @@ static inline int64_t journal_read_GetLazyStateCompletionNotificationMessage(
     return journal_end_reading_(&reader, arena, record, sizeof *record);
 }
 
+/* Writes the canonical payload of the record GetLazyStateCompletionNotificationMessage. */
 static inline int64_t journal_write_GetLazyStateCompletionNotificationMessage(
     const struct journal_GetLazyStateCompletionNotificationMessage *record, struct journal_arena *arena, uint8_t *out,
     size_t room) {
@@ -4913,12 +5045,13 @@ static inline int64_t journal_write_GetLazyStateCompletionNotificationMessage(
     if (length != JOURNAL_MALFORMED) {
         return length;
     }
-    /* a table says which field is rejected, and why */
+    /* a table has the field that is rejected, and why */
     writer = journal_writer_of_(arena);
     journal_put_GetLazyStateCompletionNotificationMessage_(&writer, 0, record);
     return journal_end_writing_(&writer, JOURNAL_SCHEMA_GET_LAZY_STATE_COMPLETION_NOTIFICATION, arena, out, room);
 }
 
+/* Reads the record GetPromiseCompletionNotificationMessage from a payload. */
 static inline int64_t journal_read_GetPromiseCompletionNotificationMessage(
     const uint8_t *payload, size_t payload_length, struct journal_GetPromiseCompletionNotificationMessage *record,
     struct journal_arena *arena) {
@@ -4932,6 +5065,7 @@ static inline int64_t journal_read_GetPromiseCompletionNotificationMessage(
     return journal_end_reading_(&reader, arena, record, sizeof *record);
 }
 
+/* Writes the canonical payload of the record GetPromiseCompletionNotificationMessage. */
 static inline int64_t journal_write_GetPromiseCompletionNotificationMessage(
     const struct journal_GetPromiseCompletionNotificationMessage *record, struct journal_arena *arena, uint8_t *out,
     size_t room) {
@@ -4941,12 +5075,13 @@ static inline int64_t journal_write_GetPromiseCompletionNotificationMessage(
     if (length != JOURNAL_MALFORMED) {
         return length;
     }
-    /* a table says which field is rejected, and why */
+    /* a table has the field that is rejected, and why */
     writer = journal_writer_of_(arena);
     journal_put_GetPromiseCompletionNotificationMessage_(&writer, 0, record);
     return journal_end_writing_(&writer, JOURNAL_SCHEMA_GET_PROMISE_COMPLETION_NOTIFICATION, arena, out, room);
 }
 
+/* Reads the record PeekPromiseCompletionNotificationMessage from a payload. */
 static inline int64_t journal_read_PeekPromiseCompletionNotificationMessage(
     const uint8_t *payload, size_t payload_length, struct journal_PeekPromiseCompletionNotificationMessage *record,
     struct journal_arena *arena) {
@@ -4960,6 +5095,7 @@ static inline int64_t journal_read_PeekPromiseCompletionNotificationMessage(
     return journal_end_reading_(&reader, arena, record, sizeof *record);
 }
 
+/* Writes the canonical payload of the record PeekPromiseCompletionNotificationMessage. */
 static inline int64_t journal_write_PeekPromiseCompletionNotificationMessage(
     const struct journal_PeekPromiseCompletionNotificationMessage *record, struct journal_arena *arena, uint8_t *out,
     size_t room) {
@@ -4969,12 +5105,13 @@ static inline int64_t journal_write_PeekPromiseCompletionNotificationMessage(
     if (length != JOURNAL_MALFORMED) {
         return length;
     }
-    /* a table says which field is rejected, and why */
+    /* a table has the field that is rejected, and why */
     writer = journal_writer_of_(arena);
     journal_put_PeekPromiseCompletionNotificationMessage_(&writer, 0, record);
     return journal_end_writing_(&writer, JOURNAL_SCHEMA_PEEK_PROMISE_COMPLETION_NOTIFICATION, arena, out, room);
 }
 
+/* Reads the record GetInvocationOutputCompletionNotificationMessage from a payload. */
 static inline int64_t journal_read_GetInvocationOutputCompletionNotificationMessage(
     const uint8_t *payload, size_t payload_length,
     struct journal_GetInvocationOutputCompletionNotificationMessage *record, struct journal_arena *arena) {
@@ -4988,6 +5125,7 @@ static inline int64_t journal_read_GetInvocationOutputCompletionNotificationMess
     return journal_end_reading_(&reader, arena, record, sizeof *record);
 }
 
+/* Writes the canonical payload of the record GetInvocationOutputCompletionNotificationMessage. */
 static inline int64_t journal_write_GetInvocationOutputCompletionNotificationMessage(
     const struct journal_GetInvocationOutputCompletionNotificationMessage *record, struct journal_arena *arena,
     uint8_t *out, size_t room) {
@@ -4997,13 +5135,14 @@ static inline int64_t journal_write_GetInvocationOutputCompletionNotificationMes
     if (length != JOURNAL_MALFORMED) {
         return length;
     }
-    /* a table says which field is rejected, and why */
+    /* a table has the field that is rejected, and why */
     writer = journal_writer_of_(arena);
     journal_put_GetInvocationOutputCompletionNotificationMessage_(&writer, 0, record);
     return journal_end_writing_(&writer, JOURNAL_SCHEMA_GET_INVOCATION_OUTPUT_COMPLETION_NOTIFICATION, arena, out,
                                 room);
 }
 
+/* Reads the record CompletePromiseCompletionNotificationMessage from a payload. */
 static inline int64_t journal_read_CompletePromiseCompletionNotificationMessage(
     const uint8_t *payload, size_t payload_length, struct journal_CompletePromiseCompletionNotificationMessage *record,
     struct journal_arena *arena) {
@@ -5017,6 +5156,7 @@ static inline int64_t journal_read_CompletePromiseCompletionNotificationMessage(
     return journal_end_reading_(&reader, arena, record, sizeof *record);
 }
 
+/* Writes the canonical payload of the record CompletePromiseCompletionNotificationMessage. */
 static inline int64_t journal_write_CompletePromiseCompletionNotificationMessage(
     const struct journal_CompletePromiseCompletionNotificationMessage *record, struct journal_arena *arena,
     uint8_t *out, size_t room) {
@@ -5026,12 +5166,13 @@ static inline int64_t journal_write_CompletePromiseCompletionNotificationMessage
     if (length != JOURNAL_MALFORMED) {
         return length;
     }
-    /* a table says which field is rejected, and why */
+    /* a table has the field that is rejected, and why */
     writer = journal_writer_of_(arena);
     journal_put_CompletePromiseCompletionNotificationMessage_(&writer, 0, record);
     return journal_end_writing_(&writer, JOURNAL_SCHEMA_COMPLETE_PROMISE_COMPLETION_NOTIFICATION, arena, out, room);
 }
 
+/* Reads the record CallCompletionNotificationMessage from a payload. */
 static inline int64_t journal_read_CallCompletionNotificationMessage(
     const uint8_t *payload, size_t payload_length, struct journal_CallCompletionNotificationMessage *record,
     struct journal_arena *arena) {
@@ -5045,6 +5186,7 @@ static inline int64_t journal_read_CallCompletionNotificationMessage(
     return journal_end_reading_(&reader, arena, record, sizeof *record);
 }
 
+/* Writes the canonical payload of the record CallCompletionNotificationMessage. */
 static inline int64_t journal_write_CallCompletionNotificationMessage(
     const struct journal_CallCompletionNotificationMessage *record, struct journal_arena *arena, uint8_t *out,
     size_t room) {
@@ -5054,12 +5196,13 @@ static inline int64_t journal_write_CallCompletionNotificationMessage(
     if (length != JOURNAL_MALFORMED) {
         return length;
     }
-    /* a table says which field is rejected, and why */
+    /* a table has the field that is rejected, and why */
     writer = journal_writer_of_(arena);
     journal_put_CallCompletionNotificationMessage_(&writer, 0, record);
     return journal_end_writing_(&writer, JOURNAL_SCHEMA_CALL_COMPLETION_NOTIFICATION, arena, out, room);
 }
 
+/* Reads the record RunCompletionNotificationMessage from a payload. */
 static inline int64_t journal_read_RunCompletionNotificationMessage(
     const uint8_t *payload, size_t payload_length, struct journal_RunCompletionNotificationMessage *record,
     struct journal_arena *arena) {
@@ -5073,6 +5216,7 @@ static inline int64_t journal_read_RunCompletionNotificationMessage(
     return journal_end_reading_(&reader, arena, record, sizeof *record);
 }
 
+/* Writes the canonical payload of the record RunCompletionNotificationMessage. */
 static inline int64_t journal_write_RunCompletionNotificationMessage(
     const struct journal_RunCompletionNotificationMessage *record, struct journal_arena *arena, uint8_t *out,
     size_t room) {
@@ -5082,12 +5226,13 @@ static inline int64_t journal_write_RunCompletionNotificationMessage(
     if (length != JOURNAL_MALFORMED) {
         return length;
     }
-    /* a table says which field is rejected, and why */
+    /* a table has the field that is rejected, and why */
     writer = journal_writer_of_(arena);
     journal_put_RunCompletionNotificationMessage_(&writer, 0, record);
     return journal_end_writing_(&writer, JOURNAL_SCHEMA_RUN_COMPLETION_NOTIFICATION, arena, out, room);
 }
 
+/* Reads the record AttachInvocationCompletionNotificationMessage from a payload. */
 static inline int64_t journal_read_AttachInvocationCompletionNotificationMessage(
     const uint8_t *payload, size_t payload_length, struct journal_AttachInvocationCompletionNotificationMessage *record,
     struct journal_arena *arena) {
@@ -5101,6 +5246,7 @@ static inline int64_t journal_read_AttachInvocationCompletionNotificationMessage
     return journal_end_reading_(&reader, arena, record, sizeof *record);
 }
 
+/* Writes the canonical payload of the record AttachInvocationCompletionNotificationMessage. */
 static inline int64_t journal_write_AttachInvocationCompletionNotificationMessage(
     const struct journal_AttachInvocationCompletionNotificationMessage *record, struct journal_arena *arena,
     uint8_t *out, size_t room) {
@@ -5110,12 +5256,13 @@ static inline int64_t journal_write_AttachInvocationCompletionNotificationMessag
     if (length != JOURNAL_MALFORMED) {
         return length;
     }
-    /* a table says which field is rejected, and why */
+    /* a table has the field that is rejected, and why */
     writer = journal_writer_of_(arena);
     journal_put_AttachInvocationCompletionNotificationMessage_(&writer, 0, record);
     return journal_end_writing_(&writer, JOURNAL_SCHEMA_ATTACH_INVOCATION_COMPLETION_NOTIFICATION, arena, out, room);
 }
 
+/* Reads the record SleepCompletionNotificationMessage from a payload. */
 static inline int64_t journal_read_SleepCompletionNotificationMessage(
     const uint8_t *payload, size_t payload_length, struct journal_SleepCompletionNotificationMessage *record,
     struct journal_arena *arena) {
@@ -5129,6 +5276,7 @@ static inline int64_t journal_read_SleepCompletionNotificationMessage(
     return journal_end_reading_(&reader, arena, record, sizeof *record);
 }
 
+/* Writes the canonical payload of the record SleepCompletionNotificationMessage. */
 static inline int64_t journal_write_SleepCompletionNotificationMessage(
     const struct journal_SleepCompletionNotificationMessage *record, struct journal_arena *arena, uint8_t *out,
     size_t room) {
@@ -5138,12 +5286,13 @@ static inline int64_t journal_write_SleepCompletionNotificationMessage(
     if (length != JOURNAL_MALFORMED) {
         return length;
     }
-    /* a table says which field is rejected, and why */
+    /* a table has the field that is rejected, and why */
     writer = journal_writer_of_(arena);
     journal_put_SleepCompletionNotificationMessage_(&writer, 0, record);
     return journal_end_writing_(&writer, JOURNAL_SCHEMA_SLEEP_COMPLETION_NOTIFICATION, arena, out, room);
 }
 
+/* Reads the record GetLazyStateKeysCompletionNotificationMessage from a payload. */
 static inline int64_t journal_read_GetLazyStateKeysCompletionNotificationMessage(
     const uint8_t *payload, size_t payload_length, struct journal_GetLazyStateKeysCompletionNotificationMessage *record,
     struct journal_arena *arena) {
@@ -5157,6 +5306,7 @@ static inline int64_t journal_read_GetLazyStateKeysCompletionNotificationMessage
     return journal_end_reading_(&reader, arena, record, sizeof *record);
 }
 
+/* Writes the canonical payload of the record GetLazyStateKeysCompletionNotificationMessage. */
 static inline int64_t journal_write_GetLazyStateKeysCompletionNotificationMessage(
     const struct journal_GetLazyStateKeysCompletionNotificationMessage *record, struct journal_arena *arena,
     uint8_t *out, size_t room) {
@@ -5166,12 +5316,13 @@ static inline int64_t journal_write_GetLazyStateKeysCompletionNotificationMessag
     if (length != JOURNAL_MALFORMED) {
         return length;
     }
-    /* a table says which field is rejected, and why */
+    /* a table has the field that is rejected, and why */
     writer = journal_writer_of_(arena);
     journal_put_GetLazyStateKeysCompletionNotificationMessage_(&writer, 0, record);
     return journal_end_writing_(&writer, JOURNAL_SCHEMA_GET_LAZY_STATE_KEYS_COMPLETION_NOTIFICATION, arena, out, room);
 }
 
+/* Reads the record CallInvocationIdCompletionNotificationMessage from a payload. */
 static inline int64_t journal_read_CallInvocationIdCompletionNotificationMessage(
     const uint8_t *payload, size_t payload_length, struct journal_CallInvocationIdCompletionNotificationMessage *record,
     struct journal_arena *arena) {
@@ -5185,6 +5336,7 @@ static inline int64_t journal_read_CallInvocationIdCompletionNotificationMessage
     return journal_end_reading_(&reader, arena, record, sizeof *record);
 }
 
+/* Writes the canonical payload of the record CallInvocationIdCompletionNotificationMessage. */
 static inline int64_t journal_write_CallInvocationIdCompletionNotificationMessage(
     const struct journal_CallInvocationIdCompletionNotificationMessage *record, struct journal_arena *arena,
     uint8_t *out, size_t room) {
@@ -5194,12 +5346,13 @@ static inline int64_t journal_write_CallInvocationIdCompletionNotificationMessag
     if (length != JOURNAL_MALFORMED) {
         return length;
     }
-    /* a table says which field is rejected, and why */
+    /* a table has the field that is rejected, and why */
     writer = journal_writer_of_(arena);
     journal_put_CallInvocationIdCompletionNotificationMessage_(&writer, 0, record);
     return journal_end_writing_(&writer, JOURNAL_SCHEMA_CALL_INVOCATION_ID_COMPLETION_NOTIFICATION, arena, out, room);
 }
 
+/* Reads the record SignalNotificationMessage from a payload. */
 static inline int64_t journal_read_SignalNotificationMessage(const uint8_t *payload, size_t payload_length,
                                                              struct journal_SignalNotificationMessage *record,
                                                              struct journal_arena *arena) {
@@ -5212,6 +5365,7 @@ static inline int64_t journal_read_SignalNotificationMessage(const uint8_t *payl
     return journal_end_reading_(&reader, arena, record, sizeof *record);
 }
 
+/* Writes the canonical payload of the record SignalNotificationMessage. */
 static inline int64_t journal_write_SignalNotificationMessage(const struct journal_SignalNotificationMessage *record,
                                                               struct journal_arena *arena, uint8_t *out, size_t room) {
     struct journal_writer_ writer;
@@ -5220,12 +5374,13 @@ static inline int64_t journal_write_SignalNotificationMessage(const struct journ
     if (length != JOURNAL_MALFORMED) {
         return length;
     }
-    /* a table says which field is rejected, and why */
+    /* a table has the field that is rejected, and why */
     writer = journal_writer_of_(arena);
     journal_put_SignalNotificationMessage_(&writer, 0, record);
     return journal_end_writing_(&writer, JOURNAL_SCHEMA_SIGNAL_NOTIFICATION, arena, out, room);
 }
 
+/* Reads the record NotificationTemplate from a payload. */
 static inline int64_t journal_read_NotificationTemplate(const uint8_t *payload, size_t payload_length,
                                                         struct journal_NotificationTemplate *record,
                                                         struct journal_arena *arena) {
@@ -5238,6 +5393,7 @@ static inline int64_t journal_read_NotificationTemplate(const uint8_t *payload, 
     return journal_end_reading_(&reader, arena, record, sizeof *record);
 }
 
+/* Writes the canonical payload of the record NotificationTemplate. */
 static inline int64_t journal_write_NotificationTemplate(const struct journal_NotificationTemplate *record,
                                                          struct journal_arena *arena, uint8_t *out, size_t room) {
     struct journal_writer_ writer;
@@ -5246,7 +5402,7 @@ static inline int64_t journal_write_NotificationTemplate(const struct journal_No
     if (length != JOURNAL_MALFORMED) {
         return length;
     }
-    /* a table says which field is rejected, and why */
+    /* a table has the field that is rejected, and why */
     writer = journal_writer_of_(arena);
     journal_put_NotificationTemplate_(&writer, 0, record);
     return journal_end_writing_(&writer, JOURNAL_SCHEMA_NOTIFICATION_TEMPLATE, arena, out, room);
@@ -5269,7 +5425,7 @@ static inline size_t journal_payload_room_(size_t room) {
     return room > 8 ? room - 8 : 0;
 }
 
-/* Puts the header before a payload of this length, if there is room for both. Of an error it is that error. */
+/* Puts the header before a payload of this length, if there is room for both. An error is returned as it is. */
 static inline int64_t journal_framed_(uint32_t version, uint16_t code, int64_t length, uint8_t *out, size_t room) {
     if (length < 0) {
         return length;
@@ -5280,6 +5436,7 @@ static inline int64_t journal_framed_(uint32_t version, uint16_t code, int64_t l
     return length + 8;
 }
 
+/* Writes the frame of a message from its record StartMessage. */
 static inline int64_t journal_frame_StartMessage(uint32_t version, const struct journal_StartMessage *record,
                                                  struct journal_arena *arena, uint8_t *out, size_t room) {
     int64_t length = journal_header(version, JOURNAL_TYPE_START, 0, NULL, 0);
@@ -5290,6 +5447,7 @@ static inline int64_t journal_frame_StartMessage(uint32_t version, const struct 
     return journal_framed_(version, JOURNAL_TYPE_START, length, out, room);
 }
 
+/* Writes the frame of a message from its record SuspensionMessage. */
 static inline int64_t journal_frame_SuspensionMessage(uint32_t version, const struct journal_SuspensionMessage *record,
                                                       struct journal_arena *arena, uint8_t *out, size_t room) {
     int64_t length = journal_header(version, JOURNAL_TYPE_SUSPENSION, 0, NULL, 0);
@@ -5317,6 +5475,7 @@ static inline int64_t journal_frame_SuspensionMessage(uint32_t version, const st
     return journal_framed_(version, JOURNAL_TYPE_SUSPENSION, length, out, room);
 }
 
+/* Writes the frame of a message from its record ErrorMessage. */
 static inline int64_t journal_frame_ErrorMessage(uint32_t version, const struct journal_ErrorMessage *record,
                                                  struct journal_arena *arena, uint8_t *out, size_t room) {
     int64_t length = journal_header(version, JOURNAL_TYPE_ERROR, 0, NULL, 0);
@@ -5327,6 +5486,7 @@ static inline int64_t journal_frame_ErrorMessage(uint32_t version, const struct 
     return journal_framed_(version, JOURNAL_TYPE_ERROR, length, out, room);
 }
 
+/* Writes the frame of a message from its record EndMessage. */
 static inline int64_t journal_frame_EndMessage(uint32_t version, const struct journal_EndMessage *record,
                                                struct journal_arena *arena, uint8_t *out, size_t room) {
     int64_t length = journal_header(version, JOURNAL_TYPE_END, 0, NULL, 0);
@@ -5337,6 +5497,7 @@ static inline int64_t journal_frame_EndMessage(uint32_t version, const struct jo
     return journal_framed_(version, JOURNAL_TYPE_END, length, out, room);
 }
 
+/* Writes the frame of a message from its record ProposeRunCompletionMessage. */
 static inline int64_t journal_frame_ProposeRunCompletionMessage(
     uint32_t version, const struct journal_ProposeRunCompletionMessage *record, struct journal_arena *arena,
     uint8_t *out, size_t room) {
@@ -5349,6 +5510,7 @@ static inline int64_t journal_frame_ProposeRunCompletionMessage(
     return journal_framed_(version, JOURNAL_TYPE_PROPOSE_RUN_COMPLETION, length, out, room);
 }
 
+/* Writes the frame of a message from its record AwaitingOnMessage. */
 static inline int64_t journal_frame_AwaitingOnMessage(uint32_t version, const struct journal_AwaitingOnMessage *record,
                                                       struct journal_arena *arena, uint8_t *out, size_t room) {
     int64_t length = journal_header(version, JOURNAL_TYPE_AWAITING_ON, 0, NULL, 0);
@@ -5360,6 +5522,7 @@ static inline int64_t journal_frame_AwaitingOnMessage(uint32_t version, const st
     return journal_framed_(version, JOURNAL_TYPE_AWAITING_ON, length, out, room);
 }
 
+/* Writes the frame of a message from its record ProposeRunCompletionAckMessage. */
 static inline int64_t journal_frame_ProposeRunCompletionAckMessage(
     uint32_t version, const struct journal_ProposeRunCompletionAckMessage *record, struct journal_arena *arena,
     uint8_t *out, size_t room) {
@@ -5372,6 +5535,7 @@ static inline int64_t journal_frame_ProposeRunCompletionAckMessage(
     return journal_framed_(version, JOURNAL_TYPE_PROPOSE_RUN_COMPLETION_ACK, length, out, room);
 }
 
+/* Writes the frame of a message from its record GetStateEphemeralCommandMessage. */
 static inline int64_t journal_frame_GetStateEphemeralCommandMessage(
     uint32_t version, const struct journal_GetStateEphemeralCommandMessage *record, struct journal_arena *arena,
     uint8_t *out, size_t room) {
@@ -5384,6 +5548,7 @@ static inline int64_t journal_frame_GetStateEphemeralCommandMessage(
     return journal_framed_(version, JOURNAL_TYPE_GET_STATE_EPHEMERAL_COMMAND, length, out, room);
 }
 
+/* Writes the frame of a message from its record GetStateEphemeralNotificationMessage. */
 static inline int64_t journal_frame_GetStateEphemeralNotificationMessage(
     uint32_t version, const struct journal_GetStateEphemeralNotificationMessage *record, struct journal_arena *arena,
     uint8_t *out, size_t room) {
@@ -5396,6 +5561,7 @@ static inline int64_t journal_frame_GetStateEphemeralNotificationMessage(
     return journal_framed_(version, JOURNAL_TYPE_GET_STATE_EPHEMERAL_NOTIFICATION, length, out, room);
 }
 
+/* Writes the frame of a message from its record InputCommandMessage. */
 static inline int64_t journal_frame_InputCommandMessage(uint32_t version,
                                                         const struct journal_InputCommandMessage *record,
                                                         struct journal_arena *arena, uint8_t *out, size_t room) {
@@ -5408,6 +5574,7 @@ static inline int64_t journal_frame_InputCommandMessage(uint32_t version,
     return journal_framed_(version, JOURNAL_TYPE_INPUT_COMMAND, length, out, room);
 }
 
+/* Writes the frame of a message from its record OutputCommandMessage. */
 static inline int64_t journal_frame_OutputCommandMessage(uint32_t version,
                                                          const struct journal_OutputCommandMessage *record,
                                                          struct journal_arena *arena, uint8_t *out, size_t room) {
@@ -5420,6 +5587,7 @@ static inline int64_t journal_frame_OutputCommandMessage(uint32_t version,
     return journal_framed_(version, JOURNAL_TYPE_OUTPUT_COMMAND, length, out, room);
 }
 
+/* Writes the frame of a message from its record GetLazyStateCommandMessage. */
 static inline int64_t journal_frame_GetLazyStateCommandMessage(uint32_t version,
                                                                const struct journal_GetLazyStateCommandMessage *record,
                                                                struct journal_arena *arena, uint8_t *out, size_t room) {
@@ -5432,6 +5600,7 @@ static inline int64_t journal_frame_GetLazyStateCommandMessage(uint32_t version,
     return journal_framed_(version, JOURNAL_TYPE_GET_LAZY_STATE_COMMAND, length, out, room);
 }
 
+/* Writes the frame of a message from its record SetStateCommandMessage. */
 static inline int64_t journal_frame_SetStateCommandMessage(uint32_t version,
                                                            const struct journal_SetStateCommandMessage *record,
                                                            struct journal_arena *arena, uint8_t *out, size_t room) {
@@ -5444,6 +5613,7 @@ static inline int64_t journal_frame_SetStateCommandMessage(uint32_t version,
     return journal_framed_(version, JOURNAL_TYPE_SET_STATE_COMMAND, length, out, room);
 }
 
+/* Writes the frame of a message from its record ClearStateCommandMessage. */
 static inline int64_t journal_frame_ClearStateCommandMessage(uint32_t version,
                                                              const struct journal_ClearStateCommandMessage *record,
                                                              struct journal_arena *arena, uint8_t *out, size_t room) {
@@ -5456,6 +5626,7 @@ static inline int64_t journal_frame_ClearStateCommandMessage(uint32_t version,
     return journal_framed_(version, JOURNAL_TYPE_CLEAR_STATE_COMMAND, length, out, room);
 }
 
+/* Writes the frame of a message from its record ClearAllStateCommandMessage. */
 static inline int64_t journal_frame_ClearAllStateCommandMessage(
     uint32_t version, const struct journal_ClearAllStateCommandMessage *record, struct journal_arena *arena,
     uint8_t *out, size_t room) {
@@ -5468,6 +5639,7 @@ static inline int64_t journal_frame_ClearAllStateCommandMessage(
     return journal_framed_(version, JOURNAL_TYPE_CLEAR_ALL_STATE_COMMAND, length, out, room);
 }
 
+/* Writes the frame of a message from its record GetLazyStateKeysCommandMessage. */
 static inline int64_t journal_frame_GetLazyStateKeysCommandMessage(
     uint32_t version, const struct journal_GetLazyStateKeysCommandMessage *record, struct journal_arena *arena,
     uint8_t *out, size_t room) {
@@ -5480,6 +5652,7 @@ static inline int64_t journal_frame_GetLazyStateKeysCommandMessage(
     return journal_framed_(version, JOURNAL_TYPE_GET_LAZY_STATE_KEYS_COMMAND, length, out, room);
 }
 
+/* Writes the frame of a message from its record GetEagerStateCommandMessage. */
 static inline int64_t journal_frame_GetEagerStateCommandMessage(
     uint32_t version, const struct journal_GetEagerStateCommandMessage *record, struct journal_arena *arena,
     uint8_t *out, size_t room) {
@@ -5492,6 +5665,7 @@ static inline int64_t journal_frame_GetEagerStateCommandMessage(
     return journal_framed_(version, JOURNAL_TYPE_GET_EAGER_STATE_COMMAND, length, out, room);
 }
 
+/* Writes the frame of a message from its record GetEagerStateKeysCommandMessage. */
 static inline int64_t journal_frame_GetEagerStateKeysCommandMessage(
     uint32_t version, const struct journal_GetEagerStateKeysCommandMessage *record, struct journal_arena *arena,
     uint8_t *out, size_t room) {
@@ -5504,6 +5678,7 @@ static inline int64_t journal_frame_GetEagerStateKeysCommandMessage(
     return journal_framed_(version, JOURNAL_TYPE_GET_EAGER_STATE_KEYS_COMMAND, length, out, room);
 }
 
+/* Writes the frame of a message from its record GetPromiseCommandMessage. */
 static inline int64_t journal_frame_GetPromiseCommandMessage(uint32_t version,
                                                              const struct journal_GetPromiseCommandMessage *record,
                                                              struct journal_arena *arena, uint8_t *out, size_t room) {
@@ -5516,6 +5691,7 @@ static inline int64_t journal_frame_GetPromiseCommandMessage(uint32_t version,
     return journal_framed_(version, JOURNAL_TYPE_GET_PROMISE_COMMAND, length, out, room);
 }
 
+/* Writes the frame of a message from its record PeekPromiseCommandMessage. */
 static inline int64_t journal_frame_PeekPromiseCommandMessage(uint32_t version,
                                                               const struct journal_PeekPromiseCommandMessage *record,
                                                               struct journal_arena *arena, uint8_t *out, size_t room) {
@@ -5528,6 +5704,7 @@ static inline int64_t journal_frame_PeekPromiseCommandMessage(uint32_t version,
     return journal_framed_(version, JOURNAL_TYPE_PEEK_PROMISE_COMMAND, length, out, room);
 }
 
+/* Writes the frame of a message from its record CompletePromiseCommandMessage. */
 static inline int64_t journal_frame_CompletePromiseCommandMessage(
     uint32_t version, const struct journal_CompletePromiseCommandMessage *record, struct journal_arena *arena,
     uint8_t *out, size_t room) {
@@ -5540,6 +5717,7 @@ static inline int64_t journal_frame_CompletePromiseCommandMessage(
     return journal_framed_(version, JOURNAL_TYPE_COMPLETE_PROMISE_COMMAND, length, out, room);
 }
 
+/* Writes the frame of a message from its record SleepCommandMessage. */
 static inline int64_t journal_frame_SleepCommandMessage(uint32_t version,
                                                         const struct journal_SleepCommandMessage *record,
                                                         struct journal_arena *arena, uint8_t *out, size_t room) {
@@ -5552,6 +5730,7 @@ static inline int64_t journal_frame_SleepCommandMessage(uint32_t version,
     return journal_framed_(version, JOURNAL_TYPE_SLEEP_COMMAND, length, out, room);
 }
 
+/* Writes the frame of a message from its record CallCommandMessage. */
 static inline int64_t journal_frame_CallCommandMessage(uint32_t version,
                                                        const struct journal_CallCommandMessage *record,
                                                        struct journal_arena *arena, uint8_t *out, size_t room) {
@@ -5564,6 +5743,7 @@ static inline int64_t journal_frame_CallCommandMessage(uint32_t version,
     return journal_framed_(version, JOURNAL_TYPE_CALL_COMMAND, length, out, room);
 }
 
+/* Writes the frame of a message from its record OneWayCallCommandMessage. */
 static inline int64_t journal_frame_OneWayCallCommandMessage(uint32_t version,
                                                              const struct journal_OneWayCallCommandMessage *record,
                                                              struct journal_arena *arena, uint8_t *out, size_t room) {
@@ -5576,6 +5756,7 @@ static inline int64_t journal_frame_OneWayCallCommandMessage(uint32_t version,
     return journal_framed_(version, JOURNAL_TYPE_ONE_WAY_CALL_COMMAND, length, out, room);
 }
 
+/* Writes the frame of a message from its record SendSignalCommandMessage. */
 static inline int64_t journal_frame_SendSignalCommandMessage(uint32_t version,
                                                              const struct journal_SendSignalCommandMessage *record,
                                                              struct journal_arena *arena, uint8_t *out, size_t room) {
@@ -5588,6 +5769,7 @@ static inline int64_t journal_frame_SendSignalCommandMessage(uint32_t version,
     return journal_framed_(version, JOURNAL_TYPE_SEND_SIGNAL_COMMAND, length, out, room);
 }
 
+/* Writes the frame of a message from its record RunCommandMessage. */
 static inline int64_t journal_frame_RunCommandMessage(uint32_t version, const struct journal_RunCommandMessage *record,
                                                       struct journal_arena *arena, uint8_t *out, size_t room) {
     int64_t length = journal_header(version, JOURNAL_TYPE_RUN_COMMAND, 0, NULL, 0);
@@ -5599,6 +5781,7 @@ static inline int64_t journal_frame_RunCommandMessage(uint32_t version, const st
     return journal_framed_(version, JOURNAL_TYPE_RUN_COMMAND, length, out, room);
 }
 
+/* Writes the frame of a message from its record AttachInvocationCommandMessage. */
 static inline int64_t journal_frame_AttachInvocationCommandMessage(
     uint32_t version, const struct journal_AttachInvocationCommandMessage *record, struct journal_arena *arena,
     uint8_t *out, size_t room) {
@@ -5611,6 +5794,7 @@ static inline int64_t journal_frame_AttachInvocationCommandMessage(
     return journal_framed_(version, JOURNAL_TYPE_ATTACH_INVOCATION_COMMAND, length, out, room);
 }
 
+/* Writes the frame of a message from its record GetInvocationOutputCommandMessage. */
 static inline int64_t journal_frame_GetInvocationOutputCommandMessage(
     uint32_t version, const struct journal_GetInvocationOutputCommandMessage *record, struct journal_arena *arena,
     uint8_t *out, size_t room) {
@@ -5623,6 +5807,7 @@ static inline int64_t journal_frame_GetInvocationOutputCommandMessage(
     return journal_framed_(version, JOURNAL_TYPE_GET_INVOCATION_OUTPUT_COMMAND, length, out, room);
 }
 
+/* Writes the frame of a message from its record CompleteAwakeableCommandMessage. */
 static inline int64_t journal_frame_CompleteAwakeableCommandMessage(
     uint32_t version, const struct journal_CompleteAwakeableCommandMessage *record, struct journal_arena *arena,
     uint8_t *out, size_t room) {
@@ -5635,6 +5820,7 @@ static inline int64_t journal_frame_CompleteAwakeableCommandMessage(
     return journal_framed_(version, JOURNAL_TYPE_COMPLETE_AWAKEABLE_COMMAND, length, out, room);
 }
 
+/* Writes the frame of a message from its record GetLazyStateCompletionNotificationMessage. */
 static inline int64_t journal_frame_GetLazyStateCompletionNotificationMessage(
     uint32_t version, const struct journal_GetLazyStateCompletionNotificationMessage *record,
     struct journal_arena *arena, uint8_t *out, size_t room) {
@@ -5647,6 +5833,7 @@ static inline int64_t journal_frame_GetLazyStateCompletionNotificationMessage(
     return journal_framed_(version, JOURNAL_TYPE_GET_LAZY_STATE_COMPLETION_NOTIFICATION, length, out, room);
 }
 
+/* Writes the frame of a message from its record GetPromiseCompletionNotificationMessage. */
 static inline int64_t journal_frame_GetPromiseCompletionNotificationMessage(
     uint32_t version, const struct journal_GetPromiseCompletionNotificationMessage *record, struct journal_arena *arena,
     uint8_t *out, size_t room) {
@@ -5659,6 +5846,7 @@ static inline int64_t journal_frame_GetPromiseCompletionNotificationMessage(
     return journal_framed_(version, JOURNAL_TYPE_GET_PROMISE_COMPLETION_NOTIFICATION, length, out, room);
 }
 
+/* Writes the frame of a message from its record PeekPromiseCompletionNotificationMessage. */
 static inline int64_t journal_frame_PeekPromiseCompletionNotificationMessage(
     uint32_t version, const struct journal_PeekPromiseCompletionNotificationMessage *record,
     struct journal_arena *arena, uint8_t *out, size_t room) {
@@ -5671,6 +5859,7 @@ static inline int64_t journal_frame_PeekPromiseCompletionNotificationMessage(
     return journal_framed_(version, JOURNAL_TYPE_PEEK_PROMISE_COMPLETION_NOTIFICATION, length, out, room);
 }
 
+/* Writes the frame of a message from its record GetInvocationOutputCompletionNotificationMessage. */
 static inline int64_t journal_frame_GetInvocationOutputCompletionNotificationMessage(
     uint32_t version, const struct journal_GetInvocationOutputCompletionNotificationMessage *record,
     struct journal_arena *arena, uint8_t *out, size_t room) {
@@ -5684,6 +5873,7 @@ static inline int64_t journal_frame_GetInvocationOutputCompletionNotificationMes
     return journal_framed_(version, JOURNAL_TYPE_GET_INVOCATION_OUTPUT_COMPLETION_NOTIFICATION, length, out, room);
 }
 
+/* Writes the frame of a message from its record CompletePromiseCompletionNotificationMessage. */
 static inline int64_t journal_frame_CompletePromiseCompletionNotificationMessage(
     uint32_t version, const struct journal_CompletePromiseCompletionNotificationMessage *record,
     struct journal_arena *arena, uint8_t *out, size_t room) {
@@ -5696,6 +5886,7 @@ static inline int64_t journal_frame_CompletePromiseCompletionNotificationMessage
     return journal_framed_(version, JOURNAL_TYPE_COMPLETE_PROMISE_COMPLETION_NOTIFICATION, length, out, room);
 }
 
+/* Writes the frame of a message from its record CallCompletionNotificationMessage. */
 static inline int64_t journal_frame_CallCompletionNotificationMessage(
     uint32_t version, const struct journal_CallCompletionNotificationMessage *record, struct journal_arena *arena,
     uint8_t *out, size_t room) {
@@ -5708,6 +5899,7 @@ static inline int64_t journal_frame_CallCompletionNotificationMessage(
     return journal_framed_(version, JOURNAL_TYPE_CALL_COMPLETION_NOTIFICATION, length, out, room);
 }
 
+/* Writes the frame of a message from its record RunCompletionNotificationMessage. */
 static inline int64_t journal_frame_RunCompletionNotificationMessage(
     uint32_t version, const struct journal_RunCompletionNotificationMessage *record, struct journal_arena *arena,
     uint8_t *out, size_t room) {
@@ -5720,6 +5912,7 @@ static inline int64_t journal_frame_RunCompletionNotificationMessage(
     return journal_framed_(version, JOURNAL_TYPE_RUN_COMPLETION_NOTIFICATION, length, out, room);
 }
 
+/* Writes the frame of a message from its record AttachInvocationCompletionNotificationMessage. */
 static inline int64_t journal_frame_AttachInvocationCompletionNotificationMessage(
     uint32_t version, const struct journal_AttachInvocationCompletionNotificationMessage *record,
     struct journal_arena *arena, uint8_t *out, size_t room) {
@@ -5732,6 +5925,7 @@ static inline int64_t journal_frame_AttachInvocationCompletionNotificationMessag
     return journal_framed_(version, JOURNAL_TYPE_ATTACH_INVOCATION_COMPLETION_NOTIFICATION, length, out, room);
 }
 
+/* Writes the frame of a message from its record SleepCompletionNotificationMessage. */
 static inline int64_t journal_frame_SleepCompletionNotificationMessage(
     uint32_t version, const struct journal_SleepCompletionNotificationMessage *record, struct journal_arena *arena,
     uint8_t *out, size_t room) {
@@ -5744,6 +5938,7 @@ static inline int64_t journal_frame_SleepCompletionNotificationMessage(
     return journal_framed_(version, JOURNAL_TYPE_SLEEP_COMPLETION_NOTIFICATION, length, out, room);
 }
 
+/* Writes the frame of a message from its record GetLazyStateKeysCompletionNotificationMessage. */
 static inline int64_t journal_frame_GetLazyStateKeysCompletionNotificationMessage(
     uint32_t version, const struct journal_GetLazyStateKeysCompletionNotificationMessage *record,
     struct journal_arena *arena, uint8_t *out, size_t room) {
@@ -5756,6 +5951,7 @@ static inline int64_t journal_frame_GetLazyStateKeysCompletionNotificationMessag
     return journal_framed_(version, JOURNAL_TYPE_GET_LAZY_STATE_KEYS_COMPLETION_NOTIFICATION, length, out, room);
 }
 
+/* Writes the frame of a message from its record CallInvocationIdCompletionNotificationMessage. */
 static inline int64_t journal_frame_CallInvocationIdCompletionNotificationMessage(
     uint32_t version, const struct journal_CallInvocationIdCompletionNotificationMessage *record,
     struct journal_arena *arena, uint8_t *out, size_t room) {
@@ -5768,6 +5964,7 @@ static inline int64_t journal_frame_CallInvocationIdCompletionNotificationMessag
     return journal_framed_(version, JOURNAL_TYPE_CALL_INVOCATION_ID_COMPLETION_NOTIFICATION, length, out, room);
 }
 
+/* Writes the frame of a message from its record SignalNotificationMessage. */
 static inline int64_t journal_frame_SignalNotificationMessage(uint32_t version,
                                                               const struct journal_SignalNotificationMessage *record,
                                                               struct journal_arena *arena, uint8_t *out, size_t room) {
@@ -5780,7 +5977,7 @@ static inline int64_t journal_frame_SignalNotificationMessage(uint32_t version,
     return journal_framed_(version, JOURNAL_TYPE_SIGNAL_NOTIFICATION, length, out, room);
 }
 
-/* Each record, with the name of its schema but for JOURNAL_SCHEMA_. */
+/* Each record, with the name of its schema without JOURNAL_SCHEMA_. */
 #define JOURNAL_EACH_RECORD_(each) \
     each(Void, VOID) \
     each(Value, VALUE) \
@@ -5877,7 +6074,7 @@ static inline int64_t journal_write_record(uint32_t schema, const void *record, 
     }
 }
 
-/* Each message, with the name of its type but for JOURNAL_TYPE_. */
+/* Each message, with the name of its type without JOURNAL_TYPE_. */
 #define JOURNAL_EACH_MESSAGE_(each) \
     each(StartMessage, START) \
     each(SuspensionMessage, SUSPENSION) \

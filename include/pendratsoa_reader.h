@@ -93,27 +93,27 @@ struct journal_reader_item {
 /* A reader of a stream. journal_reader_of makes one. */
 struct journal_reader {
     uint32_t version;             /* the version of the protocol, from 5 to 9 */
-    uint32_t limit;               /* the greatest length of a payload, in bytes; 4,294,967,295 is no limit */
+    uint32_t limit;               /* the greatest length of a payload, in bytes; 4,294,967,295: none */
     struct journal_memory memory; /* what is pending, and room after it */
     size_t begin;                 /* where the pending bytes begin in it */
     size_t end;                   /* where they end */
     uint64_t offset;              /* where they begin in the stream: the bytes of all items that were returned */
 };
 
-/* Returns a reader before any byte has come. It has no memory yet. */
+/* Returns a reader before the first byte. It has no memory yet. */
 static inline struct journal_reader journal_reader_of(uint32_t version, uint32_t limit) {
     struct journal_reader reader = {version, limit, {NULL, 0}, 0, 0, 0};
 
     return reader;
 }
 
-/* The number of bytes that have come and are in no item that was returned: at the end of a stream the trailing ones. */
+/* The number of bytes received and not yet returned in an item: at the end of a stream the trailing ones. */
 static inline size_t journal_reader_pending(const struct journal_reader *reader) {
     return reader->end - reader->begin;
 }
 
 /*
- * Room for `count` bytes, into which a chunk of the stream may be read; journal_reader_came says how many came. The
+ * Room for `count` bytes, into which a chunk of the stream may be read; journal_reader_came takes how many were. The
  * pending bytes are moved to the front where that makes room. Returns null, and loses nothing, if an allocation fails.
  */
 static inline uint8_t *journal_reader_room(struct journal_reader *reader, size_t count) {
@@ -152,9 +152,9 @@ static inline int64_t journal_reader_feed(struct journal_reader *reader, const u
 }
 
 /*
- * Takes the next item. Returns 1 if one is there, and 0 if no whole one has come yet.
+ * Takes the next item. Returns 1 if one is there, and 0 if no whole one is there yet.
  *
- * Its errors are those of journal_next_within: JOURNAL_UNKNOWN_VERSION, JOURNAL_TOO_LONG as soon as the header has come
+ * Its errors are those of journal_next_within: JOURNAL_UNKNOWN_VERSION, JOURNAL_TOO_LONG as soon as the header is there
  * of an item whose payload has more than the limit. Nothing is taken then; the item that is too long begins at
  * reader->offset.
  */

@@ -8,7 +8,7 @@
 set -u
 cd "$(dirname "$0")/.." || exit 1
 
-all='layout table calls pages words generated description tests'
+all='layout table calls pages words generated description reference tests'
 all="$all run list streams diff dump make shown failures journal terminal waiting sweep view"
 all="$all conformance wireshark install package files c soak json python wasm node rust go ruby refusals prost"
 before_release='arm64 release'

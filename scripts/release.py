@@ -278,10 +278,20 @@ def go_module(release: Release) -> None:
     release.archive(folder, f"pendratsoa-go-{version()}.tar.gz")
 
 
+def reference(release: Release) -> None:
+    """The reference pages of all languages, as one archive."""
+    folder = release.work / "reference"
+    run("sh", "scripts/reference.sh", folder)
+    absent = [name for name in run("sh", "scripts/reference.sh", "--list").split() if not (folder / name).is_dir()]
+    if absent:
+        raise NotMade(f"there are no tools for the reference pages of {', '.join(absent)}")
+    release.archive(folder, f"pendratsoa-reference-{version()}.tar.gz")
+
+
 # The kinds of files: those that are made for each processor, in an order in which none takes in what another adds, and
 # those that have the library for all.
 FOR_EACH = (wheel, gem, deb, tarball)
-FOR_ALL = (npm, page, rust, go_module)
+FOR_ALL = (npm, page, rust, go_module, reference)
 
 
 def results(options: argparse.Namespace) -> dict[str, str]:

@@ -5,7 +5,7 @@
 export const FIRST_VERSION = 5;
 export const LAST_VERSION = 9;
 
-/** The kinds of items: a message; a code that is no type's, whose eight bytes are skipped (before version 9); a message of an unknown type, skipped with its payload (version 9). */
+/** The kinds of items: a message; before version 9 an unassigned code, whose eight bytes are skipped; at version 9 a message of an unknown type, skipped with its payload. */
 export const ITEM_KINDS = [
   'message',
   'unknownCode',

@@ -20,9 +20,16 @@ class Notification:
     """
 
     id_kind: IdKind
+    """Of which kind the id is."""
+
     id: Union[int, str]
+    """The id."""
+
     result_kind: ResultKind
+    """Of which kind the result is."""
+
     result: bytes
+    """The result."""
 
 
 @dataclass(frozen=True)
@@ -31,8 +38,13 @@ class Verdict:
     and the text of a mismatch, which is empty without one."""
 
     kind: VerdictKind
+    """Which verdict it is."""
+
     index: int
+    """The index of a command, or the number of commands."""
+
     text: str
+    """The text of a mismatch."""
 
 
 def library_version() -> str:

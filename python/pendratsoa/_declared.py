@@ -5,7 +5,9 @@ from typing import Dict, NamedTuple, Protocol, Tuple, Union
 
 from ._kinds import BytesLike, Kind, Schema
 
+# the first protocol version
 FIRST_VERSION = 5
+# the last protocol version; a later library may have further ones
 LAST_VERSION = 9
 
 # the parameters of each call: the bits of a number, a slice, or the struct that is written

@@ -51,6 +51,7 @@ def _imported() -> Optional[Type[_compiled.Native]]:
 
 
 _NATIVE = _imported()
+# whether the compiled module makes the calls
 COMPILED = _NATIVE is not None
 
 # what the compiled module has, once the library is loaded

@@ -63,11 +63,22 @@ class Message(_Item):
     """
 
     version: int
+    """The version of its stream."""
+
     code: int
+    """The code of its type."""
+
     payload: bytes
+    """Its payload, in any encoding."""
+
     requested_ack: bool = False
+    """Whether its header requests an acknowledgement."""
+
     word: Optional[int] = field(init=False, default=None, compare=False, repr=False)
+    """Its header as one number, or None."""
+
     offset: Optional[int] = field(init=False, default=None, compare=False, repr=False)
+    """Where it begins in its stream, in bytes, or None."""
 
     @classmethod
     def of(cls, type: Union[int, TypeName], payload: BytesLike = b"", version: int = 8) -> Message:
@@ -217,9 +228,16 @@ class UnknownCode(_Item):
     where they begin in their stream."""
 
     version: int
+    """The version of its stream."""
+
     code: int
+    """Its unassigned code."""
+
     word: int
+    """Its eight bytes as one number."""
+
     offset: Optional[int] = field(init=False, default=None, compare=False, repr=False)
+    """Where it begins in its stream, in bytes, or None."""
 
     def __bytes__(self) -> bytes:
         return _bytes_of(self.word)
@@ -234,10 +252,19 @@ class Skipped(_Item):
     bytes as one big-endian number, and `offset` where it begins in its stream."""
 
     version: int
+    """The version of its stream."""
+
     code: int
+    """Its unassigned code."""
+
     word: int
+    """Its header as one number."""
+
     payload: bytes
+    """Its payload."""
+
     offset: Optional[int] = field(init=False, default=None, compare=False, repr=False)
+    """Where it begins in its stream, in bytes, or None."""
 
     def __bytes__(self) -> bytes:
         return _bytes_of(self.word) + self.payload
@@ -249,6 +276,7 @@ class Skipped(_Item):
         return _fields(self)
 
 
+# an item of a stream
 Item = Union[Message, UnknownCode, Skipped]
 I = TypeVar("I", Message, UnknownCode, Skipped)
 

@@ -5,6 +5,7 @@ from __future__ import annotations
 from enum import Enum
 from typing import Optional, Type, TypeVar, Union
 
+# bytes that a call reads
 BytesLike = Union[bytes, bytearray, memoryview]
 
 # a schema, by its number or by the name of its record, as "SleepCommandMessage"

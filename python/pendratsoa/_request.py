@@ -22,6 +22,7 @@ from ._errors import (
 from ._kinds import BytesLike
 from ._protocol import SCHEMA_NAMES
 
+# the number of schemas, whose numbers begin at 0
 SCHEMAS = len(SCHEMA_NAMES)
 
 # what is wrong: with a payload, which comes before these words, or with the call

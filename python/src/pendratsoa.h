@@ -3,19 +3,19 @@
  * pendratsoa: the journal protocol of the Restate SDKs, for C99 and C++.
  *
  * Memory. The caller owns all of it, before, during and after a call. A call reads the `const` slices, writes the
- * others, and keeps no pointer; nothing that it allocates outlives it, and nothing has to be freed. Every pointer comes
- * with a count of elements, that to a struct with the count of its numbers, that to a table with the count of its
- * structs; if the count is 0 it may be null. What a call writes overlaps nothing else of that call.
+ * others, and keeps no pointer; nothing that it allocates outlives it, and nothing has to be freed. Every pointer is
+ * followed by a count: elements of a slice, numbers of a struct, structs of a table. If it is 0, the pointer may be
+ * null. What a call writes overlaps nothing else of that call.
  *
  * Results. A call returns a number that is not negative, or one of the errors below. One that writes bytes returns how
- * many they are, and writes them if `room` is at least as much; if it is less, the slice is unchanged, and the call can
+ * many they are, and writes them if `room` is at least as much. If it is less, the slice is unchanged, and the call can
  * be repeated with enough room. One that writes a table returns how many entries there are, and writes the first ones,
  * as many as `room`. After an error all that a call could write is unchanged. Texts are UTF-8 and have no zero byte at
  * the end.
  *
  * Names. A constant of a family begins with its name: the code of a type with JOURNAL_TYPE_, the number of a schema
- * with JOURNAL_SCHEMA_, a kind with JOURNAL_ITEM_, JOURNAL_FIELD_, JOURNAL_RESULT_ or JOURNAL_VERDICT_, a reason with
- * JOURNAL_JSON_ or JOURNAL_ENTRY_. The errors, which come first, have no such word and are negative.
+ * with JOURNAL_SCHEMA_. Kinds begin with JOURNAL_ITEM_, JOURNAL_FIELD_, JOURNAL_RESULT_ or JOURNAL_VERDICT_, and
+ * reasons with JOURNAL_JSON_ or JOURNAL_ENTRY_. The errors, which come first, have no such word and are negative.
  *
  * Threads. Calls share nothing: any number of threads may make them at once.
  */
@@ -56,14 +56,14 @@ extern "C" {
 
 /*
  * The kind of an error, by the result of a call: JOURNAL_UNKNOWN of JOURNAL_UNKNOWN_TYPE. The errors of a kind are its
- * number and multiples of -16 below it; a later library may tell further ones apart. Of a result that is no error it is
+ * number and multiples of -16 below it; a later library may tell further ones apart. For any other result it is
  * not negative.
  */
 #define JOURNAL_KIND_OF_ERROR(result) ((result) % 16)
 
 /*
- * What an error says, as "malformed payload", in a text that stays and ends with a zero byte. Of an error that this
- * header does not know it is the text of its kind, and of a result that is no error "no error".
+ * What an error says, as "malformed payload", in a text that stays and ends with a zero byte. For an error that this
+ * header does not know it is the text of its kind, and for any other result "no error".
  */
 static inline const char *journal_error_text(int64_t result) {
     if (result >= 0) {
@@ -121,8 +121,8 @@ int64_t journal_library_version(uint8_t *out, size_t room);
  * Returns the number of the schema that payloads of a type have at a version. A suspension has another schema before
  * version 7 than later.
  *
- * Its errors, of which the first that is true comes: JOURNAL_UNKNOWN_VERSION, JOURNAL_UNKNOWN_TYPE if the code is that
- * of no named type: a custom entry has no schema.
+ * Errors, in order of precedence: JOURNAL_UNKNOWN_VERSION, JOURNAL_UNKNOWN_TYPE if the code is that of no named type: a
+ * custom entry has no schema.
  */
 int64_t journal_schema(uint32_t version, uint16_t code);
 
@@ -244,8 +244,8 @@ int64_t journal_type_code(const uint8_t *name, size_t name_length);
  */
 
 /*
- * The kinds of items: a message; a code that is no type's, whose eight bytes are skipped (before version 9); a message
- * of an unknown type, skipped with its payload (version 9).
+ * The kinds of items: a message; before version 9 an unassigned code, whose eight bytes are skipped; at version 9 a
+ * message of an unknown type, skipped with its payload.
  */
 #define JOURNAL_ITEM_MESSAGE 0
 #define JOURNAL_ITEM_UNKNOWN_CODE 1
@@ -267,21 +267,21 @@ struct journal_item {
 /*
  * Finds the item that the bytes begin with, at a version from 5 to 9. It copies nothing and does not allocate.
  *
- * Returns 0 if a whole item is there, and writes its six numbers; otherwise the least number of missing bytes, and
- * nothing is written: call again with more of the stream.
+ * If a whole item is there, writes its six numbers and returns 0. Otherwise returns the least number of missing bytes
+ * and writes nothing: call again with more of the stream.
  *
- * Its errors, of which the first that is true comes: JOURNAL_UNKNOWN_VERSION, JOURNAL_NO_ROOM.
+ * Errors, in order of precedence: JOURNAL_UNKNOWN_VERSION, JOURNAL_NO_ROOM.
  */
 int64_t journal_next(uint32_t version, const uint8_t *bytes, size_t length, struct journal_item *item,
                      size_t item_room);
 
 /*
- * Finds the item that the bytes begin with, as journal_next, if its payload has at most `limit` bytes. As soon as the
- * eight bytes of a header are there that announces more, the error is JOURNAL_TOO_LONG: a reader of a network ends
- * there, and holds nothing of it. 4,294,967,295 is no limit.
+ * Finds the item that the bytes begin with, as journal_next, if its payload has at most `limit` bytes. If its header
+ * announces more, the error is JOURNAL_TOO_LONG as soon as that header is there. A reader of a network ends there, and
+ * holds nothing of it. A limit of 4,294,967,295 means none.
  *
- * Its errors, of which the first that is true comes: JOURNAL_UNKNOWN_VERSION, JOURNAL_NO_ROOM, JOURNAL_TOO_LONG if the
- * payload of the item has more than `limit` bytes.
+ * Errors, in order of precedence: JOURNAL_UNKNOWN_VERSION, JOURNAL_NO_ROOM, JOURNAL_TOO_LONG if the payload of the item
+ * has more than `limit` bytes.
  */
 int64_t journal_next_within(uint32_t version, uint32_t limit, const uint8_t *bytes, size_t length,
                             struct journal_item *item, size_t item_room);
@@ -290,8 +290,7 @@ int64_t journal_next_within(uint32_t version, uint32_t limit, const uint8_t *byt
  * Writes the eight bytes of the header that a message of a type has at a version, by the length of its payload in
  * bytes; the payload comes after it. Returns 8. A custom entry has a header.
  *
- * Its errors, of which the first that is true comes: JOURNAL_UNKNOWN_VERSION, JOURNAL_UNKNOWN_TYPE if the code is that
- * of no type.
+ * Errors, in order of precedence: JOURNAL_UNKNOWN_VERSION, JOURNAL_UNKNOWN_TYPE if the code is that of no type.
  */
 int64_t journal_header(uint32_t version, uint16_t code, uint32_t payload_length, uint8_t *out, size_t room);
 
@@ -300,9 +299,8 @@ int64_t journal_header(uint32_t version, uint16_t code, uint32_t payload_length,
  * header, and the canonical payload after it. A suspension is decoded by its schema from version 7 on, and written by
  * that of the version. Returns the frame's length in bytes.
  *
- * Its errors, of which the first that is true comes: JOURNAL_UNKNOWN_VERSION, JOURNAL_UNKNOWN_TYPE if the code is that
- * of no named type, JOURNAL_MALFORMED, JOURNAL_TOO_LONG; JOURNAL_OUT_OF_MEMORY in place of each after
- * JOURNAL_UNKNOWN_TYPE.
+ * Errors, in order of precedence: JOURNAL_UNKNOWN_VERSION, JOURNAL_UNKNOWN_TYPE if the code is that of no named type,
+ * JOURNAL_MALFORMED, JOURNAL_TOO_LONG; JOURNAL_OUT_OF_MEMORY may replace each after JOURNAL_UNKNOWN_TYPE.
  */
 int64_t journal_frame(uint32_t version, uint16_t code, const uint8_t *payload, size_t payload_length, uint8_t *out,
                       size_t room);
@@ -322,8 +320,8 @@ int64_t journal_is_well_formed(uint32_t schema, const uint8_t *payload, size_t p
  * Writes the canonical payload of what a payload means. Returns its length in bytes. A payload that is canonical is
  * copied: nothing is allocated then, and nothing can fail.
  *
- * Its errors, of which the first that is true comes: JOURNAL_UNKNOWN_SCHEMA, JOURNAL_MALFORMED, JOURNAL_TOO_LONG;
- * JOURNAL_OUT_OF_MEMORY in place of each after JOURNAL_UNKNOWN_SCHEMA.
+ * Errors, in order of precedence: JOURNAL_UNKNOWN_SCHEMA, JOURNAL_MALFORMED, JOURNAL_TOO_LONG; JOURNAL_OUT_OF_MEMORY
+ * may replace each after JOURNAL_UNKNOWN_SCHEMA.
  */
 int64_t journal_canonical(uint32_t schema, const uint8_t *payload, size_t payload_length, uint8_t *out, size_t room);
 
@@ -331,8 +329,8 @@ int64_t journal_canonical(uint32_t schema, const uint8_t *payload, size_t payloa
  * Merges the second payload into the first, as protobuf merges messages, and writes the canonical payload of the
  * result. Returns its length in bytes. Each of the two has to be well-formed by itself.
  *
- * Its errors, of which the first that is true comes: JOURNAL_UNKNOWN_SCHEMA, JOURNAL_MALFORMED,
- * JOURNAL_MALFORMED_SECOND, JOURNAL_TOO_LONG; JOURNAL_OUT_OF_MEMORY in place of each after JOURNAL_UNKNOWN_SCHEMA.
+ * Errors, in order of precedence: JOURNAL_UNKNOWN_SCHEMA, JOURNAL_MALFORMED, JOURNAL_MALFORMED_SECOND,
+ * JOURNAL_TOO_LONG; JOURNAL_OUT_OF_MEMORY may replace each after JOURNAL_UNKNOWN_SCHEMA.
  */
 int64_t journal_merge(uint32_t schema, const uint8_t *first, size_t first_length, const uint8_t *second,
                       size_t second_length, uint8_t *out, size_t room);
@@ -340,8 +338,8 @@ int64_t journal_merge(uint32_t schema, const uint8_t *first, size_t first_length
 /*
  * Writes the JSON of what a payload means, in protobuf's own form (docs/FORMAT.md). Returns its length in bytes.
  *
- * Its errors, of which the first that is true comes: JOURNAL_UNKNOWN_SCHEMA, JOURNAL_MALFORMED, JOURNAL_TOO_LONG;
- * JOURNAL_OUT_OF_MEMORY in place of each after JOURNAL_UNKNOWN_SCHEMA.
+ * Errors, in order of precedence: JOURNAL_UNKNOWN_SCHEMA, JOURNAL_MALFORMED, JOURNAL_TOO_LONG; JOURNAL_OUT_OF_MEMORY
+ * may replace each after JOURNAL_UNKNOWN_SCHEMA.
  */
 int64_t journal_json(uint32_t schema, const uint8_t *payload, size_t payload_length, uint8_t *out, size_t room);
 
@@ -368,11 +366,11 @@ struct journal_reading {
 /*
  * Reads a JSON text in protobuf's own form (docs/FORMAT.md). Writes two numbers, and as bytes the canonical payload of
  * what the text means, or the path to the rejected value, as "headers[2].key", if it is JSON. Returns how many bytes
- * these are; if there is no room for them, the numbers are written nevertheless. A rejected text is no error of the
- * call: the kind of the result says why it is rejected.
+ * these are; if there is no room for them, the numbers are written nevertheless. A rejected text is not an error of the
+ * call: the kind of the result has the reason.
  *
- * Its errors, of which the first that is true comes: JOURNAL_UNKNOWN_SCHEMA, JOURNAL_NO_ROOM, JOURNAL_TOO_LONG;
- * JOURNAL_OUT_OF_MEMORY in place of each after JOURNAL_NO_ROOM.
+ * Errors, in order of precedence: JOURNAL_UNKNOWN_SCHEMA, JOURNAL_NO_ROOM, JOURNAL_TOO_LONG; JOURNAL_OUT_OF_MEMORY may
+ * replace each after JOURNAL_NO_ROOM.
  */
 int64_t journal_payload_of_json(uint32_t schema, const uint8_t *json, size_t json_length,
                                 struct journal_reading *reading, size_t reading_room, uint8_t *out, size_t room);
@@ -410,7 +408,7 @@ struct journal_field {
  * for each number. Returns how many entries the payload has, at most as many as it has bytes; the first ones are
  * written, as many as there is room for. It copies nothing and does not allocate.
  *
- * Its errors, of which the first that is true comes: JOURNAL_UNKNOWN_SCHEMA, JOURNAL_MALFORMED, JOURNAL_NOT_CANONICAL.
+ * Errors, in order of precedence: JOURNAL_UNKNOWN_SCHEMA, JOURNAL_MALFORMED, JOURNAL_NOT_CANONICAL.
  */
 int64_t journal_fields(uint32_t schema, const uint8_t *payload, size_t payload_length, struct journal_field *fields,
                        size_t room);
@@ -438,14 +436,14 @@ struct journal_writing {
 
 /*
  * Writes the canonical payload whose fields a table gives, in the order of journal_fields; strings and bytes are at
- * their offsets in the bytes that are given. Of a message no offset and no length is looked at: its fields are the
+ * their offsets in the bytes that are given. The offset and the length of a message are ignored: its fields are the
  * entries after it. A plain field that is the default may come, and is left out. Writes two numbers, and as bytes the
- * payload; if there is no room for it, the numbers are written nevertheless. A rejected table is no error of the call:
- * the kind of the result says why its first entry that may not come is rejected, and there are no bytes. Returns how
- * many bytes there are.
+ * payload; if there is no room for it, the numbers are written nevertheless. A rejected table is not an error of the
+ * call: the kind of the result has the reason for its first entry that may not come, and there are no bytes. Returns
+ * how many bytes there are.
  *
- * Its errors, of which the first that is true comes: JOURNAL_UNKNOWN_SCHEMA, JOURNAL_NO_ROOM, JOURNAL_TOO_LONG;
- * JOURNAL_OUT_OF_MEMORY in place of each after JOURNAL_NO_ROOM.
+ * Errors, in order of precedence: JOURNAL_UNKNOWN_SCHEMA, JOURNAL_NO_ROOM, JOURNAL_TOO_LONG; JOURNAL_OUT_OF_MEMORY may
+ * replace each after JOURNAL_NO_ROOM.
  */
 int64_t journal_payload_of_fields(uint32_t schema, const struct journal_field *fields, size_t count,
                                   const uint8_t *bytes, size_t length, struct journal_writing *writing,
@@ -482,13 +480,13 @@ struct journal_notification {
 
 /*
  * Reads the id and the result of a notification of any type. Writes four numbers, and as bytes the name of the signal
- * and after it the result: the canonical payload of a Value (schema 1), a Failure (2) or StateKeys (5), the text of an
- * invocation id, and nothing of a void. Returns how many bytes these are; if there is no room for them, the numbers are
- * written nevertheless.
+ * and after it the result. That is the canonical payload of a Value (schema 1), a Failure (2) or StateKeys (5), the
+ * text of an invocation id, and nothing of a void. Returns how many bytes these are; if there is no room for them, the
+ * numbers are written nevertheless.
  *
- * Its errors, of which the first that is true comes: JOURNAL_UNKNOWN_TYPE if the code is that of no notification,
- * JOURNAL_NO_ROOM, JOURNAL_MALFORMED, JOURNAL_NO_ID, JOURNAL_NO_RESULT, JOURNAL_TOO_LONG; JOURNAL_OUT_OF_MEMORY in
- * place of each after JOURNAL_NO_ROOM.
+ * Errors, in order of precedence: JOURNAL_UNKNOWN_TYPE if the code is that of no notification, JOURNAL_NO_ROOM,
+ * JOURNAL_MALFORMED, JOURNAL_NO_ID, JOURNAL_NO_RESULT, JOURNAL_TOO_LONG; JOURNAL_OUT_OF_MEMORY may replace each after
+ * JOURNAL_NO_ROOM.
  */
 int64_t journal_notification(uint16_t code, const uint8_t *payload, size_t payload_length,
                              struct journal_notification *notification, size_t notification_room, uint8_t *out,
@@ -496,32 +494,33 @@ int64_t journal_notification(uint16_t code, const uint8_t *payload, size_t paylo
 
 /*
  * Comparing commands, by two payloads of one type. conformance/README.md lists the fields that are never compared,
- * those that hold payloads of user data, and those that are printed, with how they print.
+ * those with payloads of user data, and those that are printed.
  */
 
 /*
  * Returns 1 if two commands are the same for a replay, otherwise 0. If `ignore_payloads` is not 0, the content of user
- * data (values, parameters) is not compared, but that of a signal is; that there is a value, and no failure or nothing,
- * is compared in any case. Of an input nothing is ever compared.
+ * data (values, parameters) is not compared, but that of a signal is. That there is a value, and no failure or nothing,
+ * is compared in any case. Two input commands always compare as the same.
  *
- * Its errors, of which the first that is true comes: JOURNAL_UNKNOWN_TYPE if the code is that of no command,
- * JOURNAL_MALFORMED, JOURNAL_MALFORMED_SECOND; JOURNAL_OUT_OF_MEMORY in place of each after JOURNAL_UNKNOWN_TYPE.
+ * Errors, in order of precedence: JOURNAL_UNKNOWN_TYPE if the code is that of no command, JOURNAL_MALFORMED,
+ * JOURNAL_MALFORMED_SECOND; JOURNAL_OUT_OF_MEMORY may replace each after JOURNAL_UNKNOWN_TYPE.
  */
 int64_t journal_header_eq(uint16_t code, const uint8_t *first, size_t first_length, const uint8_t *second,
                           size_t second_length, uint32_t ignore_payloads);
 
 /*
- * Writes a line for each printed field in which two commands differ, and nothing if they differ in none: a line feed,
- * three spaces, the name of the field, ": ", what the first has, " != ", and what the second has. The last line has no
- * line feed after it; so the text comes after "- Difference:" in that of a mismatch. Returns its length in bytes.
+ * Writes the printed fields in which two commands differ, one per line, and nothing if they differ in none. A line is a
+ * line feed, three spaces, the name of the field, ": ", what the first has, " != ", and what the second has. The last
+ * line has no line feed after it; so the text comes after "- Difference:" in that of a mismatch. Returns its length in
+ * bytes.
  *
- * Of an input nothing is printed. Payloads of user data of other commands are printed if they differ, and so is the
- * completion id of a sleep, which is never compared. The name is compared, but for that of an input, and printed only
- * for a sleep, a run, a call and a one way call: two other commands that differ only in their names are not the same,
- * and have no line.
+ * An input prints nothing. Payloads of user data of other commands are printed if they differ, and so is the completion
+ * id of a sleep, which is never compared. The name is compared, except that of an input, and printed only for a sleep,
+ * a run, a call and a one way call. So two other commands that differ only in their names are not the same, and have no
+ * line.
  *
- * Its errors, of which the first that is true comes: JOURNAL_UNKNOWN_TYPE if the code is that of no command,
- * JOURNAL_MALFORMED, JOURNAL_MALFORMED_SECOND; JOURNAL_OUT_OF_MEMORY in place of each after JOURNAL_UNKNOWN_TYPE.
+ * Errors, in order of precedence: JOURNAL_UNKNOWN_TYPE if the code is that of no command, JOURNAL_MALFORMED,
+ * JOURNAL_MALFORMED_SECOND; JOURNAL_OUT_OF_MEMORY may replace each after JOURNAL_UNKNOWN_TYPE.
  */
 int64_t journal_difference(uint16_t code, const uint8_t *first, size_t first_length, const uint8_t *second,
                            size_t second_length, uint8_t *out, size_t room);
@@ -549,14 +548,13 @@ struct journal_verdict {
 #define JOURNAL_VERDICT_NUMBERS 2
 
 /*
- * Compares a recorded journal with a replayed one, both streams of a version from 5 to 9, command by command; other
+ * Compares a recorded journal with a replayed one, both streams of a version from 5 to 9, command by command. Other
  * items, and bytes after the last whole item, are skipped. If `ignore_payloads` is not 0, the content of user data is
  * not compared, but that of a signal is. Writes two numbers, the kind of the verdict and its index, and the text of a
  * mismatch, as the SDKs report it. Returns the text's length in bytes: 0 if there is none; if there is no room for it,
  * the numbers are written nevertheless.
  *
- * Its errors, of which the first that is true comes: JOURNAL_UNKNOWN_VERSION, JOURNAL_NO_ROOM; JOURNAL_OUT_OF_MEMORY
- * after these.
+ * Errors, in order of precedence: JOURNAL_UNKNOWN_VERSION, JOURNAL_NO_ROOM; JOURNAL_OUT_OF_MEMORY after these.
  */
 int64_t journal_verdict(uint32_t version, const uint8_t *recorded, size_t recorded_length, const uint8_t *replayed,
                         size_t replayed_length, uint32_t ignore_payloads, struct journal_verdict *verdict,

@@ -11,7 +11,7 @@ import pathlib
 import checks
 import release
 
-# What is made, each with a stage of its own.
+# What is made, each with a stage of its own; the check reference makes the pages.
 KINDS = ("wheel", "gem", "npm", "page", "deb", "tarball", "rust", "go_module")
 
 
@@ -35,7 +35,7 @@ def main(check: checks.Check) -> None:
         check.program(name)
     check.static_library()
     release.rejected(check)
-    folder, said = release.made(check, "x86_64")
+    folder, said = release.made(check, "x86_64", KINDS)
     for kind in KINDS:
         check.case(f"release.sh says that it makes {kind}", f"release.sh: {kind} for x86_64\n" in said, said)
     used(check, folder)

@@ -4,7 +4,8 @@
 Each link, anchor and path of this repository in `code`, the length of lines, the rows of tables, the form of
 decisions, each worked line of conformance, the test vectors of each rule, the code and the dump that the README shows,
 the table of compatibility, the checks on the page of the gate, each name in a table of promises, in the crates of its
-section, and each `unsafe` block, which the page on what is proved names. What is missing is shown before the last line.
+section, and each `unsafe` block, which the page on what is proved names. A command on a page is run by a check, or is
+known not to be. What is missing is shown before the last line.
 """
 from __future__ import annotations
 
@@ -179,8 +180,8 @@ def rules() -> Found:
     """The test vectors of each rule: `FILE, N: BEGINNING` in a page names the N lines of FILE under the one heading
     that begins so, and every heading of the files that are not random is named."""
     rule = re.compile(r"    ([a-z]*\.txt), ([0-9]*): (.*)")
-    page = "docs/PAYLOADS.md"
-    found = [rule.fullmatch(line) for each in (page, "docs/FORMAT.md") for line in lines(each)]
+    page = "conformance/README.md"
+    found = [rule.fullmatch(line) for line in lines(page)]
     named = [(match[1], int(match[2]), match[3]) for match in found if match]
     seen: collections.Counter[tuple[str, int, str]] = collections.Counter()
     for file in (f"{name}.txt" for name in VECTORS):
@@ -303,6 +304,46 @@ def stages() -> Found:
         yield page, f"{name} is a check without a row, or a row without a check", name in names & rows
 
 
+# What a line of code on a page begins with, if it is a command.
+COMMAND = re.compile(
+    r"(?:sh|tar|make|cc|npm|gem|cargo|go|python3|tshark|ln|mkdir|cp|grep|echo|git|curl|sudo|journal|journal_list) "
+)
+
+# Commands without a prompt, each with the check that runs it, or why none does. The check `shown` runs those with one.
+NOT_SHOWN = (
+    (r".*(\[|\b[A-Z]{4,}\b|\bOUT\b|\bPATH/)", "what is in capitals or brackets is for others to fill in"),
+    (r"journal dump --type .* > parameter$", "dump"),
+    (r"tshark ", "wireshark"),
+    (r"cc frame\.c ", "c"),
+    (r"(tar -xf|sh|npm install|gem install --local --no-document) (\./)?pendratsoa-", "release"),
+    (r"(cargo add --path|go mod edit -require) pendratsoa", "release"),
+    (r"(make|npm install|gem install --local) (\./)?(python|node|ruby)", "the check of the package, in a copy"),
+    (r"sh scripts/install\.sh --library /usr/local ", "install, below another folder"),
+    (r"python3 -m venv venv", "python installs the wheel below a folder"),
+    (r"sh install\.sh( --uninstall)? ", "files"),
+    (r"sh (scripts/check\.sh|scripts/checks/\w+\.sh|bench/install\.sh)", "a check itself, or what it needs"),
+    (r"(echo 0\.2\.0 > VERSION|python3 tools/generate\.py)$", "it changes the repository"),
+    (r"mkdir -p ~/", "it changes the home folder"),
+    (r"mkdir crates$|echo 'my_program: ", "for a repository of one's own"),
+)
+
+
+def commands() -> Found:
+    """A command on a page has a prompt, and is run by the check `shown`, or is known not to be."""
+    for page in pages():
+        fence: str | None = None
+        for number, line in enumerate(lines(page), 1):
+            mark = re.match(r" *```(.*)", line)
+            if mark:
+                fence = mark[1] if fence is None else None
+            elif (fence is None and line.startswith("    ") or fence == "sh") and COMMAND.match(line.strip()):
+                words = line.strip()
+                # what a program prints is no command, nor is a line of a picture
+                if not re.match(r"\w+ make: |\w+: |journal +\w+[,/]|journal  ", words):
+                    known = any(re.match(pattern, words) for pattern, _ in NOT_SHOWN)
+                    yield page, f"line {number} is a command that no check runs: {words}", known
+
+
 def unsafe_blocks() -> Found:
     """The page on what is proved names the function of each `unsafe` block."""
     page = "docs/PROOFS.md"
@@ -315,7 +356,7 @@ def unsafe_blocks() -> Found:
 
 PARTS = (
     links_and_paths, anchors, long_lines, tables, decisions, worked_lines, rules, quoted_code, shown_dump,
-    promised_names, front_names, compatibility, stages, unsafe_blocks,
+    promised_names, front_names, compatibility, stages, commands, unsafe_blocks,
 )
 
 

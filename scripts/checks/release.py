@@ -471,11 +471,14 @@ def rejected(check: checks.Check) -> None:
     check.case("releasing.sh with a folder of the repository", is_right, ended)
 
 
-def made(check: checks.Check, machine: str | None) -> tuple[pathlib.Path, str]:
-    """The files of a release, whose checksums are right, and what was said of the stages; where a tool for them is
-    absent the check ends."""
+def made(
+    check: checks.Check, machine: str | None, kinds: collections.abc.Iterable[str] = ()
+) -> tuple[pathlib.Path, str]:
+    """The files of a release, all or of some kinds, whose checksums are right, and what was said of the stages; where a
+    tool for them is absent the check ends."""
     release = check.work / "release"
-    words = ["sh", "scripts/release.sh", "--draft", *(["--machine", machine] if machine else []), release]
+    words = ["sh", "scripts/release.sh", "--draft", *(["--machine", machine] if machine else [])]
+    words += [word for kind in kinds for word in ("--only", kind)] + [str(release)]
     ended = checks.run(words)
     absent = re.search(
         rb"(?:nothing is built|no release is made), since ((?:there (?:is|are) no|no python3) .*)", ended.err

@@ -4,8 +4,8 @@
 Each phrase below is searched in pages, comments and docstrings, code in backquotes left out, also where it goes over
 the end of a line. A word with honest other uses is here only in the wrong phrase. Each page is plain: it has none of
 the phrases of DIALECT either, and of a hundred sentences fewer than five with more than 30 words. So are the help texts
-and the texts of the man pages, in the description of the programs. The long sentences of comments of public items and
-of headers are counted and reported.
+and the texts of the man pages, in the description of the programs. Comments of public items and of headers have as few
+long sentences.
 """
 from __future__ import annotations
 
@@ -261,7 +261,9 @@ def main(check: checks.Check) -> None:
         if not phrases:
             check.case(file, True)
     for what, (long, all_of_them) in counted.items():
-        print(f"words: {what}: {long} of {all_of_them} sentences have more than {WORDS} words")
+        said = f"{what}: {long} of {all_of_them} sentences have more than {WORDS} words"
+        print(f"words: {said}")
+        check.case(said, 100 * long < LONG * all_of_them)
 
 
 if __name__ == "__main__":

@@ -64,8 +64,9 @@ def ruby():
         "# frozen_string_literal: true\n\nmodule Pendratsoa\n"
         f"  # The name of each schema, at its number.\n  SCHEMA_NAMES = %w[\n{names}  ].freeze\n\n"
         f"  # The code of each named type.\n{codes}\n"
-        "  # The codes of commands and of notifications, those of custom entries among them.\n"
-        f"  COMMAND_CODES = (0x{COMMANDS.start:04x}...0x{COMMANDS.stop:04x})\n"
+        "  # The codes of commands, those of custom entries among them.\n"
+        f"  COMMAND_CODES = (0x{COMMANDS.start:04x}...0x{COMMANDS.stop:04x})\n\n"
+        "  # The codes of notifications, those of custom entries among them.\n"
         f"  NOTIFICATION_CODES = (0x{NOTIFICATIONS.start:04x}...0x{NOTIFICATIONS.stop:04x})\nend\n"
     )
 

@@ -122,19 +122,19 @@ PREAMBLE = """\
  * pendratsoa: the journal protocol of the Restate SDKs, for C99 and C++.
  *
  * Memory. The caller owns all of it, before, during and after a call. A call reads the `const` slices, writes the
- * others, and keeps no pointer; nothing that it allocates outlives it, and nothing has to be freed. Every pointer comes
- * with a count of elements, that to a struct with the count of its numbers, that to a table with the count of its
- * structs; if the count is 0 it may be null. What a call writes overlaps nothing else of that call.
+ * others, and keeps no pointer; nothing that it allocates outlives it, and nothing has to be freed. Every pointer is
+ * followed by a count: elements of a slice, numbers of a struct, structs of a table. If it is 0, the pointer may be
+ * null. What a call writes overlaps nothing else of that call.
  *
  * Results. A call returns a number that is not negative, or one of the errors below. One that writes bytes returns how
- * many they are, and writes them if `room` is at least as much; if it is less, the slice is unchanged, and the call can
+ * many they are, and writes them if `room` is at least as much. If it is less, the slice is unchanged, and the call can
  * be repeated with enough room. One that writes a table returns how many entries there are, and writes the first ones,
  * as many as `room`. After an error all that a call could write is unchanged. Texts are UTF-8 and have no zero byte at
  * the end.
  *
  * Names. A constant of a family begins with its name: the code of a type with JOURNAL_TYPE_, the number of a schema
- * with JOURNAL_SCHEMA_, a kind with JOURNAL_ITEM_, JOURNAL_FIELD_, JOURNAL_RESULT_ or JOURNAL_VERDICT_, a reason with
- * JOURNAL_JSON_ or JOURNAL_ENTRY_. The errors, which come first, have no such word and are negative.
+ * with JOURNAL_SCHEMA_. Kinds begin with JOURNAL_ITEM_, JOURNAL_FIELD_, JOURNAL_RESULT_ or JOURNAL_VERDICT_, and
+ * reasons with JOURNAL_JSON_ or JOURNAL_ENTRY_. The errors, which come first, have no such word and are negative.
  *
  * Threads. Calls share nothing: any number of threads may make them at once.
  */
@@ -153,7 +153,7 @@ extern "C" {
 KIND_OF_ERROR = """\
 /*
  * The kind of an error, by the result of a call: JOURNAL_UNKNOWN of JOURNAL_UNKNOWN_TYPE. The errors of a kind are its
- * number and multiples of -16 below it; a later library may tell further ones apart. Of a result that is no error it is
+ * number and multiples of -16 below it; a later library may tell further ones apart. For any other result it is
  * not negative.
  */
 #define JOURNAL_KIND_OF_ERROR(result) ((result) % 16)
@@ -161,8 +161,8 @@ KIND_OF_ERROR = """\
 
 ERROR_TEXT = """\
 /*
- * What an error says, as "malformed payload", in a text that stays and ends with a zero byte. Of an error that this
- * header does not know it is the text of its kind, and of a result that is no error "no error".
+ * What an error says, as "malformed payload", in a text that stays and ends with a zero byte. For an error that this
+ * header does not know it is the text of its kind, and for any other result "no error".
  */
 static inline const char *journal_error_text(int64_t result) {
     if (result >= 0) {
@@ -388,7 +388,8 @@ def python():
     text += "from typing import Dict, NamedTuple, Protocol, Tuple, Union\n\n"
     text += "from ._kinds import BytesLike, Kind, Schema\n\n"
     first, last = described()["versions"]
-    text += f"FIRST_VERSION = {first}\nLAST_VERSION = {last}\n\n"
+    text += f"# the first protocol version\nFIRST_VERSION = {first}\n"
+    text += f"# the last protocol version; a later library may have further ones\nLAST_VERSION = {last}\n\n"
     text += "# the parameters of each call: the bits of a number, a slice, or the struct that is written\n"
     text += "CALLS: Dict[str, Tuple[str, ...]] = {\n"
     for call in calls():
@@ -469,7 +470,8 @@ def ruby():
         "module Pendratsoa\n"
     )
     first, last = described()["versions"]
-    text += f"  FIRST_VERSION = {first}\n  LAST_VERSION = {last}\n"
+    text += f"  # The first protocol version.\n  FIRST_VERSION = {first}\n"
+    text += f"  # The last protocol version. A later library may have further ones.\n  LAST_VERSION = {last}\n"
     for entry in kinds():
         said = entry.get("what", " ".join(entry["comment"]))
         text += "\n" + commented([said], "  # ")

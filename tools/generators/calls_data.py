@@ -140,14 +140,14 @@ def sentence_of_errors(call):
     if said == ["JOURNAL_" + names[0]] and len(names) == 1:
         return f"Its only error is {said[0]}."
     text = (
-        f"Its errors, of which the first that is true comes: {', '.join(said)}"
+        f"Errors, in order of precedence: {', '.join(said)}"
         if len(said) > 1
         else f"Its error: {said[0]}"
     )
     if "OUT_OF_MEMORY" in names:
         before = names[names.index("OUT_OF_MEMORY") - 1]
         is_last = names[-1] == "OUT_OF_MEMORY"
-        text += "; JOURNAL_OUT_OF_MEMORY " + ("after these" if is_last else f"in place of each after JOURNAL_{before}")
+        text += "; JOURNAL_OUT_OF_MEMORY " + ("after these" if is_last else f"may replace each after JOURNAL_{before}")
     return text + "."
 
 

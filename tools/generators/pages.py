@@ -21,11 +21,14 @@ SAID = re.compile(
     r"((?:[Tt]he|[Aa]ll|its|these|each of the) )(\d+)( (?:named )?(schemas|records|types|codes|commands))\b"
 )
 
-# The page on what bytes are: the row of the types with their kinds, and how many lines give a type's code.
+# The page on what bytes are: the row of the types with their kinds.
 FORMAT = "docs/FORMAT.md"
 TYPES_ROW = re.compile(
     r"^(\| one of the )\d+( in \[conformance/frames\.txt\]\(\S+\) \| the type of that name: ).*( \|)$", re.M
 )
+
+# The page on test vectors: how many lines give a type's code.
+VECTORS = "conformance/README.md"
 CODE_LINES = re.compile(r"^(    frames\.txt, )\d+(: The code of each message type)$", re.M)
 
 LISTED = "docs/C.md"
@@ -43,7 +46,6 @@ SPEED = re.compile(r"(<!-- Written by tools/generate\.py pages of docs/PERFORMAN
 MEASUREMENTS = "docs/PERFORMANCE.md"
 SPEED_ROWS = (
     ("items of a replay, out of one chunk", "Items of a stream", ("replay", "`items`", "whole")),
-    ("the same, borrowed from a slice", "Items of a stream", ("replay", "`item_refs`", "a slice")),
     ("its messages, each decoded to its record", "Typed messages", ("replay", "`messages`", "whole")),
     ("its frames, into a `Vec` that is used again", "Frames written", ("replay", "`encode_into`")),
     ("frames of all types, each into `Bytes` of its own", "Frames written", ("mixed", "`encode`")),
@@ -82,8 +84,7 @@ def kinds_of_types():
 
 def format_page(text):
     """The page on what bytes are."""
-    text = TYPES_ROW.sub(lambda match: f"{match[1]}{len(typed())}{match[2]}{kinds_of_types()}{match[3]}", text)
-    return CODE_LINES.sub(lambda match: f"{match[1]}{len(typed())}{match[2]}", text)
+    return TYPES_ROW.sub(lambda match: f"{match[1]}{len(typed())}{match[2]}{kinds_of_types()}{match[3]}", text)
 
 
 def list_of_schemas():
@@ -160,6 +161,8 @@ def files():
             text = front_page(text)
         if path == FORMAT:
             text = format_page(text)
+        if path == VECTORS:
+            text = CODE_LINES.sub(lambda match: f"{match[1]}{len(typed())}{match[2]}", text)
         if path == PROGRAMS:
             text = programs_page(text)
         if path == LISTED:

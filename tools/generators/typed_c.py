@@ -334,12 +334,14 @@ def functions():
         reading = ["const uint8_t *payload", "size_t payload_length", *arguments]
         writing = [f"const {arguments[0]}", arguments[1], "uint8_t *out", "size_t room"]
         schema, has_rows = schema_of(record.name), bool(record.rows)
+        text += f"/* Reads the record {record.name} from a payload. */\n"
         text += declared(f"static inline int64_t journal_read_{record.name}(", reading, ") {")
         text += "    struct journal_reader_ reader;\n\n    memset(record, 0, sizeof *record);\n"
         words = ["&reader", schema, str(is_recursive(record)).lower(), "payload", "payload_length", "arena"]
         text += filled("    if (journal_begin_reading_(", words, ")) {")
         text += f"        journal_read_{record.name}_(&reader, 0{', record' if has_rows else ''});\n    }}\n"
         text += "    return journal_end_reading_(&reader, arena, record, sizeof *record);\n}\n\n"
+        text += f"/* Writes the canonical payload of the record {record.name}. */\n"
         text += declared(f"static inline int64_t journal_write_{record.name}(", writing, ") {")
         if not is_borrowed(record):
             text += "    struct journal_writer_ writer = journal_writer_of_(arena);\n\n"
@@ -347,7 +349,7 @@ def functions():
             text += "    struct journal_writer_ writer;\n"
             text += f"    const int64_t length = journal_encode_{record.name}(record, out, room);\n\n"
             text += "    if (length != JOURNAL_MALFORMED) {\n        return length;\n    }\n"
-            text += "    /* a table says which field is rejected, and why */\n"
+            text += "    /* a table has the field that is rejected, and why */\n"
             text += "    writer = journal_writer_of_(arena);\n"
         text += f"    journal_put_{record.name}_(&writer, 0, record);\n" if has_rows else "    (void)record;\n"
         text += filled("    return journal_end_writing_(", ["&writer", schema, "arena", "out", "room"], ");") + "}\n\n"
@@ -370,7 +372,8 @@ def each_message():
 def framer(record, message, before):
     name, code = record.name, f"JOURNAL_TYPE_{upper(message.type_name())}"
     words = ["uint32_t version", f"const struct journal_{name} *record", "struct journal_arena *arena"]
-    text = declared(f"static inline int64_t journal_frame_{name}(", [*words, "uint8_t *out", "size_t room"], ") {")
+    text = f"/* Writes the frame of a message from its record {name}. */\n"
+    text += declared(f"static inline int64_t journal_frame_{name}(", [*words, "uint8_t *out", "size_t room"], ") {")
     text += f"    int64_t length = journal_header(version, {code}, 0, NULL, 0);\n\n"
     text += earlier_frame(name, code, before) if before else ""
     text += "    if (length > 0) {\n"
@@ -404,7 +407,8 @@ def earlier_frame(name, code, before):
 def encoders():
     """The calls that write the payloads of records, which the library has of those that are not within themselves."""
     return "".join(
-        declared(
+        f"/* Writes the payload of the record {record.name}. */\n"
+        + declared(
             f"int64_t journal_encode_{record.name}(",
             [f"const struct journal_{record.name} *record", "uint8_t *out", "size_t room"],
             ");",

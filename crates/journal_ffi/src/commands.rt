@@ -10,11 +10,11 @@ use journal_c_api::outcome::outcome_of;
 use std::alloc::Global;
 
 /// Returns 1 if two commands are the same for a replay, otherwise 0. If `ignore_payloads` is not 0, the content of user
-/// data (values, parameters) is not compared, but that of a signal is; that there is a value, and no failure or
-/// nothing, is compared in any case. Of an input nothing is ever compared.
+/// data (values, parameters) is not compared, but that of a signal is. That there is a value, and no failure or
+/// nothing, is compared in any case. Two input commands always compare as the same.
 ///
-/// Its errors, of which the first that is true comes: JOURNAL_UNKNOWN_TYPE if the code is that of no command,
-/// JOURNAL_MALFORMED, JOURNAL_MALFORMED_SECOND; JOURNAL_OUT_OF_MEMORY in place of each after JOURNAL_UNKNOWN_TYPE.
+/// Errors, in order of precedence: JOURNAL_UNKNOWN_TYPE if the code is that of no command, JOURNAL_MALFORMED,
+/// JOURNAL_MALFORMED_SECOND; JOURNAL_OUT_OF_MEMORY may replace each after JOURNAL_UNKNOWN_TYPE.
 #[unsafe(no_mangle)]
 pub extern "C" fn journal_header_eq(
     alloc: Global,
@@ -28,17 +28,18 @@ pub extern "C" fn journal_header_eq(
     outcome_of(commands::header_eq(alloc, code, first, second, ignore_payloads != 0))
 }
 
-/// Writes a line for each printed field in which two commands differ, and nothing if they differ in none: a line feed,
-/// three spaces, the name of the field, ": ", what the first has, " != ", and what the second has. The last line has no
-/// line feed after it; so the text comes after "- Difference:" in that of a mismatch. Returns its length in bytes.
+/// Writes the printed fields in which two commands differ, one per line, and nothing if they differ in none. A line is
+/// a line feed, three spaces, the name of the field, ": ", what the first has, " != ", and what the second has. The
+/// last line has no line feed after it; so the text comes after "- Difference:" in that of a mismatch. Returns its
+/// length in bytes.
 ///
-/// Of an input nothing is printed. Payloads of user data of other commands are printed if they differ, and so is the
-/// completion id of a sleep, which is never compared. The name is compared, but for that of an input, and printed only
-/// for a sleep, a run, a call and a one way call: two other commands that differ only in their names are not the same,
-/// and have no line.
+/// An input prints nothing. Payloads of user data of other commands are printed if they differ, and so is the
+/// completion id of a sleep, which is never compared. The name is compared, except that of an input, and printed only
+/// for a sleep, a run, a call and a one way call. So two other commands that differ only in their names are not the
+/// same, and have no line.
 ///
-/// Its errors, of which the first that is true comes: JOURNAL_UNKNOWN_TYPE if the code is that of no command,
-/// JOURNAL_MALFORMED, JOURNAL_MALFORMED_SECOND; JOURNAL_OUT_OF_MEMORY in place of each after JOURNAL_UNKNOWN_TYPE.
+/// Errors, in order of precedence: JOURNAL_UNKNOWN_TYPE if the code is that of no command, JOURNAL_MALFORMED,
+/// JOURNAL_MALFORMED_SECOND; JOURNAL_OUT_OF_MEMORY may replace each after JOURNAL_UNKNOWN_TYPE.
 #[unsafe(no_mangle)]
 pub extern "C" fn journal_difference(
     alloc: Global,

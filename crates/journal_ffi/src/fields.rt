@@ -14,7 +14,7 @@ use std::alloc::Global;
 /// for each number. Returns how many entries the payload has, at most as many as it has bytes; the first ones are
 /// written, as many as there is room for. It copies nothing and does not allocate.
 ///
-/// Its errors, of which the first that is true comes: JOURNAL_UNKNOWN_SCHEMA, JOURNAL_MALFORMED, JOURNAL_NOT_CANONICAL.
+/// Errors, in order of precedence: JOURNAL_UNKNOWN_SCHEMA, JOURNAL_MALFORMED, JOURNAL_NOT_CANONICAL.
 #[unsafe(no_mangle)]
 pub extern "C" fn journal_fields(schema: u32, payload: &[u8], fields: &mut [FieldEntry]) -> i64
     ensures { Returns result (WritesFields schema payload.now fields.old fields.new) }
@@ -23,14 +23,14 @@ pub extern "C" fn journal_fields(schema: u32, payload: &[u8], fields: &mut [Fiel
 }
 
 /// Writes the canonical payload whose fields a table gives, in the order of journal_fields; strings and bytes are at
-/// their offsets in the bytes that are given. Of a message no offset and no length is looked at: its fields are the
+/// their offsets in the bytes that are given. The offset and the length of a message are ignored: its fields are the
 /// entries after it. A plain field that is the default may come, and is left out. Writes two numbers, and as bytes the
-/// payload; if there is no room for it, the numbers are written nevertheless. A rejected table is no error of the call:
-/// the kind of the result says why its first entry that may not come is rejected, and there are no bytes. Returns how
-/// many bytes there are.
+/// payload; if there is no room for it, the numbers are written nevertheless. A rejected table is not an error of the
+/// call: the kind of the result has the reason for its first entry that may not come, and there are no bytes. Returns
+/// how many bytes there are.
 ///
-/// Its errors, of which the first that is true comes: JOURNAL_UNKNOWN_SCHEMA, JOURNAL_NO_ROOM, JOURNAL_TOO_LONG;
-/// JOURNAL_OUT_OF_MEMORY in place of each after JOURNAL_NO_ROOM.
+/// Errors, in order of precedence: JOURNAL_UNKNOWN_SCHEMA, JOURNAL_NO_ROOM, JOURNAL_TOO_LONG; JOURNAL_OUT_OF_MEMORY may
+/// replace each after JOURNAL_NO_ROOM.
 #[unsafe(no_mangle)]
 pub extern "C" fn journal_payload_of_fields(
     alloc: Global,

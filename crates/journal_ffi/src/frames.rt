@@ -12,8 +12,7 @@ use std::alloc::Global;
 /// Writes the eight bytes of the header that a message of a type has at a version, by the length of its payload in
 /// bytes; the payload comes after it. Returns 8. A custom entry has a header.
 ///
-/// Its errors, of which the first that is true comes: JOURNAL_UNKNOWN_VERSION, JOURNAL_UNKNOWN_TYPE if the code is that
-/// of no type.
+/// Errors, in order of precedence: JOURNAL_UNKNOWN_VERSION, JOURNAL_UNKNOWN_TYPE if the code is that of no type.
 #[unsafe(no_mangle)]
 pub extern "C" fn journal_header(
     version: u32,
@@ -30,9 +29,8 @@ pub extern "C" fn journal_header(
 /// header, and the canonical payload after it. A suspension is decoded by its schema from version 7 on, and written by
 /// that of the version. Returns the frame's length in bytes.
 ///
-/// Its errors, of which the first that is true comes: JOURNAL_UNKNOWN_VERSION, JOURNAL_UNKNOWN_TYPE if the code is that
-/// of no named type, JOURNAL_MALFORMED, JOURNAL_TOO_LONG; JOURNAL_OUT_OF_MEMORY in place of each after
-/// JOURNAL_UNKNOWN_TYPE.
+/// Errors, in order of precedence: JOURNAL_UNKNOWN_VERSION, JOURNAL_UNKNOWN_TYPE if the code is that of no named type,
+/// JOURNAL_MALFORMED, JOURNAL_TOO_LONG; JOURNAL_OUT_OF_MEMORY may replace each after JOURNAL_UNKNOWN_TYPE.
 #[unsafe(no_mangle)]
 pub extern "C" fn journal_frame(
     alloc: Global,

@@ -9,13 +9,13 @@ use journal_c_api::outcome::outcome_of;
 use std::alloc::Global;
 
 /// Reads the id and the result of a notification of any type. Writes four numbers, and as bytes the name of the signal
-/// and after it the result: the canonical payload of a Value (schema 1), a Failure (2) or StateKeys (5), the text of an
-/// invocation id, and nothing of a void. Returns how many bytes these are; if there is no room for them, the numbers
-/// are written nevertheless.
+/// and after it the result. That is the canonical payload of a Value (schema 1), a Failure (2) or StateKeys (5), the
+/// text of an invocation id, and nothing of a void. Returns how many bytes these are; if there is no room for them, the
+/// numbers are written nevertheless.
 ///
-/// Its errors, of which the first that is true comes: JOURNAL_UNKNOWN_TYPE if the code is that of no notification,
-/// JOURNAL_NO_ROOM, JOURNAL_MALFORMED, JOURNAL_NO_ID, JOURNAL_NO_RESULT, JOURNAL_TOO_LONG; JOURNAL_OUT_OF_MEMORY in
-/// place of each after JOURNAL_NO_ROOM.
+/// Errors, in order of precedence: JOURNAL_UNKNOWN_TYPE if the code is that of no notification, JOURNAL_NO_ROOM,
+/// JOURNAL_MALFORMED, JOURNAL_NO_ID, JOURNAL_NO_RESULT, JOURNAL_TOO_LONG; JOURNAL_OUT_OF_MEMORY may replace each after
+/// JOURNAL_NO_ROOM.
 #[unsafe(no_mangle)]
 pub extern "C" fn journal_notification(
     alloc: Global,

@@ -23,8 +23,8 @@ pub extern "C" fn journal_is_well_formed(schema: u32, payload: &[u8]) -> i64
 /// Writes the canonical payload of what a payload means. Returns its length in bytes. A payload that is canonical is
 /// copied: nothing is allocated then, and nothing can fail.
 ///
-/// Its errors, of which the first that is true comes: JOURNAL_UNKNOWN_SCHEMA, JOURNAL_MALFORMED, JOURNAL_TOO_LONG;
-/// JOURNAL_OUT_OF_MEMORY in place of each after JOURNAL_UNKNOWN_SCHEMA.
+/// Errors, in order of precedence: JOURNAL_UNKNOWN_SCHEMA, JOURNAL_MALFORMED, JOURNAL_TOO_LONG; JOURNAL_OUT_OF_MEMORY
+/// may replace each after JOURNAL_UNKNOWN_SCHEMA.
 #[unsafe(no_mangle)]
 pub extern "C" fn journal_canonical(
     alloc: Global,
@@ -40,8 +40,8 @@ pub extern "C" fn journal_canonical(
 /// Merges the second payload into the first, as protobuf merges messages, and writes the canonical payload of the
 /// result. Returns its length in bytes. Each of the two has to be well-formed by itself.
 ///
-/// Its errors, of which the first that is true comes: JOURNAL_UNKNOWN_SCHEMA, JOURNAL_MALFORMED,
-/// JOURNAL_MALFORMED_SECOND, JOURNAL_TOO_LONG; JOURNAL_OUT_OF_MEMORY in place of each after JOURNAL_UNKNOWN_SCHEMA.
+/// Errors, in order of precedence: JOURNAL_UNKNOWN_SCHEMA, JOURNAL_MALFORMED, JOURNAL_MALFORMED_SECOND,
+/// JOURNAL_TOO_LONG; JOURNAL_OUT_OF_MEMORY may replace each after JOURNAL_UNKNOWN_SCHEMA.
 #[unsafe(no_mangle)]
 pub extern "C" fn journal_merge(
     alloc: Global,
@@ -57,8 +57,8 @@ pub extern "C" fn journal_merge(
 
 /// Writes the JSON of what a payload means, in protobuf's own form (docs/FORMAT.md). Returns its length in bytes.
 ///
-/// Its errors, of which the first that is true comes: JOURNAL_UNKNOWN_SCHEMA, JOURNAL_MALFORMED, JOURNAL_TOO_LONG;
-/// JOURNAL_OUT_OF_MEMORY in place of each after JOURNAL_UNKNOWN_SCHEMA.
+/// Errors, in order of precedence: JOURNAL_UNKNOWN_SCHEMA, JOURNAL_MALFORMED, JOURNAL_TOO_LONG; JOURNAL_OUT_OF_MEMORY
+/// may replace each after JOURNAL_UNKNOWN_SCHEMA.
 #[unsafe(no_mangle)]
 pub extern "C" fn journal_json(alloc: Global, schema: u32, payload: &[u8], out: &mut [u8]) -> i64
     ensures { Returns result (Writes (ReturnsJson schema payload.now) out.old out.new) }
@@ -68,11 +68,11 @@ pub extern "C" fn journal_json(alloc: Global, schema: u32, payload: &[u8], out: 
 
 /// Reads a JSON text in protobuf's own form (docs/FORMAT.md). Writes two numbers, and as bytes the canonical payload of
 /// what the text means, or the path to the rejected value, as "headers[2].key", if it is JSON. Returns how many bytes
-/// these are; if there is no room for them, the numbers are written nevertheless. A rejected text is no error of the
-/// call: the kind of the result says why it is rejected.
+/// these are; if there is no room for them, the numbers are written nevertheless. A rejected text is not an error of
+/// the call: the kind of the result has the reason.
 ///
-/// Its errors, of which the first that is true comes: JOURNAL_UNKNOWN_SCHEMA, JOURNAL_NO_ROOM, JOURNAL_TOO_LONG;
-/// JOURNAL_OUT_OF_MEMORY in place of each after JOURNAL_NO_ROOM.
+/// Errors, in order of precedence: JOURNAL_UNKNOWN_SCHEMA, JOURNAL_NO_ROOM, JOURNAL_TOO_LONG; JOURNAL_OUT_OF_MEMORY may
+/// replace each after JOURNAL_NO_ROOM.
 #[unsafe(no_mangle)]
 pub extern "C" fn journal_payload_of_json(
     alloc: Global,

@@ -3,11 +3,13 @@
 
 # What the library for C declares: its calls, the numbers that they write, and their errors.
 module Pendratsoa
+  # The first protocol version.
   FIRST_VERSION = 5
+  # The last protocol version. A later library may have further ones.
   LAST_VERSION = 9
 
-  # The kinds of items: a message; a code that is no type's, whose eight bytes are skipped (before version 9); a message
-  # of an unknown type, skipped with its payload (version 9).
+  # The kinds of items: a message; before version 9 an unassigned code, whose eight bytes are skipped; at version 9 a
+  # message of an unknown type, skipped with its payload.
   ITEM_KINDS = %i[message unknown_code skipped].freeze
 
   # Why a JSON text is rejected.

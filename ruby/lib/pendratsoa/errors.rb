@@ -82,6 +82,7 @@ module Pendratsoa
       @path = path
     end
 
+    # The error of a field, by the path to it and the reason.
     def self.of(path, reason)
       new("encode: #{path}: #{reason.to_s.tr("_", " ")}", call: "encode", reason: reason, path: path)
     end

@@ -102,7 +102,9 @@ module Pendratsoa
   CODE_GET_INVOCATION_OUTPUT_COMPLETION_NOTIFICATION = 0x8013
   CODE_SIGNAL_NOTIFICATION = 0xfbff
 
-  # The codes of commands and of notifications, those of custom entries among them.
+  # The codes of commands, those of custom entries among them.
   COMMAND_CODES = (0x0400...0x8000)
+
+  # The codes of notifications, those of custom entries among them.
   NOTIFICATION_CODES = (0x8000...0xfc00)
 end
