@@ -4,7 +4,7 @@ crates/shared_core_frames."""
 from . import laid_out
 from . import missing_rt as missing  # noqa: F401
 from .forms import bound
-from .proto import OneOf, camel, fields_of, messages, schema_name, snake
+from .proto import OneOf, camel, fields_of, messages, snake
 from .records import crate_of, shared_oneofs
 
 ABOUT = "What appends records and messages to buffers."
@@ -56,8 +56,8 @@ def oneofs():
     return found
 
 
-def heading(text, uses, ghosts=""):
-    return f"//! {text}\n\n" + ghosts + "".join(f"use {use};\n" for use in sorted(uses)) + "\n"
+def heading(text, uses):
+    return f"//! {text}\n\n" + "".join(f"use {use};\n" for use in sorted(uses)) + "\n"
 
 
 def oneofs_text():
@@ -84,11 +84,19 @@ def oneofs_text():
 
 
 def records_text():
-    uses = {"crate::record::AppendRecord", "crate::sink::PayloadSink", "shared_core_codec::error::EncodingError"}
+    uses = {
+        "crate::encodable_message::PlainMessage",
+        "crate::record::AppendRecord",
+        "crate::sink::PayloadSink",
+        "shared_core_codec::error::EncodingError",
+    }
     code, presences = [], set()
     for message in written():
         name = message.name
         uses.add(f"{crate_of(message)}::{snake(name)}::{name}")
+        # what differs by version is written by hand
+        if message.code is not None and not message.differs_by_version:
+            code.append(f"impl PlainMessage for {name} {{}}\n")
         if not has_bytes(name):
             code.append(f"impl AppendRecord for {name} {{}}\n")
             continue
@@ -108,42 +116,11 @@ def records_text():
             f"{body}    }}\n}}\n"
         )
     uses.add(f"crate::fields::{{{', '.join(sorted(presences))}}}")
-    return heading("Records, appended from their front.", uses) + "\n".join(code)
-
-
-def messages_text():
-    uses = {
-        "crate::buffer::FrameBuffer",
-        "crate::encodable_message::RestateEncodableMessage",
-        "shared_core_base::version::Version",
-        "shared_core_codec::error::EncodingError",
-        "shared_core_codec::record::WireRecord",
-    }
-    code = []
-    for message in written():
-        name = message.name
-        # what differs by version is written by hand
-        if message.code is None or message.differs_by_version:
-            continue
-        uses.add(f"{crate_of(message)}::{snake(name)}::{name}")
-        call = "append_record" if has_bytes(name) else "append_frame"
-        code.append(
-            f"impl RestateEncodableMessage for {name} {{\n"
-            f"    ghost wire_form = {{ λ message _. plain_form tables.{schema_name(name)} "
-            f"(⟦<{name} as WireRecord>⟧.parts message) }};\n\n"
-            "    fn encode_into<B: FrameBuffer>(&self, _version: Version, out: &mut B) -> Result<(), EncodingError> {\n"
-            f"        out.{call}(self, None)\n    }}\n}}\n"
-        )
-    ghosts = (
-        "ghost use Rattle.shared_core_codec.specs.Table as tables;\n"
-        "ghost use Rattle.shared_core_message.specs.Frames.{plain_form};\n\n"
-    )
-    return heading("Messages that are written the same at every version.", uses, ghosts) + "\n".join(code)
+    return heading("Records, appended from their front, and those that are messages.", uses) + "\n".join(code)
 
 
 def texts():
     return {
-        f"{FOLDER}/messages.rt": messages_text(),
         f"{FOLDER}/oneofs.rt": oneofs_text(),
         f"{FOLDER}/records.rt": records_text(),
     }

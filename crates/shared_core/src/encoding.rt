@@ -10,7 +10,7 @@ pub use crate::encoding::consume_next::ConsumeNext;
 pub use crate::encoding::decode_message::DecodeMessage;
 pub use crate::encoding::encoder::Encoder;
 pub use crate::encoding::error::DecodingError;
-pub use shared_core_frames::{FrameBuffer, FrameChunks, SHARED_LEN};
+pub use shared_core_frames::{FrameBuffer, FrameChunks};
 pub use shared_core_io::{ItemReader, ReadError};
 pub use shared_core_stream::encoding::{
     Decoder, Item, ItemError, ItemKind, ItemRef, ItemRefs, Items, MessageTooLong, MissingBytes,

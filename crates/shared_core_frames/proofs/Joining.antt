@@ -1,8 +1,6 @@
 -- The bytes of chunks.
 use Rattle.std.proofs.Common.{◌≡◌, ℕ, ◌+◌, ◌≤◌, List, [], ◌∷◌, ◌++◌, length, take, drop, append_assoc, append-nil}
 use Rattle.std.proofs.Common.{refl, ap, sym, ◌∙◌, arith, take-append-drop, true, false}
-use Rattle.std.proofs.Math.Seq.{take-append_seam}
-use Rattle.std.proofs.lemmas.Grind.{take_at_read}
 use Rattle.std.proofs.lemmas.List.{drop_all, drop-append-le, length-append, take_all, take-append-le}
 use Rattle.std.proofs.lemmas.List.Elements.{All-append, All-head, All-push, All-tail}
 use Rattle.std.proofs.lemmas.List.Folds.{concat-append}
@@ -195,10 +193,14 @@ end_appended (Ok t) n old new xs within is = ap (drop n) is ∙ drop-append-le n
 end_appended (Err e) n old new xs within is = is
 
 -- and what is before that place stays
-pub front_kept : {T E : Type 0} (result : Result T E) (n : ℕ) (old new xs : List ℕ) → n ≤ length old
-    → OnOk result (new ≡ old ++ xs) → OnErr result (new ≡ old) → take n new ≡ take n old
-front_kept (Ok t) n old new xs within is same = ap (take n) is ∙ take-append-le n old xs within
-front_kept (Err e) n old new xs within is same = ap (take n) same
+abbrev kept : ℕ → List ℕ → List ℕ × ℕ
+kept room front = (front, room)
+
+pub front_kept : {T E : Type 0} (result : Result T E) (n room : ℕ) (old new xs : List ℕ) → n ≤ length old
+    → OnOk result (new ≡ old ++ xs) → OnErr result (new ≡ old)
+    → ◌≡◌ {A = List ℕ × ℕ} (take n new, room) (take n old, room)
+front_kept (Ok t) n room old new xs within is same = ap (kept room) (ap (take n) is ∙ take-append-le n old xs within)
+front_kept (Err e) n room old new xs within is same = ap (λ (l : List ℕ). kept room (take n l)) same
 
 pub still_within : {T E : Type 0} (result : Result T E) (n : ℕ) (old new xs : List ℕ) → n ≤ length old
     → OnOk result (new ≡ old ++ xs) → OnErr result (new ≡ old) → n ≤ length new

@@ -14,9 +14,6 @@ use std::alloc::{AllocError, Global};
 use std::collections::VecDeque;
 use std::marker::Model;
 
-/// The number of bytes from which on a `bytes` field is shared, and not copied.
-pub const SHARED_LEN: usize = 4096;
-
 /// The bytes of frames, in chunks: long `bytes` fields, which are shared, and between them what is small. A clause sees
 /// the bytes of all of them.
 #[derive(Drop)]
@@ -40,6 +37,9 @@ impl Model for FrameChunks {
 }
 
 impl FrameChunks {
+    /// The number of bytes from which on a `bytes` field is shared, and not copied.
+    pub const SHARED_LEN: usize = 4096;
+
     /// Returns no chunks. Does not allocate.
     pub fn new(alloc: Global) -> FrameChunks
         ensures { result ≡ [] }
@@ -119,9 +119,7 @@ impl PayloadSink for FrameChunks {
 
     ghost contents = { λ chunks. chunks };
 
-    ghost before = { λ _. [] };
-
-    ghost room = { λ _. 0 };
+    ghost rest = { λ _. ([], 0) };
 
     #[tactic(auto, using(crate::proofs::Joining::after_tail))]
     fn put(&mut self, bytes: &[u8]) -> Result<(), AllocError> {
@@ -131,7 +129,7 @@ impl PayloadSink for FrameChunks {
     /// Shared, if it is long.
     #[tactic(auto, using(crate::proofs::Joining::after_tail))]
     fn put_content(&mut self, content: &Bytes) -> Result<(), AllocError> {
-        if content.len() < SHARED_LEN {
+        if content.len() < FrameChunks::SHARED_LEN {
             return self.put(content.as_slice());
         }
         self.share(content)

@@ -1,17 +1,17 @@
 //! The trait of the messages that are written.
 //!
-//! A message that is written is one that is read, so a message's type is declared once. `encode_into` is a line in each
-//! message: a body here would have to be proved for whatever a message is written as, which the trait leaves open. That
-//! what is written fits its schema is a clause of each `Ok`, and no law of the trait, since in a law an integer has no
-//! range.
+//! A message that is written is one that is read, so a message's type is declared once. What is the same at every
+//! version is written by one body, for each `PlainMessage`; `versions` has the others. That what is written fits its
+//! schema is a clause of each `Ok`, and no law of the trait, since in a law an integer has no range.
 
 ghost use Rattle.std.specs.Prelude.{◌≡◌, ◌≤◌, ◌<◌, ◌+◌, ◌^◌, ◌++◌, IfOk, OnOk, OnErr, Err};
 ghost use Rattle.std.specs.Result.{IsErrOf};
 ghost use Rattle.shared_core_base.specs.declared.version.Version.{Version as AnyVersion};
 ghost use Rattle.shared_core_codec.specs.declared.error.EncodingError.TheVariants.{PayloadTooLong, OutOfMemory};
-ghost use Rattle.shared_core_message.specs.Frames.{WireForm, WireFits, wire_size, wire_frame};
+ghost use Rattle.shared_core_message.specs.Frames.{WireForm, WireFits, plain_form, wire_size, wire_frame};
 
 use crate::buffer::FrameBuffer;
+use crate::record::AppendRecord;
 use bytes::Bytes;
 use shared_core_base::version::Version;
 use shared_core_codec::error::EncodingError;
@@ -57,5 +57,21 @@ pub trait RestateEncodableMessage: RestateMessage {
         let mut frame = Vec::new(alloc);
         self.encode_into(version, &mut frame)?;
         Ok(Bytes::from_vec(frame)?)
+    }
+}
+
+/// A message that is written as it is at every version, without a flag in its header.
+pub trait PlainMessage: RestateMessage + AppendRecord {}
+
+impl<M: PlainMessage> RestateEncodableMessage for M {
+    ghost wire_form = { λ message _. plain_form M.schema (M.parts message) };
+
+    #[inline]
+    fn encode_into<B: FrameBuffer>(
+        &self,
+        _version: Version,
+        out: &mut B,
+    ) -> Result<(), EncodingError> {
+        out.append_record(self, None)
     }
 }

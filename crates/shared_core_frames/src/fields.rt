@@ -1,6 +1,6 @@
 //! Fields by their presence, appended from their front.
 
-ghost use Rattle.std.specs.Prelude.{◌≡◌, ◌≤◌, OnOk};
+ghost use Rattle.std.specs.Prelude.{◌≡◌, OnOk};
 ghost use Rattle.shared_core_wire.specs.Schema.{Optional, Plain, Repeated};
 ghost use Rattle.shared_core_wire.specs.Schema as row;
 ghost use Rattle.shared_core_codec.specs.FieldParts.{elements_part, option_part};
@@ -21,8 +21,7 @@ pub(crate) fn plain<V: Scalar + AppendValue, S: PayloadSink>(
 ) -> Result<(), EncodingError>
     ensures ok { OnOk result
         (S.contents out.new ≡ after_row (Plain number V.kind) (V.part field.now) (S.contents out.old)) }
-    ensures before { S.before out.new ≡ S.before out.old }
-    ensures room { S.room out.old ≤ S.room out.new }
+    ensures rest { S.rest out.new ≡ S.rest out.old }
 {
     if field.is_default() {
         return Ok(());
@@ -39,8 +38,7 @@ pub(crate) fn optional<V: AppendValue, S: PayloadSink>(
 ) -> Result<(), EncodingError>
     ensures ok { OnOk result
         (S.contents out.new ≡ after_row (Optional number V.kind) (option_part V.part field.now) (S.contents out.old)) }
-    ensures before { S.before out.new ≡ S.before out.old }
-    ensures room { S.room out.old ≤ S.room out.new }
+    ensures rest { S.rest out.new ≡ S.rest out.old }
 {
     match field {
         Some(value) => value.append_value(number, out),
@@ -56,8 +54,7 @@ pub(crate) fn repeated<V: Element + AppendValue, S: PayloadSink>(
 ) -> Result<(), EncodingError>
     ensures ok { OnOk result (S.contents out.new
         ≡ after_row (Repeated number V.kind) (elements_part V.part field.now.items) (S.contents out.old)) }
-    ensures before { S.before out.new ≡ S.before out.old }
-    ensures room { S.room out.old ≤ S.room out.new }
+    ensures rest { S.rest out.new ≡ S.rest out.old }
 {
     for element in field {
         element.append_value(number, out)?;
@@ -72,8 +69,7 @@ pub trait AppendOneOf: OneOf {
     fn append_member<S: PayloadSink>(&self, out: &mut S) -> Result<(), EncodingError>
         ensures ok { OnOk result
             (S.contents out.new ≡ after_row (row.OneOf Self.members) (Self.part self.now) (S.contents out.old)) }
-        ensures before { S.before out.new ≡ S.before out.old }
-        ensures room { S.room out.old ≤ S.room out.new }
+        ensures rest { S.rest out.new ≡ S.rest out.old }
     {
         out.put_member(self)
     }
@@ -86,8 +82,7 @@ pub(crate) fn oneof<O: AppendOneOf, S: PayloadSink>(
 ) -> Result<(), EncodingError>
     ensures ok { OnOk result
         (S.contents out.new ≡ after_row (row.OneOf O.members) (option_part O.part field.now) (S.contents out.old)) }
-    ensures before { S.before out.new ≡ S.before out.old }
-    ensures room { S.room out.old ≤ S.room out.new }
+    ensures rest { S.rest out.new ≡ S.rest out.old }
 {
     match field {
         Some(member) => member.append_member(out),

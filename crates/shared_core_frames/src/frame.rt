@@ -1,71 +1,19 @@
-//! The parts of a frame, appended to a buffer: a header whose length is that of the payload, and the payload.
+//! A header and the payload of a record, appended from their front.
 
-ghost use Rattle.std.specs.Prelude.{◌≡◌, ◌≤◌, ◌<◌, ◌+◌, ◌++◌, OnOk, OnErr, vec_len, vec_capacity};
+ghost use Rattle.std.specs.Prelude.{◌≡◌, ◌≤◌, ◌++◌, OnOk, OnErr, vec_capacity};
 ghost use Rattle.std.specs.Int.{w64, to_be_bytes};
 ghost use Rattle.shared_core_base.specs.MessageHeader.{word_of};
-ghost use Rattle.shared_core_wire.specs.Canonical.{canonical_payload, size};
+ghost use Rattle.shared_core_wire.specs.Canonical.{canonical_payload};
 ghost use Rattle.shared_core_codec.specs.Table.{table};
 
 use crate::chunks::FrameChunks;
 use crate::record::AppendRecord;
 use crate::sink::PayloadSink;
 use crate::vector_end::VectorEnd;
-use bytes::BytesMut;
 use shared_core_base::header::MessageHeader;
 use shared_core_codec::error::EncodingError;
-use shared_core_message::frame::{FramePayload, fill_frame};
 use std::alloc::AllocError;
 use std::mem;
-
-/// Appends a header and a payload, which is written from its end. The room is filled with zeros first.
-#[inline]
-pub(crate) fn extend_by_frame<P: FramePayload>(
-    payload: &P,
-    header: MessageHeader,
-    out: &mut Vec<u8>,
-) -> Result<(), AllocError>
-    requires { header.length ≡ size table P.payload_schema (P.payload_parts payload.now) }
-    ensures ok { OnOk result (out.new.items ≡ out.old.items
-        ++ (to_be_bytes w64 (word_of header)
-        ++ canonical_payload table P.payload_schema (P.payload_parts payload.now))) }
-    ensures err { OnErr result (out.new.items ≡ out.old.items) }
-    ensures capacity { vec_capacity out.old ≤ vec_capacity out.new }
-    ensures full { OnErr result (vec_capacity out.old
-        < vec_len out.old + (8 + size table P.payload_schema (P.payload_parts payload.now))) }
-{
-    let start = out.len();
-    let count = MessageHeader::SIZE + header.message_length() as usize;
-    out.resize(start + count, 0)?;
-    fill_frame(payload, header, &mut out[start..]);
-    Ok(())
-}
-
-/// Appends a header and a payload, which is written from its end, to a buffer whose spare room is initialized, so that
-/// no byte is written twice.
-#[inline]
-pub(crate) fn copy_frame<P: FramePayload>(
-    payload: &P,
-    header: MessageHeader,
-    out: &mut BytesMut,
-) -> Result<(), AllocError>
-    requires { header.length ≡ size table P.payload_schema (P.payload_parts payload.now) }
-    ensures ok { OnOk result (out.new.items ≡ out.old.items
-        ++ (to_be_bytes w64 (word_of header)
-        ++ canonical_payload table P.payload_schema (P.payload_parts payload.now))) }
-    ensures err { OnErr result (out.new.items ≡ out.old.items) }
-    ensures full { OnErr result
-        (out.old.spare < 8 + size table P.payload_schema (P.payload_parts payload.now)) }
-    ensures spare { OnOk result (out.old.spare ≤ out.new.spare
-        + (8 + size table P.payload_schema (P.payload_parts payload.now))) }
-    ensures kept { OnErr result (out.old.spare ≤ out.new.spare) }
-{
-    let start = out.len();
-    let count = MessageHeader::SIZE + header.message_length() as usize;
-    out.reserve(count)?;
-    out.advance_mut(count);
-    fill_frame(payload, header, &mut out.as_mut_slice()[start..]);
-    Ok(())
-}
 
 /// Appends a header and the payload of a record from their front, so that no byte is written twice. The room is
 /// reserved first. After an error nothing is appended.
@@ -83,7 +31,11 @@ pub(crate) fn append_from_front<M: AppendRecord>(
     let alloc = *out.allocator();
     let mut end = VectorEnd::after(mem::replace(out, Vec::new(alloc)));
     let appended = put_frame(message, header, &mut end);
-    let VectorEnd { bytes, start } = end;
+    let VectorEnd {
+        bytes,
+        start,
+        room: _,
+    } = end;
     *out = bytes;
     if let Err(error) = appended {
         out.truncate(start);
@@ -117,8 +69,7 @@ fn put_frame<M: AppendRecord, S: PayloadSink>(
 ) -> Result<(), EncodingError>
     ensures ok { OnOk result (S.contents out.new ≡ S.contents out.old
         ++ (to_be_bytes w64 (word_of header) ++ canonical_payload table M.schema (M.parts message.now))) }
-    ensures before { S.before out.new ≡ S.before out.old }
-    ensures room { S.room out.old ≤ S.room out.new }
+    ensures rest { S.rest out.new ≡ S.rest out.old }
 {
     out.put(&header.to_bytes())?;
     message.append_rows(out)

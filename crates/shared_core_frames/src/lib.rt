@@ -8,7 +8,6 @@ pub mod copied;
 pub mod encodable_message;
 pub mod fields;
 pub mod frame;
-mod messages;
 mod oneofs;
 pub mod record;
 mod records;
@@ -18,5 +17,5 @@ pub mod vector_end;
 pub mod versions;
 
 pub use crate::buffer::FrameBuffer;
-pub use crate::chunks::{FrameChunks, SHARED_LEN};
+pub use crate::chunks::FrameChunks;
 pub use crate::encodable_message::RestateEncodableMessage;

@@ -1,6 +1,6 @@
 //! Records, appended from their front.
 
-ghost use Rattle.std.specs.Prelude.{◌≡◌, ◌≤◌, OnOk};
+ghost use Rattle.std.specs.Prelude.{◌≡◌, OnOk};
 ghost use Rattle.shared_core_codec.specs.Table.{table};
 ghost use Rattle.shared_core_frames.specs.Appending.{after_rows};
 
@@ -15,8 +15,7 @@ pub trait AppendRecord: WireRecord {
     fn append_rows<S: PayloadSink>(&self, out: &mut S) -> Result<(), EncodingError>
         ensures ok { OnOk result
             (S.contents out.new ≡ after_rows (table Self.schema) (Self.parts self.now) (S.contents out.old)) }
-        ensures before { S.before out.new ≡ S.before out.old }
-        ensures room { S.room out.old ≤ S.room out.new }
+        ensures rest { S.rest out.new ≡ S.rest out.old }
     {
         out.put_record(self)
     }

@@ -1,6 +1,6 @@
 //! What payloads are appended to from their front, in the order of their bytes.
 
-ghost use Rattle.std.specs.Prelude.{◌≡◌, ◌≤◌, ◌++◌, [], ℕ, List, OnOk};
+ghost use Rattle.std.specs.Prelude.{◌≡◌, ◌++◌, [], ℕ, List, OnOk};
 ghost use Rattle.shared_core_wire.specs.Canonical.{canonical_payload};
 ghost use Rattle.shared_core_wire.specs.Encoding.{shortest_varint, key_bytes};
 ghost use Rattle.shared_core_wire.specs.Schema as row;
@@ -24,44 +24,36 @@ pub trait PayloadSink {
     /// The bytes that are appended to.
     ghost contents: { Self → List ℕ };
 
-    /// The bytes before these, which stay.
-    ghost before: { Self → List ℕ };
-
-    /// The room that it says it has, which never shrinks.
-    ghost room: { Self → ℕ };
+    /// What stays as it is: the bytes before these, and room that it has at least.
+    ghost rest: { Self → List ℕ × ℕ };
 
     /// Appends bytes, which are copied.
     fn put(&mut self, bytes: &[u8]) -> Result<(), AllocError>
         ensures ok { OnOk result (contents self.new ≡ contents self.old ++ bytes.now) }
-        ensures before { before self.new ≡ before self.old }
-        ensures room { room self.old ≤ room self.new };
+        ensures rest { rest self.new ≡ rest self.old };
 
     /// Appends the content of a `bytes` field.
     fn put_content(&mut self, content: &Bytes) -> Result<(), AllocError>
         ensures ok { OnOk result (contents self.new ≡ contents self.old ++ content.now) }
-        ensures before { before self.new ≡ before self.old }
-        ensures room { room self.old ≤ room self.new };
+        ensures rest { rest self.new ≡ rest self.old };
 
     /// Appends a value as a record of this number, which is written from its end.
     fn put_value<V: FieldKind>(&mut self, value: &V, number: u32) -> Result<(), EncodingError>
         ensures ok { OnOk result
             (contents self.new ≡ contents self.old ++ value_bytes number V.kind (V.part value.now)) }
-        ensures before { before self.new ≡ before self.old }
-        ensures room { room self.old ≤ room self.new };
+        ensures rest { rest self.new ≡ rest self.old };
 
     /// Appends the member of a oneof, which is written from its end.
     fn put_member<O: OneOf>(&mut self, member: &O) -> Result<(), EncodingError>
         ensures ok { OnOk result
             (contents self.new ≡ contents self.old ++ before_row (row.OneOf O.members) (O.part member.now) []) }
-        ensures before { before self.new ≡ before self.old }
-        ensures room { room self.old ≤ room self.new };
+        ensures rest { rest self.new ≡ rest self.old };
 
     /// Appends the canonical payload of a record, which is written from its end.
     fn put_record<M: WireRecord>(&mut self, message: &M) -> Result<(), EncodingError>
         ensures ok { OnOk result
             (contents self.new ≡ contents self.old ++ canonical_payload table M.schema (M.parts message.now)) }
-        ensures before { before self.new ≡ before self.old }
-        ensures room { room self.old ≤ room self.new };
+        ensures rest { rest self.new ≡ rest self.old };
 }
 
 /// Appends the key and the length of a length-delimited record.
@@ -73,8 +65,7 @@ pub(crate) fn put_length<S: PayloadSink>(
 ) -> Result<(), AllocError>
     ensures ok { OnOk result (S.contents out.new
         ≡ S.contents out.old ++ (key_bytes number 2 ++ shortest_varint len)) }
-    ensures before { S.before out.new ≡ S.before out.old }
-    ensures room { S.room out.old ≤ S.room out.new }
+    ensures rest { S.rest out.new ≡ S.rest out.old }
 {
     let mut head = [0u8; HEAD];
     let start = write_length(&mut head, HEAD, number, len);

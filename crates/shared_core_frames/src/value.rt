@@ -1,7 +1,7 @@
 //! Values of fields, appended from their front: the content of `bytes` fields is put as it is, and all else is written
 //! from its end.
 
-ghost use Rattle.std.specs.Prelude.{◌≡◌, ◌≤◌, ◌++◌, OnOk};
+ghost use Rattle.std.specs.Prelude.{◌≡◌, ◌++◌, OnOk};
 ghost use Rattle.shared_core_codec.specs.RowEncoding.{value_bytes};
 
 use crate::record::AppendRecord;
@@ -17,8 +17,7 @@ pub trait AppendValue: FieldKind {
     fn append_value<S: PayloadSink>(&self, number: u32, out: &mut S) -> Result<(), EncodingError>
         ensures ok { OnOk result
             (S.contents out.new ≡ S.contents out.old ++ value_bytes number Self.kind (Self.part self.now)) }
-        ensures before { S.before out.new ≡ S.before out.old }
-        ensures room { S.room out.old ≤ S.room out.new }
+        ensures rest { S.rest out.new ≡ S.rest out.old }
     {
         out.put_value(self, number)
     }

@@ -1,6 +1,6 @@
 //! The end of a vector, which a long frame is appended to.
 
-ghost use Rattle.std.specs.Prelude.{◌≡◌, ◌≤◌, length};
+ghost use Rattle.std.specs.Prelude.{◌≡◌, ◌≤◌, length, vec_capacity};
 
 use crate::copied::{extend_by_member, extend_by_value};
 use crate::sink::PayloadSink;
@@ -18,7 +18,10 @@ pub(crate) struct VectorEnd {
     pub(crate) bytes: Vec<u8>,
     /// Where the end begins.
     pub(crate) start: usize,
+    /// The room that there was before.
+    pub(crate) room: usize,
     ghost within: { start ≤ length bytes.items },
+    ghost roomy: { room ≤ vec_capacity bytes },
 }
 
 impl VectorEnd {
@@ -26,20 +29,19 @@ impl VectorEnd {
     pub(crate) fn after(bytes: Vec<u8>) -> VectorEnd
         ensures bytes { result.bytes ≡ bytes }
         ensures start { result.start ≡ length bytes.items }
+        ensures room { result.room ≡ vec_capacity bytes }
     {
-        let start = bytes.len();
-        VectorEnd { bytes, start }
+        let (start, room) = (bytes.len(), bytes.capacity());
+        VectorEnd { bytes, start, room }
     }
 }
 
 impl PayloadSink for VectorEnd {
-    ghost use Rattle.std.specs.Prelude.{drop, take, vec_capacity};
+    ghost use Rattle.std.specs.Prelude.{drop, take};
 
     ghost contents = { λ end. drop end.start end.bytes.items };
 
-    ghost before = { λ end. take end.start end.bytes.items };
-
-    ghost room = { λ end. vec_capacity end.bytes };
+    ghost rest = { λ end. (take end.start end.bytes.items, end.room) };
 
     #[tactic(auto, using(crate::proofs::Joining::end_appended, crate::proofs::Joining::front_kept, crate::proofs::Joining::still_within))]
     fn put(&mut self, bytes: &[u8]) -> Result<(), AllocError> {

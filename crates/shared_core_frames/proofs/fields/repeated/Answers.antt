@@ -9,10 +9,7 @@ loop-element-preserved g c = (
       (g.S.PayloadSink.contents c.loop-element.out) (g.S.PayloadSink.contents c.append_value.new.out) (omega arith)
       (rw c.deref-element-items.ensures.value at c.element-item.is) c.in_ok-append_value.ensures.ok
       c.loop-element.invariant.0,
-  (
-    c.append_value.ensures.before ∙ c.loop-element.invariant.1.0,
-    omega (arith, c.append_value.ensures.room, c.loop-element.invariant.1.1),
-  ),
+  c.append_value.ensures.rest ∙ c.loop-element.invariant.1,
 )
 
 pub returns-clause-ok : goal.returns-clause-ok
