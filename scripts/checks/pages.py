@@ -321,6 +321,7 @@ NOT_SHOWN = (
     (r"sh scripts/install\.sh --library /usr/local ", "install, below another folder"),
     (r"python3 -m venv venv", "python installs the wheel below a folder"),
     (r"sh install\.sh( --uninstall)? ", "files"),
+    (r"python3 scripts/wasm\.py ", "wasm"),
     (r"sh (scripts/check\.sh|scripts/checks/\w+\.sh|bench/install\.sh)", "a check itself, or what it needs"),
     (r"(echo 0\.2\.0 > VERSION|python3 tools/generate\.py)$", "it changes the repository"),
     (r"mkdir -p ~/", "it changes the home folder"),
