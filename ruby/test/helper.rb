@@ -32,6 +32,27 @@ module Helper
     File.binread(File.join(TOP, path))
   end
 
+  # A block keeps no memory, of which the process may hold up to a mebibyte more after so many rounds. The least growth
+  # of several times counts: Ruby and malloc take more pages now and then, and what is never freed grows each time.
+  def assert_keeps_no_memory(rounds)
+    skip "not run: there is no /proc" unless File.exist?("/proc/self/statm")
+    grown = Array.new(6) do
+      before = resident
+      rounds.times { yield }
+      growth = resident - before
+      return pass if growth < 1 << 20
+
+      growth
+    end
+    flunk "#{rounds} rounds keep #{grown.min} bytes"
+  end
+
+  # How many bytes of memory the process holds.
+  def resident
+    GC.start
+    Integer(File.read("/proc/self/statm").split[1]) * 4096
+  end
+
   # The error of a block, which has to be exactly of this class and say this.
   def assert_error(kind, text)
     error = assert_raises(kind) { yield }

@@ -155,12 +155,6 @@ class TestCompiled < Minitest::Test
     end
   end
 
-  # How many bytes of memory the process holds.
-  def resident
-    GC.start
-    Integer(File.read("/proc/self/statm").split[1]) * 4096
-  end
-
   def work
     (SAMPLES + UNUSUAL).map do |record|
       payload = ends { record.encode }
@@ -169,11 +163,7 @@ class TestCompiled < Minitest::Test
   end
 
   def test_memory
-    skip "not run: there is no /proc" unless File.exist?("/proc/self/statm")
-    50.times { work }
-    before = resident
-    300.times { work }
-    assert_operator resident - before, :<, 8 << 20
+    assert_keeps_no_memory(200) { work }
   end
 
   def test_collected_and_moved_objects

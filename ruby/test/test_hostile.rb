@@ -201,18 +201,8 @@ class TestThreadsAndMemory < Minitest::Test
     assert_equal "", Pendratsoa.canonical(13, "")
   end
 
-  # How many bytes of memory the process holds.
-  def resident
-    GC.start
-    Integer(File.read("/proc/self/statm").split[1]) * 4096
-  end
-
   def test_memory_does_not_grow
-    skip "not run: there is no /proc" unless File.exist?("/proc/self/statm")
-    20.times { work }
-    before = resident
-    300.times { work }
-    assert_operator resident - before, :<, 8 << 20
+    assert_keeps_no_memory(1000) { work }
   end
 
   def test_moved_objects
