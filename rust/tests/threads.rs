@@ -1,14 +1,16 @@
 //! Calls from several threads at once, and types that go from one to another.
 
+use std::env;
 use std::fmt::Debug;
 use std::hash::Hash;
+use std::process::Command;
 use std::thread;
 
 use pendratsoa::messages::{Future, Record};
 use pendratsoa::{
-    canonical, to_json, Argument, Decoder, Error, Item, Items, Message, MessageType, Next,
-    Notification, NotificationId, NotificationResult, Schema, Skipped, UnknownCode, Verdict,
-    VerdictKind,
+    canonical, to_json, Argument, Decoder, Error, Expected, FieldDifference, Item, Items, Message,
+    MessageType, Mismatch, Next, Notification, NotificationId, NotificationResult, Replay, Schema,
+    Skipped, UnknownCode, Verdict, VerdictKind,
 };
 
 const INPUT: &[u8] = b"\x04\0\0\0\0\0\0\x09\x72\x07\x0A\x05input";
@@ -33,6 +35,10 @@ fn every_type_may_be_sent_and_shared() {
     plain::<NotificationResult>();
     plain::<Verdict>();
     plain::<VerdictKind>();
+    shared::<Replay<Vec<u8>>>();
+    shared::<Expected<'_>>();
+    plain::<Mismatch>();
+    plain::<FieldDifference>();
     plain::<Argument>();
     plain::<Error>();
 }
@@ -79,8 +85,28 @@ fn a_decoder_and_its_items_in_other_threads() {
     });
 }
 
+/// The variable with the size of the stack in bytes, in the process that is to have it.
+const STACK: &str = "PENDRATSOA_TEST_STACK";
+
 #[test]
 fn deepest_payloads_in_a_small_stack() {
+    if let Ok(size) = env::var(STACK) {
+        return read_the_deepest_payload(size.parse().unwrap());
+    }
+    // a stack that overflows ends its process
+    let ended = Command::new(env::current_exe().unwrap())
+        .args(["--exact", "deepest_payloads_in_a_small_stack"])
+        .env(STACK, "262144")
+        .output()
+        .unwrap();
+    assert!(
+        ended.status.success(),
+        "256 KiB of stack are enough for an optimised library: {}",
+        String::from_utf8_lossy(&ended.stderr)
+    );
+}
+
+fn read_the_deepest_payload(stack: usize) {
     // futures that are nested to the hundredth level
     let mut future = Future::default();
     for _ in 0..98 {
@@ -91,6 +117,6 @@ fn deepest_payloads_in_a_small_stack() {
     }
     let future = future.encode().unwrap();
     let call = move || to_json(Schema::Future.number(), &future).unwrap().len();
-    let thread = thread::Builder::new().stack_size(256 << 10).spawn(call);
+    let thread = thread::Builder::new().stack_size(stack).spawn(call);
     assert!(thread.unwrap().join().unwrap() > 98);
 }
