@@ -59,7 +59,7 @@ refused() {
 
 # The addon, by the folder and by pkg-config.
 copy tree
-strict='-Werror'
+strict='-Werror -Wsign-conversion'
 CFLAGS=$strict sh "$tree/node/build.sh" "$prefix" > "$out" 2> "$err"
 case $? in
   0) passed=$((passed + 1)) ;;

@@ -56,8 +56,12 @@ else
     echo PyInit__compiled > "$work/wanted"
     same 'the names that the compiled module shows' "$work/wanted" "$out"
     headers=$("$python" -c 'import sysconfig; print(sysconfig.get_path("include"))')
-    case_of 'the compiled module without a warning' cc -std=gnu11 -O2 -Wall -Wextra -Wshadow -Wconversion \
-      -Wsign-conversion -Werror -fsyntax-only -isystem "$headers" python/src/*.c
+    for compiler in cc clang; do
+      if command -v $compiler > /dev/null; then
+        case_of "the compiled module without a warning of $compiler" $compiler -std=gnu11 -O2 -Wall -Wextra -Wshadow \
+          -Wconversion -Wsign-conversion -Werror -fsyntax-only -isystem "$headers" python/src/*.c
+      fi
+    done
   fi
 fi
 

@@ -3,7 +3,7 @@
 #
 # It works on a copy, over the installed library and without a network. It takes the proved static library, as
 # scripts/checks/c.sh does. Tests are run with the compiled module, which needs make and the headers of Ruby, and
-# without.
+# without. rubocop runs where it is installed.
 set -u
 cd "$(dirname "$0")/../.." || exit 1
 . scripts/checks/lib.sh
@@ -28,8 +28,23 @@ if [ -n "$compiled" ]; then
   nm -D --defined-only "$compiled" | awk '{ print $3 }' > "$out"
   echo Init_compiled > "$work/wanted"
   same 'the names that the compiled module shows' "$work/wanted" "$out"
+  for compiler in cc clang; do
+    if command -v $compiler > /dev/null; then
+      case_of "the compiled module without a warning of $compiler" $compiler -std=gnu11 -O2 -Wall -Wextra -Wpedantic \
+        -Wshadow -Wconversion -Wsign-conversion -Werror -fsyntax-only \
+        -isystem "$(ruby -e 'print RbConfig::CONFIG["rubyhdrdir"]')" \
+        -isystem "$(ruby -e 'print RbConfig::CONFIG["rubyarchhdrdir"]')" ext/pendratsoa/*.c
+    fi
+  done
 else
   left_out 'the compiled module' "$(sed -n 's/.*, since //p' "$work/log")"
+fi
+
+# .rubocop.yml has what is not as rubocop has it, and why
+if command -v rubocop > /dev/null; then
+  case_of 'rubocop' rubocop --cache false --format emacs lib ext test examples pendratsoa.gemspec
+else
+  left_out 'rubocop' 'there is none; the Debian package rubocop has it'
 fi
 
 # tests: runs all tests and shows how they ended; a warning of these files fails
