@@ -243,12 +243,13 @@ KNOWN = ("SCHEMA", "CODE", "TYPE", "BEFORE_VERSION")
 
 
 def undocumented_members(node: ast.ClassDef) -> list[str]:
-    """The public members of a class without a docstring; an enumeration has one for all of its members, and so has a
-    class with one field."""
+    """The public members of a class that have no docstring, and are not named in that of the class. An enumeration has
+    one for all of its members, and so has a class with one field."""
     is_enum = any(base.id.endswith(("Enum", "Kind")) for base in node.bases if isinstance(base, ast.Name))
     found = [(name, text) for member, text in documented(node.body, []) for name in defined(member)
              if not (name.startswith("_") or name in KNOWN or is_enum and isinstance(member, ast.Assign))]
-    return [name for name, text in found if not text and len(found) > 1]
+    said = (ast.get_docstring(node) or "").lower()
+    return [name for name, text in found if not text and len(found) > 1 and name.lower() not in said]
 
 
 def ruby(made: Work) -> Undocumented:
@@ -303,7 +304,7 @@ def typescript(made: Work) -> Undocumented:
 
 
 # A member of TypeScript whose text says all: a constructor, an iterator, literals, or a name for a record of that name.
-SAYS_ALL = re.compile(r"^(constructor\(|\[Symbol)|: ('\w+'|-?\w+)( \| ('\w+'|\w+))*;$")
+SAYS_ALL = re.compile(r"^(constructor\(|\[Symbol)|: (Exclude<.*>|('\w+'|-?\w+)( \| ('\w+'|\w+))*);$")
 
 
 def tagged(comment: str) -> str:
