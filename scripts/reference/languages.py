@@ -322,9 +322,10 @@ def tagged(comment: str) -> str:
 DOXYFILE = """\
 PROJECT_NAME = pendratsoa
 PROJECT_NUMBER = {version}
-INPUT = {include} {work}
+INPUT = include start.dox
 FILE_PATTERNS = *.h *.dox
-OUTPUT_DIRECTORY = {work}/doxygen
+FULL_PATH_NAMES = NO
+OUTPUT_DIRECTORY = doxygen
 OPTIMIZE_OUTPUT_FOR_C = YES
 JAVADOC_AUTOBRIEF = YES
 EXTRACT_ALL = YES
@@ -334,7 +335,6 @@ GENERATE_LATEX = NO
 HAVE_DOT = NO
 SEARCHENGINE = NO
 VERBATIM_HEADERS = NO
-STRIP_FROM_PATH = {include}
 ALIASES = generated="Generated"
 INPUT_FILTER = "sed -E 's|^( *)/[*]( \\|$)|\\1/**\\2|'"
 EXCLUDE_SYMBOLS = *_
@@ -350,8 +350,9 @@ def c(made: Work) -> Undocumented:
     (made.work / "start.dox").write_text(f"/** @mainpage The library for C\n@code{{.c}}\n{code}@endcode\n"
                                          "The headers are pendratsoa.h, pendratsoa_messages.h and "
                                          "pendratsoa_reader.h.\n*/\n")
-    (made.work / "Doxyfile").write_text(DOXYFILE.format(version=version(), include=ROOT / "include", work=made.work))
-    run("doxygen", made.work / "Doxyfile")
+    copy("include", made.work)
+    (made.work / "Doxyfile").write_text(DOXYFILE.format(version=version()))
+    run("doxygen", "Doxyfile", cwd=made.work)
     shutil.copytree(made.work / "doxygen" / "html", made.out)
     return [name for path in sorted((ROOT / "include").glob("*.h")) for name in undocumented_c(path.read_text())]
 
