@@ -104,7 +104,7 @@ func functions(level int, all []*doc.Func) {
 	}
 }
 
-// fields names the public fields of a struct, and the methods of an interface, that no comment of theirs names.
+// fields names the public fields of a struct, and the methods of an interface, that no comment of the type names.
 func fields(one *doc.Type) {
 	for _, spec := range one.Decl.Specs {
 		var list *ast.FieldList
@@ -116,13 +116,14 @@ func fields(one *doc.Type) {
 		default:
 			continue
 		}
-		said := ""
+		said := one.Doc
 		for _, field := range list.List {
 			said += field.Doc.Text() + field.Comment.Text()
 		}
+		said = strings.ToLower(said)
 		for _, field := range list.List {
 			for _, name := range field.Names {
-				if name.IsExported() && field.Doc == nil && !strings.Contains(said, name.Name) {
+				if name.IsExported() && field.Doc == nil && !strings.Contains(said, strings.ToLower(name.Name)) {
 					fmt.Fprintln(os.Stderr, one.Name+"."+name.Name)
 				}
 			}

@@ -243,12 +243,13 @@ KNOWN = ("SCHEMA", "CODE", "TYPE", "BEFORE_VERSION")
 
 
 def undocumented_members(node: ast.ClassDef) -> list[str]:
-    """The public members of a class without a docstring; an enumeration has one for all of its members, and so has a
-    class with one field."""
+    """The public members of a class that have no docstring, and are not named in that of the class. An enumeration has
+    one for all of its members, and so has a class with one field."""
     is_enum = any(base.id.endswith(("Enum", "Kind")) for base in node.bases if isinstance(base, ast.Name))
     found = [(name, text) for member, text in documented(node.body, []) for name in defined(member)
              if not (name.startswith("_") or name in KNOWN or is_enum and isinstance(member, ast.Assign))]
-    return [name for name, text in found if not text and len(found) > 1]
+    said = (ast.get_docstring(node) or "").lower()
+    return [name for name, text in found if not text and len(found) > 1 and name.lower() not in said]
 
 
 def ruby(made: Work) -> Undocumented:
@@ -303,7 +304,7 @@ def typescript(made: Work) -> Undocumented:
 
 
 # A member of TypeScript whose text says all: a constructor, an iterator, literals, or a name for a record of that name.
-SAYS_ALL = re.compile(r"^(constructor\(|\[Symbol)|: ('\w+'|-?\w+)( \| ('\w+'|\w+))*;$")
+SAYS_ALL = re.compile(r"^(constructor\(|\[Symbol)|: (Exclude<.*>|('\w+'|-?\w+)( \| ('\w+'|\w+))*);$")
 
 
 def tagged(comment: str) -> str:
@@ -321,9 +322,10 @@ def tagged(comment: str) -> str:
 DOXYFILE = """\
 PROJECT_NAME = pendratsoa
 PROJECT_NUMBER = {version}
-INPUT = {include} {work}
+INPUT = include start.dox
 FILE_PATTERNS = *.h *.dox
-OUTPUT_DIRECTORY = {work}/doxygen
+FULL_PATH_NAMES = NO
+OUTPUT_DIRECTORY = doxygen
 OPTIMIZE_OUTPUT_FOR_C = YES
 JAVADOC_AUTOBRIEF = YES
 EXTRACT_ALL = YES
@@ -333,7 +335,6 @@ GENERATE_LATEX = NO
 HAVE_DOT = NO
 SEARCHENGINE = NO
 VERBATIM_HEADERS = NO
-STRIP_FROM_PATH = {include}
 ALIASES = generated="Generated"
 INPUT_FILTER = "sed -E 's|^( *)/[*]( \\|$)|\\1/**\\2|'"
 EXCLUDE_SYMBOLS = *_
@@ -349,8 +350,9 @@ def c(made: Work) -> Undocumented:
     (made.work / "start.dox").write_text(f"/** @mainpage The library for C\n@code{{.c}}\n{code}@endcode\n"
                                          "The headers are pendratsoa.h, pendratsoa_messages.h and "
                                          "pendratsoa_reader.h.\n*/\n")
-    (made.work / "Doxyfile").write_text(DOXYFILE.format(version=version(), include=ROOT / "include", work=made.work))
-    run("doxygen", made.work / "Doxyfile")
+    copy("include", made.work)
+    (made.work / "Doxyfile").write_text(DOXYFILE.format(version=version()))
+    run("doxygen", "Doxyfile", cwd=made.work)
     shutil.copytree(made.work / "doxygen" / "html", made.out)
     return [name for path in sorted((ROOT / "include").glob("*.h")) for name in undocumented_c(path.read_text())]
 
