@@ -32,6 +32,7 @@ PRINTS = (
     (("journal", "dump"), STREAMS / "replay.dump"),
     (("journal", "make", STREAMS / "replay.dump"), STREAMS / "replay"),
     (("journal", "diff", STREAMS / "recorded", STREAMS / "recorded"), "same, 4 commands\n"),
+    (("journal", "list"), STREAMS / "replay.stdout"),
     (("journal_view", "-o", "page.html", STREAMS / "recorded", STREAMS / "replayed_other_handler"), "page.html\n"),
     (("journal_view", "--version"), f"journal_view {checks.library_version()}\n"),
     *(((name, "--version"), f"{name} {checks.library_version()}\n") for name in checks.PROGRAMS),
@@ -48,6 +49,7 @@ ERRORS = (
     (("journal_diff", "-", "./nothing"), f"journal_diff: {NO_FILE}"),
     (("journal_diff", ".", "-"), "journal_diff: .: is a directory"),
     (("journal", "dump", "./nothing"), f"journal dump: {NO_FILE}"),
+    (("journal", "list", "./nothing"), f"journal list: {NO_FILE}"),
 )
 
 # What bash makes of the last word, with the completion of a program: the folder of the files, then the words.
@@ -117,7 +119,7 @@ class Installation:
         if not self.check.has("bash", "completion in bash"):
             return
         by_word = [name.split("_") for name in crates.LINKS]
-        for words in (*([name] for name in INSTALLED), *by_word):
+        for words in (*([name] for name in INSTALLED), ["journal", "list"], *by_word):
             name = " ".join(words)
             text = checks.run([self.prefix / "bin" / words[0], *words[1:], "--help"]).out.decode()
             text = text.partition("\nExamples:")[0]
@@ -126,7 +128,7 @@ class Installation:
             if name != "journal":
                 versions = [str(version) for version in range(5, 10)]
                 self.check.same(f"the versions of {name} in bash", versions, self.completed(*words, "--protocol", ""))
-        names = sorted(words[1] for words in by_word)
+        names = sorted(["list", *(words[1] for words in by_word)])
         self.check.same("the subcommands of journal help in bash", names, self.completed("journal", "help", ""))
         self.check.same("a subcommand of journal in bash", ["dump"], self.completed("journal", "du"))
         types = sorted(list_stream.type_names().values())
