@@ -6,8 +6,8 @@
 #   scripts/install.sh --from RELEASE.tar.gz [--uninstall] [PREFIX]
 #
 #   PREFIX       a folder, as /usr/local; it gets the programs in bin, the header in include, the static and the shared
-#                library and files for pkg-config and CMake in lib, and man pages, completion for bash and zsh, and the
-#                dissector for Wireshark in share
+#                library and files for pkg-config and CMake in lib, and man pages, completion for bash and zsh, the
+#                script journal_view, which needs Python 3, and the dissector for Wireshark in share
 #   --library    the library alone, its man pages with it: no program is proved or built for that
 #   --target     for aarch64-unknown-linux-gnu, by Debian's gcc-aarch64-linux-gnu
 #   --libdir     where the libraries are, below PREFIX, instead of lib
@@ -61,12 +61,13 @@ headers='pendratsoa.h pendratsoa_messages.h pendratsoa_reader.h'
 header=$top/include/${headers%% *}
 . "$top/scripts/up_to_date.sh"
 programs='journal journal_list'
+scripts=journal_view
 action=install
 machine=x86_64-unknown-linux-gnu
 libdir=lib
 while [ $# -gt 1 ]; do
   case $1 in
-    --library) programs= links= ;;
+    --library) programs= scripts= links= ;;
     --target) machine=$2; shift ;;
     --libdir) libdir=$2; shift ;;
     --uninstall) action=uninstall ;;
@@ -101,20 +102,26 @@ library_files() {
   printf 'share/man/man3/%s.3\n' $calls
 }
 program_files() {
-  for program in $programs; do
+  for program in $programs $scripts; do
     printf '%s\n' "bin/$program" "share/bash-completion/completions/$program.bash" "share/zsh/site-functions/_$program"
   done
   for program in $links; do
     printf '%s\n' "bin/$program" "share/bash-completion/completions/$program.bash"
   done
-  for program in $programs $links; do
+  for program in $programs $scripts $links; do
     echo "share/man/man1/$program.1"
   done
   [ -z "$programs" ] || echo share/wireshark/pendratsoa.lua
 }
 
+# view_files: the files of journal_view, below the top and below share/pendratsoa
+view_files() {
+  [ -z "$scripts" ] || (cd "$top" && printf '%s\n' VERSION view/make_page.py view/dumps.py view/page.css \
+    view/page.html view/protocol.json view/script/*.js)
+}
+
 if [ "$action" = uninstall ]; then
-  files=$(library_files; program_files)
+  files=$(library_files; program_files; view_files | sed 's|^|share/pendratsoa/|')
   for file in $files; do
     rm -f "$target/$file"
   done
@@ -240,6 +247,13 @@ for program in $programs; do
 done
 for program in $links; do
   ln -sfn journal "$target/bin/$program"
+done
+for file in $(view_files); do
+  place "$top/$file" 644 "share/pendratsoa/$file"
+done
+for program in $scripts; do
+  chmod 755 "$target/share/pendratsoa/view/make_page.py"
+  ln -sfn ../share/pendratsoa/view/make_page.py "$target/bin/$program"
 done
 for file in $(program_files | sed '/^bin/d'); do
   if [ -e "$top/$file" ]; then

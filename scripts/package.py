@@ -40,6 +40,8 @@ pendratsoa ({version}) unstable; urgency=medium
 
  -- {maintainer}  {date}
 """
+# How a script begins that takes the first Python in the PATH.
+FIRST_LINE = "#!/usr/bin/env python3\n"
 OVERRIDES = """\
 # one package has the library, what others are built with against it, and the programs
 pendratsoa: package-name-doesnt-match-sonames libpendratsoa*
@@ -52,6 +54,7 @@ Architecture: {architecture}
 Maintainer: {maintainer}
 Installed-Size: {size}
 Depends: libc6 (>= {glibc})
+Recommends: python3
 Section: utils
 Priority: optional
 Description: journal protocol of the Restate SDKs
@@ -109,10 +112,13 @@ def strip(usr: pathlib.Path, machine: Machine) -> None:
 
 
 def adapt(usr: pathlib.Path, machine: Machine) -> None:
-    """Makes of what is installed what Debian has: no symbols that only a debugger reads, completion where its zsh
-    looks, compressed pages, and links for pages that have several names."""
+    """Makes of what is installed what Debian has: no symbols that only a debugger reads, its own Python, completion
+    where its zsh looks, compressed pages, and links for pages that have several names."""
     strip(usr, machine)
     shared_library(usr).chmod(0o644)
+    script = usr / "share/pendratsoa/view/make_page.py"
+    text = script.read_text(encoding="utf-8")
+    script.write_text(text.replace(FIRST_LINE, "#!/usr/bin/python3\n", 1), encoding="utf-8")
     (usr / "share/zsh/site-functions").rename(usr / "share/zsh/vendor-completions")
     pages = usr / "share/man"
     for page in (pages / "man3").glob("journal_*.3"):

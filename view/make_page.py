@@ -22,10 +22,16 @@ import subprocess
 import sys
 import tempfile
 
-import dumps
+# nothing is left beside an installed script
+sys.dont_write_bytecode = True
+import dumps  # noqa: E402
 
 HERE = pathlib.Path(__file__).resolve().parent
+# the repository; of an installed script the folder that has only the version
 ROOT = HERE.parent
+# what builds the programs; an installed script has none, and takes the program that is installed with it
+BUILDER = ROOT / "scripts" / "program.sh"
+INSTALLED = HERE.parents[2] / "bin" / "journal" if len(HERE.parents) > 2 else None
 
 # The files of the script, in the order in which they take from each other.
 SCRIPTS = (
@@ -64,7 +70,7 @@ class Failure(Exception):
 def parse_arguments(words):
     """The parsed command line."""
     parser = argparse.ArgumentParser(
-        prog="run.sh journal view",
+        prog="run.sh journal view" if BUILDER.exists() else "journal_view",
         description="Writes a page that shows one journal, or two side by side. A journal is a stream, or its dump.",
         formatter_class=lambda prog: argparse.HelpFormatter(
             prog, width=min(79, shutil.get_terminal_size().columns - 1)
@@ -85,7 +91,10 @@ def parse_arguments(words):
         help="the index of the first command that the page shows; by default the beginning, or, of two journals with "
         f"more items, {BEFORE:,} commands before the first difference",
     )  # fmt: skip
-    parser.add_argument("--unproved", action="store_true", help="takes programs that are built without the proofs")
+    version = f"journal_view {(ROOT / 'VERSION').read_text(encoding='utf-8').strip()}"
+    parser.add_argument("--version", action="version", version=version, help="show the version and exit")
+    if BUILDER.exists():
+        parser.add_argument("--unproved", action="store_true", help="takes programs that are built without the proofs")
     arguments = parser.parse_args(words)
     if arguments.items < 1:
         parser.error("--items is at least 1")
@@ -127,8 +136,13 @@ def opened(path):
 
 
 def program(unproved):
-    """The path of the program journal, which is built if it is not up to date; unproved if that is enough."""
-    words = ["sh", str(ROOT / "scripts" / "program.sh"), *(["--unproved"] if unproved else []), "journal"]
+    """The path of the program journal: the installed one, or that of a clone, which is built if it is not up to date;
+    unproved if that is enough."""
+    if not BUILDER.exists():
+        if not INSTALLED or not INSTALLED.exists():
+            raise Failure(f"view: there is no {INSTALLED or 'program journal'}")
+        return str(INSTALLED)
+    words = ["sh", str(BUILDER), *(["--unproved"] if unproved else []), "journal"]
     built = subprocess.run(words, stdin=subprocess.DEVNULL, stdout=subprocess.PIPE, encoding="utf-8")
     if built.returncode != 0:
         raise Failure("view: journal cannot be built")
@@ -350,7 +364,7 @@ def run(arguments):
         sources = [files.enter_context(opened(path)) for path in paths]
         of_dumps = [is_dump(source) for source in sources]
         # a page of dumps takes no program
-        journal = None if all(of_dumps) else program(arguments.unproved)
+        journal = None if all(of_dumps) else program(getattr(arguments, "unproved", False))
         if len(paths) == 2 and not any(of_dumps):
             options = [*protocol, *(["--ignore-payloads"] if arguments.ignore_payloads else [])]
             comparison = Comparison([journal, "diff", *options], sources)

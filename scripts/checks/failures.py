@@ -48,7 +48,8 @@ NAMED: tuple[tuple[str, Words, str], ...] = (
 # Arguments that are rejected, and a part of the error, which begins with 'error: '; a line of it ends with its newline.
 AFTER_FILE = "error: after FILE come BYTES, from 1 to 65536, and v9, or one of them, or neither\n"
 TYPES = "no type has the name"
-SIZES = "error: --max-message takes a number of bytes, from 0 to 4294967295\n"
+SIZES = "error: --max-message takes a number of bytes up to 4294967295, as 4096, 64kB or 1MiB\n"
+NO_SIZES = ("kB", "1kb", "1K", "1 kB", "1.5MB", "0x10", "5GB", "4GiB", "4295MB", "4294967296", "1kBkB")
 REJECTED: tuple[tuple[str, Words, str], ...] = (
     ("journal_list", "--protocol 4 ./replay", "error: invalid value '4' for '--protocol <VERSION>'\n"),
     ("journal_list", "--type Start", "error: unexpected argument '--type' found\n"),
@@ -57,6 +58,7 @@ REJECTED: tuple[tuple[str, Words, str], ...] = (
     ("journal_list", "--protocol 9 ./replay 0", AFTER_FILE),
     ("journal_list", "--max-message 4294967296 ./replay", SIZES),
     ("journal_dump", ("--max-message", "", "replay"), SIZES),
+    *(("journal_dump", ("--max-message", size, "replay"), SIZES) for size in NO_SIZES),
     ("journal_diff", "--max-message 4294967296 recorded recorded", SIZES),
     ("journal_diff", "--max-message -1 recorded recorded", "error: "),
     (

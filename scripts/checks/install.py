@@ -17,6 +17,9 @@ import list_stream
 
 STREAMS = checks.ROOT / "examples" / "streams"
 
+# The names in bin, the last of a script.
+INSTALLED = (*checks.PROGRAMS, "journal_view")
+
 # What an installed program prints of the stream that it is given: its words, and the file of it or the text.
 PRINTS = (
     (("journal_list",), STREAMS / "replay.stdout"),
@@ -29,6 +32,9 @@ PRINTS = (
     (("journal", "dump"), STREAMS / "replay.dump"),
     (("journal", "make", STREAMS / "replay.dump"), STREAMS / "replay"),
     (("journal", "diff", STREAMS / "recorded", STREAMS / "recorded"), "same, 4 commands\n"),
+    (("journal", "list"), STREAMS / "replay.stdout"),
+    (("journal_view", "-o", "page.html", STREAMS / "recorded", STREAMS / "replayed_other_handler"), "page.html\n"),
+    (("journal_view", "--version"), f"journal_view {checks.library_version()}\n"),
     *(((name, "--version"), f"{name} {checks.library_version()}\n") for name in checks.PROGRAMS),
 )
 
@@ -43,6 +49,7 @@ ERRORS = (
     (("journal_diff", "-", "./nothing"), f"journal_diff: {NO_FILE}"),
     (("journal_diff", ".", "-"), "journal_diff: .: is a directory"),
     (("journal", "dump", "./nothing"), f"journal dump: {NO_FILE}"),
+    (("journal", "list", "./nothing"), f"journal list: {NO_FILE}"),
 )
 
 # What bash makes of the last word, with the completion of a program: the folder of the files, then the words.
@@ -53,7 +60,7 @@ COMPLETE = """. "$1/$2.bash" && shift && COMP_WORDS=("$@") && COMP_CWORD=$(($# -
 ZSH = 'fpath=("$1" $fpath) && autoload -Uz compinit && compinit -D -u && print -r -- "$_comps[$2]"'
 
 # What the library alone has not, by a part of its path.
-OF_PROGRAMS = re.compile("^bin/|/man1/|completion|/zsh/|/wireshark/")
+OF_PROGRAMS = re.compile("^bin/|/man1/|completion|/zsh/|/wireshark/|^share/pendratsoa/")
 
 
 class Installation:
@@ -63,7 +70,7 @@ class Installation:
         self.check = check
         self.prefix = check.work / "a prefix"
         self.calls = re.findall(r"^int64_t (journal_[a-z_]*)\(", pathlib.Path("include/pendratsoa.h").read_text(), re.M)
-        self.pages = (*checks.PROGRAMS, "pendratsoa", *self.calls)
+        self.pages = (*INSTALLED, "pendratsoa", *self.calls)
 
     def install(self, name: str, *words: str | pathlib.Path, **env: str) -> None:
         """Counts a run of scripts/install.sh."""
@@ -112,15 +119,16 @@ class Installation:
         if not self.check.has("bash", "completion in bash"):
             return
         by_word = [name.split("_") for name in crates.LINKS]
-        for words in (*([name] for name in checks.PROGRAMS), *by_word):
+        for words in (*([name] for name in INSTALLED), ["journal", "list"], *by_word):
             name = " ".join(words)
             text = checks.run([self.prefix / "bin" / words[0], *words[1:], "--help"]).out.decode()
+            text = text.partition("\nExamples:")[0]
             options = sorted(set(re.findall("--[a-z-]+", text)))
             self.check.same(f"the options of {name} in bash", options, self.completed(*words, "--"))
             if name != "journal":
                 versions = [str(version) for version in range(5, 10)]
                 self.check.same(f"the versions of {name} in bash", versions, self.completed(*words, "--protocol", ""))
-        names = sorted(words[1] for words in by_word)
+        names = sorted(["list", *(words[1] for words in by_word)])
         self.check.same("the subcommands of journal help in bash", names, self.completed("journal", "help", ""))
         self.check.same("a subcommand of journal in bash", ["dump"], self.completed("journal", "du"))
         types = sorted(list_stream.type_names().values())
@@ -134,7 +142,7 @@ class Installation:
             return
         folder = self.prefix / "share" / "zsh" / "site-functions"
         env = {**os.environ, "HOME": str(self.check.work)}
-        for name in checks.PROGRAMS:
+        for name in INSTALLED:
             crate = crates.crate_of(name)
             found = checks.run(["zsh", "-f", "-c", ZSH, "zsh", folder, name], env=env).out.decode()
             self.check.same(f"zsh finds the completion of {name}", f"_{crate}\n", found)

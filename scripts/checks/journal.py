@@ -18,6 +18,19 @@ STREAMS = checks.ROOT / "examples" / "streams"
 
 # The arguments of each subcommand, the status and the beginning of an error after the name; the input is a replay.
 RUNS = {
+    "list": (
+        ((), 0, ""),
+        (("--protocol", "9", "-"), 0, ""),
+        (("--max-message", "1MB", "recorded"), 0, ""),
+        (("--max-message=8", "recorded"), 1, ": InputCommand at offset 0: 9 bytes of payload, more than the limit"),
+        (("replay.dump",), 0, ": no message in it; is it a journal of version 8?"),
+        (("nothing",), 2, ": nothing: No such file or directory"),
+        (("--max-message", "1mb"), 2, "--max-message takes a number of bytes up to 4294967295, as 4096, 64kB or 1MiB"),
+        (("replay", "3"), 2, "unexpected argument '3'"),
+        ((b"\xff",), 2, ": an argument is not UTF-8"),
+        (("--help",), 0, ""),
+        (("--version",), 0, ""),
+    ),
     "dump": (
         ((), 0, ""),
         (("--text", "--no-payload", "--type", "Start,end"), 0, ""),
@@ -66,8 +79,9 @@ RUNS = {
 
 # What is no subcommand, and what the error says of it.
 NO_SUBCOMMAND = (
-    (("list",), "unrecognized subcommand 'list'"),
-    (("view",), "unrecognized subcommand 'view'"),
+    (("view",), "journal view: the page is made by the program journal_view: journal_view [OPTION].. STREAM [OTHER]\n"),
+    (("view", "--help"), "journal view: the page is made by the program journal_view"),
+    (("lits",), "a similar subcommand exists: 'list'"),
     (("dmup",), "a similar subcommand exists: 'dump'"),
     (("journal_dump",), "unrecognized subcommand 'journal_dump'"),
     (("",), "unrecognized subcommand ''"),
@@ -101,17 +115,18 @@ class Journal:
         return checks.run(words, self.given, cwd=STREAMS)
 
     def both_names(self, name: str) -> None:
-        """A subcommand does the same by both names, and ends as it has to."""
+        """A subcommand does the same by both names, if it has two, and ends as it has to."""
         for words, status, error in RUNS[name]:
             by_word = self.run(self.path, name, *words)
-            by_link = self.run(self.links[name], *words)
-            renamed = checks.Run(
-                by_link.status,
-                by_link.out.replace(f"journal_{name} ".encode(), f"journal {name} ".encode()),
-                by_link.err.replace(f"journal_{name}".encode(), f"journal {name}".encode()),
-            )
-            shown = f"{by_word}, and by the other name {by_link}"
-            self.check.case(f"journal {name} and journal_{name} {words}", by_word == renamed, shown)
+            if name in self.links:
+                by_link = self.run(self.links[name], *words)
+                renamed = checks.Run(
+                    by_link.status,
+                    by_link.out.replace(f"journal_{name} ".encode(), f"journal {name} ".encode()),
+                    by_link.err.replace(f"journal_{name}".encode(), f"journal {name}".encode()),
+                )
+                shown = f"{by_word}, and by the other name {by_link}"
+                self.check.case(f"journal {name} and journal_{name} {words}", by_word == renamed, shown)
             start = f"journal {name}{error}" if error.startswith(":") else error
             is_right = by_word.status == status and start.encode() in by_word.err and (bool(error) == bool(by_word.err))
             self.check.case(f"journal {name} {words}", is_right, by_word)
@@ -122,15 +137,15 @@ class Journal:
         parts = (
             "Usage: journal <COMMAND>",
             *(f"\n  {name}  " for name in RUNS),
-            "journal_list",
-            "scripts/run.sh journal view",
+            "journal_view",
+            "\nExamples:\n  journal list FILE ",
         )
         is_right = ended.status == 0 and not ended.err and all(part.encode() in ended.out for part in parts)
         self.check.case("journal --help", is_right, ended)
         self.check.case("journal --help in 80 columns", checks.is_narrow(ended.out), ended)
         named = re.findall(r"^  (\w+)  ", ended.out.decode(), re.M)
         linked = [name.removeprefix("journal_") for name in crates.LINKS]
-        self.check.same("the subcommands and the links to them", [*linked, "help"], named)
+        self.check.same("the subcommands, and the links to all but the first", ["list", *linked, "help"], named)
         installed = checks.run(["sh", "-c", ". scripts/up_to_date.sh && echo $links"], cwd=checks.ROOT)
         self.check.same("the links that are installed", list(crates.LINKS), installed.out.decode().split())
         nothing = self.run(self.path)
@@ -144,6 +159,8 @@ class Journal:
                 f"journal help {name}", asked == own and f"Usage: journal {name} ".encode() in own.out, asked
             )
             self.check.case(f"journal help {name} in 80 columns", checks.is_narrow(own.out), own)
+            has_examples = f"\nExamples:\n  journal {name} ".encode() in own.out
+            self.check.case(f"journal help {name} has examples", has_examples, own)
             ended = self.run(self.path, name, "--version")
             version = f"journal {name} {checks.library_version()}\n".encode()
             self.check.case(f"journal {name} --version", ended == checks.Run(0, version, b""), ended)
@@ -165,6 +182,14 @@ class Journal:
             expected = f"{name or 'journal'} {checks.library_version()}\n".encode()
             self.check.case(f"the program called as '{path}'", ended.stdout == expected, ended)
 
+    def lists(self) -> None:
+        """A listing is that of journal_list."""
+        for name in ("replay", "recorded", "unknown_type", "cut_short", "/dev/null"):
+            for version in ("5", "9"):
+                words = ("--protocol", version, f"./{name}" if name != "/dev/null" else name)
+                own, other = self.run(self.path, "list", *words), self.run(self.check.program("journal_list"), *words)
+                self.check.same(f"journal list {' '.join(words)}", other.out, own.out)
+
     def verdict(self) -> None:
         """A subcommand's output is whole by the first name too."""
         ended = self.run(self.path, "diff", "--json", "recorded", "recorded")
@@ -180,6 +205,7 @@ def main(check: checks.Check) -> None:
     journal.helps()
     journal.no_subcommand()
     journal.paths()
+    journal.lists()
     journal.verdict()
 
 

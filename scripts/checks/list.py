@@ -115,6 +115,13 @@ def bounds(check: checks.Check, lister: Program) -> None:
     check.case(f"bounds: {rejected} too low to list, {listed} enough", bool(rejected and listed))
 
 
+# Sizes as they are given, and in bytes.
+SIZES = {
+    "1048576": 1048576, "+7": 7, "0kB": 0, "64kB": 64_000, "1MB": 1_000_000, "4GB": 4_000_000_000, "64KiB": 65_536,
+    "1MiB": 1_048_576, "+3GiB": 3_221_225_472, "4194303KiB": 4_294_966_272, "007MB": 7_000_000,
+}  # fmt: skip
+
+
 def main(check: checks.Check) -> None:
     replay = (STREAMS / "replay").read_bytes()
     lister = Program(check, "journal_list", "replay")
@@ -128,8 +135,9 @@ def main(check: checks.Check) -> None:
     for words, listing, message in TOO_LONG:
         lister.ends(words, listing, f"journal_list: {message}\n", 1)
     # of 4 GiB that are announced no byte is waited for
-    lister.ends("--max-message 1048576", "", "journal_list: InputCommand at offset 0: 4294967295 bytes of payload,"
-                " more than the limit of 1048576\n", 1, given=b"\x04\0\0\0\xff\xff\xff\xff")
+    for size, limit in SIZES.items():
+        lister.ends(f"--max-message {size}", "", "journal_list: InputCommand at offset 0: 4294967295 bytes of payload,"
+                    f" more than the limit of {limit}\n", 1, given=b"\x04\0\0\0\xff\xff\xff\xff")
     *lines, _ = REPLAY.splitlines(keepends=True)
     lister.ends("1", "".join([*lines * 16384, "rest 0\n"]), given="long", what="< long")
     bytes_left(lister)

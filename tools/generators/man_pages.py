@@ -130,16 +130,21 @@ def tagged(tag, text):
     return f".TP\n{inline(tag)}\n{filled(text)}"
 
 
+def paged():
+    """The programs that have a page of their own."""
+    return [program for program in programs.programs() if program.host is None]
+
+
 def see_also(name):
     """The other pages."""
-    others = [f".BR {other.name} (1)" for other in programs.programs() if other.name != name]
+    others = [f".BR {other.name} (1)" for other in paged() if other.name != name]
     return " ,\n".join([*others, ".BR pendratsoa (3)"]) + "\n"
 
 
 def synopsis(program):
     """How a program is used, in lines that a terminal has room for; an option stays with its value."""
     lines = []
-    for line in program.synopses():
+    for line in (line for each in program.with_guests() for line in each.synopses()):
         named = line.partition(" [")[0]
         words = re.sub(r"(\[[^]]*) ([^]]*\])", "\\1\u00a0\\2", line)
         lines += textwrap.wrap(words, 72, subsequent_indent=" " * (len(named) + 1), break_on_hyphens=False)
@@ -154,8 +159,8 @@ def program_page(program):
     parts[programs.heading(program)] = "".join(tagged(tag, said) for tag, said in program.items())
     part = "DESCRIPTION"
     for kind, block in rest:
-        if kind == "item":
-            # the list of the arguments
+        if kind == "item" or block.startswith("!["):
+            # the list of the arguments, and a picture
             continue
         if kind in ("code", "table"):
             # it belongs to the paragraph before it
@@ -243,11 +248,11 @@ def library_page():
         *((name, prose(section(text, heading)[0])) for heading, name in LIBRARY_SECTIONS),
         ("CALLS", calls()),
         ("EXAMPLES", prose(build)),
-        ("SEE ALSO", " ,\n".join(f".BR {program.name} (1)" for program in programs.programs()) + "\n"),
+        ("SEE ALSO", " ,\n".join(f".BR {program.name} (1)" for program in paged()) + "\n"),
     )
 
 
 def files():
-    found = {f"share/man/man1/{program.name}.1": program_page(program) for program in programs.programs()}
+    found = {f"share/man/man1/{program.name}.1": program_page(program) for program in paged()}
     found["share/man/man3/pendratsoa.3"] = library_page()
     return found

@@ -108,8 +108,10 @@ def programs_page(text):
     """The page on the programs."""
     sections = re.split(r"^(?=## )", text, flags=re.M)
     for program in programs.programs():
+        if program.host:
+            continue
         at = next(place for place, section in enumerate(sections) if section.startswith(f"## {program.called}: "))
-        used = f"    {program.synopses()[0]}\n"
+        used = "".join(f"    {each.synopses()[0]}\n" for each in program.with_guests())
         section = re.sub(USED.format(name=program.called), lambda match: match[1] + used, sections[at])
         sections[at] = ARGUMENTS.sub(lambda match: match[1] + list_of_arguments(program), section)
     return "".join(sections)

@@ -14,8 +14,9 @@ from .versions import library_version
 ABOUT = "The definitions of the programs' command lines."
 SOURCE = "proto/programs.toml"
 
-# The crates of programs, and the program that has subcommands.
+# The crates of programs, what is installed with completion of its own, and the program that has subcommands.
 CRATES = ("journal", "journal_list")
+INSTALLED = (*CRATES, "journal_view")
 JOURNAL = "journal"
 
 # The columns of a help at most.
@@ -109,13 +110,16 @@ class Argument:
 
 
 class Program:
-    """A program, or a subcommand of journal, by the name under which it is installed."""
+    """A program, or a subcommand of journal, by the name under which it is installed, or else by its own."""
 
     def __init__(self, name, entry):
         self.name = name
         self.crate = entry["crate"]
         self.about = entry["about"]
         self.more = entry.get("more")
+        self.examples = entry.get("examples", [])
+        # the program whose man page and whose section of a page have it too
+        self.host = entry.get("host")
         self.options = [Argument(long, each, True) for long, each in entry.get("options", {}).items()]
         self.operands = [Argument(id, each, False) for id, each in entry.get("operands", {}).items()]
 
@@ -133,16 +137,31 @@ class Program:
         return self.name.removeprefix(f"{JOURNAL}_")
 
     @property
+    def is_installed(self):
+        """Whether it is installed by its name, and is not a subcommand only."""
+        return self.name.startswith(JOURNAL)
+
+    @property
+    def function(self):
+        """What a shell's functions for it are called."""
+        return self.name if self.is_installed else f"{JOURNAL}_command_{self.name}"
+
+    @property
     def called(self):
         """How it is called: a subcommand after the program's name."""
         return f"{JOURNAL} {self.command}" if self.is_subcommand else self.name
 
     def synopses(self):
-        """How it is used, in a line for each way to call it."""
+        """How it is used, in a line for each name by which it is called."""
         if self.name == JOURNAL:
             return [f"{JOURNAL} COMMAND [ARGUMENT].."]
         words = [argument.synopsis() for argument in self.arguments]
-        return [" ".join([name, *words]) for name in dict.fromkeys([self.called, self.name])]
+        names = dict.fromkeys([self.called, self.name] if self.is_installed else [self.called])
+        return [" ".join([name, *words]) for name in names]
+
+    def with_guests(self):
+        """The subcommands that its man page and its section of a page have too, and itself."""
+        return [*(each for each in programs() if each.host == self.name), self]
 
     def items(self):
         """What a page says of each argument, or of each subcommand: its tag, and a text."""
@@ -155,8 +174,10 @@ class Program:
 
     def texts(self):
         """The calls that give its definition the texts around the arguments."""
-        more = f".after_help({quoted(textwrap.fill(self.more, WIDTH))})" if self.more else ""
-        return f".version(VERSION).about({quoted(self.about)}){more}"
+        parts = [textwrap.fill(self.more, WIDTH)] if self.more else []
+        parts += ["\n  ".join(["Examples:", *self.examples])] if self.examples else []
+        after = f".after_help({quoted(f'{chr(10)}{chr(10)}'.join(parts))})" if parts else ""
+        return f".version(VERSION).about({quoted(self.about)}){after}"
 
     def definition(self):
         """The function that defines it for clap."""

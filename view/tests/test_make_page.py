@@ -9,6 +9,7 @@ import json
 import os
 import pathlib
 import re
+import shutil
 import subprocess
 import sys
 import threading
@@ -320,6 +321,47 @@ class Files(unittest.TestCase):
             words = [sys.executable, make_page.__file__, "--help"]
             said = subprocess.run(words, capture_output=True, text=True, env={**os.environ, "COLUMNS": columns})
             self.assertLessEqual(max(map(len, said.stdout.splitlines())), min(79, int(columns)))
+
+
+class Installed(unittest.TestCase):
+    """The maker as it is installed: its files below share/pendratsoa, and a link to it in bin."""
+
+    def setUp(self):
+        self.prefix = WORK / "a prefix"
+        shutil.rmtree(self.prefix, ignore_errors=True)
+        share = self.prefix / "share" / "pendratsoa"
+        shutil.copytree(make_page.HERE, share / "view", ignore=shutil.ignore_patterns("tests", "__pycache__"))
+        shutil.copy(make_page.ROOT / "VERSION", share)
+        (self.prefix / "bin").mkdir()
+        (share / "view" / "make_page.py").chmod(0o755)
+        (self.prefix / "bin" / "journal_view").symlink_to("../share/pendratsoa/view/make_page.py")
+
+    def make(self, *words):
+        made = subprocess.run(
+            [self.prefix / "bin" / "journal_view", *words], stdin=subprocess.DEVNULL, capture_output=True,
+            cwd=WORK, text=True,
+        )  # fmt: skip
+        return made.returncode, made.stdout, made.stderr
+
+    def test_a_page_of_a_dump_takes_no_program(self):
+        page = WORK / "installed.html"
+        self.assertEqual(self.make("-o", page, STREAMS / "replay.dump"), (0, f"{page}\n", ""))
+        self.assertEqual(page.read_bytes(), page_of(STREAMS / "replay.dump").read_bytes())
+        self.assertEqual(list(self.prefix.rglob("*.pyc")), [])
+
+    def test_it_takes_the_program_beside_it(self):
+        page, program = WORK / "installed.html", self.prefix / "bin" / "journal"
+        self.assertEqual(self.make("-o", page, STREAMS / "replay"), (2, "", f"view: there is no {program}\n"))
+        program.symlink_to(make_page.program(True))
+        self.assertEqual(self.make("-o", page, STREAMS / "replay"), (0, f"{page}\n", ""))
+        self.assertEqual(page.read_bytes(), page_of(STREAMS / "replay").read_bytes())
+
+    def test_its_help_and_its_version(self):
+        version = (make_page.ROOT / "VERSION").read_text()
+        self.assertEqual(self.make("--version"), (0, f"journal_view {version}", ""))
+        status, said, _ = self.make("--help")
+        self.assertEqual((status, said.partition("[")[0]), (0, "usage: journal_view "))
+        self.assertNotIn("--unproved", said)
 
 
 def line(**members):

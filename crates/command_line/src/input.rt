@@ -1,9 +1,10 @@
 //! The input of a program: a file, or the standard input.
 
+use crate::note;
 use either::Either;
 use std::error::Error;
 use std::fs::File;
-use std::io::{Read, Stdin};
+use std::io::{IsTerminal, Read, Stdin};
 use std::{fmt, fs, io};
 
 /// A file, or the standard input.
@@ -40,6 +41,14 @@ pub fn open<'a>(rt: &HostRuntime, path: &'a str) -> Result<Input, OpenError<'a>>
     match open_file(rt, path) {
         Ok(file) => Ok(Either::Left(file)),
         Err(reason) => Err(OpenError { path, reason }),
+    }
+}
+
+/// Says on the standard error that the standard input is read, if the path is `-` and that is a terminal: a program
+/// that waits for what is typed would seem to hang.
+pub fn note_terminal(rt: &HostRuntime, program: &str, path: &str) {
+    if path == "-" && rt.stdin().is_terminal() {
+        note(rt, program, "reading the standard input; Ctrl-D ends it");
     }
 }
 

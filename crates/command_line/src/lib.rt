@@ -17,7 +17,7 @@ ghost use Rattle.std.specs.Process.{exit_status};
 pub use crate::arguments::{ArgumentsError, read_arguments};
 pub use crate::colors::{ColorChoice, color_of, has_color};
 pub use crate::definitions::{flag, operand, option};
-pub use crate::input::{Input, OpenError, input_size, is_stdin_open, open};
+pub use crate::input::{Input, OpenError, input_size, is_stdin_open, note_terminal, open};
 pub use crate::max_message::max_message_of;
 pub use crate::pipe::Pipe;
 pub use crate::progress::{Progress, Watched};

@@ -1,10 +1,11 @@
 -- The names of the subcommands.
 use Rattle.std.specs.Prelude.{List, ℕ, codes}
 use Rattle.journal.specs.declared.subcommand.Subcommand.{Subcommand}
-use Rattle.journal.specs.declared.subcommand.Subcommand.TheVariants.{Dump, Make, Diff}
+use Rattle.journal.specs.declared.subcommand.Subcommand.TheVariants.{List as Listing, Dump, Make, Diff}
 
 -- The name of a subcommand.
 abbrev pub subcommand_name : Subcommand → List ℕ
+subcommand_name Listing = codes "list"
 subcommand_name Dump = codes "dump"
 subcommand_name Make = codes "make"
 subcommand_name Diff = codes "diff"

@@ -2,6 +2,9 @@
 //!
 //! It is found out by a reader around the input, in a cell, of which no contract can speak: it is tested.
 
+use crate::call::Call;
+use command_line::note;
+use shared_core_base::version::Version;
 use std::cell::Cell;
 use std::io::{self, Read};
 
@@ -29,6 +32,19 @@ impl Beginning {
     /// Whether the input begins as the lines of a dump do.
     pub fn is_dump(&self) -> bool {
         self.matching.get() == DUMP.len()
+    }
+
+    /// Reports that no item comes before the bytes that are in none: the stream may be something else.
+    pub fn report_no_message(&self, call: &Call<'_>, version: Version) {
+        let version = version.number();
+        note(
+            call.rt,
+            call.name,
+            format_args!("no message in it; is it a journal of version {version}?"),
+        );
+        if self.is_dump() {
+            call.note("this is a dump; journal make turns it into a stream");
+        }
     }
 
     /// Notes bytes that are read.

@@ -1,7 +1,7 @@
 //! What subcommands have in common: how one is called, and how it reports.
 
 use clap::Error;
-use command_line::{fail, note, report};
+use command_line::{Input, OpenError, fail, note, note_terminal, open, report};
 use std::fmt::Display;
 use std::process::ExitCode;
 
@@ -18,6 +18,12 @@ pub struct Call<'a> {
 }
 
 impl<'a> Call<'a> {
+    /// Opens a file for reading, or the standard input if the path is `-`. If that is a terminal, says that it is read.
+    pub fn open<'p>(&self, path: &'p str) -> Result<Input, OpenError<'p>> {
+        note_terminal(self.rt, self.name, path);
+        open(self.rt, path)
+    }
+
     /// Prints a text in a line on the standard error, after the name.
     pub fn note<T: Display + Drop>(&self, text: T) {
         note(self.rt, self.name, text);

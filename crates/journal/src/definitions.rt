@@ -8,16 +8,57 @@ use std::alloc::{AllocError, Global};
 
 const VERSION: &str = "0.2.0";
 
+/// The definition of `journal list`, which help and errors show by this name.
+pub fn list<'a>(alloc: Global, name: &'a str) -> Result<Command<'a>, AllocError> {
+    Command::new(alloc, name)
+        .version(VERSION)
+        .about("Lists a stream, one line per item.")
+        .after_help(
+            "Examples:\n  journal list FILE | sort | uniq -c | sort -rn\n  journal list --max-message 1MB FILE",
+        )
+        .arg(option(
+            alloc,
+            "max-message",
+            "SIZE",
+            "Ends with an error at a message whose payload has\nmore than this number of bytes, as 4096 or 1MB",
+        ))?
+        .arg(
+            option(
+                alloc,
+                "protocol",
+                "VERSION",
+                "The version of the protocol of the stream\n[default: 8] [possible values: 5, 6, 7, 8, 9]",
+            )
+            .value_parser(Version::supported_numbers())
+            .hide_possible_values(true)
+            .default_value("8")
+            .hide_default_value(true),
+        )?
+        .arg(
+            operand(
+                alloc,
+                "file",
+                "FILE",
+                "The stream: a file, or - for the standard input [default: -]",
+            )
+            .default_value("-")
+            .hide_default_value(true),
+        )
+}
+
 /// The definition of `journal dump`, which help and errors show by this name.
 pub fn dump<'a>(alloc: Global, name: &'a str) -> Result<Command<'a>, AllocError> {
     Command::new(alloc, name)
         .version(VERSION)
         .about("Prints a stream as JSON, one object per item.")
+        .after_help(
+            "Examples:\n  journal dump --text FILE\n  journal dump --text --pretty --type CallCommand FILE\n  journal dump FILE | jq -c 'select(.message.failure) | [.offset, .type]'",
+        )
         .arg(option(
             alloc,
             "max-message",
             "SIZE",
-            "Ends with an error at a message whose payload has\nmore than this number of bytes",
+            "Ends with an error at a message whose payload has\nmore than this number of bytes, as 4096 or 1MB",
         ))?
         .arg(flag(alloc, "no-payload", "Omits the contents of messages"))?
         .arg(flag(
@@ -71,6 +112,9 @@ pub fn make<'a>(alloc: Global, name: &'a str) -> Result<Command<'a>, AllocError>
     Command::new(alloc, name)
         .version(VERSION)
         .about("Makes a stream of JSON, one object per item.")
+        .after_help(
+            "Examples:\n  journal dump FILE | jq -c 'select(.type != \"Start\")' | journal make > edited\n  journal make lines.jsonl > made",
+        )
         .arg(
             option(
                 alloc,
@@ -101,7 +145,7 @@ pub fn diff<'a>(alloc: Global, name: &'a str) -> Result<Command<'a>, AllocError>
         .version(VERSION)
         .about("Compares two journals, command by command.")
         .after_help(
-            "The status is 0 if they are the same, 1 if they differ, and 2 if there is no\nverdict.",
+            "The status is 0 if they are the same, 1 if they differ, and 2 if there is no\nverdict.\n\nExamples:\n  journal diff --all RECORDED REPLAYED\n  journal diff --ignore-payloads RECORDED REPLAYED",
         )
         .arg(flag(
             alloc,
@@ -113,7 +157,7 @@ pub fn diff<'a>(alloc: Global, name: &'a str) -> Result<Command<'a>, AllocError>
             alloc,
             "max-message",
             "SIZE",
-            "Ends with an error at a message whose payload has\nmore than this number of bytes",
+            "Ends with an error at a message whose payload has\nmore than this number of bytes, as 4096 or 1MB",
         ))?
         .arg(flag(
             alloc,
@@ -169,12 +213,13 @@ pub fn diff<'a>(alloc: Global, name: &'a str) -> Result<Command<'a>, AllocError>
 pub fn journal<'a>(alloc: Global) -> Result<Command<'a>, AllocError> {
     Command::new(alloc, "journal")
         .version(VERSION)
-        .about("Prints, makes and compares journals of the protocol.")
+        .about("Lists, prints, makes and compares journals of the protocol.")
         .after_help(
-            "A stream as a listing: the program journal_list. A journal as a page, or two\nside by side: scripts/run.sh journal view, in the sources.",
+            "A journal as a page, or two side by side: the program journal_view, which needs\nPython 3.\n\nExamples:\n  journal list FILE                        one line per item\n  journal dump --text FILE                 one line of JSON per item\n  journal diff --all RECORDED REPLAYED     what moved between two journals",
         )
         .subcommand_required(true)
         .arg_required_else_help(true)
+        .subcommand(list(alloc, "list")?)?
         .subcommand(dump(alloc, "dump")?)?
         .subcommand(make(alloc, "make")?)?
         .subcommand(diff(alloc, "diff")?)

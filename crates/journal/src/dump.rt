@@ -11,7 +11,7 @@ use crate::beginning::{Beginning, Begun};
 use crate::call::Call;
 use crate::dump::arguments::{Arguments, parse_arguments};
 use crate::dump::canonical::Records;
-use command_line::{Input, Pipe, Progress, Watched, input_size, note, open};
+use command_line::{Input, Pipe, Progress, Watched, input_size, note};
 use dump_lines::{MOST_SHOWN, Options, dump, dump_on_terminal};
 use std::io::IsTerminal;
 use std::process::ExitCode;
@@ -26,7 +26,10 @@ fn end(call: &Call<'_>, options: &Options<'_>, beginning: &Beginning, found: &Re
     if found.rest > 0 {
         report_rest(call, options, found);
         if found.end == 0 {
-            report_no_message(call, options, beginning);
+            beginning.report_no_message(call, options.version);
+            if !options.strict {
+                call.note("it is dumped all the same; with --strict the status is 2");
+            }
         }
     }
     if options.strict && (found.trouble.is_some() || found.rest > 0) {
@@ -70,22 +73,6 @@ fn report_rest(call: &Call<'_>, options: &Options<'_>, found: &Report) {
         call.name,
         format_args!("offset {offset}: {count} {bytes} after the last whole item{shown}"),
     );
-}
-
-/// Reports that no item comes before the bytes that are in none: the stream may be something else.
-fn report_no_message(call: &Call<'_>, options: &Options<'_>, beginning: &Beginning) {
-    let version = options.version.number();
-    note(
-        call.rt,
-        call.name,
-        format_args!("no message in it; is it a journal of version {version}?"),
-    );
-    if beginning.is_dump() {
-        call.note("this is a dump; journal make turns it into a stream");
-    }
-    if !options.strict {
-        call.note("it is dumped all the same; with --strict the status is 2");
-    }
 }
 
 /// Dumps the input, and returns the status.
@@ -133,7 +120,7 @@ pub fn run(call: &Call<'_>) -> ExitCode {
         Ok(parsed) => parsed,
         Err(error) => return call.report(&error),
     };
-    match open(call.rt, parsed.path) {
+    match call.open(parsed.path) {
         Ok(input) => run_parsed(call, &parsed, input),
         Err(error) => call.fail(error, 2),
     }

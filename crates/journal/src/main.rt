@@ -1,5 +1,5 @@
-//! Prints, makes and compares journals: a program with a subcommand for each, which is that subcommand alone if it is
-//! called by its name, as `journal_dump`.
+//! Lists, prints, makes and compares journals: a program with a subcommand for each, which is that subcommand alone if
+//! it is called by its name, as `journal_dump`.
 #![tactic(auto)]
 
 mod beginning;
@@ -7,6 +7,7 @@ mod call;
 mod definitions;
 mod diff;
 mod dump;
+mod list;
 mod make;
 mod subcommand;
 
@@ -24,12 +25,20 @@ const PROGRAM: &str = "journal";
 /// The status if the arguments say no subcommand.
 const NO_SUBCOMMAND: u8 = 2;
 
+/// What is asked for as a subcommand, and is a program of its own.
+const VIEW: &str = "view";
+
+/// What is said if that is asked for.
+const IS_A_PROGRAM: &str =
+    "the page is made by the program journal_view: journal_view [OPTION].. STREAM [OTHER]";
+
 /// The longest argument that is read without an allocation, in bytes: as long as a path may be.
 const MOST_BYTES: usize = 4096;
 
 /// Runs a subcommand, and returns its status.
 fn run(call: &Call<'_>, subcommand: Subcommand) -> ExitCode {
     match subcommand {
+        Subcommand::List => list::run(call),
         Subcommand::Dump => dump::run(call),
         Subcommand::Make => make::run(call),
         Subcommand::Diff => diff::run(call),
@@ -74,6 +83,9 @@ fn main(rt: HostRuntime) -> ExitCode {
     let path = arguments.first().map(|path| path.as_str());
     let word = arguments.get(1).map(|word| word.as_str());
     let Some(asked) = Asked::of(path, word) else {
+        if word == Some(VIEW) {
+            return fail(&rt, "journal view", IS_A_PROGRAM, NO_SUBCOMMAND);
+        }
         let error = match why_none(rt.alloc(), arguments.as_slice()) {
             Ok(error) | Err(error) => error,
         };

@@ -3,7 +3,7 @@
 use crate::call::Call;
 use crate::definitions;
 use clap::Error;
-use command_line::{Input, Pipe, Progress, Watched, fail, input_size, open, protocol_of};
+use command_line::{Input, Pipe, Progress, Watched, fail, input_size, protocol_of};
 use make_lines::{MakeError, make};
 use shared_core_base::version::Version;
 use std::alloc::Global;
@@ -75,7 +75,7 @@ pub fn run(call: &Call<'_>) -> ExitCode {
     if call.rt.stdout().is_terminal() {
         return call.fail("the stream is not written to a terminal: redirect it", 2);
     }
-    match open(call.rt, parsed.path) {
+    match call.open(parsed.path) {
         Ok(input) => run_parsed(call, &parsed, input),
         Err(error) => call.fail(error, 2),
     }

@@ -3,6 +3,8 @@
 /// What the program does.
 #[derive(Clone, Copy, Debug, PartialEq, Eq, Drop)]
 pub enum Subcommand {
+    /// Lists a stream.
+    List,
     /// Prints a stream as JSON.
     Dump,
     /// Makes a stream of JSON.
@@ -22,6 +24,7 @@ impl Subcommand {
         ensures none { IsNone result → (other : AnySubcommand) → name.now ≡ subcommand_name other → ⊥ }
     {
         match name {
+            "list" => Some(Subcommand::List),
             "dump" => Some(Subcommand::Dump),
             "make" => Some(Subcommand::Make),
             "diff" => Some(Subcommand::Diff),
@@ -30,18 +33,22 @@ impl Subcommand {
     }
 
     /// The subcommand that the program of this path is: that whose name is after `journal_` in the last component.
+    /// `journal_list` is another program.
     fn of_program(path: &str) -> Option<Subcommand> {
         let name = match path.rsplit_once('/') {
             Some((_, name)) => name,
             None => path,
         };
-        Subcommand::named(name.strip_prefix("journal_")?)
+        match Subcommand::named(name.strip_prefix("journal_")?)? {
+            Subcommand::List => None,
+            subcommand => Some(subcommand),
+        }
     }
 
     /// The status if an allocation, the input or the output fails.
     pub fn failure(self) -> u8 {
         match self {
-            Subcommand::Dump => 1,
+            Subcommand::List | Subcommand::Dump => 1,
             Subcommand::Make | Subcommand::Diff => 2,
         }
     }
@@ -74,6 +81,7 @@ impl Asked {
     /// How it is called, as messages and the usage show it.
     pub fn name(self) -> &'static str {
         match (self.subcommand, self.is_program) {
+            (Subcommand::List, _) => "journal list",
             (Subcommand::Dump, true) => "journal_dump",
             (Subcommand::Dump, false) => "journal dump",
             (Subcommand::Make, true) => "journal_make",

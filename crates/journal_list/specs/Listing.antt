@@ -1,37 +1,13 @@
--- The listing of a stream of frames: a line for each item, and last the count of the bytes that are in no item.
-use Rattle.std.specs.Prelude.{◌≡◌, ℕ, Bool, true, List, [], ◌++◌, false, length, codes, decimal, Result, Ok, Err}
-use Rattle.std.specs.Prelude.{Option, Some, None}
-use Rattle.std.specs.Fmt.{digits}
+-- The result of a listing, and what is written for it.
+use Rattle.std.specs.Prelude.{◌≡◌, ℕ, List, codes, Result, Ok, Err, Option}
+use Rattle.list_lines.specs.Listing as lines
 use Rattle.shared_core_base.specs.declared.version.Version.{Version}
-use Rattle.shared_core_base.specs.MessageType.{debug_name_of}
-use Rattle.shared_core_stream.specs.declared.encoding.item.Item.{Item}
-use Rattle.shared_core_stream.specs.declared.encoding.item.Item.TheVariants.{Message, Unknown, Skipped}
 use Rattle.shared_core_stream.specs.Errors.{message_too_long_text}
 use Rattle.stream_lines.specs.declared.report.Report.{Report}
 use Rattle.stream_lines.specs.declared.error.PrintError.{PrintError}
 use Rattle.stream_lines.specs.declared.error.PrintError.TheVariants as print_error
-use Rattle.stream_lines.specs.Printing.{ArePrinted}
 use Rattle.journal_list.specs.declared.error.ListError.{ListError}
 use Rattle.journal_list.specs.declared.error.ListError.TheVariants.{Input, Output, OutOfMemory, MessageTooLong}
-
--- What follows a message's length: a mark if its header requests an acknowledgement.
-abbrev pub ack_text : Option Bool → List ℕ
-ack_text (Some true) = codes " ack"
-ack_text flag = []
-
--- An item's line: a message's type by its debug name, its payload's length and the mark; or an unknown code in
--- lower-case hexadecimal, and for a skipped message its payload's length after it.
-abbrev pub line_of : Item → List ℕ
-line_of (Message message) =
-    debug_name_of message.header.ty ++ (codes " " ++ (decimal (length message.payload) ++
-    (ack_text message.header.requested_ack ++ codes "\n")))
-line_of (Unknown code) = codes "unknown 0x" ++ (digits 16 false code ++ codes "\n")
-line_of (Skipped code payload) =
-    codes "skipped 0x" ++ (digits 16 false code ++ (codes " " ++ (decimal (length payload) ++ codes "\n")))
-
--- The last line: the number of bytes that are in no item.
-abbrev pub rest_line : ℕ → List ℕ
-rest_line count = codes "rest " ++ (decimal count ++ codes "\n")
 
 -- The result of printing a stream, for each result of a listing.
 abbrev pub IsPrintedAs : Result (Unit {0}) ListError → Result Report PrintError → Type 0
@@ -46,8 +22,7 @@ IsPrintedAs (Err (MessageTooLong message)) printed = printed ≡ Err (print_erro
 abbrev pub IsListed : Version → ℕ → Result (Unit {0}) ListError → List ℕ → List ℕ → Option (List ℕ) → Type 0
 IsListed version limit result read written left =
     (printed : Result Report PrintError) × IsPrintedAs result printed
-    × ArePrinted (λ at word. line_of) (λ at rest. rest_line (length rest)) (λ item. ⊥) (λ item. None) version limit
-    printed read written left
+    × lines.IsListed version limit printed read written left
 
 -- The text of an error.
 abbrev pub error_text : ListError → List ℕ

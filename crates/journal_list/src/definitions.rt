@@ -17,7 +17,7 @@ pub fn list<'a>(alloc: Global, name: &'a str) -> Result<Command<'a>, AllocError>
             alloc,
             "max-message",
             "SIZE",
-            "Ends with an error at a message whose payload has\nmore than this number of bytes",
+            "Ends with an error at a message whose payload has\nmore than this number of bytes, as 4096 or 1MB",
         ))?
         .arg(
             option(

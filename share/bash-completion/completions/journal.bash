@@ -2,14 +2,23 @@
 _journal() {
     local word=${COMP_WORDS[COMP_CWORD]}
     if [ "$COMP_CWORD" -eq 1 ]; then
-        mapfile -t COMPREPLY < <(compgen -W 'dump make diff help --help --version' -- "$word")
+        mapfile -t COMPREPLY < <(compgen -W 'list dump make diff help --help --version' -- "$word")
         return
     fi
     case ${COMP_WORDS[1]} in
+        list) _journal_command_list ;;
         dump) _journal_dump ;;
         make) _journal_make ;;
         diff) _journal_diff ;;
-        help) mapfile -t COMPREPLY < <(compgen -W 'dump make diff' -- "$word") ;;
+        help) mapfile -t COMPREPLY < <(compgen -W 'list dump make diff' -- "$word") ;;
+    esac
+}
+_journal_command_list() {
+    local word=${COMP_WORDS[COMP_CWORD]}
+    case ${COMP_WORDS[COMP_CWORD - 1]} in
+        --max-message) mapfile -t COMPREPLY < <(compgen -W '' -- "$word") ;;
+        --protocol) mapfile -t COMPREPLY < <(compgen -W '5 6 7 8 9' -- "$word") ;;
+        *) [[ $word != -* ]] || mapfile -t COMPREPLY < <(compgen -W '--max-message --protocol --help --version' -- "$word") ;;
     esac
 }
 _journal_dump() {

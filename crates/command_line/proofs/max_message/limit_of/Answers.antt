@@ -1,8 +1,8 @@
-use Rattle.std.proofs.Common.{arith, rules}
-use Rattle.std.proofs.lemmas.Fmt.{parse-decimal}
+use Rattle.std.proofs.Common.{inl, inr, rules}
 use Rattle.command_line.proofs.max_message.limit_of.Goals as goal
 
-pub returns-clause-named : goal.returns-clause-named
-returns-clause-named c limit small is =
-    let parsed = parse-decimal 32 limit _ c.parse.result small (omega (arith, small)) is (search rules) in
-    rw parsed at c.ok.ensures.value
+pub returns-clause-rejected : goal.returns-clause-rejected
+returns-clause-rejected c none limit small is = elim is [
+  | inl number ↦ c.in_default.ensures.rejected (search rules) limit small number
+  | inr other ↦ c.with_unit.ensures.rejected none limit small other
+]

@@ -1,0 +1,90 @@
+//! Lists a stream, a file or the standard input: a line for each of its items.
+
+ghost use Rattle.std.specs.Prelude.{◌≤◌, IfOk};
+ghost use Rattle.shared_core_base.specs.Version.{version_number};
+
+use crate::beginning::{Beginning, Begun};
+use crate::call::Call;
+use crate::definitions;
+use clap::Error;
+use command_line::{Input, Pipe, Progress, Watched, input_size, max_message_of, protocol_of};
+use list_lines::{Options, list};
+use shared_core_base::version::Version;
+use std::alloc::Global;
+use std::process::ExitCode;
+use stream_lines::{PrintError, Report};
+
+/// The number of bytes that are read at a time.
+const CHUNK: usize = 65536;
+
+/// The parsed arguments.
+#[derive(Drop)]
+struct Arguments<'a> {
+    /// The path of the stream, or `-` for the standard input.
+    path: &'a str,
+    /// The version of the protocol.
+    version: Version,
+    /// The greatest length of a payload that is taken.
+    limit: u32,
+}
+
+/// Parses the arguments. The error is an invalid argument, or a request for the help or the version.
+fn parse_arguments<'a>(
+    alloc: Global,
+    name: &'static str,
+    words: &'a [String],
+) -> Result<Arguments<'a>, Error>
+    ensures { IfOk result (λ parsed. 5 ≤ version_number parsed.version) }
+{
+    let mut command = definitions::list(alloc, name)?.no_binary_name(true);
+    let matches = command.try_get_matches_from_mut(words)?;
+    let limit = max_message_of(&mut command, &matches)?;
+    Ok(Arguments {
+        path: matches.get_str("file").unwrap_or("-"),
+        version: protocol_of(&matches),
+        limit,
+    })
+}
+
+/// Reports that nothing before the bytes in no item is an item, and returns the status.
+fn end(call: &Call<'_>, version: Version, beginning: &Beginning, found: &Report) -> ExitCode {
+    if found.rest > 0 && found.end == 0 {
+        beginning.report_no_message(call, version);
+    }
+    ExitCode::SUCCESS
+}
+
+/// Lists the input, and returns the status.
+fn run_parsed(call: &Call<'_>, parsed: &Arguments<'_>, input: Input) -> ExitCode
+    requires { 5 ≤ version_number parsed.now.version }
+{
+    let options = Options {
+        version: parsed.version,
+        limit: parsed.limit,
+        chunk_size: CHUNK,
+    };
+    let progress = Progress::beside_output(call.rt, call.name, input_size(&input));
+    let beginning = Beginning::new();
+    let mut input = Begun::new(Watched::new(input, &progress), &beginning);
+    let mut output = Pipe::new(call.rt.stdout());
+    let listed = list(call.rt.alloc(), &options, &mut input, &mut output);
+    progress.clear();
+    match listed {
+        Ok(found) => end(call, parsed.version, &beginning, &found),
+        // the reader has closed the output, so nothing is reported
+        Err(PrintError::Output) if output.is_broken() => ExitCode::from(call.failure),
+        Err(error) => call.fail(error, call.failure),
+    }
+}
+
+/// Parses the arguments, lists the stream, and returns the status.
+pub fn run(call: &Call<'_>) -> ExitCode {
+    let parsed = match parse_arguments(call.rt.alloc(), call.name, call.words) {
+        Ok(parsed) => parsed,
+        Err(error) => return call.report(&error),
+    };
+    match call.open(parsed.path) {
+        Ok(input) => run_parsed(call, &parsed, input),
+        Err(error) => call.fail(error, 2),
+    }
+}

@@ -1,0 +1,126 @@
+//! The listing of a stream, from any reader to any writer.
+
+ghost use Rattle.std.specs.Prelude.{◌≡◌, ◌≤◌, ◌++◌, ℕ, List, None, length, OnOk};
+ghost use Rattle.std.specs.Io.KnownBytes.{Appends, Consumes};
+ghost use Rattle.std.specs.String.{string_bytes};
+ghost use Rattle.shared_core_base.specs.Version.{version_number};
+ghost use Rattle.list_lines.specs.Listing.{ack_text, line_of, IsListed};
+ghost use Rattle.list_lines.specs.Listing as text;
+
+use crate::options::Options;
+use shared_core_stream::encoding::{Decoder, Item};
+use std::alloc::{AllocError, Global};
+use std::io::{Read, Write};
+use stream_lines::{LinePrinter, PrintError, Report, Trouble, print_lines};
+
+/// Writes a line for each item of a stream, and at its end the count of the bytes that are in no item.
+///
+/// It reads at most `chunk_size` bytes at a time, and ends as `print_lines` says. `TooLong` never comes, and
+/// `MessageTooLong` at the first message that is longer than the limit of the options. The report has no trouble of an
+/// item.
+pub fn list<R: Read, W: Write>(
+    alloc: Global,
+    options: &Options,
+    input: &mut R,
+    output: &mut W,
+) -> Result<Report, PrintError>
+    requires spoken { 5 ≤ version_number options.now.version }
+    requires low { 1 ≤ options.now.chunk_size }
+    requires high { options.now.chunk_size ≤ 65536 }
+    ensures { (read : List ℕ) × (written : List ℕ)
+        × Consumes (R.remaining input.old) (R.remaining input.new) read
+        × Appends (W.contents output.old) (W.contents output.new) written
+        × IsListed options.now.version options.now.limit result read written (R.remaining input.new) }
+{
+    print_lines(
+        alloc,
+        options.version,
+        options.limit,
+        &Listing,
+        input,
+        output,
+        options.chunk_size,
+    )
+}
+
+/// The printer of the lines of a listing.
+struct Listing;
+
+impl LinePrinter for Listing {
+    /// The text of a line, which is reused.
+    type Scratch = String;
+
+    ghost item_line = { λ listing at word. text.line_of };
+
+    ghost rest_line = { λ listing at rest. text.rest_line (length rest) };
+
+    ghost is_long = { λ listing item. ⊥ };
+
+    ghost item_trouble = { λ listing item. None };
+
+    fn scratch(&self, alloc: Global) -> String {
+        String::new(alloc)
+    }
+
+    fn trouble(&self, _item: &Item) -> Option<Trouble> {
+        None
+    }
+
+    #[inline(always)]
+    fn print_item(
+        &self,
+        _alloc: Global,
+        _offset: u128,
+        _word: u64,
+        item: Item,
+        line: &mut String,
+        lines: &mut Vec<u8>,
+    ) -> Result<(), PrintError> {
+        line.clear();
+        write_item(line, item)?;
+        lines.extend_from_slice(line.as_bytes())?;
+        Ok(())
+    }
+
+    fn print_rest(
+        &self,
+        alloc: Global,
+        _offset: u128,
+        rest: &Decoder,
+        lines: &mut Vec<u8>,
+    ) -> Result<(), AllocError> {
+        let count = rest.pending();
+        let mut line = String::new(alloc);
+        writeln!(line, "rest {count}")?;
+        lines.extend_from_slice(line.as_bytes())
+    }
+}
+
+/// Appends an item's line.
+fn write_item(text: &mut String, item: Item) -> Result<(), AllocError>
+    ensures { OnOk result (string_bytes text.new ≡ string_bytes text.old ++ line_of item) }
+{
+    match item {
+        Item::Message(message) => {
+            let name = message.ty().debug_name();
+            let length = message.payload().len();
+            let mark = ack_mark(message.header().requested_ack());
+            writeln!(text, "{name} {length}{mark}")
+        }
+        Item::Unknown(code) => writeln!(text, "unknown 0x{code:x}"),
+        Item::Skipped(code, payload) => {
+            let length = payload.len();
+            writeln!(text, "skipped 0x{code:x} {length}")
+        }
+    }
+}
+
+/// What follows a message's length, by its header's flag.
+fn ack_mark(requested_ack: Option<bool>) -> &'static str
+    ensures { result.now ≡ ack_text requested_ack }
+{
+    match requested_ack {
+        Some(true) => " ack",
+        _ => "",
+    }
+}
