@@ -78,7 +78,7 @@ class OneJournal(OpenerTest):
         data += raw_frame(0xFC01, b"\x00\xff") + b"\x04\x00\x00\x01" + bytes(4) + raw_frame(0x0400, b"", flag=1)
         data += raw_frame(1, b"\x0a\x01\x11")
         data += frame("RunCommand", name="</script><img src=x onerror=alert(1)>", result_completion_id=1) + b"\x04"
-        self.check("<b>adversarial</b>", data)
+        self.check("<b>adversarial", data)
         self.check("early", data, 5)
 
     def test_as_the_page_of_the_programs(self):
