@@ -9,8 +9,8 @@ set -u
 cd "$(dirname "$0")/.." || exit 1
 
 all='layout table calls pages words generated description reference tests'
-all="$all run list streams diff dump make shown failures journal terminal waiting sweep view"
-all="$all conformance wireshark install package files c soak json python wasm node rust go ruby refusals prost"
+all="$all run list streams diff dump make shown failures journal terminal waiting sweep wasm view"
+all="$all conformance wireshark install package files c soak json python node rust go ruby refusals prost"
 before_release='arm64 release'
 
 # file_of NAME: the file of a check, which is Python, or shell that finds what its Python beside it takes

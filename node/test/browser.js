@@ -148,7 +148,9 @@ outcome('the body of a response', (await chunks(items((await fetch(address)).bod
 outcome('the stream of a blob', (await chunks(items(new Blob([bytes]).stream()))) === lines);
 outcome('a transform', (await chunks(new Blob([bytes]).stream().pipeThrough(decode()))) === lines);
 outcome('two journals', compareJournals(8, bytes, bytes).kind === 'same');
-outcome('a message', JSON.stringify(Message.of('SetStateCommand', { key: hex('61') })).includes('"payload":"CgFh"'));
+const message = Message.of('SetStateCommand', { key: hex('61') });
+const shown = JSON.parse(JSON.stringify(message)).payload;
+outcome('a message', shown === btoa(String.fromCharCode(...message.payload)) && shown !== '');
 outcome('the version', /^\d+\.\d+\.\d+$/.test(libraryVersion()));
 for (const wrong of ['text', 5n, Symbol('5'), null, undefined, {}, [1], () => 1, 'x'.repeat(100)]) {
   for (const call of [() => canonical(wrong, bytes), () => canonical(0, wrong), () => typeCode(wrong)]) {

@@ -28,7 +28,7 @@ WIDTH = 120
 # The folders with which a path in code begins.
 FOLDERS = (
     "bench", "conformance", "crates", "docs", "examples", "go", "include", "node", "proto", "python", "ruby", "rust",
-    "scripts", "share", "tests", "tools", "view",
+    "scripts", "share", "tests", "tools", "view", "wasm",
 )
 
 # The folders of the packages.

@@ -122,7 +122,7 @@ class Journal {
 
   restLine() {
     const bytes = this.bytes.subarray(this.rest);
-    const shown = bytes.length > 0 ? `,"bytes":"${base64(bytes)}"` : "";
+    const shown = bytes.length > 0 && bytes.length < LINE_CHARACTERS / 2 ? `,"bytes":"${base64(bytes)}"` : "";
     return `{"offset":${this.rest},"rest":${bytes.length}${shown}}`;
   }
 }

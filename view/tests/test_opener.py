@@ -78,7 +78,7 @@ class OneJournal(OpenerTest):
         data += raw_frame(0xFC01, b"\x00\xff") + b"\x04\x00\x00\x01" + bytes(4) + raw_frame(0x0400, b"", flag=1)
         data += raw_frame(1, b"\x0a\x01\x11")
         data += frame("RunCommand", name="</script><img src=x onerror=alert(1)>", result_completion_id=1) + b"\x04"
-        self.check("<b>adversarial</b>", data)
+        self.check("<b>adversarial", data)
         self.check("early", data, 5)
 
     def test_as_the_page_of_the_programs(self):
@@ -120,11 +120,11 @@ class TwoJournals(OpenerTest):
             self.assertEqual(found, wanted)
 
     def test_long_journals_begin_before_the_first_difference(self):
-        commands = [frame("RunCommand", name=f"run {index}", result_completion_id=index) for index in range(250_000)]
-        other = [*commands[:240_000], frame("RunCommand", name="other", result_completion_id=1), *commands[240_001:]]
+        commands = [frame("RunCommand", name=f"run {index}", result_completion_id=index) for index in range(120_000)]
+        other = [*commands[:115_000], frame("RunCommand", name="other", result_completion_id=1), *commands[115_001:]]
         self.drop(("one", b"".join(commands)), ("other", b"".join(other)))
-        self.assertIn("command 240,000", self.text("#sentence"))
-        self.assertEqual(json.loads(self.lines(1).split("\n")[0])["message"]["name"], "run 150000")
+        self.assertIn("command 115,000", self.text("#sentence"))
+        self.assertEqual(json.loads(self.lines(1).split("\n")[0])["message"]["name"], "run 20000")
 
 
 if __name__ == "__main__":

@@ -76,7 +76,15 @@ const text = (value) => new Uint8Array(Buffer.from(value));
 const { SCHEMA_NAMES } = await lib('protocol.js');
 const schemaOf = (name) => SCHEMA_NAMES.indexOf(name);
 const codeOf = (name) => calls.typeCode(text(name));
-const long = new Uint8Array([10, 0xa0, 0x8d, 6, ...new Uint8Array(100_000).fill(0x61)]);
+
+/** The payload that a value means, as JSON. */
+function payloadOf(name, value) {
+  const out = new Uint8Array(200_000);
+  return out.slice(0, calls.payloadOfJson(schemaOf(name), text(JSON.stringify(value)), new BigUint64Array(2), out));
+}
+
+const long = payloadOf('Value', { content: Buffer.alloc(100_000, 'a').toString('base64') });
+const signal = payloadOf('SignalNotificationMessage', { name: 'stop', value: { content: 'eA==' } });
 const recorded = new Uint8Array(readFileSync(path.join(root, 'examples/streams/recorded')));
 const replayed = new Uint8Array(readFileSync(path.join(root, 'examples/streams/replayed_other_payload')));
 
@@ -103,13 +111,13 @@ const allocating = [
     const schema = schemaOf(name);
     return ['payloadOfFields', [schema, tableOf(schema, hex(payload)), hex(payload)], 2, 6000];
   }),
-  ['notification', [0xfbff, hex('1a0473746f702a030a0178')], 4, 100],
+  ['notification', [codeOf('SignalNotification'), signal], 4, 100],
   ['verdict', [8, recorded, replayed, false], 2, 6000],
   ['verdict', [8, recorded, recorded, false], 2, 6000],
-  ['json', [1, long], 0, 200_000],
-  ['canonical', [1, long], 0, 200_000],
-  ['merge', [1, long, long], 0, 200_000],
-  ['payloadOfFields', [1, tableOf(1, long), long], 2, 200_000],
+  ['json', [schemaOf('Value'), long], 0, 200_000],
+  ['canonical', [schemaOf('Value'), long], 0, 200_000],
+  ['merge', [schemaOf('Value'), long, long], 0, 200_000],
+  ['payloadOfFields', [schemaOf('Value'), tableOf(schemaOf('Value'), long), long], 2, 200_000],
 ];
 
 /** What a call returns and writes. */
@@ -185,14 +193,14 @@ function ran(program, { flags = [], damage = (bytes) => bytes, calls: wanted = '
 
 test('a stack that ends is an error, and the next call works', () => {
   const said = ran(
-    `import { Trapped, JournalError, fromJson, toJson, libraryVersion } from 'pendratsoa';
+    `import { Trapped, JournalError, fromJson, toJson, libraryVersion, writeRecord } from 'pendratsoa';
     for (let i = 0; i < 3; i += 1) {
       try {
-        fromJson(7, '['.repeat(999));
+        fromJson('Value', '['.repeat(999));
       } catch (error) {
         console.log(error instanceof Trapped, error instanceof JournalError, error.code, error.call, error.message);
       }
-      console.log(libraryVersion().length > 0, toJson(1, Uint8Array.of(10, 1, 97)));
+      console.log(libraryVersion().length > 0, toJson('Value', writeRecord('Value', { content: Uint8Array.of(97) })));
     }`,
     { flags: ['--stack-size=200'] },
   );
