@@ -34,11 +34,11 @@ module Helper
 
   # A block keeps no memory, of which the process may hold up to a mebibyte more after so many rounds. The least growth
   # of several times counts: Ruby and malloc take more pages now and then, and what is never freed grows each time.
-  def assert_keeps_no_memory(rounds)
+  def assert_keeps_no_memory(rounds, &)
     skip "not run: there is no /proc" unless File.exist?("/proc/self/statm")
     grown = Array.new(6) do
       before = resident
-      rounds.times { yield }
+      rounds.times(&)
       growth = resident - before
       return pass if growth < 1 << 20
 
@@ -54,8 +54,8 @@ module Helper
   end
 
   # The error of a block, which has to be exactly of this class and say this.
-  def assert_error(kind, text)
-    error = assert_raises(kind) { yield }
+  def assert_error(kind, text, &)
+    error = assert_raises(kind, &)
     assert_instance_of kind, error
     assert_equal text, error.message
     error

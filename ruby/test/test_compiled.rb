@@ -67,7 +67,7 @@ class TestCompiled < Minitest::Test
   def test_payloads
     payloads = [unhex("0a0178"), +"\n\u0001x", "\n\x81\x00x", unhex("0a"), "text", nil, 5]
     [*payloads, "\n\u0001x".encode("UTF-16LE")].each do |payload|
-      assert_equal ends { Value.send(:decode_in_ruby, payload) }, ends { Value.decode(payload) }
+      assert_equal(ends { Value.send(:decode_in_ruby, payload) }, ends { Value.decode(payload) })
     end
     payload = +"\n\x01x"
     made = Value.decode(payload)
@@ -145,7 +145,7 @@ class TestCompiled < Minitest::Test
   end
 
   def test_the_variable
-    [["1", "false"], ["", COMPILED.to_s]].each do |value, wanted|
+    [%w[1 false], ["", COMPILED.to_s]].each do |value, wanted|
       next if value.empty? && !ENV.fetch("PENDRATSOA_PURE", "").empty?
 
       library = File.expand_path("../lib", __dir__)

@@ -6,9 +6,9 @@ require "stringio"
 class TestCopies < Minitest::Test
   # Flags that no encoder sets, long lengths of fields, a custom entry, and what is of no type.
   FAITHFUL = {
-    8 => "0400123400000009" "72070a05696e707574" "040300000000000b" "0a81000a1a050a82007879" \
-         "fc01ffff00000001ff" "0008a5a500000000" "0003000000000000",
-    9 => "0008a5a500000002" "0003" "fc01000000000000"
+    8 => "040012340000000972070a05696e707574040300000000000b0a81000a1a050a82007879" \
+         "fc01ffff00000001ff0008a5a5000000000003000000000000",
+    9 => "0008a5a5000000020003fc01000000000000"
   }.freeze
 
   def test_items_as_they_came
@@ -51,17 +51,17 @@ class TestCopies < Minitest::Test
   V6 = "08010a0202030804"
   V7 = "22120a010122080a010222030a010122030a0103"
   SUSPENSIONS = [
-    [6, V6, 6, "0001000000000006" "0a0401020304"],
-    [6, V6, 5, "0001000000000006" "0a0401020304"],
-    [5, V6, 6, "0001000000000006" "0a0401020304"],
+    [6, V6, 6, "00010000000000060a0401020304"],
+    [6, V6, 5, "00010000000000060a0401020304"],
+    [5, V6, 6, "00010000000000060a0401020304"],
     [6, V6, 7, Pendratsoa::Unknown],
     [5, V6, 9, Pendratsoa::Unknown],
     [6, V6, 10, Pendratsoa::Unknown],
     [6, "0a04", 6, Pendratsoa::Malformed],
     [7, V7, 7, "0001000000000014#{V7}"],
     [9, V7, 8, "0001000000000014#{V7}"],
-    [9, V7, 6, "0001000000000006" "0a0401020103"],
-    [7, V7, 5, "0001000000000006" "0a0401020103"]
+    [9, V7, 6, "00010000000000060a0401020103"],
+    [7, V7, 5, "00010000000000060a0401020103"]
   ].freeze
 
   def test_suspensions_of_each_version
@@ -86,7 +86,7 @@ class TestCopies < Minitest::Test
 
   def test_the_end_of_a_stream
     stream = Pendratsoa::Stream.new
-    assert_same stream, stream.feed(INPUT).each { |item| item }.finish
+    assert_same stream, stream.feed(INPUT).each(&:bytes).finish
     text = "finish: the stream ended within an item at offset 17, after 1 byte of it"
     error = assert_error(Pendratsoa::Incomplete, text) { stream.feed("x").finish }
     assert_equal [1, 17, nil], [error.rest, error.offset, error.code]

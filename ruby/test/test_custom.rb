@@ -28,7 +28,7 @@ class TestCustom < Minitest::Test
   end
 
   def test_a_loop_over_all_items
-    assert_equal RECORDS, items_of(*parts).map { |item| item.message if item.is_a?(Message) }
+    assert_equal(RECORDS, items_of(*parts).map { |item| item.message if item.is_a?(Message) })
     assert_equal parts.join, items_of(*parts).map(&:bytes).join
   end
 

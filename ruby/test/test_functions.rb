@@ -6,7 +6,7 @@ class TestConstants < Minitest::Test
   HEADER = File.read(File.join(Helper::TOP, "include/pendratsoa.h"), encoding: "UTF-8")
 
   def defined_numbers
-    HEADER.scan(/^#define JOURNAL_(\w+) \(?(-?\d+)\)?/).to_h { |name, number| [name, Integer(number)] }
+    HEADER.scan(/^#define JOURNAL_(\w+) \(?(-?\d+)\)?/).to_h.transform_values { |number| Integer(number) }
   end
 
   def test_errors_are_those_of_the_header
@@ -14,7 +14,7 @@ class TestConstants < Minitest::Test
     numbers = defined_numbers.select { |_, number| number.negative? }
     kinds = numbers.select { |_, number| number > -16 }.invert
     # no call returns the kind of what is unknown by itself
-    assert_equal numbers.reject { |name, _| name == "UNKNOWN" }.values.sort, errors.keys.sort
+    assert_equal numbers.except("UNKNOWN").values.sort, errors.keys.sort
     errors.each do |number, (kind, _)|
       assert_equal kinds[number.remainder(16)].delete("_"), kind.to_s.upcase
     end
@@ -41,7 +41,8 @@ class TestConstants < Minitest::Test
   def test_types_are_those_of_the_header
     codes = HEADER.scan(/^#define JOURNAL_TYPE_(\w+) 0x(\h+)$/).to_h { |name, digits| [name.to_sym, digits.hex] }
     names = Pendratsoa.constants.grep(/\ACODE_/)
-    assert_equal codes, names.to_h { |name| [name.to_s.delete_prefix("CODE_").to_sym, Pendratsoa.const_get(name)] }
+    found = names.to_h { |name| [name.to_s.delete_prefix("CODE_").to_sym, Pendratsoa.const_get(name)] }
+    assert_equal codes, found
     codes.each_value { |code| assert_equal code, Pendratsoa.type_code(Pendratsoa.type_name(code)) }
   end
 
@@ -130,7 +131,7 @@ class TestPayloads < Minitest::Test
   end
 
   def test_more_than_the_first_room
-    payload = "\x12\xe8\x07" + "\x01" * 1000
+    payload = "\x12\xe8\x07#{"\x01" * 1000}"
     assert_equal payload.b, Pendratsoa.canonical("ErrorMessage", payload)
     assert_equal "{\"message\":\"#{'\u0001' * 1000}\"}", Pendratsoa.to_json("ErrorMessage", payload)
   end
@@ -246,7 +247,8 @@ class TestNotifications < Minitest::Test
   end
 
   def test_without_id_or_result
-    result, id = unhex("2200"), unhex("1011")
+    result = unhex("2200")
+    id = unhex("1011")
     assert_error(Pendratsoa::NoId, "notification: payload #{result.inspect} has no id") do
       Pendratsoa.notification(CODES[:signal], result)
     end

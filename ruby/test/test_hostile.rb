@@ -195,8 +195,8 @@ class TestThreadsAndMemory < Minitest::Test
   end
 
   def test_bytes_that_another_thread_changes
-    bytes = ("\x12\xe8\x07".b + "x" * 1000)
-    changing = Thread.new { 20_000.times { bytes.replace(bytes.reverse) && bytes << "x" && bytes.chop! } }
+    bytes = "\x12\xe8\x07".b + ("x" * 1000)
+    changing = Thread.new { 20_000.times { bytes.replace(bytes.reverse) && (bytes << "x") && bytes.chop! } }
     Pendratsoa.well_formed?(13, bytes) while changing.alive?
     assert_equal "", Pendratsoa.canonical(13, "")
   end

@@ -20,7 +20,7 @@ class TestRecords < Minitest::Test
   def test_each_schema
     names = Pendratsoa::RECORDS.map { |record| record.name.delete_prefix("Pendratsoa::") }
     assert_equal Pendratsoa::SCHEMA_NAMES, names
-    assert_equal (0...Pendratsoa::SCHEMAS).to_a, Pendratsoa::RECORDS.map { |record| record::SCHEMA }
+    assert_equal((0...Pendratsoa::SCHEMAS).to_a, Pendratsoa::RECORDS.map { |record| record::SCHEMA })
     Pendratsoa::RECORDS.each { |record| assert_equal record.new, record.decode("") }
     set_state = Pendratsoa::SetStateCommandMessage
     assert_equal ["SetStateCommand", CODES[:set_state]], [set_state::TYPE, set_state::CODE]

@@ -70,7 +70,7 @@ class TestStream < Minitest::Test
   def test_loops_go_on_where_they_stopped
     stream = Pendratsoa::Stream.new.feed(STREAM)
     assert_equal ITEMS[0], stream.first
-    stream.each { |item| break assert_equal(ITEMS[1], item) }
+    assert_equal(ITEMS[1], stream.find { true })
     assert_equal [ITEMS[2]], stream.to_a
     assert_empty stream.to_a
   end

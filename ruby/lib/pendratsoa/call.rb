@@ -113,13 +113,13 @@ module Pendratsoa
       value = @arguments.fetch(:json)
       where = reason == :not_json ? " at byte #{offset}" : ""
       text = "#{"#{path}: " unless path.empty?}#{REASONS.fetch(reason)}#{where}"
-      JsonError.new("#{@name}: json #{Shown.bytes(value)}: #{text}", call: @name, argument: :json, value: value,
-                    reason: reason, offset: reason == :not_json ? offset : nil, path: path)
+      offset = nil unless reason == :not_json
+      error(JsonError, "json #{Shown.bytes(value)}: #{text}", :json, reason: reason, offset: offset, path: path)
     end
 
     # The error of a message that is longer than the limit of a stream.
     def message_too_long(code, offset, length, limit)
-      what = format("a message of type 0x%04x at offset %d has %d bytes", code, offset, length)
+      what = "a message of type #{Shown.code(code)} at offset #{offset} has #{length} bytes"
       error(TooLong, "#{what}, more than the limit of #{limit}", :max_message_size,
             code: code, length: length, limit: limit, offset: offset)
     end
@@ -141,6 +141,15 @@ module Pendratsoa
       return error(kind, TEXTS.fetch(kind)) unless argument
 
       error(kind, "#{argument} #{Shown.bytes(@arguments.fetch(argument))} #{TEXTS.fetch(kind)}", argument)
+    end
+
+    # The error that there is no such argument.
+    def unknown(argument)
+      value = @arguments.fetch(argument)
+      return error(Unknown, "code #{Shown.value(value)} is not that of #{@kind}", argument) if argument == :code
+
+      name, known = KNOWN.fetch(argument)
+      error(Unknown, "unknown #{name} #{Shown.value(value)}#{known unless value.is_a?(String)}", argument)
     end
 
     private
@@ -167,14 +176,6 @@ module Pendratsoa
       raise unknown(argument) unless (0...(1 << bits)).cover?(number)
 
       number
-    end
-
-    def unknown(argument)
-      value = @arguments.fetch(argument)
-      return error(Unknown, "code #{Shown.value(value)} is not that of #{@kind}", argument) if argument == :code
-
-      name, known = KNOWN.fetch(argument)
-      error(Unknown, "unknown #{name} #{Shown.value(value)}#{known unless value.is_a?(String)}", argument)
     end
   end
   private_constant :Call

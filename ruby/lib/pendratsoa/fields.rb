@@ -86,7 +86,7 @@ module Pendratsoa
             fields[row.name] = row.is_wrapped ? row.member_held.new(found) : found
           end
         end
-        lists&.each { |name, list| fields[name] = list.freeze }
+        lists&.each { |name, values| fields[name] = values.freeze }
         record.of_fields(fields)
       end
 

@@ -1,5 +1,6 @@
 # frozen_string_literal: true
 
+# The calls that take numbers, names and payloads.
 module Pendratsoa
   # How many schemas there are; their numbers begin at 0.
   SCHEMAS = SCHEMA_NAMES.length

@@ -222,9 +222,9 @@ module Pendratsoa
     def reading(call)
       yield
     rescue Malformed, NoId, NoResult => error
-      text = error.message.partition(": ").last
-      raise error.class.new("#{call}: #{name_of_type}#{" at offset #{offset}" if offset}: #{text}", call: call,
-                            argument: error.argument, value: error.value, code: code, offset: offset)
+      text = "#{call}: #{name_of_type}#{" at offset #{offset}" if offset}: #{error.message.partition(": ").last}"
+      details = { argument: error.argument, value: error.value, code: code, offset: offset }
+      raise error.class.new(text, call: call, **details)
     end
 
     def name_of_type
