@@ -159,7 +159,7 @@ class Journal:
                 f"journal help {name}", asked == own and f"Usage: journal {name} ".encode() in own.out, asked
             )
             self.check.case(f"journal help {name} in 80 columns", checks.is_narrow(own.out), own)
-            has_examples = f"\nExamples:\n  journal {name} ".encode() in own.out
+            has_examples = f"journal {name} ".encode() in own.out.partition(b"\nExamples:\n")[2]
             self.check.case(f"journal help {name} has examples", has_examples, own)
             ended = self.run(self.path, name, "--version")
             version = f"journal {name} {checks.library_version()}\n".encode()
