@@ -8,9 +8,9 @@ use std::thread;
 
 use pendratsoa::messages::{Future, Record};
 use pendratsoa::{
-    canonical, to_json, Argument, Decoder, Error, Expected, FieldDifference, Item, Items, Message,
-    MessageType, Mismatch, Next, Notification, NotificationId, NotificationResult, Replay, Schema,
-    Skipped, UnknownCode, Verdict, VerdictKind,
+    canonical, to_json, Argument, Decoder, Error, Item, Items, Message, MessageType, Next,
+    Notification, NotificationId, NotificationResult, Schema, Skipped, UnknownCode, Verdict,
+    VerdictKind,
 };
 
 const INPUT: &[u8] = b"\x04\0\0\0\0\0\0\x09\x72\x07\x0A\x05input";
@@ -35,10 +35,6 @@ fn every_type_may_be_sent_and_shared() {
     plain::<NotificationResult>();
     plain::<Verdict>();
     plain::<VerdictKind>();
-    shared::<Replay<Vec<u8>>>();
-    shared::<Expected<'_>>();
-    plain::<Mismatch>();
-    plain::<FieldDifference>();
     plain::<Argument>();
     plain::<Error>();
 }
