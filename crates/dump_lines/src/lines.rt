@@ -53,7 +53,7 @@ pub fn is_selected(codes: &[u16], code: u16) -> bool
     codes.is_empty() || codes.contains(&code)
 }
 
-/// Writes the members of the bytes that are in no item.
+/// Writes the members of the trailing bytes.
 pub fn write_rest(
     options: &Options<'_>,
     offset: u128,

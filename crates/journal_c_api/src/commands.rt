@@ -37,8 +37,8 @@ pub fn header_eq(
     visit_command(ty, comparing).ok_or(CallError::UnknownType)?
 }
 
-/// Writes a line for each printed field in which the commands that two payloads of a code mean differ: a line feed,
-/// three spaces and `name: first != second`.
+/// Writes one line per printed field in which the commands that two payloads of a code mean differ: a line feed, three
+/// spaces and `name: first != second`.
 ///
 /// The errors are those of `header_eq`.
 #[tactic(auto, using(crate::proofs::Writing::writes_outcome))]

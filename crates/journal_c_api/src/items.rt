@@ -15,7 +15,7 @@ const ITEM_NUMBERS: usize = 6;
 /// The kind of a message.
 const MESSAGE: u64 = 0;
 
-/// The kind of a code that is no type's, and is skipped alone.
+/// The kind of an unassigned code. Only its header is skipped.
 const UNKNOWN_CODE: u64 = 1;
 
 /// The kind of a message of an unknown type, which is skipped with its payload.

@@ -80,7 +80,7 @@ fn place_after(place: Place, left: usize) -> Place
 }
 
 /// Finds where an object has the values of some names, and returns whether a place has several. The error is the first
-/// key that is no name. A name whose place is none of these is passed over.
+/// key that is not a name. A name whose place is none of these is passed over.
 #[inline(always)]
 pub fn find_places<'a, N: Names, const COUNT: usize>(
     names: &N,

@@ -75,7 +75,7 @@ own_place (suc (suc (suc (suc (suc (suc (suc (suc (suc (suc (suc (suc (suc (suc 
 named_place : (key : List ℕ) (i : ℕ) → i < place_count → bytes_eq key (name_at i) ≡ true → place_of key ≡ Some i
 named_place key i h e = ap place_of ((bytes_eq-Decides key (name_at i)).0 e) ∙ own_place i h
 
--- A key is no name of another place than its own.
+-- A key is not a name of another place than its own.
 pub other_name : (key : List ℕ) (i j : ℕ) → j < place_count → place_of key ≡ Some i → i ≢ j →
     bytes_eq key (name_at j) ≡ false
 other_name key i j h e ne = by_test (bytes_eq key (name_at j)) refl

@@ -1,4 +1,4 @@
-//! What says which of its type a command is.
+//! What identifies a command within its type.
 
 ghost use Rattle.std.specs.Prelude.{◌≡◌, IfOk, option_map};
 ghost use Rattle.std.specs.String.{string_bytes};
@@ -13,7 +13,7 @@ use shared_core::messages::{CommandMessage, CommandVisitor, visit_command};
 use shared_core::wire::WireError;
 use std::alloc::{AllocError, Global};
 
-/// What says which of its type a command is, as the text of a mismatch prints it: its key, the handler that it calls,
+/// What identifies a command within its type, as the text of a mismatch prints it: its key, the handler that it calls,
 /// the id of its awakeable, or the name that it was given. `None` if these are empty, if its type has none of them, and
 /// if its payload is not well-formed.
 pub fn command_key(alloc: Global, command: &RawMessage) -> Result<Option<String>, AllocError>
@@ -71,7 +71,7 @@ fn first_key(fields: &[FieldDifference]) -> Result<Option<String>, AllocError>
     Ok(None)
 }
 
-/// Whether a field of this name says which of its type a command is.
+/// Whether a field of this name identifies a command within its type.
 fn is_key_name(name: &str) -> bool
     ensures { result ≡ is_key_name name.now }
 {

@@ -1,4 +1,4 @@
--- What is read fits its schema, and is no deeper than it may be.
+-- What is read fits its schema, and is not deeper than it may be.
 use Rattle.std.proofs.Common.{◌≡◌, ℕ, zero, suc, ◌-◌, ◌%◌, ◌^◌, ◌<◌, ◌≤◌, List, [], ◌∷◌, map, Bool, true, false, cond}
 use Rattle.std.proofs.Common.{not, ◌&&◌, ◌||◌, Option, Some, None, option_map, option_and_then, refl, sym, ap, subst}
 use Rattle.std.proofs.Common.{◌∙◌, arith, eqb, ltb, leb}

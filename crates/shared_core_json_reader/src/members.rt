@@ -176,7 +176,7 @@ impl Names for FieldNames {
     }
 }
 
-/// Finds where an object of a schema has the values of its fields. The error is the first key that is no name of a
+/// Finds where an object of a schema has the values of its fields. The error is the first key that is not a name of a
 /// field.
 #[inline(always)]
 pub fn find_places<'a>(

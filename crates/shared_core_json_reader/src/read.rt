@@ -199,7 +199,7 @@ pub fn payload_into(
 }
 
 /// Returns the canonical payload of what a JSON value means for a schema, by its index, as `payload_of` does for a
-/// text. Its errors are those of `Reason` but for `NotJson`, with a path that begins in the value.
+/// text. Its errors are those of `Reason` except for `NotJson`, with a path that begins in the value.
 pub fn payload_of_node(
     alloc: Global,
     schema: u32,

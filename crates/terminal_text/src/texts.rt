@@ -21,8 +21,8 @@ pub enum Escapes {
     Json,
 }
 
-/// Whether a terminal may take a character as a command, or may show what is beside it elsewhere: a control character,
-/// a separator of lines or of paragraphs, or one that sets the direction of text.
+/// Whether a terminal may take a character as a command, or may move what is next to it: a control character, a
+/// separator of lines or of paragraphs, or one that sets the direction of text.
 fn is_steering(c: char) -> bool
     ensures { result ≡ is_steering c }
 {
@@ -99,7 +99,7 @@ pub fn push_escaped(escaped: &mut String, escapes: Escapes, text: &str) -> Resul
 pub struct Escaping<W> {
     alloc: Global,
     writer: W,
-    /// How characters are escaped; nothing if the writer is no terminal.
+    /// How characters are escaped; nothing if the writer is not a terminal.
     escapes: Option<Escapes>,
 }
 

@@ -154,8 +154,7 @@ fn check_message<'a>(
     Some(count)
 }
 
-/// The same of a record of a message, of which one of these rows may come next. Returns also the rows that may come
-/// after it.
+/// The same of a record of a message. One of these rows may come next. Returns also the rows that may come after it.
 #[cycle(check)]
 #[inline(always)]
 fn check_record<'a, 'b>(
