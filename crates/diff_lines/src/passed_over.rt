@@ -31,8 +31,8 @@ impl fmt::Display for Trouble {
     }
 }
 
-/// What is wrong with two journals of these surveys, the recorded one first: that one has bytes and no complete item,
-/// or, if the comparison is strict, all that may be wrong.
+/// What is wrong with two journals of these surveys, the recorded one first. It is that one has bytes and no complete
+/// item, or, if the comparison is strict, all that may be wrong.
 pub fn found_trouble(is_strict: bool, recorded: &Survey, replayed: &Survey) -> Option<Trouble>
     ensures { result ≡ found_trouble is_strict recorded.now replayed.now }
 {

@@ -23,7 +23,7 @@ const CHUNK: usize = 65536;
 ///
 /// It reads at most 65,536 bytes at a time, and ends as `print_lines` says. `TooLong` comes only if payloads are
 /// printed and one of the items after the written lines is a selected message whose canonical payload has more bytes
-/// than 32 bits can count, and `MessageTooLong` at the first message that is longer than the limit of the options. If
+/// than 32 bits can count. `MessageTooLong` comes at the first message that is longer than the limit of the options. If
 /// the options are strict, the report has the first item whose code is unassigned, or which is a selected message whose
 /// payload is not well-formed for its type at the version. The canonicalizer is called for each printed payload that is
 /// not canonical.

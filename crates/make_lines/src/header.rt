@@ -120,8 +120,8 @@ fn append_sized(size: usize, header: &[u8], out: &mut Vec<u8>) -> Result<(), Fau
     append(&size.to_be_bytes(), out)
 }
 
-/// Appends the header by eight given bytes: all of them if there is no payload, otherwise the first four, which are the
-/// code and the flags, and the length of the payload.
+/// Appends the header by eight given bytes: all of them if there is no payload. Otherwise it appends the first four,
+/// which are the code and the flags, and the length of the payload.
 fn append_given(
     head: &Head,
     size: usize,

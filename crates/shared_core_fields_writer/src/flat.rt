@@ -56,7 +56,7 @@ pub(crate) fn write_flat(
 }
 
 /// Writes the record of the text or the bytes that an entry gives to a plain field, if these are a few, a text is
-/// ASCII, and there is room for it; otherwise the bytes from the index on may be any.
+/// ASCII, and there is room for it. Otherwise the bytes from the index on may be any.
 #[inline(always)]
 fn write_few_of(
     out: &mut [u8],

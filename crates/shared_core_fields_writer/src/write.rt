@@ -35,7 +35,7 @@ const OUT_OF_MEMORY: FieldsError = FieldsError {
 };
 
 /// Returns the canonical payload of the value of a schema whose fields of all levels are these entries, which come in
-/// the order of the canonical payload; texts and bytes are at their offsets in `bytes`. The value and the bytes of a
+/// the order of the canonical payload. Texts and bytes are at their offsets in `bytes`. The value and the bytes of a
 /// message's entry are its fields, which come next; its offset and length are not looked at. A plain field that is the
 /// default may come, and is left out.
 ///

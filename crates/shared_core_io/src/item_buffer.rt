@@ -58,8 +58,8 @@ pub struct ItemBuffer {
 impl ItemBuffer {
     ghost use Rattle.shared_core_io.specs.Reading.{held};
 
-    /// Nothing yet of a stream of this version, which is at least V5, of whose messages none may have a payload of more
-    /// bytes than a limit, and of which one read takes at most a number of bytes, from 1 to 65,536. Does not allocate.
+    /// Nothing yet of a stream of this version, which is at least V5. No message of it may have a payload of more bytes
+    /// than a limit. One read takes at most a number of bytes, from 1 to 65,536. Does not allocate.
     pub fn new(alloc: Global, version: Version, limit: u32, most: usize) -> ItemBuffer
         requires spoken { 5 ≤ version_number version }
         requires low { 1 ≤ most }
@@ -78,10 +78,10 @@ impl ItemBuffer {
     /// what was read holds no complete item, into blocks of 65,536 bytes. A block is read into until less than 4,096
     /// bytes of it are left.
     ///
-    /// `TooLong` if the next message is longer than the limit: it comes as soon as its header was read, and from then
-    /// on nothing is held, and each call returns it. `Truncated` if the stream ends within an item; `Failed` if a read
-    /// failed, though an interrupted one is repeated; `OutOfMemory`. After these three nothing that was read is lost:
-    /// a later call goes on from there. At the end all that is held is in the decoder.
+    /// `TooLong` if the next message is longer than the limit. It comes as soon as the header was read. From then on
+    /// nothing is held, and each call returns it. `Truncated` if the stream ends within an item; `Failed` if a read
+    /// failed, though an interrupted one is repeated; `OutOfMemory`. After these three nothing that was read is lost: a
+    /// later call goes on from there. At the end all that is held is in the decoder.
     pub fn next_with_word<R: Read>(
         &mut self,
         reader: &mut R,

@@ -30,7 +30,7 @@ use std::io::{Read, Write};
 /// Writes one line per item of a stream of a version, of at least V5, and at its end a line for the trailing bytes.
 ///
 /// It reads at most `chunk` bytes at a time, from 1 to 65,536, and writes the lines of the items that it has read
-/// before it reads on. `Ok` comes only if the reader has no byte left, and then all is written; the report has the
+/// before it reads on. `Ok` comes only if the reader has no byte left, and then all is written. The report has the
 /// first error that the printer finds in an item, and the trailing bytes. After `Input` the lines of all items of what
 /// was read are written; after `Output` a prefix of these lines, or of all if the input had ended; after `OutOfMemory`
 /// and `TooLong` the lines of the first items. `TooLong` comes only if one of the items after them is too long for a

@@ -31,7 +31,7 @@ pub trait DecodeMessage {
 
     /// The message as a record of its type.
     ///
-    /// First the types are compared, without allocating and whatever the payload: if they differ the result is
+    /// First the types are compared, without allocating and whatever the payload. If they differ, the result is
     /// `UnexpectedMessageType` with the index, this message's type as the actual and the record's as the expected one.
     /// Then `DecodeMessage` if the payload is not well-formed, `OutOfMemory` if an allocation fails, and if both are
     /// the case either. Bytes fields share the payload.
