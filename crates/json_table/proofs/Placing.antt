@@ -1,6 +1,6 @@
 -- The places of names, as the members of an object are gone over.
 use Rattle.std.proofs.Common.{◌≡◌, ◌<◌, ◌≤◌, ℕ, zero, suc, List, [], ◌∷◌, length, get_or, replicate, Bool, true, false}
-use Rattle.std.proofs.Common.{cond, ◌||◌, Option, Some, None, refl, sym, ap, ap₂, subst, ◌∙◌, eqb, eq-eqb, arith}
+use Rattle.std.proofs.Common.{cond, ◌||◌, Some, None, refl, sym, ap, ap₂, subst, ◌∙◌, eqb, eq-eqb, arith}
 use Rattle.std.proofs.Math.ListN.{set, length-set}
 use Rattle.std.proofs.lemmas.List.{get_or-set_same, get_or-set_other, get_or-replicate, length-replicate}
 use Rattle.std.proofs.lemmas.Bool.{eqb-true, ne_eqb}
