@@ -108,6 +108,10 @@ DIALECT = (
     (r"\bdear\b", "expensive"),
     (r"\blent\b", "borrowed"),
     (r"\bgo(es)? over\b", "iterates over"),
+    (r"\bgone over\b", "traversed"),
+    (r"\bno type's\b", "unassigned"),
+    (r"\b[Ll]est\b", "so that .. not"),
+    (r"\bon trust\b", "without a proof, or trusted"),
 )
 DIALECT_PATTERNS = [(re.compile(pattern), better) for pattern, better in DIALECT]
 
@@ -128,6 +132,7 @@ KEPT = {
     "crates/shared_core_stream/src/encoding/item.rt": {
         "code that is no type's": "goes with the rewriting of that code",
         "is no type": "goes with the rewriting of that code",
+        "no type's": "goes with the rewriting of that code",
     },
     "crates/shared_core_codec/specs/Canonicity.antt": {
         "says which": "goes with the rewriting of that code",

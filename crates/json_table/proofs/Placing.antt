@@ -1,4 +1,4 @@
--- The places of names, as the members of an object are gone over.
+-- The places of names, as the members of an object are traversed.
 use Rattle.std.proofs.Common.{◌≡◌, ◌<◌, ◌≤◌, ℕ, zero, suc, List, [], ◌∷◌, length, get_or, replicate, Bool, true, false}
 use Rattle.std.proofs.Common.{cond, ◌||◌, Some, None, refl, sym, ap, ap₂, subst, ◌∙◌, eqb, eq-eqb, arith}
 use Rattle.std.proofs.Math.ListN.{set, length-set}

@@ -1,4 +1,4 @@
-//! Where an object has the members of some names: each key is looked up once, and the object is gone over once.
+//! Where an object has the members of some names: each key is looked up once, and the object is traversed once.
 
 ghost use Rattle.std.specs.Prelude.{◌≡◌, ◌<◌, ℕ, List, Option, Some, None, replicate, IfOk, MatchResult};
 ghost use Rattle.json.specs.Json.{no_members};

@@ -1,4 +1,4 @@
--- The places of a line's names, as its members are gone over.
+-- The places of a line's names, as its members are traversed.
 use Rattle.std.proofs.Common.{◌≡◌, ◌≢◌, ℕ, zero, suc, ◌+◌, ◌-◌, ◌<◌, ◌≤◌, List, [], ◌∷◌, length, get_or, map, drop}
 use Rattle.std.proofs.Common.{Bool, true, false, cond, not, Option, Some, None, ◌||◌}
 use Rattle.std.proofs.Common.{refl, sym, ap, ap₂, ◌∙◌, arith, ltb, eqb, eq-eqb}
