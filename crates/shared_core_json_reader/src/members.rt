@@ -6,7 +6,7 @@
 //! The original name of a field is defined by that in lower camel case: for a capital letter an underscore and the
 //! small letter. So one table of names serves for both.
 
-ghost use Rattle.std.specs.Prelude.{◌≡◌, true, false, Some, None, map, option_map, IfErr, IfSome, IsTrue, OnOk};
+ghost use Rattle.std.specs.Prelude.{◌≡◌, true, false, Some, None, map, option_map, IfErr, IsTrue, OnOk};
 ghost use Rattle.std.specs.Prelude.{MatchResult, replicate};
 ghost use Rattle.std.specs.Str.{bytes_eq};
 ghost use Rattle.json.specs.Json.{no_members};
