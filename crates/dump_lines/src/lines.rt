@@ -1,6 +1,6 @@
 //! The lines of a dump.
 
-ghost use Rattle.std.specs.Prelude.{◌≡◌, ◌∷◌, ◌++◌, [], true, codes, decimal, length, OnOk, IfOk, IfErr};
+ghost use Rattle.std.specs.Prelude.{◌≡◌, ◌∷◌, ◌++◌, [], true, codes, decimal, length, OnOk, IfErr};
 ghost use Rattle.std.specs.Str.{IsUtf8};
 ghost use Rattle.json.specs.Lex.{tokens};
 ghost use Rattle.json.specs.Print.{print};

@@ -6,16 +6,15 @@ ghost use Rattle.replay_bench.specs.Fields.{listed_texts};
 ghost use Rattle.replay_bench.specs.Keys.{first_key, HasKey, is_key_name, IsKeyOf};
 
 use crate::fields::{FieldDifference, list_fields};
-use crate::verdicts::BenchError;
 use shared_core::CommandType;
 use shared_core::encoding::{DecodeMessage, RawMessage};
 use shared_core::messages::{CommandMessage, CommandVisitor, visit_command};
 use shared_core::wire::WireError;
 use std::alloc::{AllocError, Global};
 
-/// What identifies a command within its type, as the text of a mismatch prints it: its key, the handler that it calls,
-/// the id of its awakeable, or the name that it was given. `None` if these are empty, if its type has none of them, and
-/// if its payload is not well-formed.
+/// What identifies a command within its type, as the text of a mismatch prints it. It is its key, the handler that it
+/// calls, the id of its awakeable, or the name that it was given. `None` if these are empty, if its type has none of
+/// them, and if its payload is not well-formed.
 pub fn command_key(alloc: Global, command: &RawMessage) -> Result<Option<String>, AllocError>
     ensures { IfOk result (λ key. HasKey command.now (option_map string_bytes key)) }
 {
