@@ -1,7 +1,7 @@
 #!/bin/sh
-# Compares the library, through its calls for C, with the peer and the rules on random payloads and streams:
-# agree.sh [--no-install] [SEED [COUNT [FIRST]]]
-# The last line is 'N passed, M failed'; it is '0 passed, 0 failed' if the tools are missing.
+# Compares the library, through the C API, with the baseline and the rules on random payloads and streams: agree.sh
+# [--no-install] [SEED [COUNT [FIRST]]] The last line is 'N passed, M failed'; it is '0 passed, 0 failed' if the tools
+# are missing.
 set -u
 cd "$(dirname "$0")" || exit 1
 

@@ -1,7 +1,7 @@
-"""Measures the program journal_diff --all beside diff -u of two dumps: python3 bench/aligned.py [COMMANDS]
+"""Measures the program journal_diff --all against diff -u of two dumps: python3 bench/aligned.py [COMMANDS]
 
-For two journals of so many commands, 100,000 by default, of which 0, 10 and 1,000 differ: a third is inserted, a third
-removed and a third changed, spread evenly. Prints a table in Markdown: the processor time and the peak of resident
+For two journals of this many commands, 100,000 by default, where 0, 10 and 1,000 differ: a third is inserted, a third
+removed and a third changed, spread evenly. Prints a table in Markdown: the CPU time and the peak of resident
 memory of journal diff, of journal diff --all, of diff -u of the dumps without their offsets, which would differ in all
 lines after the first difference, and of both dumps before it. It takes the proved program that rt ci leaves in out/;
 where it is not there, or there is no diff, it says 'not run: ..'. The memory is what GNU time says, since the system
@@ -45,7 +45,7 @@ def write_journals(recorded, replayed, commands, differences):
 
 
 def measured(words, output):
-    """The processor seconds of a program, the least of several runs, and its peak of memory in MiB, or None."""
+    """The CPU seconds of a program, the least of several runs, and its peak of memory in MiB, or None."""
     time = shutil.which("time")
     peak = f"{output}.peak"
     best = None

@@ -2,8 +2,8 @@
 # Makes prost and bytes of the Debian packages what cargo builds with: install.sh [--no-install]
 #
 # It installs the packages where they are missing, but not with --no-install, and writes .cargo/config.toml, which puts
-# the distribution's folder of crates in the place of crates.io, and has the peer compiled for the processor that the
-# library is compiled for. If that is not available, it says 'not run: ..' with status 1.
+# the distribution's folder of crates in the place of crates.io, and has the baseline compiled for the processor that
+# the library is compiled for. If that is not available, it says 'not run: ..' with status 1.
 set -u
 cd "$(dirname "$0")" || exit 1
 
@@ -16,7 +16,7 @@ esac
 packages='librust-prost-dev librust-prost-derive-dev librust-bytes-dev'
 packages="$packages librust-serde-dev librust-serde-json-dev librust-base64-dev"
 
-# not_run WHY: says why nothing is built, and ends
+# not_run WHY: prints why nothing is built, and ends
 not_run() {
   echo "not run: $1"
   exit 1

@@ -1,6 +1,6 @@
 #!/bin/sh
-# Measures the program journal_diff beside the peer's comparison, on two long journals that are the same, and prints a
-# table in Markdown: journals.sh [LENGTH ..]; README.md says more
+# Measures the program journal_diff against the baseline's comparison, on two long journals that are the same, and
+# prints a table in Markdown: journals.sh [LENGTH ..]; README.md says more
 #
 # It takes the proved program that rt ci leaves in out/, and proves and builds it where it is not there. If the
 # tools are missing it says 'not run: ..'.

@@ -20,7 +20,7 @@ int64_t measure_items(uint32_t version, const uint8_t *stream, size_t stream_len
                       uint64_t *words, size_t words_room);
 
 /*
- * As measure_items, but the items are borrowed from the stream, of which nothing is copied.
+ * As measure_items, but the items are borrowed from the stream, and nothing of it is copied.
  */
 int64_t measure_item_refs(uint32_t version, const uint8_t *stream, size_t stream_length, size_t rounds, uint64_t *words,
                           size_t words_room);
@@ -70,7 +70,8 @@ int64_t measure_frame_shared(uint32_t version, uint16_t code, const uint8_t *pay
 int64_t measure_frame_chunks(uint32_t version, uint16_t code, const uint8_t *payload, size_t payload_length,
                              size_t rounds, uint8_t *out, size_t room);
 
-/* As journal_is_well_formed, but `rounds` times over (0 counts as 1): beside as many calls, it says what one costs. */
+/* As journal_is_well_formed, but `rounds` times over (0 counts as 1): compared with as many calls, it shows what one
+ * costs. */
 int64_t measure_well_formed(uint32_t schema, const uint8_t *payload, size_t payload_length, size_t rounds);
 
 /*

@@ -1,9 +1,9 @@
 #!/usr/bin/env python3
-"""Measures the structs of pendratsoa_messages.h beside protobuf-c and the classes of libprotobuf: bench/messages.sh
+"""Measures the structs of pendratsoa_messages.h against protobuf-c and the classes of libprotobuf: bench/messages.sh
 [--no-install]
 
 A line is a workload, the work (payloads decoded and two fields read, or records encoded), the nanoseconds of a message
-on each side, and how many times as fast this library is. Then comes the iterator of fields in Rattle beside prost. It
+on each side, and how many times as fast this library is. Then comes the iterator of fields in Rattle against prost. It
 takes the Debian packages libprotobuf-c-dev, protobuf-c-compiler, protobuf-compiler and libprotobuf-dev, which it
 installs unless it is not to, and what speed.sh takes; where one is missing it says 'not run'.
 """
@@ -26,7 +26,7 @@ SOURCES = BENCH / "messages"
 LIBRARY = BENCH / "target" / "pendratsoa"
 OPTIMIZED = ("-O3", "-march=x86-64-v2")
 
-# An optional field of proto3, of which protobuf-c takes none: it is a oneof of one member, with the same bytes.
+# An optional field of proto3. protobuf-c takes none of these: it is a oneof of one member, with the same bytes.
 OPTIONAL = re.compile(r"^  optional ([a-z0-9]+) ([a-z_]+) = ([0-9]+);", re.MULTILINE)
 
 

@@ -1,5 +1,5 @@
 #!/bin/sh
-# Measures the programs journal_dump, journal_list and journal_make beside the peer's, which have to write the same
+# Measures the programs journal_dump, journal_list and journal_make against the baseline's, which have to write the same
 # bytes, and prints a table in Markdown: programs.sh [LENGTH]; README.md says more
 #
 # It takes the proved programs that rt ci leaves in out/, and proves and builds one where it is not there. If the

@@ -31,7 +31,7 @@ def needs(tool: str, package: str) -> None:
 
 
 def description() -> str:
-    """The description of the protocol as others read it: what its options say is for the generators here alone."""
+    """The description of the protocol as others read it: what its options say is only for the generators here."""
     text = (ROOT / "proto" / "journal.proto").read_text()
     lines = [line for line in text.splitlines() if line != 'import "options.proto";' and "option (" not in line]
     return "".join(re.sub(r" \[[(a-z][^]]*\]", "", line, count=1) + "\n" for line in lines)

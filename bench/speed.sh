@@ -1,6 +1,6 @@
 #!/bin/sh
-# Measures the library and the peer: speed.sh [--check] [--only WORKLOAD] [--side ours|peer] [--what WORD] [--chunk N]
-# [--row NAME] [--size N] [--rounds N]; README.md has the words
+# Measures the library and the baseline: speed.sh [--check] [--only WORKLOAD] [--side ours|peer] [--what WORD] [--chunk
+# N] [--row NAME] [--size N] [--rounds N]; README.md has the words
 set -u
 cd "$(dirname "$0")" || exit 1
 

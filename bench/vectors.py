@@ -1,7 +1,7 @@
 #!/usr/bin/env python3
 """Compares the library, prost and the rules: bench/vectors.sh [--no-install] [SEED [COUNT]]
 
-It shows that the readers beside the library give the results of conformance/*.txt, that the files that are not written
+It shows that the other readers give the results of conformance/*.txt, that the files that are not written
 by hand are what their programs write, and that the library gives the readers' results for random cases. The last takes
 the static library for C, which scripts/build.py builds over what is proved, and a C compiler. The last line is
 'N passed, M failed'; it is '0 passed, 0 failed' if the tools are missing.

@@ -24,7 +24,7 @@ func (r *Void) appendTo(dst []byte, to *place) ([]byte, error) {
 	if length >= 0 {
 		return extended[:len(extended)+int(length)], nil
 	}
-	// a table says which field is rejected, and why
+	// a table has the field that is rejected, and the reason
 	writer := newWriter()
 	r.write(writer, 0)
 	return writer.appendTo(dst, to)
@@ -49,7 +49,7 @@ func (r *Value) appendTo(dst []byte, to *place) ([]byte, error) {
 	if length >= 0 {
 		return extended[:len(extended)+int(length)], nil
 	}
-	// a table says which field is rejected, and why
+	// a table has the field that is rejected, and the reason
 	writer := newWriter()
 	r.write(writer, 0)
 	return writer.appendTo(dst, to)
@@ -82,7 +82,7 @@ func (r *Failure) appendTo(dst []byte, to *place) ([]byte, error) {
 	if length >= 0 {
 		return extended[:len(extended)+int(length)], nil
 	}
-	// a table says which field is rejected, and why
+	// a table has the field that is rejected, and the reason
 	writer := newWriter()
 	r.write(writer, 0)
 	return writer.appendTo(dst, to)
@@ -107,7 +107,7 @@ func (r *FailureMetadata) appendTo(dst []byte, to *place) ([]byte, error) {
 	if length >= 0 {
 		return extended[:len(extended)+int(length)], nil
 	}
-	// a table says which field is rejected, and why
+	// a table has the field that is rejected, and the reason
 	writer := newWriter()
 	r.write(writer, 0)
 	return writer.appendTo(dst, to)
@@ -132,7 +132,7 @@ func (r *HeaderRecord) appendTo(dst []byte, to *place) ([]byte, error) {
 	if length >= 0 {
 		return extended[:len(extended)+int(length)], nil
 	}
-	// a table says which field is rejected, and why
+	// a table has the field that is rejected, and the reason
 	writer := newWriter()
 	r.write(writer, 0)
 	return writer.appendTo(dst, to)
@@ -162,7 +162,7 @@ func (r *StateKeys) appendTo(dst []byte, to *place) ([]byte, error) {
 	if length >= 0 {
 		return extended[:len(extended)+int(length)], nil
 	}
-	// a table says which field is rejected, and why
+	// a table has the field that is rejected, and the reason
 	writer := newWriter()
 	r.write(writer, 0)
 	return writer.appendTo(dst, to)
@@ -187,7 +187,7 @@ func (r *StateEntry) appendTo(dst []byte, to *place) ([]byte, error) {
 	if length >= 0 {
 		return extended[:len(extended)+int(length)], nil
 	}
-	// a table says which field is rejected, and why
+	// a table has the field that is rejected, and the reason
 	writer := newWriter()
 	r.write(writer, 0)
 	return writer.appendTo(dst, to)
@@ -223,7 +223,7 @@ func (r *WorkflowTarget) appendTo(dst []byte, to *place) ([]byte, error) {
 	if length >= 0 {
 		return extended[:len(extended)+int(length)], nil
 	}
-	// a table says which field is rejected, and why
+	// a table has the field that is rejected, and the reason
 	writer := newWriter()
 	r.write(writer, 0)
 	return writer.appendTo(dst, to)
@@ -259,7 +259,7 @@ func (r *IdempotentRequestTarget) appendTo(dst []byte, to *place) ([]byte, error
 	if length >= 0 {
 		return extended[:len(extended)+int(length)], nil
 	}
-	// a table says which field is rejected, and why
+	// a table has the field that is rejected, and the reason
 	writer := newWriter()
 	r.write(writer, 0)
 	return writer.appendTo(dst, to)
@@ -310,7 +310,7 @@ func (r *StartMessage) appendTo(dst []byte, to *place) ([]byte, error) {
 	if length >= 0 {
 		return extended[:len(extended)+int(length)], nil
 	}
-	// a table says which field is rejected, and why
+	// a table has the field that is rejected, and the reason
 	writer := newWriter()
 	r.write(writer, 0)
 	return writer.appendTo(dst, to)
@@ -348,7 +348,7 @@ func (r *SuspensionMessageV6) appendTo(dst []byte, to *place) ([]byte, error) {
 	if length >= 0 {
 		return extended[:len(extended)+int(length)], nil
 	}
-	// a table says which field is rejected, and why
+	// a table has the field that is rejected, and the reason
 	writer := newWriter()
 	r.write(writer, 0)
 	return writer.appendTo(dst, to)
@@ -393,7 +393,7 @@ func (r *ErrorMessage) appendTo(dst []byte, to *place) ([]byte, error) {
 	if length >= 0 {
 		return extended[:len(extended)+int(length)], nil
 	}
-	// a table says which field is rejected, and why
+	// a table has the field that is rejected, and the reason
 	writer := newWriter()
 	r.write(writer, 0)
 	return writer.appendTo(dst, to)
@@ -417,7 +417,7 @@ func (r *EndMessage) appendTo(dst []byte, to *place) ([]byte, error) {
 	if length >= 0 {
 		return extended[:len(extended)+int(length)], nil
 	}
-	// a table says which field is rejected, and why
+	// a table has the field that is rejected, and the reason
 	writer := newWriter()
 	r.write(writer, 0)
 	return writer.appendTo(dst, to)
@@ -464,7 +464,7 @@ func (r *ProposeRunCompletionMessage) appendTo(dst []byte, to *place) ([]byte, e
 	if length >= 0 {
 		return extended[:len(extended)+int(length)], nil
 	}
-	// a table says which field is rejected, and why
+	// a table has the field that is rejected, and the reason
 	writer := newWriter()
 	r.write(writer, 0)
 	return writer.appendTo(dst, to)
@@ -495,7 +495,7 @@ func (r *ProposeRunCompletionAckMessage) appendTo(dst []byte, to *place) ([]byte
 	if length >= 0 {
 		return extended[:len(extended)+int(length)], nil
 	}
-	// a table says which field is rejected, and why
+	// a table has the field that is rejected, and the reason
 	writer := newWriter()
 	r.write(writer, 0)
 	return writer.appendTo(dst, to)
@@ -520,7 +520,7 @@ func (r *GetStateEphemeralCommandMessage) appendTo(dst []byte, to *place) ([]byt
 	if length >= 0 {
 		return extended[:len(extended)+int(length)], nil
 	}
-	// a table says which field is rejected, and why
+	// a table has the field that is rejected, and the reason
 	writer := newWriter()
 	r.write(writer, 0)
 	return writer.appendTo(dst, to)
@@ -556,7 +556,7 @@ func (r *GetStateEphemeralNotificationMessage) appendTo(dst []byte, to *place) (
 	if length >= 0 {
 		return extended[:len(extended)+int(length)], nil
 	}
-	// a table says which field is rejected, and why
+	// a table has the field that is rejected, and the reason
 	writer := newWriter()
 	r.write(writer, 0)
 	return writer.appendTo(dst, to)
@@ -594,7 +594,7 @@ func (r *InputCommandMessage) appendTo(dst []byte, to *place) ([]byte, error) {
 	if length >= 0 {
 		return extended[:len(extended)+int(length)], nil
 	}
-	// a table says which field is rejected, and why
+	// a table has the field that is rejected, and the reason
 	writer := newWriter()
 	r.write(writer, 0)
 	return writer.appendTo(dst, to)
@@ -644,7 +644,7 @@ func (r *OutputCommandMessage) appendTo(dst []byte, to *place) ([]byte, error) {
 	if length >= 0 {
 		return extended[:len(extended)+int(length)], nil
 	}
-	// a table says which field is rejected, and why
+	// a table has the field that is rejected, and the reason
 	writer := newWriter()
 	r.write(writer, 0)
 	return writer.appendTo(dst, to)
@@ -670,7 +670,7 @@ func (r *GetLazyStateCommandMessage) appendTo(dst []byte, to *place) ([]byte, er
 	if length >= 0 {
 		return extended[:len(extended)+int(length)], nil
 	}
-	// a table says which field is rejected, and why
+	// a table has the field that is rejected, and the reason
 	writer := newWriter()
 	r.write(writer, 0)
 	return writer.appendTo(dst, to)
@@ -700,7 +700,7 @@ func (r *SetStateCommandMessage) appendTo(dst []byte, to *place) ([]byte, error)
 	if length >= 0 {
 		return extended[:len(extended)+int(length)], nil
 	}
-	// a table says which field is rejected, and why
+	// a table has the field that is rejected, and the reason
 	writer := newWriter()
 	r.write(writer, 0)
 	return writer.appendTo(dst, to)
@@ -725,7 +725,7 @@ func (r *ClearStateCommandMessage) appendTo(dst []byte, to *place) ([]byte, erro
 	if length >= 0 {
 		return extended[:len(extended)+int(length)], nil
 	}
-	// a table says which field is rejected, and why
+	// a table has the field that is rejected, and the reason
 	writer := newWriter()
 	r.write(writer, 0)
 	return writer.appendTo(dst, to)
@@ -750,7 +750,7 @@ func (r *ClearAllStateCommandMessage) appendTo(dst []byte, to *place) ([]byte, e
 	if length >= 0 {
 		return extended[:len(extended)+int(length)], nil
 	}
-	// a table says which field is rejected, and why
+	// a table has the field that is rejected, and the reason
 	writer := newWriter()
 	r.write(writer, 0)
 	return writer.appendTo(dst, to)
@@ -775,7 +775,7 @@ func (r *GetLazyStateKeysCommandMessage) appendTo(dst []byte, to *place) ([]byte
 	if length >= 0 {
 		return extended[:len(extended)+int(length)], nil
 	}
-	// a table says which field is rejected, and why
+	// a table has the field that is rejected, and the reason
 	writer := newWriter()
 	r.write(writer, 0)
 	return writer.appendTo(dst, to)
@@ -812,7 +812,7 @@ func (r *GetEagerStateCommandMessage) appendTo(dst []byte, to *place) ([]byte, e
 	if length >= 0 {
 		return extended[:len(extended)+int(length)], nil
 	}
-	// a table says which field is rejected, and why
+	// a table has the field that is rejected, and the reason
 	writer := newWriter()
 	r.write(writer, 0)
 	return writer.appendTo(dst, to)
@@ -847,7 +847,7 @@ func (r *GetEagerStateKeysCommandMessage) appendTo(dst []byte, to *place) ([]byt
 	if length >= 0 {
 		return extended[:len(extended)+int(length)], nil
 	}
-	// a table says which field is rejected, and why
+	// a table has the field that is rejected, and the reason
 	writer := newWriter()
 	r.write(writer, 0)
 	return writer.appendTo(dst, to)
@@ -873,7 +873,7 @@ func (r *GetPromiseCommandMessage) appendTo(dst []byte, to *place) ([]byte, erro
 	if length >= 0 {
 		return extended[:len(extended)+int(length)], nil
 	}
-	// a table says which field is rejected, and why
+	// a table has the field that is rejected, and the reason
 	writer := newWriter()
 	r.write(writer, 0)
 	return writer.appendTo(dst, to)
@@ -899,7 +899,7 @@ func (r *PeekPromiseCommandMessage) appendTo(dst []byte, to *place) ([]byte, err
 	if length >= 0 {
 		return extended[:len(extended)+int(length)], nil
 	}
-	// a table says which field is rejected, and why
+	// a table has the field that is rejected, and the reason
 	writer := newWriter()
 	r.write(writer, 0)
 	return writer.appendTo(dst, to)
@@ -951,7 +951,7 @@ func (r *CompletePromiseCommandMessage) appendTo(dst []byte, to *place) ([]byte,
 	if length >= 0 {
 		return extended[:len(extended)+int(length)], nil
 	}
-	// a table says which field is rejected, and why
+	// a table has the field that is rejected, and the reason
 	writer := newWriter()
 	r.write(writer, 0)
 	return writer.appendTo(dst, to)
@@ -976,7 +976,7 @@ func (r *SleepCommandMessage) appendTo(dst []byte, to *place) ([]byte, error) {
 	if length >= 0 {
 		return extended[:len(extended)+int(length)], nil
 	}
-	// a table says which field is rejected, and why
+	// a table has the field that is rejected, and the reason
 	writer := newWriter()
 	r.write(writer, 0)
 	return writer.appendTo(dst, to)
@@ -1028,7 +1028,7 @@ func (r *CallCommandMessage) appendTo(dst []byte, to *place) ([]byte, error) {
 	if length >= 0 {
 		return extended[:len(extended)+int(length)], nil
 	}
-	// a table says which field is rejected, and why
+	// a table has the field that is rejected, and the reason
 	writer := newWriter()
 	r.write(writer, 0)
 	return writer.appendTo(dst, to)
@@ -1079,7 +1079,7 @@ func (r *OneWayCallCommandMessage) appendTo(dst []byte, to *place) ([]byte, erro
 	if length >= 0 {
 		return extended[:len(extended)+int(length)], nil
 	}
-	// a table says which field is rejected, and why
+	// a table has the field that is rejected, and the reason
 	writer := newWriter()
 	r.write(writer, 0)
 	return writer.appendTo(dst, to)
@@ -1144,7 +1144,7 @@ func (r *SendSignalCommandMessage) appendTo(dst []byte, to *place) ([]byte, erro
 	if length >= 0 {
 		return extended[:len(extended)+int(length)], nil
 	}
-	// a table says which field is rejected, and why
+	// a table has the field that is rejected, and the reason
 	writer := newWriter()
 	r.write(writer, 0)
 	return writer.appendTo(dst, to)
@@ -1169,7 +1169,7 @@ func (r *RunCommandMessage) appendTo(dst []byte, to *place) ([]byte, error) {
 	if length >= 0 {
 		return extended[:len(extended)+int(length)], nil
 	}
-	// a table says which field is rejected, and why
+	// a table has the field that is rejected, and the reason
 	writer := newWriter()
 	r.write(writer, 0)
 	return writer.appendTo(dst, to)
@@ -1239,7 +1239,7 @@ func (r *AttachInvocationCommandMessage) appendTo(dst []byte, to *place) ([]byte
 	if length >= 0 {
 		return extended[:len(extended)+int(length)], nil
 	}
-	// a table says which field is rejected, and why
+	// a table has the field that is rejected, and the reason
 	writer := newWriter()
 	r.write(writer, 0)
 	return writer.appendTo(dst, to)
@@ -1309,7 +1309,7 @@ func (r *GetInvocationOutputCommandMessage) appendTo(dst []byte, to *place) ([]b
 	if length >= 0 {
 		return extended[:len(extended)+int(length)], nil
 	}
-	// a table says which field is rejected, and why
+	// a table has the field that is rejected, and the reason
 	writer := newWriter()
 	r.write(writer, 0)
 	return writer.appendTo(dst, to)
@@ -1359,7 +1359,7 @@ func (r *CompleteAwakeableCommandMessage) appendTo(dst []byte, to *place) ([]byt
 	if length >= 0 {
 		return extended[:len(extended)+int(length)], nil
 	}
-	// a table says which field is rejected, and why
+	// a table has the field that is rejected, and the reason
 	writer := newWriter()
 	r.write(writer, 0)
 	return writer.appendTo(dst, to)
@@ -1395,7 +1395,7 @@ func (r *GetLazyStateCompletionNotificationMessage) appendTo(dst []byte, to *pla
 	if length >= 0 {
 		return extended[:len(extended)+int(length)], nil
 	}
-	// a table says which field is rejected, and why
+	// a table has the field that is rejected, and the reason
 	writer := newWriter()
 	r.write(writer, 0)
 	return writer.appendTo(dst, to)
@@ -1446,7 +1446,7 @@ func (r *GetPromiseCompletionNotificationMessage) appendTo(dst []byte, to *place
 	if length >= 0 {
 		return extended[:len(extended)+int(length)], nil
 	}
-	// a table says which field is rejected, and why
+	// a table has the field that is rejected, and the reason
 	writer := newWriter()
 	r.write(writer, 0)
 	return writer.appendTo(dst, to)
@@ -1497,7 +1497,7 @@ func (r *PeekPromiseCompletionNotificationMessage) appendTo(dst []byte, to *plac
 	if length >= 0 {
 		return extended[:len(extended)+int(length)], nil
 	}
-	// a table says which field is rejected, and why
+	// a table has the field that is rejected, and the reason
 	writer := newWriter()
 	r.write(writer, 0)
 	return writer.appendTo(dst, to)
@@ -1548,7 +1548,7 @@ func (r *GetInvocationOutputCompletionNotificationMessage) appendTo(dst []byte, 
 	if length >= 0 {
 		return extended[:len(extended)+int(length)], nil
 	}
-	// a table says which field is rejected, and why
+	// a table has the field that is rejected, and the reason
 	writer := newWriter()
 	r.write(writer, 0)
 	return writer.appendTo(dst, to)
@@ -1593,7 +1593,7 @@ func (r *CompletePromiseCompletionNotificationMessage) appendTo(dst []byte, to *
 	if length >= 0 {
 		return extended[:len(extended)+int(length)], nil
 	}
-	// a table says which field is rejected, and why
+	// a table has the field that is rejected, and the reason
 	writer := newWriter()
 	r.write(writer, 0)
 	return writer.appendTo(dst, to)
@@ -1642,7 +1642,7 @@ func (r *CallCompletionNotificationMessage) appendTo(dst []byte, to *place) ([]b
 	if length >= 0 {
 		return extended[:len(extended)+int(length)], nil
 	}
-	// a table says which field is rejected, and why
+	// a table has the field that is rejected, and the reason
 	writer := newWriter()
 	r.write(writer, 0)
 	return writer.appendTo(dst, to)
@@ -1691,7 +1691,7 @@ func (r *RunCompletionNotificationMessage) appendTo(dst []byte, to *place) ([]by
 	if length >= 0 {
 		return extended[:len(extended)+int(length)], nil
 	}
-	// a table says which field is rejected, and why
+	// a table has the field that is rejected, and the reason
 	writer := newWriter()
 	r.write(writer, 0)
 	return writer.appendTo(dst, to)
@@ -1740,7 +1740,7 @@ func (r *AttachInvocationCompletionNotificationMessage) appendTo(dst []byte, to 
 	if length >= 0 {
 		return extended[:len(extended)+int(length)], nil
 	}
-	// a table says which field is rejected, and why
+	// a table has the field that is rejected, and the reason
 	writer := newWriter()
 	r.write(writer, 0)
 	return writer.appendTo(dst, to)
@@ -1765,7 +1765,7 @@ func (r *SleepCompletionNotificationMessage) appendTo(dst []byte, to *place) ([]
 	if length >= 0 {
 		return extended[:len(extended)+int(length)], nil
 	}
-	// a table says which field is rejected, and why
+	// a table has the field that is rejected, and the reason
 	writer := newWriter()
 	r.write(writer, 0)
 	return writer.appendTo(dst, to)
@@ -1800,7 +1800,7 @@ func (r *GetLazyStateKeysCompletionNotificationMessage) appendTo(dst []byte, to 
 	if length >= 0 {
 		return extended[:len(extended)+int(length)], nil
 	}
-	// a table says which field is rejected, and why
+	// a table has the field that is rejected, and the reason
 	writer := newWriter()
 	r.write(writer, 0)
 	return writer.appendTo(dst, to)
@@ -1825,7 +1825,7 @@ func (r *CallInvocationIdCompletionNotificationMessage) appendTo(dst []byte, to 
 	if length >= 0 {
 		return extended[:len(extended)+int(length)], nil
 	}
-	// a table says which field is rejected, and why
+	// a table has the field that is rejected, and the reason
 	writer := newWriter()
 	r.write(writer, 0)
 	return writer.appendTo(dst, to)
@@ -1888,7 +1888,7 @@ func (r *SignalNotificationMessage) appendTo(dst []byte, to *place) ([]byte, err
 	if length >= 0 {
 		return extended[:len(extended)+int(length)], nil
 	}
-	// a table says which field is rejected, and why
+	// a table has the field that is rejected, and the reason
 	writer := newWriter()
 	r.write(writer, 0)
 	return writer.appendTo(dst, to)
@@ -1970,7 +1970,7 @@ func (r *NotificationTemplate) appendTo(dst []byte, to *place) ([]byte, error) {
 	if length >= 0 {
 		return extended[:len(extended)+int(length)], nil
 	}
-	// a table says which field is rejected, and why
+	// a table has the field that is rejected, and the reason
 	writer := newWriter()
 	r.write(writer, 0)
 	return writer.appendTo(dst, to)

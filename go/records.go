@@ -742,7 +742,7 @@ func (r *StartMessage) write(writer *fieldWriter, level uint64) {
 	}
 }
 
-// SuspensionMessage: suspends the invocation until something that it awaits has come.
+// SuspensionMessage: suspends the invocation until something that it awaits is there.
 type SuspensionMessage struct {
 	// What is awaited.
 	AwaitingOn *Future

@@ -218,7 +218,7 @@ struct journal_StartMessage {
     struct journal_slice idempotency_key;
 };
 
-/* Suspends the invocation until something that it awaits has come. */
+/* Suspends the invocation until something that it awaits is there. */
 struct journal_SuspensionMessage {
     /* What is awaited. */
     bool has_awaiting_on;

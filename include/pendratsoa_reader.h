@@ -1,7 +1,7 @@
 /*
  * pendratsoa: the items of a stream that comes in chunks, for C99 and C++, over the calls of pendratsoa.h.
  *
- * A journal_reader keeps the bytes of a stream that are in no whole item yet. Chunks of any length go in, and items
+ * A journal_reader keeps the bytes of a stream that are in no complete item yet. Chunks of any length go in, and items
  * come out, each with its offset. All functions are static inline, and their memory is from malloc.
  *
  *     struct journal_reader reader = journal_reader_of(8, 1048576);

@@ -163,7 +163,7 @@ export interface StartMessage {
   readonly idempotencyKey?: string | undefined;
 }
 
-/** Suspends the invocation until something that it awaits has come. */
+/** Suspends the invocation until something that it awaits is there. */
 export interface SuspensionMessage {
   /** What is awaited. */
   readonly awaitingOn?: Future | undefined;

@@ -1,5 +1,5 @@
-// Measures the package for Go beside protobuf's own: measure FILE, which is messages.txt. A line is the record, the
-// work, microseconds of processor time here and there, and how many times as fast this package is.
+// Measures the package for Go against protobuf's own: measure FILE, which is messages.txt. A line is the record, the
+// work, microseconds of CPU time here and there, and how many times as fast this package is.
 package main
 
 import (
@@ -133,7 +133,7 @@ func round(work func()) float64 {
 	return (processorTime() - start) / count
 }
 
-// processorTime returns the microseconds of processor time that the process has had.
+// processorTime returns the microseconds of CPU time that the process has had.
 func processorTime() float64 {
 	var usage syscall.Rusage
 	check(syscall.Getrusage(syscall.RUSAGE_SELF, &usage))

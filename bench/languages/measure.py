@@ -1,7 +1,7 @@
-"""Measures the package for Python beside protobuf's own: measure.py FOLDER, which has journal_pb2, made by protoc.
+"""Measures the package for Python against protobuf's own: measure.py FOLDER, which has journal_pb2, made by protoc.
 
 A line is the record, the work, microseconds here and there, and how many times as fast this package is. Protobuf's has
-no streams; beside it is the framing that a user writes, below.
+no streams; it is used with the framing that a user writes, below.
 """
 
 import pathlib
@@ -71,7 +71,7 @@ def peer_frame(code, message):
 
 
 def measured(work, count=COUNT, per=1):
-    # of processor time, since the machine may be busy
+    # of CPU time, since the machine may be busy
     return min(timeit.repeat(work, timer=time.process_time, number=count, repeat=9)) / count / per * 1e6
 
 

@@ -1,9 +1,9 @@
 # frozen_string_literal: true
 
-# Measures the gem beside protobuf's own: ruby measure.rb FOLDER, which has journal_pb.rb, made by protoc.
+# Measures the gem against protobuf's own: ruby measure.rb FOLDER, which has journal_pb.rb, made by protoc.
 #
 # A line is the record, the work, microseconds here and there, and how many times as fast this gem is. Protobuf's has no
-# streams; beside it is the framing that a user writes, below.
+# streams; it is used with the framing that a user writes, below.
 
 $LOAD_PATH.unshift ARGV.fetch(0)
 require "google/protobuf"
@@ -58,7 +58,7 @@ def items_of(chunks, &block)
   chunks.each { |chunk| stream.feed(chunk).each(&block) }
 end
 
-# Of processor time, since the machine may be busy.
+# CPU time, since the machine may be busy.
 def measured(count, per)
   times = Array.new(9) do
     start = Process.clock_gettime(Process::CLOCK_PROCESS_CPUTIME_ID)

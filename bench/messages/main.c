@@ -1,6 +1,6 @@
 /*
- * Measures the sides on the messages on the standard input, of which a line is the name of a workload, a schema and a
- * payload in hex digits: main [--side NAME WORK ROUNDS WORKLOAD]
+ * Measures the sides on the messages on the standard input. A line is the name of a workload, a schema and a payload in
+ * hex digits: main [--side NAME WORK ROUNDS WORKLOAD]
  *
  * A line of the output is a workload, the work, nanoseconds a message of each side, and how many times as fast as each
  * of the others the first one is. Before that the sides have to read the same and to write the payloads. The sides take

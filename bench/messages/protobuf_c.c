@@ -1,4 +1,4 @@
-/* protobuf-c, of which a message is unpacked into memory of malloc, and freed. */
+/* protobuf-c: a message is unpacked into memory of malloc, and freed. */
 #include <stdio.h>
 #include <stdlib.h>
 #include <string.h>

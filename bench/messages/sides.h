@@ -18,7 +18,7 @@ struct message {
     size_t length;
 };
 
-/* Work on all messages of a list. `decode` reads each, and two fields of those of which `what_is_read` says which, and
+/* Work on all messages of a list. `decode` reads each, and two fields of those that `what_is_read` names, and
    returns the sum of what was read. `keep` reads them all and keeps them, `encode` writes each that is kept, after each
    other into `out`, and returns how many bytes they take. */
 struct side {

@@ -190,7 +190,7 @@ fn a_stream(random: &mut Random) -> Case {
 pub struct File {
     pub name: &'static str,
     pub text: String,
-    /// The number of its results that are those of the rules alone.
+    /// The number of its results that are only those of the rules.
     pub departures: usize,
     /// The cases that it has.
     seen: HashSet<String>,

@@ -77,7 +77,7 @@ impl Case {
         }
     }
 
-    /// What the peer returns.
+    /// What the baseline returns.
     pub fn by_peer(&self) -> String {
         match self {
             Case::Payload { schema, payload } => written(peer::canonical(*schema, payload)),
@@ -96,8 +96,8 @@ impl Case {
         }
     }
 
-    /// What the rules return, but for the text of a record, since they know no names: of its payload they say whether
-    /// it is canonical.
+    /// What the rules return, except for the text of a record, since they know no names: of its payload they return
+    /// whether it is canonical.
     fn by_rules(&self) -> ByRules {
         match self {
             Case::Payload { schema, payload } | Case::Record { schema, payload } => {
@@ -180,8 +180,8 @@ impl fmt::Display for Case {
 #[derive(Clone, Debug, PartialEq, Eq)]
 pub struct Verdict {
     pub result: String,
-    /// Whether the result is that of the rules alone: prost rejects it, since a skipped record is on the last level. It
-    /// counts a level for each record that it skips; the rules count one for messages and groups alone.
+    /// Whether the result is only that of the rules: prost rejects it, since a skipped record is on the last level. It
+    /// counts a level for each record that it skips; the rules count one only for messages and groups.
     pub departs: bool,
 }
 
@@ -273,7 +273,7 @@ fn bytes(word: &str) -> Option<Vec<u8>> {
         .collect()
 }
 
-/// The bytes of all words that are left, of which there is one at least.
+/// The bytes of all words that are left. There is at least one.
 fn several_bytes<'a>(words: &mut impl Iterator<Item = &'a str>) -> Option<Vec<Vec<u8>>> {
     let several: Vec<_> = words.map(bytes).collect::<Option<_>>()?;
     (!several.is_empty()).then_some(several)

@@ -1,4 +1,4 @@
-//! A stream as JSON, one object a line, as one writes it in ordinary Rust over prost and serde_json.
+//! A stream as JSON, one object per line, as one writes it in ordinary Rust over prost and serde_json.
 
 use std::cell::RefCell;
 use std::io::{self, Read, Write};
@@ -60,7 +60,7 @@ impl Serialize for Line {
     }
 }
 
-/// The last line: the bytes that are in no item.
+/// The last line: the trailing bytes.
 struct Rest {
     offset: u64,
     bytes: Vec<u8>,

@@ -1,5 +1,5 @@
-//! Messages that are cheap to send and dear to read: one kind of record over and over, as an adversary would fill a
-//! payload.
+//! Messages that are cheap to send and expensive to read: one kind of record over and over, as an adversary would fill
+//! a payload.
 
 use crate::streams::Frame;
 use crate::wire::{key, put_varint, GROUP, GROUP_END, LENGTH, VARINT};
@@ -33,7 +33,7 @@ pub static ALL: [Hostile; 13] = [
     Hostile::whole("single numbers", 0x0001, |count| {
         message(4, &records(count, &number(1, 1)))
     }),
-    // its named signals, of no letters
+    // its named signals, of no characters
     Hostile::whole("empty texts", 0x0001, |count| {
         message(4, &records(count, &message(3, &[])))
     }),
@@ -88,8 +88,7 @@ impl Hostile {
         }
     }
 
-    /// The message with this many elements. Of those that are nested in one another there are as many as make up whole
-    /// nests, so up to 97 less.
+    /// The message with this many elements. There are as many nested ones as make up complete nests, so up to 97 less.
     pub fn frame(&self, count: usize) -> Frame {
         Frame {
             code: self.code,
@@ -128,7 +127,7 @@ fn group(field: u32, content: &[u8]) -> Vec<u8> {
     out
 }
 
-/// So many records in one another, of which the innermost is empty.
+/// This many nested records; the innermost is empty.
 fn nested(depth: usize, around: impl Fn(&[u8]) -> Vec<u8>) -> Vec<u8> {
     (0..depth).fold(Vec::new(), |inner, _| around(&inner))
 }

@@ -51,12 +51,12 @@ impl From<DecodeError> for Refusal {
     }
 }
 
-/// How the peer compares two commands of one type.
+/// How the baseline compares two commands of one type.
 #[derive(Clone, Copy, Debug, PartialEq, Eq)]
 pub enum Order {
     /// Both are decoded, and the records compared by the derived `==`.
     Records,
-    /// Their payloads are compared first. Of two equal ones only the first is decoded, to see that it is well-formed.
+    /// Their payloads are compared first. Only the first of two equal ones is decoded, to see that it is well-formed.
     BytesFirst,
 }
 

@@ -1,5 +1,5 @@
 //! Readers of the protocol that are not this project's library, random cases for them, and the calls of the library,
-//! which are compared with them and measured beside one of them.
+//! which are compared with them and measured against one of them.
 
 pub mod cases;
 pub mod conformance;

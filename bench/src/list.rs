@@ -1,4 +1,4 @@
-//! The listing of a stream, as one writes it in ordinary Rust over the peer's decoder.
+//! The listing of a stream, as one writes it in ordinary Rust over the baseline's decoder.
 
 use std::io::{self, Read, Write};
 

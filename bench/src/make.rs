@@ -1,5 +1,5 @@
-//! A stream made of JSON, one object a line, as one writes it in ordinary Rust over serde_json and prost: the peer of
-//! journal_make.
+//! A stream made of JSON, one object per line, as one writes it in ordinary Rust over serde_json and prost: the
+//! baseline of journal_make.
 //!
 //! A line says its type or its code before its message, as dumps do, so that it is read once. Numbers in strings are
 //! whole and have no exponent, and base64 has its padding.
@@ -129,7 +129,7 @@ impl<'de> Visitor<'de> for Line<'_> {
                 let mut given = [0; 8];
                 given.copy_from_slice(&bytes);
                 match (name_of(code), length) {
-                    // a header alone has the length that it says
+                    // a header without a payload has the length that it states
                     (None, 0) if code & 0xFC00 == 0 => u64::from_be_bytes(given),
                     _ => u64::from_be_bytes(given) & !0xFFFF_FFFF | length,
                 }

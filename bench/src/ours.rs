@@ -172,7 +172,7 @@ pub fn items(
     rounds: usize,
     words: &mut [u64],
 ) -> Result<usize, Refusal> {
-    // SAFETY: the lengths are those of the slices, of which `words` alone is written
+    // SAFETY: the lengths are those of the slices, and only `words` is written
     count(unsafe {
         c::measure_items(
             version,
@@ -193,7 +193,7 @@ pub fn item_refs(
     rounds: usize,
     words: &mut [u64],
 ) -> Result<usize, Refusal> {
-    // SAFETY: the lengths are those of the slices, of which `words` alone is written
+    // SAFETY: the lengths are those of the slices, and only `words` is written
     count(unsafe {
         c::measure_item_refs(
             version,
@@ -309,7 +309,7 @@ fn frame_by(
     rounds: usize,
     out: &mut [u8],
 ) -> Result<usize, Refusal> {
-    // SAFETY: these calls take slices so; the lengths are theirs, and `out` alone is written
+    // SAFETY: these calls take slices so; the lengths are theirs, and only `out` is written
     count(unsafe {
         call(
             version,

@@ -1,6 +1,7 @@
-//! The peer: the protocol over prost and shared buffers, as one writes it in ordinary Rust.
+//! The baseline, which is the side `peer`: the protocol over prost and shared buffers, as one writes it in ordinary
+//! Rust.
 //!
-//! A payload is cut out of the chunks that came and not copied, unless it lies across several; `bytes` fields are parts
+//! A payload is cut out of the chunks received and not copied, unless it lies across several; `bytes` fields are parts
 //! of the payload.
 
 use std::collections::VecDeque;
@@ -156,7 +157,7 @@ impl Decoder {
         self.word
     }
 
-    /// The bytes that came and that no item has taken.
+    /// The bytes that were received and that no item has taken.
     pub fn pending_bytes(&self) -> Vec<u8> {
         let head = self.head.map(|_| self.word.to_be_bytes());
         let mut bytes = Vec::from_iter(head.into_iter().flatten());
@@ -164,7 +165,7 @@ impl Decoder {
         bytes
     }
 
-    /// The next item, where all of it has come.
+    /// The next item, if all of it was received.
     pub fn next_item(&mut self) -> Option<Item> {
         let head = match self.head.take() {
             Some(head) => head,
@@ -283,7 +284,7 @@ pub fn items(version: u32, stream: &[u8], chunk: usize, rounds: usize, words: &m
     }
 }
 
-/// Decodes each message of a named type of a stream, and says how many there are.
+/// Decodes each message of a named type of a stream, and returns how many there are.
 pub fn messages(
     version: u32,
     stream: &[u8],
@@ -303,12 +304,12 @@ pub fn messages(
     Ok(count)
 }
 
-/// Decodes a message where its type has a name, and says whether it has.
+/// Decodes a message if its type has a name, and returns whether it has.
 fn decode(code: u16, payload: Bytes) -> Result<bool, DecodeError> {
     with_message!(
         code,
         Record => {
-            // looked at, so that decoding it is no dead code
+            // looked at, so that decoding it is not dead code
             black_box(&Record::decode(payload)?);
             Ok(true)
         },
@@ -404,8 +405,8 @@ pub fn merge<'a>(
     )
 }
 
-/// The record that a payload means, as Rust's derived Debug prints it, but for enums: they are printed by the names of
-/// their numbers.
+/// The record that a payload means, as Rust's derived Debug prints it, except for enums: they are printed by the names
+/// of their numbers.
 pub fn text(schema: usize, payload: &[u8]) -> Result<String, Refusal> {
     let payload = Bytes::copy_from_slice(payload);
     with_schema!(

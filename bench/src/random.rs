@@ -7,7 +7,7 @@ use crate::wire::{key, put_varint, EIGHT_BYTES, FOUR_BYTES, GROUP, GROUP_END, LE
 /// The largest number of a field.
 const LAST_NUMBER: u32 = (1 << 29) - 1;
 
-/// Numbers that depend on a seed and a case alone (splitmix64).
+/// Numbers that depend only on a seed and a case (splitmix64).
 #[derive(Clone, Debug)]
 pub struct Random(u64);
 
@@ -64,7 +64,7 @@ impl Random {
 /// How a payload is made.
 #[derive(Clone, Copy, Debug, PartialEq, Eq)]
 pub enum Style {
-    /// Shortest varints, and the fields of the schema alone.
+    /// Shortest varints, and only the fields of the schema.
     Tidy,
     /// Any encoding, and records that the schema skips.
     Free,

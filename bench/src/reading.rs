@@ -1,4 +1,4 @@
-//! A stream that is read chunk by chunk, and the peer's programs, which read one.
+//! A stream that is read chunk by chunk, and the baseline's programs, which read one.
 
 use std::env;
 use std::io::{self, Read, StdinLock, StdoutLock};
@@ -42,7 +42,7 @@ impl<R: Read> Reading<R> {
         Ok(count > 0)
     }
 
-    /// The next item of what was read, where all of it has come.
+    /// The next item of what was read, if all of it was received.
     pub fn next_item(&mut self) -> Option<Item> {
         self.decoder.next_item()
     }
@@ -68,8 +68,8 @@ impl<R: Read> Reading<R> {
     }
 }
 
-/// What a program of the peer does: it has the stream on the standard input written out somehow, at the version that
-/// its only word says.
+/// What a program of the baseline does: it has the stream on the standard input written out somehow, at the version
+/// that its only word gives.
 pub fn run(
     write: impl FnOnce(u32, StdinLock<'static>, &mut StdoutLock<'static>) -> io::Result<()>,
 ) -> ExitCode {

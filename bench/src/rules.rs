@@ -1,7 +1,7 @@
-//! A reader of the protocol by the rules of docs/PAYLOADS.md and the protocol's description alone: neither the library
+//! A reader of the protocol by the rules of docs/PAYLOADS.md and only the protocol's description: neither the library
 //! nor prost takes part.
 //!
-//! It is written to be read beside the rules and not to be fast: it copies all that it reads.
+//! It is written to be read next to the rules and not to be fast: it copies all that it reads.
 
 use std::collections::BTreeMap;
 
@@ -69,7 +69,7 @@ impl Meaning {
     }
 }
 
-/// The values of a message's fields by their numbers. Where a field is no list it has one value at most, and where a
+/// The values of a message's fields by their numbers. Where a field is not a list it has one value at most, and where a
 /// member is present no other member of its oneof is.
 #[derive(Debug, Default)]
 struct Message {
@@ -110,8 +110,8 @@ impl Message {
         self.fields.entry(number).or_default().push(value);
     }
 
-    /// The message that a field holds and that is no element of a list. It is empty where there was none, or another
-    /// member.
+    /// The message that a field holds and that is not an element of a list. It is empty where there was none, or
+    /// another member.
     fn inner(&mut self, schema: usize, field: &Field) -> &mut Message {
         self.drop_other_members(schema, field);
         let values = self
@@ -311,7 +311,7 @@ impl Reader {
     }
 }
 
-/// Lays a record of a field that is no message over a message.
+/// Lays a record of a field that is not a message over a message.
 fn merge_scalar(
     message: &mut Message,
     schema: usize,
@@ -347,8 +347,8 @@ fn merge_scalar(
     Some(())
 }
 
-/// An item of a stream: the code of its header, whether it requests an acknowledgement, and the payload; or a code of
-/// no type, alone or with its payload.
+/// An item of a stream: the code of its header, whether it requests an acknowledgement, and the payload; or an
+/// unassigned code, without or with its payload.
 #[derive(Clone, Debug, PartialEq, Eq)]
 pub enum Item {
     Message {

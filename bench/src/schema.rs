@@ -24,7 +24,7 @@ impl Kind {
     }
 }
 
-/// How often a field is in a message. A message field that is no list and no member is optional. A member names its
+/// How often a field is in a message. A message field that is not a list and no member is optional. A member names its
 /// oneof by the least number of its members.
 #[derive(Clone, Copy, Debug, PartialEq, Eq)]
 pub enum Label {

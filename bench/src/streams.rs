@@ -30,7 +30,7 @@ pub fn stream(frames: &[Frame]) -> Vec<u8> {
     out
 }
 
-/// A header, of which the length is added to a word, and a payload.
+/// A header whose length is added to a word, and a payload.
 fn put_frame(word: u64, payload: &[u8], out: &mut Vec<u8>) {
     out.extend((word | payload.len() as u64).to_be_bytes());
     out.extend_from_slice(payload);
@@ -49,7 +49,7 @@ pub fn any(random: &mut Random, damaged: bool) -> Vec<u8> {
                 put_frame(code << 48 | ignored, &random.bytes(length), &mut out);
             }
             1 => {
-                // a code of no type, half of the time with a payload
+                // an unassigned code, half of the time with a payload
                 let code = 0x0008 + random.below(8) as u64;
                 let length = random.below(2) * random.below(24);
                 put_frame(code << 48 | ignored, &random.bytes(length), &mut out);
@@ -74,7 +74,7 @@ pub fn any(random: &mut Random, damaged: bool) -> Vec<u8> {
 }
 
 /// Messages of all types in turn, in any encoding and here and there malformed, and between them custom entries and
-/// unknown codes; at the end a part of a header. The payload of a code of no type is one at version 9 alone.
+/// unknown codes; at the end a part of a header. Only at version 9 does an unassigned code have a payload.
 pub fn varied(random: &mut Random, version: u32) -> Vec<u8> {
     let mut out = Vec::new();
     for _ in 0..60 {

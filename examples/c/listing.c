@@ -2,9 +2,9 @@
  * Lists the stream that comes on the standard input, in chunks of 4 KiB: listing [VERSION]
  *
  * A line is an item: the name of its type and the length of its payload, and " ack" if its header requests an
- * acknowledgement; after a call also the names of its service and its handler. The last line counts the bytes that are
- * in no item. VERSION is from 5 to 9; the default is 8. The status is 0 after a whole listing, 1 if the input, the
- * output or an allocation fails, and 2 if the arguments are wrong.
+ * acknowledgement; after a call also the names of its service and its handler. The last line counts the trailing bytes.
+ * VERSION is from 5 to 9; the default is 8. The status is 0 after a complete listing, 1 if the input, the output or an
+ * allocation fails, and 2 if the arguments are wrong.
  *
  *   cc -std=c99 listing.c $(pkg-config --cflags --libs pendratsoa) -o listing
  */

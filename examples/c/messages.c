@@ -2,9 +2,9 @@
  * Copies the stream on the standard input to the standard output, with the value of each state that is set replaced:
  * messages VALUE [VERSION] < STREAM > STREAM
  *
- * On the standard error it prints a line for each state that is set and each call: the key, and the length of the value
+ * On the standard error it prints one line per state that is set and per call: the key, and the length of the value
  * before; the names of the service and the handler, and the number of headers. Other items are copied as they are. The
- * stream is read in chunks. VERSION is from 5 to 9; the default is 8. The status is 0 after a whole stream, 1 if
+ * stream is read in chunks. VERSION is from 5 to 9; the default is 8. The status is 0 after a complete stream, 1 if
  * something fails or a message is malformed, and 2 if the arguments are wrong.
  *
  *   cc -std=c99 messages.c $(pkg-config --cflags --libs pendratsoa) -o messages

@@ -12,7 +12,7 @@ declare const process: {
   exitCode?: number;
 };
 
-/** A text as the example in C prints it: what is no letter of ASCII as the numbers of its bytes. */
+/** A text as the example in C prints it: what is not an ASCII letter as the numbers of its bytes. */
 function quoted(text: string): string {
   const letters = Array.from(new TextEncoder().encode(text), (byte) => {
     const letter = String.fromCharCode(byte);

@@ -216,7 +216,7 @@ class StartMessage(MessageRecord):
 
 @dataclass(frozen=True)
 class SuspensionMessage(MessageRecord):
-    """Suspends the invocation until something that it awaits has come."""
+    """Suspends the invocation until something that it awaits is there."""
 
     SCHEMA: ClassVar[int] = 11
     TYPE: ClassVar[Literal["Suspension"]] = "Suspension"

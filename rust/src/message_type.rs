@@ -5,7 +5,7 @@ use std::fmt;
 
 use crate::error::{Argument, Error};
 
-/// The type of a message: a named one, or a custom entry, which is known by its code alone.
+/// The type of a message: a named one, or a custom entry, which is known only by its code.
 ///
 /// A later library may have further named types; for this enum their codes are those of custom entries, or of no type.
 ///
@@ -23,7 +23,7 @@ use crate::error::{Argument, Error};
 pub enum MessageType {
     /// Starts or resumes an invocation.
     Start,
-    /// Suspends the invocation until something that it awaits has come.
+    /// Suspends the invocation until something that it awaits is there.
     Suspension,
     /// Ends the attempt with an error, after which the service may retry.
     Error,

@@ -606,7 +606,7 @@ impl<'a> MessageRecord<'a> for StartMessage<'a> {
     const TYPE: MessageType = MessageType::Start;
 }
 
-/// Suspends the invocation until something that it awaits has come.
+/// Suspends the invocation until something that it awaits is there.
 #[derive(Clone, Debug, Default, PartialEq, Eq, Hash)]
 pub struct SuspensionMessage<'a> {
     /// What is awaited.
@@ -3361,7 +3361,7 @@ impl<'a> Record<'a> for NotificationTemplate<'a> {
 pub enum AnyMessage<'a> {
     /// Starts or resumes an invocation.
     Start(StartMessage<'a>),
-    /// Suspends the invocation until something that it awaits has come.
+    /// Suspends the invocation until something that it awaits is there.
     Suspension(SuspensionMessage<'a>),
     /// A suspension as it is written before version 7: all that is awaited, in three lists.
     SuspensionV6(SuspensionMessageV6<'a>),

@@ -42,7 +42,7 @@ pub enum Schema {
     IdempotentRequestTarget,
     /// Starts or resumes an invocation.
     StartMessage,
-    /// Suspends the invocation until something that it awaits has come.
+    /// Suspends the invocation until something that it awaits is there.
     SuspensionMessage,
     /// A suspension as it is written before version 7: all that is awaited, in three lists.
     SuspensionMessageV6,

@@ -1,8 +1,8 @@
 /*
- * Reads each constant of pendratsoa.h by its name, beside literal results of the library: constants
+ * Reads each constant of pendratsoa.h by its name, and compares it with literal results of the library: constants
  *
- * It prints the name of each constant that says what the library returns, and a line that begins with 'wrong: ' for
- * each other; then its status is 1. scripts/checks/c.sh looks that no constant of the header is missing.
+ * It prints the name of each constant that agrees with what the library returns, and a line that begins with 'wrong: '
+ * for each other; then its status is 1. scripts/checks/c.sh looks that no constant of the header is missing.
  *
  * It is linked with the static library and --wrap of malloc and realloc, so that an allocation can fail.
  */
@@ -31,7 +31,7 @@
 #define SET_B 0x04, 0x03, 0, 0, 0, 0, 0, 3, 0x0A, 1, 'b'
 #define CALL 0x04, 0x0D, 0, 0, 0, 0, 0, 0
 #define BAD 0x04, 0x03, 0, 0, 0, 0, 0, 1, 0x07
-/* Nine commands: an index that is no kind of a verdict. */
+/* Nine commands: an index that is not a kind of a verdict. */
 #define NINE SET_A, SET_A, SET_A, SET_A, SET_A, SET_A, SET_A, SET_A, SET_A
 
 void *__real_malloc(size_t size);
@@ -242,7 +242,7 @@ static void readings(void) {
     FIELD(found.after, 99);
 }
 
-/* The entry of a field of the message itself in a table of eight, of which the last one has no field. */
+/* The entry of a field of the message itself in a table of eight. The last of them has no field. */
 static const struct journal_field *field_of(const struct journal_field *table, uint64_t number) {
     size_t i = 0;
 
@@ -282,7 +282,7 @@ static void fields(void) {
     IS(JOURNAL_FIELD_ENUM, field_of(table, FIELD_FUTURE_COMBINATOR_TYPE)->kind);
 }
 
-/* Tables of two fields, of which the second one may not come in all but the first. */
+/* Tables of two fields. Only in the first table may the second field come. */
 static void writings(void) {
 #define A_HEADER {0, FIELD_CALL_COMMAND_HEADERS, 7, 4, 0, 0}
 #define ITS_KEY(level, kind, offset, length) {level, FIELD_HEADER_KEY, kind, 0, offset, length}

@@ -6,7 +6,7 @@
  * every size from none to what is needed, with too few numbers and with too many, with tables of several sizes, and
  * with each of its allocations failing in turn. After each call
  *
- * - what is read is unchanged, and so are the guards and what is to be written, but for the bytes of the result
+ * - what is read is unchanged, and so are the guards and what is to be written, except for the bytes of the result
  *   or the entries of the table where there is room;
  * - the result is one that the header lists, and the same whatever the room;
  * - a failed allocation is JOURNAL_OUT_OF_MEMORY, and a call without a failed one never returns that; a call that does
@@ -75,7 +75,7 @@ void __wrap_free(void *block) {
     __real_free(block);
 }
 
-/* The most kinds of results that are no errors: an id of each kind with a result of each kind. */
+/* The most kinds of results that are not errors: an id of each kind with a result of each kind. */
 #define KINDS 15
 
 /* Bytes that are made up, before they are handed over. */
@@ -373,7 +373,7 @@ static uint32_t schema_of(uint16_t code) {
     return schema < 0 ? JOURNAL_SCHEMAS : (uint32_t)schema;
 }
 
-/* Frames, of which the last may be cut. Most are commands where journals are compared. */
+/* Frames; the last may be cut. Most are commands where journals are compared. */
 static void put_stream(struct work *work, struct source *source, int of_commands) {
     for (uint32_t count = below(work, 6); count > 0; count--) {
         uint16_t code = any_code(work);
@@ -459,7 +459,7 @@ static int stands(const struct slice *slice, size_t from) {
     return 1;
 }
 
-/* Which of its kinds the result of a call is that is no error. */
+/* Which of its kinds the result of a call is, if it is not an error. */
 static int kind_of(int call, int64_t result, const uint64_t *numbers) {
     switch (call) {
     case NEXT: case NEXT_WITHIN: return result > 0 ? JOURNAL_ITEM_SKIPPED + 1 : (int)numbers[0];

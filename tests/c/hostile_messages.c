@@ -1,8 +1,8 @@
 /*
  * Makes adversarial calls of pendratsoa_messages.h: hostile_messages SCHEMAS SEED COUNT < LINES
  *
- * SCHEMAS is as for test_messages. The lines are test vectors, of which the payloads are taken. Of each case, until
- * COUNT calls are made,
+ * SCHEMAS is as for test_messages. The lines are test vectors; their payloads are taken. Of each case, until COUNT
+ * calls are made,
  *
  * - a payload, of a vector, damaged or of random bytes, is read with arenas of every size that is too small, and of one
  *   that is enough, at any alignment. The result is that of journal_canonical, or JOURNAL_NO_ROOM with a size that is
@@ -13,7 +13,7 @@
  *
  * All memory is in blocks of malloc of exactly the length that is given, for sanitizers to watch. Whatever the seed, in
  * 100,000 calls and more each result has to have been there: records of all schemas that are read and rejected, arenas
- * that are too small, both reasons. The last line says how often.
+ * that are too small, both reasons. The last line has the counts.
  */
 #define _POSIX_C_SOURCE 200809L
 #include <pendratsoa_messages.h>
@@ -341,7 +341,7 @@ static uint8_t *take(size_t size) {
 /* What a look at a record that is made finds first: why it may not be, and where. */
 static struct { uint32_t kind, schema, number; } wrong;
 
-/* Whether all texts that are made are UTF-8: those of a chain, of which one would come before it is too deep. */
+/* Whether all texts that are made are UTF-8: those of a chain, where one would come before it is too deep. */
 static bool has_right_texts;
 
 static void is_wrong(uint32_t kind, uint32_t schema, uint32_t number) {
@@ -382,7 +382,7 @@ static void make_value(uint32_t schema, const struct member *member, uint8_t *pl
     default:
         slice = journal_text(texts[below(sizeof texts / sizeof *texts)]);
         if (below(3) == 0) {
-            /* any bytes; in a text letters, and here and there 0xFF, which no UTF-8 has; nothing may be null */
+            /* any bytes; in a text characters, and here and there 0xFF, which no UTF-8 has; nothing may be null */
             bool is_text = true;
 
             slice.length = below(12);
@@ -435,7 +435,7 @@ static void make_record(uint32_t schema, uint8_t *record, size_t level, size_t c
             }
             break;
         case MEMBER:
-            /* the members of a oneof are beside each other, and one of them or none is chosen at the first */
+            /* the members of a oneof are next to each other, and one of them or none is chosen at the first */
             if (case_place != member->presence) {
                 size_t members = 0;
 

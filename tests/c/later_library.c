@@ -1,8 +1,8 @@
 /*
  * What the structs of pendratsoa_messages.h do of a library that is later than their header: later_library
  *
- * It stands in for the library: a payload has the fields that `tables` lists, of which the header knows not all. Each
- * is to be JOURNAL_UNKNOWN, and the record empty then. It prints nothing where all is right.
+ * It stands in for the library: a payload has the fields that `tables` lists, and the header does not know all of them.
+ * Each is to be JOURNAL_UNKNOWN, and the record empty then. It prints nothing where all is right.
  */
 #include <pendratsoa_messages.h>
 

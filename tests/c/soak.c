@@ -3,11 +3,11 @@
  *
  * FRAMES has a frame of version 9 on each line, in hexadecimal. The client opens a connection after the other, writes
  * frames that it picks at random in chunks of random sizes, and ends each connection in one of four ways in turn: after
- * a whole frame; within one; after the header of a message that is longer than the limit; or by a reset, which makes a
- * read of the server fail. The server reads chunks of random sizes and finds their items by journal_next_within. Both
+ * a complete frame; within one; after the header of a message that is longer than the limit; or by a reset, which makes
+ * a read of the server fail. The server reads chunks of random sizes and finds their items by journal_next_within. Both
  * pick from the same seed, so the server knows what has to come: each frame as it was sent, in order, and the end that
  * belongs to it. The resident memory of its own is read each million messages, and has to stay as it was after the
- * first, but for a few pages of the C library.
+ * first, except for a few pages of the C library.
  */
 #include <netinet/in.h>
 #include <netinet/tcp.h>
@@ -146,7 +146,7 @@ static void serve_as_client(struct sockaddr_in address) {
 
 /* ---- the server */
 
-/* What has come and is in no item yet. */
+/* The bytes received that are in no complete item yet. */
 static uint8_t pending[LONGEST + 8 + CHUNK];
 static size_t pending_length;
 

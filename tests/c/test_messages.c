@@ -1,11 +1,11 @@
 /*
  * Checks the structs of pendratsoa_messages.h by the test vectors on the standard input: test_messages SCHEMAS < LINES
  *
- * SCHEMAS is a file with the names of the schemas, one a line, in the order of their numbers. Of each line of the kinds
- * `payload`, `record`, `fields` and `json` the payload is read into its struct, and that is written as the canonical
- * payload; a malformed one has to be rejected. Of a record the struct is printed too, by the names of its members. Of a
- * message its frame is written from the struct at each version, which is that of journal_frame; of one that is written
- * without room nothing is. The arena begins with nothing, and grows by what it lacks. The last line is 'N passed, M
+ * SCHEMAS is a file with the names of the schemas, one per line, in the order of their numbers. The payload of each
+ * line of the kinds `payload`, `record`, `fields` and `json` is read into its struct, and that is written as the
+ * canonical payload; a malformed one has to be rejected. The struct of a record is printed too, by the names of its
+ * members. The frame of a message is written from the struct at each version, and is that of journal_frame; without
+ * room nothing is written. The arena begins with nothing, and grows by what it lacks. The last line is 'N passed, M
  * failed'.
  */
 #define _POSIX_C_SOURCE 200809L

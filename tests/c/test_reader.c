@@ -10,7 +10,7 @@
 #include <stdlib.h>
 #include <string.h>
 
-/* An allocation, of which every third fails while `is_failing`. */
+/* An allocation: every third one fails while `is_failing`. */
 static int is_failing, allocations;
 
 static void *failing_realloc(void *bytes, size_t size) {

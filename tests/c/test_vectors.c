@@ -1,9 +1,9 @@
 /*
  * Checks the test vectors on the standard input by the calls of pendratsoa.h: test_vectors SCHEMAS < LINES
  *
- * SCHEMAS is a file with the names of the schemas, one a line, in the order of their numbers. conformance/README.md
- * says what a line is; a line of the kind `record` has no call. Each stream is also read byte by byte, each JSON is
- * read as the canonical payload, and fields are written as the payload again. The last line is 'N passed, M failed'.
+ * SCHEMAS is a file with the names of the schemas, one per line, in the order of their numbers. conformance/README.md
+ * specifies a line; a line of the kind `record` has no call. Each stream is also read byte by byte, each JSON is read
+ * as the canonical payload, and fields are written as the payload again. The last line is 'N passed, M failed'.
  */
 #define _POSIX_C_SOURCE 200809L
 #include <pendratsoa.h>

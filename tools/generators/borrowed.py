@@ -274,11 +274,11 @@ def encode_call(record):
 
 
 CALLS_HEAD = """\
-//! The calls that write the payloads of records, of which pendratsoa_messages.h has the structs.
+//! The calls that write the payloads of records. pendratsoa_messages.h has their structs.
 //!
-//! Each returns how many bytes the payload has, and writes them if there is room for all of them. Its errors, of which
-//! the first that is true comes: JOURNAL_MALFORMED if a text is not UTF-8 or the number of a oneof's member is that of
-//! none, JOURNAL_TOO_LONG. None of them allocates.
+//! Each returns how many bytes the payload has, and writes them if there is room for all of them. Errors, in order of
+//! precedence: JOURNAL_MALFORMED if a text is not UTF-8 or the number of a oneof's member is that of none,
+//! JOURNAL_TOO_LONG. None of them allocates.
 
 ghost use Rattle.journal_c_api.specs.Outcomes.{Returns, Writes};
 ghost use Rattle.journal_c_api.specs.Records.{IsRecordPayload};

@@ -239,8 +239,8 @@ FFI_ROOT = """\
 //!
 //! Each call returns a number that is not negative, or an error's number, which is negative. One that writes bytes
 //! returns how many they are, and writes them if and only if the slice has room for all of them; an error leaves each
-//! slice unchanged. No call keeps its arguments, or leaves anything to free. A struct of C is a slice of its numbers; a
-//! table is a slice of entries, of which a call writes the first ones, as many as there is room for.
+//! slice unchanged. No call keeps its arguments, or leaves anything to free. A C struct is a slice of its numbers. A
+//! table is a slice of entries: a call writes the first ones, as many as there is room for.
 #![tactic(auto)]
 
 """

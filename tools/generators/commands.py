@@ -126,7 +126,7 @@ def write_same_but_payload(source, command, oneof):
         )
 
     source.body.append(
-        f"/// Whether two {oneof.name}s are the same but for the content of a {contents}.\n"
+        f"/// Whether two {oneof.name}s are the same except for the content of a {contents}.\n"
         f"fn same_but_payload(oneof: &Option<{enum}>, other: &Option<{enum}>) -> bool\n"
         f"    ensures {{ IsTrue result ↔ ({without('oneof')}\n        ≡ {without('other')}) }}\n"
         f"{{\n    match (oneof, other) {{\n{arms}        _ => same_oneof(oneof, other),\n    }}\n}}\n"

@@ -46,8 +46,8 @@ def header():
     return (
         f"{HEADER}\n"
         + comment(
-            f"The type of a message: one of {len(names())} that have a name, or a custom entry, which is known by its "
-            "code alone."
+            f"The type of a message: one of {len(names())} that have a name, or a custom entry, which is known only "
+            "by its code."
         )
         + "///\n"
         "/// Codes below 0x0400 are the core's, from 0x0400 to below 0x8000 commands, from 0x8000 to below 0xFC00 "
@@ -147,8 +147,8 @@ def command_type():
         f"    fn from(command: CommandType) -> MessageType {{\n        match command {{\n{sent}        }}\n    }}\n"
         "}\n\n"
         + comment(
-            "The command type of a message type. A type that is no named command's, and so every custom entry, is "
-            "rejected: it is returned as the error."
+            "The command type of a message type. A type that does not belong to a named command, such as a custom "
+            "entry, is rejected: it is returned as the error."
         )
         + "impl TryFrom<MessageType> for CommandType {\n    type Error = MessageType;\n\n"
         "    ghost try_from_gives = { ConvertsToCommand };\n\n"

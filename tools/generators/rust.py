@@ -46,7 +46,7 @@ use std::fmt;
 
 use crate::error::{{Argument, Error}};
 
-/// The type of a message: a named one, or a custom entry, which is known by its code alone.
+/// The type of a message: a named one, or a custom entry, which is known only by its code.
 ///
 /// A later library may have further named types; for this enum their codes are those of custom entries, or of no type.
 ///

@@ -17,7 +17,7 @@ TYPES = """\
 """
 
 TABLE = """\
--- The schemas of the protocol's messages (this project's own, but for SuspensionMessageV6), each with a name for its
+-- The schemas of the protocol's messages (this project's own, except SuspensionMessageV6), each with a name for its
 -- index in the table. Rows are in the order of their numbers, a oneof at its least number.
 use Rattle.std.specs.Prelude.{ℕ, List, [], ◌∷◌}
 use Rattle.shared_core_wire.specs.Schema.{Row, Table, Plain, Optional, Repeated, OneOf, table_of}

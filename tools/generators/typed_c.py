@@ -530,9 +530,9 @@ def tests():
     return text
 
 
-# What the tests know of the members of records, to go over those of any.
+# What the tests know of the members of records, to iterate over those of any.
 MEMBERS = """\
-/* The members of each record, for tests that go over those of any. */
+/* The members of each record, for tests that iterate over those of any. */
 
 /* How a member is there. */
 #define PLAIN 0

@@ -438,7 +438,7 @@ def appending(record, found):
     if found.has_texts():
         text += "\tlists.keep()\n"
     text += "\tif length >= 0 {\n\t\treturn extended[:len(extended)+int(length)], nil\n\t}\n"
-    return text + "\t// a table says which field is rejected, and why\n" + by_table("\t") + "}\n"
+    return text + "\t// a table has the field that is rejected, and the reason\n" + by_table("\t") + "}\n"
 
 
 def all_appended():

@@ -1,4 +1,4 @@
-//! The peer of journal_dump: prints the stream on the standard input as JSON, one object a line: dump [5..9]
+//! The baseline of journal_dump: prints the stream on the standard input as JSON, one object per line: dump [5..9]
 
 use std::process::ExitCode;
 

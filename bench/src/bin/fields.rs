@@ -1,4 +1,4 @@
-//! Measures the iterator of fields beside prost's decode of the same payloads: a payload is checked, and all of its
+//! Measures the iterator of fields against prost's decode of the same payloads: a payload is checked, and all of its
 //! fields are read; or it is decoded to its record, which is dropped. A line is the workload, nanoseconds a message
 //! here and there, and how many times as fast the iterator is.
 

@@ -1,10 +1,10 @@
-//! Measures the program journal_diff beside the peer's comparison, on two journals that are the same, and prints a
+//! Measures the program journal_diff against the baseline's comparison, on two journals that are the same, and prints a
 //! table in Markdown: journals PROGRAM FOLDER [LENGTH ..]
 //!
 //! PROGRAM is journal_diff, FOLDER is where the journals are written, and each LENGTH is how many bytes one has at
-//! least, of which there are three if none is said. All sides run as programs of their own, in turn. `journals --peer
-//! RECORDED REPLAYED` is the peer's, and `journals --bytes-first RECORDED REPLAYED` the peer's that compares the bytes
-//! of two payloads before it decodes the second.
+//! least. By default there are three lengths. All sides run as programs of their own, in turn. `journals --peer
+//! RECORDED REPLAYED` is the baseline's, and `journals --bytes-first RECORDED REPLAYED` the baseline's that compares
+//! the bytes of two payloads before it decodes the second.
 
 use std::env;
 use std::fs::File;
@@ -39,7 +39,7 @@ fn run(command: &mut Command) -> io::Result<Run> {
     Ok(Run { line, cost })
 }
 
-/// Writes a journal of at least this many bytes, and says how many it has.
+/// Writes a journal of at least this many bytes, and returns how many it has.
 fn write(length: usize, path: &Path) -> io::Result<u64> {
     let mut file = BufWriter::new(File::create(path)?);
     journals::write(length, &mut file)?;
@@ -105,7 +105,7 @@ fn measure(program: &str, folder: &Path, lengths: &[usize]) -> io::Result<()> {
         .try_for_each(|&length| row(program, folder, length))
 }
 
-/// The peer's comparison of two files, whose line is that of journal_diff.
+/// The baseline's comparison of two files, whose line is that of journal_diff.
 fn peer(order: Order, recorded: &str, replayed: &str) -> ExitCode {
     let compared = File::open(recorded)
         .and_then(|recorded| Ok((recorded, File::open(replayed)?)))

@@ -1,4 +1,4 @@
-//! The peer of journal_list: prints a line for each item of the stream on the standard input: list [5..9]
+//! The baseline of journal_list: prints one line per item of the stream on the standard input: list [5..9]
 
 use std::process::ExitCode;
 

@@ -1,4 +1,4 @@
-//! The peer of journal_make: writes the stream that lines of JSON on the standard input describe: make [5..9]
+//! The baseline of journal_make: writes the stream that lines of JSON on the standard input describe: make [5..9]
 
 use std::process::ExitCode;
 

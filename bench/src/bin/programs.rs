@@ -1,10 +1,10 @@
-//! Measures the programs journal_dump, journal_list and journal_make beside the peer's, and prints a table in Markdown:
-//! programs DUMP LIST MAKE FOLDER [LENGTH]
+//! Measures the programs journal_dump, journal_list and journal_make against the baseline's, and prints a table in
+//! Markdown: programs DUMP LIST MAKE FOLDER [LENGTH]
 //!
-//! DUMP, LIST and MAKE are this project's programs, FOLDER is where streams and lines are written, of which it keeps
-//! the streams that are measured, by their names, and LENGTH is how many bytes one of these has at least. The peer's
-//! programs `dump`, `list` and `make` are beside this one. Before a row is measured, both sides have to write the same
-//! bytes. What a stream is made of is the peer's dump of it, and its length is that of the dump.
+//! DUMP, LIST and MAKE are this project's programs, FOLDER is where streams and lines are written, and LENGTH is how
+//! many bytes one of these has at least. The folder keeps the streams that are measured, by their names. The baseline's
+//! programs `dump`, `list` and `make` are next to this one. Before a row is measured, both sides have to write the same
+//! bytes. What a stream is made of is the baseline's dump of it, and its length is that of the dump.
 
 use std::env;
 use std::error::Error;
@@ -41,14 +41,14 @@ const STREAMS: [(&str, Make); 3] = [
 /// How many streams of messages of every kind are compared at each version.
 const COMPARED: u64 = 4;
 
-/// A program of this project, and the peer's.
+/// A program of this project, and the baseline's.
 struct Pair {
     name: &'static str,
     ours: PathBuf,
     /// The words with which ours reads a version, in chunks of 65,536 bytes.
     words: fn(u32) -> Option<Vec<String>>,
     peer: PathBuf,
-    /// The peer's dump, if what is read is not a stream but its lines.
+    /// The baseline's dump, if what is read is not a stream but its lines.
     dump: Option<PathBuf>,
 }
 
@@ -78,7 +78,7 @@ impl Pair {
         command
     }
 
-    /// Has both write what they do for an input, which has to be the same, and says how many lines there are.
+    /// Has both write what they do for an input, which has to be the same, and returns how many lines there are.
     fn compare(&self, version: u32, stream: &Path, folder: &Path) -> Result<Option<usize>> {
         let Some(mut ours) = self.ours(version) else {
             return Ok(None);

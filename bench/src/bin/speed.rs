@@ -1,13 +1,12 @@
-//! Measures the library and the peer side by side, and prints a table in Markdown: speed [--check] [--only WORKLOAD]
-//! [--side ours|peer]
-//! [--what items|item_refs|messages|encode|encode_to_vec|encode_into|encode_spare|encode_shared|
-//! encode_held|encode_chunks|payloads|headers]
-//! [--chunk N] [--row NAME] [--size N] [--rounds N] [--protocol 5..9]
+//! Measures the library and the baseline side by side, and prints a table in Markdown: speed [--check] [--only
+//! WORKLOAD] [--side ours|peer] [--what
+//! items|item_refs|messages|encode|encode_to_vec|encode_into|encode_spare|encode_shared|
+//! encode_held|encode_chunks|payloads|headers] [--chunk N] [--row NAME] [--size N] [--rounds N] [--protocol 5..9]
 //!
-//! With --side nothing is compared or printed: that side alone goes over the workload that many times, for a profiler.
-//! Before a table is printed, and by `speed --check` alone, the allocations show that the rounds are made and the
-//! chunks used that are requested. The workload `calls` has no peer: it is what a call from C costs over the same work
-//! inside the library.
+//! With --side nothing is compared or printed: only that side runs the workload that many times, for a profiler. Before
+//! a table is printed, and without one by `speed --check`, the allocations show that the rounds are made and the chunks
+//! used that are requested. The workload `calls` has no peer: it is what a call from C costs over the same work inside
+//! the library.
 
 use std::env;
 use std::fmt;
@@ -78,25 +77,26 @@ extern "C" {
 #[derive(Clone, Copy, Debug, PartialEq, Eq)]
 enum What {
     Items,
-    /// Items that are borrowed from a stream that is whole. The peer has no such form, and takes its items.
+    /// Items that are borrowed from a complete stream. The baseline has no such form, and takes its items.
     ItemRefs,
     Messages,
     /// Each frame is a `Bytes` of its own.
     Encode,
-    /// Each frame is a `Vec` of its own; the peer's too.
+    /// Each frame is a `Vec` of its own; the baseline's too.
     EncodeVec,
     /// Frames are made in one buffer that is used again.
     EncodeInto,
     EncodeSpare,
     /// Frames share the blocks of one buffer, on both sides.
     EncodeShared,
-    /// The library's frames share the blocks of one buffer; each of the peer's has one of its own.
+    /// The library's frames share the blocks of one buffer; each of the baseline's has one of its own.
     EncodeHeld,
-    /// The library's frames are chunks, of which long bytes are shared; the peer's are made in one buffer.
+    /// The library's frames are chunks that share long bytes; the baseline's are made in one buffer.
     EncodeChunks,
     /// Commands are compared, with their payloads.
     Payloads,
-    /// Commands are compared, but for their payloads. The peer's derived `==` knows no such thing, and compares all.
+    /// Commands are compared, except for their payloads. The baseline's derived `==` knows no such thing, and compares
+    /// all.
     Headers,
 }
 
@@ -554,8 +554,7 @@ struct Crossing {
 enum Work {
     /// Whether a payload is well-formed for a schema.
     WellFormed(usize, &'static [u8]),
-    /// The items of a stream, of which there is this number: a call for each from here, and inside a decoder, which
-    /// hands out each payload.
+    /// This many items of a stream: a call for each from here, and inside a decoder, which hands out each payload.
     Items(Workload),
 }
 
@@ -740,7 +739,7 @@ fn check_rounds(workload: &Workload, what: What, side: Side) -> Result<(), Faile
     if shares_blocks {
         return Ok(());
     }
-    // the peer makes the lists of a suspension before V7, and the library writes them off its tree
+    // the baseline makes the lists of a suspension before V7, and the library writes them off its tree
     let makes_lists = workload.has_lists() && matches!(side, Side::Peer);
     let is_borrowed = what == What::ItemRefs && matches!(side, Side::Ours);
     let has_buffer = matches!(
@@ -909,7 +908,7 @@ fn measure(options: &Options) -> Result<(), Failed> {
     }
     if let Some(side) = options.side {
         let rounds = options.rounds.unwrap_or(1);
-        // of an adversarial message the first size alone
+        // of an adversarial message only the first size
         let first = hostile.iter().flat_map(|growing| growing.benches().take(1));
         return workloads
             .iter()

@@ -1,5 +1,5 @@
-//! Measures the records of the crate for Rust beside prost's: decoded, two fields read, and encoded. A line is the
-//! record, the work, microseconds of processor time here and there, and how many times as fast the crate is.
+//! Measures the records of the crate for Rust against prost's: decoded, two fields read, and encoded. A line is the
+//! record, the work, microseconds of CPU time here and there, and how many times as fast the crate is.
 
 use std::error::Error;
 use std::fs;
@@ -107,7 +107,7 @@ fn round(work: impl Fn() -> usize) -> f64 {
     (processor_time() - start) * 1e6 / f64::from(COUNT)
 }
 
-/// The seconds of processor time that the process has had.
+/// The seconds of CPU time that the process has had.
 fn processor_time() -> f64 {
     extern "C" {
         fn clock_gettime(clock: i32, time: &mut [i64; 2]) -> i32;

@@ -1,4 +1,4 @@
-//! Writes test vectors: random cases with the results of the peer and of the rules.
+//! Writes test vectors: random cases with the results of the baseline and of the rules.
 //!
 //! - vectors [SEED [COUNT]]: to standard output, COUNT of them;
 //! - vectors --write FOLDER: the files of random cases that conformance/ has, for tools/generate.py.

@@ -7,7 +7,7 @@ use shared_core_fields::runs::Run;
 /// How deep messages are nested at most.
 const LEVELS: u32 = 100;
 
-/// A sum of fields is a remainder of this, so that it is no error.
+/// A sum of fields is a remainder of this, so that it is not an error.
 const MODULUS: usize = 4_294_967_296;
 
 /// Checks a payload for a schema, and reads all of its fields, this many times (0 counts as 1). Returns the sum of what

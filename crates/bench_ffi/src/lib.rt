@@ -15,8 +15,8 @@ use journal_c_api::outcome::outcome_of;
 use std::alloc::Global;
 
 /// Reads a stream of a version from 5 to 9, which comes in chunks of this many bytes (0: in one chunk), and writes a
-/// number for each item: the message's header, or the unknown code in bits 48 to 63 and, at version 9, in bits 0 to 31
-/// the length of the payload that is skipped with it. Returns the number of items.
+/// number for each item. For a message it is the header. Otherwise it has the unknown code in bits 48 to 63 and, at
+/// version 9, in bits 0 to 31 the length of the payload that is skipped with it. Returns the number of items.
 ///
 /// The stream is copied once, and then read `rounds` times by a new decoder each (0 counts as 1); the numbers are those
 /// of the last. Fails on an unsupported version, on a stream with more items than `words` has room for, and on
@@ -160,7 +160,7 @@ pub extern "C" fn measure_frame_shared(
     outcome_of(frames::write_frame(alloc, version, code, payload, rounds, out))
 }
 
-/// As `measure_frame`, but all rounds append the frame to one list of chunks, which is cleared before each: long bytes
+/// As `measure_frame`, but all rounds append the frame to one list of chunks, which is cleared before each. Long bytes
 /// are shared with the message, and all else is in one buffer. The chunks of the last round are joined.
 #[unsafe(no_mangle)]
 pub extern "C" fn measure_frame_chunks(

@@ -29,7 +29,7 @@ unit_size Kibibyte = 1024
 unit_size Mebibyte = 1048576
 unit_size Gibibyte = 1073741824
 
--- This is the number that the digits of a text say, of which a plus may come first.
+-- This is the number that the digits of a text say. A plus may come first.
 abbrev pub IsNumber : List ℕ → ℕ → Type 0
 IsNumber text number =
     IsNumeral 10 (without_leading_plus text) × (number ≡ digits_value 10 (without_leading_plus text))

@@ -44,7 +44,7 @@ pub fn open<'a>(rt: &HostRuntime, path: &'a str) -> Result<Input, OpenError<'a>>
     }
 }
 
-/// Says on the standard error that the standard input is read, if the path is `-` and that is a terminal: a program
+/// Says on the standard error that the standard input is read, if the path is `-` and that is a terminal. A program
 /// that waits for what is typed would seem to hang.
 pub fn note_terminal(rt: &HostRuntime, program: &str, path: &str) {
     if path == "-" && rt.stdin().is_terminal() {

@@ -49,8 +49,8 @@ impl Unit {
     }
 }
 
-/// The greatest length of a payload, which is the value of the option, or 4,294,967,295 without it, which is no limit.
-/// The error is that of a value that is no number of bytes, with a unit or without one, or a greater one.
+/// The greatest length of a payload, which is the value of the option, or 4,294,967,295 without it, which means no
+/// limit. The error is that of a value that is not a number of bytes, with a unit or without one, or a greater one.
 pub fn max_message_of(command: &mut Command<'_>, matches: &ArgMatches<'_>) -> Result<u32, Error>
     ensures named { (limit : ℕ) → limit < 2 ^ 32
         → max_message_value (found_of matches.now) ≡ Some (decimal limit) → result ≡ Ok limit }

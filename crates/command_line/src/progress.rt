@@ -1,7 +1,7 @@
 //! How much of the inputs is read, in a line on a terminal while that takes long.
 //!
-//! It is counted by a reader around the input, of which the engines of programs know nothing. Two inputs of a program
-//! have one count, in a cell, of which no contract can speak, as of clocks and terminals: the line is tested.
+//! It is counted by a reader around the input; the engines of programs know nothing of it. Two inputs of a program have
+//! one count, in a cell. No contract can speak of a cell, a clock or a terminal: the line is tested.
 
 use crate::terminal::takes_sequences;
 use std::cell::Cell;
@@ -18,7 +18,7 @@ const SHOWN_AGAIN: u128 = 100;
 const MEGABYTE: u64 = 1_000_000;
 
 /// How much is read, by one reader or by several. If the standard error is a terminal and reading takes more than a
-/// second, a line on it says how much, until it is cleared.
+/// second, a line on it shows how much, until it is cleared.
 #[derive(Drop)]
 pub struct Progress<'a> {
     rt: &'a HostRuntime,

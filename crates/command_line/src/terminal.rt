@@ -2,7 +2,7 @@
 
 use std::env;
 
-/// Whether the terminal takes sequences for colors, and for what replaces a line: `TERM` says which terminal it is.
+/// Whether the terminal takes sequences for colors, and for what replaces a line: `TERM` names the terminal.
 pub fn takes_sequences(rt: &HostRuntime) -> bool {
     match env::var(rt, "TERM") {
         Ok(name) => !name.is_empty() && name.as_str() != "dumb",

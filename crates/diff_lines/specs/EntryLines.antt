@@ -70,8 +70,8 @@ is_of_verdict found entry =
     nat_eq entry.recorded (stopped_index found.comparison.verdict)
     && nat_eq entry.replayed (stopped_index found.comparison.verdict)
 
--- The fields in which the commands of a change differ: those that came with the verdict, where it is of these commands,
--- or those that are found of both.
+-- The fields in which the commands of a change differ: those of the verdict, if it is of these commands, otherwise
+-- those that are found of both.
 abbrev pub AreChanged : Bool → AlignedComparison → Entry → List FieldDifference → Type 0
 AreChanged ignore found entry fields =
     (IsTrue (is_of_verdict found entry) × (fields ≡ found.comparison.fields.items))

@@ -28,7 +28,7 @@ pub record HasMoved (version : Version) (ignore is_strict : Bool) (recorded repl
   pub aligned : IsAligned version ignore is_strict alignment_limit recorded replayed found
   pub trouble_is : found_trouble is_strict found.comparison.recorded found.comparison.replayed ≡ trouble
 
--- This text says what moved between two journals, in a form.
+-- This text tells what moved between two journals, in a form.
 abbrev pub IsMovedText : Bool → Form → AlignedComparison → List ℕ → Type 0
 IsMovedText ignore (Text look) found text = IsText ignore look alignment_limit found text
 IsMovedText ignore Json found text = IsJsonText ignore alignment_limit found text

@@ -30,8 +30,8 @@ abbrev pub first_trouble : Option Trouble → Option Trouble → Option Trouble
 first_trouble (Some trouble) later = Some trouble
 first_trouble None later = later
 
--- What is wrong with a journal: the first of all that may be, if the comparison is strict or the journal has no whole
--- item; otherwise nothing.
+-- What is wrong with a journal: the first of all that may be, if the comparison is strict or the journal has no
+-- complete item; otherwise nothing.
 abbrev pub wrong_with : Bool → Survey → Option Fault
 wrong_with is_strict survey = if is_strict || (survey.size == 0) then trouble_of survey else None
 
@@ -65,7 +65,7 @@ note_text (NoItem side number) =
 abbrev pub unknown_note : Side → Survey → Option Note
 unknown_note side survey = if survey.unknown == 0 then None else Some (UnknownHeaders side survey.unknown)
 
--- The note on the bytes after the last whole item of a journal: their number, if there are any.
+-- The note on the bytes after the last complete item of a journal: their number, if there are any.
 abbrev pub rest_note : Side → Survey → Option Note
 rest_note side survey = if survey.rest == 0 then None else Some (Rest side survey.rest)
 
@@ -73,12 +73,12 @@ rest_note side survey = if survey.rest == 0 then None else Some (Rest side surve
 abbrev pub empty_note : Side → Survey → Option Note
 empty_note side survey = if nat_lt 0 survey.size || nat_lt 0 survey.rest then None else Some (Empty side)
 
--- The note on a journal of which all bytes are after the last whole item, for this reason.
+-- The note on a journal whose bytes are all after the last complete item, for this reason.
 abbrev pub no_item_for : Version → Side → FaultReason → Option Note
 no_item_for version side (reason.Rest count) = Some (NoItem side (version_number version))
 no_item_for version side reason = None
 
--- The note on what is wrong with a journal, where it has bytes and no whole item: it may be something else, or of
+-- The note on what is wrong with a journal, where it has bytes and no complete item: it may be something else, or of
 -- another version.
 abbrev pub no_item_note : Version → Trouble → Option Note
 no_item_note version trouble =

@@ -1,4 +1,4 @@
--- The sentence that says what moved between two journals.
+-- The sentence on what moved between two journals.
 use Rattle.std.specs.Prelude.{◌≡◌, ℕ, ◌+◌, ◌-◌, Bool, true, false, List, [], ◌∷◌, ◌++◌, length, codes, decimal, nat_eq}
 use Rattle.std.specs.Prelude.{if◌then◌else◌, Option, Some, None}
 use Rattle.shared_core_base.specs.declared.header.MessageType.{MessageType}
@@ -55,7 +55,7 @@ abbrev pub after_count : AlignedComparison → Difference → ℕ
 after_count found difference =
     length found.recorded.commands.items - (difference.recorded + recorded_taken difference.change)
 
--- A space and what says which of its type a command is, if there is anything.
+-- A space and what identifies a command within its type, if there is anything.
 abbrev pub key_text : Bool → Option (List ℕ) → List ℕ
 key_text is_terminal None = []
 key_text is_terminal (Some key) = codes " " ++ shown_value is_terminal key
@@ -64,7 +64,7 @@ key_text is_terminal (Some key) = codes " " ++ shown_value is_terminal key
 abbrev pub moved_entry : AlignedComparison → Difference → Entry
 moved_entry found difference = entry_of (stopped_index found.comparison.verdict) difference
 
--- The sentence of one difference: what it is, its type, what says which of its type it is, its command, and how many
+-- The sentence of one difference: what it is, its type, what identifies it within its type, its command, and how many
 -- after it are the same.
 abbrev pub moved_sentence : Bool → Option (List ℕ) → AlignedComparison → Difference → List ℕ
 moved_sentence is_terminal key found difference =
@@ -75,7 +75,7 @@ moved_sentence is_terminal key found difference =
     (decimal (stopped_index found.comparison.verdict + difference.replayed) ++
     after_text (after_count found difference)))))))
 
--- What says which of its type a command is, if there is one.
+-- What identifies a command within its type, if there is one.
 abbrev pub HasKeyOf : Option RawMessage → Option (List ℕ) → Type 0
 HasKeyOf None key = key ≡ None
 HasKeyOf (Some command) key = HasKey command key

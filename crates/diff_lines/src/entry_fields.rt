@@ -8,7 +8,7 @@ use edit_script::Change;
 use replay_bench::{AlignedComparison, FieldDifference, changed_fields};
 use std::alloc::{AllocError, Global};
 
-/// The fields that came with the verdict, if an entry is a change of the commands at its index.
+/// The fields of the verdict, if an entry is a change of the commands at its index.
 pub(crate) fn verdict_fields<'a>(
     found: &'a AlignedComparison,
     entry: &Entry,

@@ -14,9 +14,9 @@ use replay_bench::{AlignedComparison, FieldDifference};
 use std::alloc::AllocError;
 use terminal_text::Style;
 
-/// The sentence of two journals that were aligned, and a line for each entry: a run of commands that are the same, or a
-/// command that was inserted, removed or changed, with a line for each field in which it was. All of it is in the look
-/// of this pen.
+/// The sentence of two journals that were aligned, and one line per entry. An entry is a run of commands that are the
+/// same, or a command that was inserted, removed or changed, with one line per field in which it was. All of it is in
+/// the look of this pen.
 pub(crate) fn aligned_text(
     pen: Pen,
     found: &AlignedComparison,
@@ -42,7 +42,7 @@ pub(crate) fn aligned_text(
     Ok(text)
 }
 
-/// The style of the sentence on these differences, of which there are no fewer or there may be.
+/// The style of the sentence on these differences. Either there are no fewer, or there may be fewer.
 fn style_of(is_least: bool, differences: &[Difference]) -> Style
     ensures { result ≡ style_of is_least differences.now }
 {

@@ -52,7 +52,7 @@ pub struct DiffOptions {
 pub enum DiffError {
     /// The comparison has no verdict. Nothing is written.
     NoVerdict(ReaderError),
-    /// A journal has bytes and no whole item, or in a strict comparison something else is wrong with it. Nothing is
+    /// A journal has bytes and no complete item, or in a strict comparison something else is wrong with it. Nothing is
     /// written.
     Faulty(Trouble),
     /// A write failed, or wrote no byte. A prefix of the verdict's line may be written.
@@ -120,10 +120,10 @@ pub struct Findings {
 /// or changed. As JSON the first line is that of the whole alignment, and the sentence a member of it. Where more than
 /// `ALIGNMENT_LIMIT` commands moved the journals are compared index by index, and the sentence says so.
 ///
-/// Both are read to their ends. The text is written only once all of it is made. A journal that has bytes and no whole
-/// item is an error: it may be something else. If the comparison is strict, an unknown header, a payload that is not
-/// well-formed, or bytes after the last whole item are errors too. The error is the first of these in the recorded
-/// journal, or else in the replayed one.
+/// Both are read to their ends. The text is written only once all of it is made. A journal that has bytes and no
+/// complete item is an error: it may be something else. If the comparison is strict, an unknown header, a payload that
+/// is not well-formed, or bytes after the last complete item are errors too. The error is the first of these in the
+/// recorded journal, or else in the replayed one.
 pub fn diff<A: Source, B: Source, W: Write>(
     alloc: Global,
     journals: Journals<A, B>,

@@ -6,7 +6,7 @@ ghost use Rattle.replay_bench.specs.declared.verdicts.Comparison.{Comparison as 
 ghost use Rattle.replay_bench.specs.Verdicts.{IsSaid};
 ghost use Rattle.diff_lines.specs.VerdictLines.{look_of, plain, text_line, verdict_text};
 
-/// The line of a verdict, neither escaped nor in colors, has the text that the verdict has: what is made of types and
+/// The line of a verdict, neither escaped nor in colors, has the text that the verdict has. What is made of types and
 /// fields here is the text of the error.
 pub fn plain_line_has_the_text()
     ensures { (found : AnyComparison)

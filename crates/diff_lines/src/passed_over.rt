@@ -31,8 +31,8 @@ impl fmt::Display for Trouble {
     }
 }
 
-/// What is wrong with two journals of these surveys, the recorded one first: that one has bytes and no whole item, or,
-/// if the comparison is strict, all that may be wrong.
+/// What is wrong with two journals of these surveys, the recorded one first. It is that one has bytes and no complete
+/// item, or, if the comparison is strict, all that may be wrong.
 pub fn found_trouble(is_strict: bool, recorded: &Survey, replayed: &Survey) -> Option<Trouble>
     ensures { result ≡ found_trouble is_strict recorded.now replayed.now }
 {
@@ -65,11 +65,11 @@ fn wrong_with(is_strict: bool, survey: &Survey) -> Option<Fault>
 pub enum Note {
     /// It has this many headers of an unknown type.
     UnknownHeaders(Side, u128),
-    /// This many bytes of it are after the last whole item.
+    /// This many bytes of it are after the last complete item.
     Rest(Side, u64),
     /// It has no byte.
     Empty(Side),
-    /// It has bytes and no whole item, as if it were no journal of the version of this number.
+    /// It has bytes and no complete item, as if it were not a journal of the version of this number.
     NoItem(Side, u32),
 }
 
@@ -128,7 +128,7 @@ pub fn unknown_note(side: Side, survey: &Survey) -> Option<Note>
     Some(Note::UnknownHeaders(side, survey.unknown))
 }
 
-/// The note on the bytes after the last whole item of the journal of a side, if it has any.
+/// The note on the bytes after the last complete item of the journal of a side, if it has any.
 pub fn rest_note(side: Side, survey: &Survey) -> Option<Note>
     ensures { result ≡ rest_note side survey.now }
 {
@@ -148,7 +148,7 @@ pub fn empty_note(side: Side, survey: &Survey) -> Option<Note>
     Some(Note::Empty(side))
 }
 
-/// The note on what is wrong with a journal of this version, if it is that it has bytes and no whole item.
+/// The note on what is wrong with a journal of this version, if it is that it has bytes and no complete item.
 pub fn no_item_note(version: Version, trouble: &Trouble) -> Option<Note>
     ensures { result ≡ no_item_note version trouble.now }
 {

@@ -1,4 +1,4 @@
-//! The sentence that says what moved between two journals.
+//! The sentence on what moved between two journals.
 
 ghost use Rattle.std.specs.Prelude.{◌≡◌, ◌++◌, IfOk, OnOk, option_copied, option_map};
 ghost use Rattle.std.specs.String.{string_bytes};
@@ -55,7 +55,7 @@ pub(crate) fn same_sentence(alloc: Global, count: u128) -> Result<String, AllocE
     format!(in alloc; "same, {count} {word}")
 }
 
-/// The sentence of one difference, with what says which of its type the command is.
+/// The sentence of one difference, with what identifies the command within its type.
 fn moved_sentence(
     alloc: Global,
     found: &AlignedComparison,
@@ -69,7 +69,7 @@ fn moved_sentence(
     keyed_sentence(alloc, found, difference, key, is_terminal)
 }
 
-/// What says which of its type a command is, if there is one.
+/// What identifies a command within its type, if there is one.
 fn key_of(alloc: Global, command: Option<&RawMessage>) -> Result<Option<String>, AllocError>
     ensures { IfOk result (λ key. HasKeyOf (option_copied command.entry) (option_map string_bytes key)) }
 {
@@ -106,7 +106,7 @@ fn keyed_sentence(
     Ok(text)
 }
 
-/// Appends a space and what says which of its type a command is, if there is anything.
+/// Appends a space and what identifies a command within its type, if there is anything.
 fn push_key(text: &mut String, key: &Option<String>, is_terminal: bool) -> Result<(), AllocError>
     ensures { OnOk result (string_bytes text.new
         ≡ string_bytes text.old ++ key_text is_terminal (option_map string_bytes key.now)) }

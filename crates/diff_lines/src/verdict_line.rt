@@ -87,7 +87,7 @@ fn push_types(
     pen.push(line, Style::Green, replayed.as_str())
 }
 
-/// Appends the mismatch of two commands of one type, with a line for each field in which they differ.
+/// Appends the mismatch of two commands of one type, with one line per field in which they differ.
 fn push_difference(
     pen: Pen,
     line: &mut Vec<u8>,

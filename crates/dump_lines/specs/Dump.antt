@@ -1,5 +1,5 @@
 -- What is written when a dump ends.
-use Rattle.std.specs.Prelude.{◌≡◌, ℕ, Bool, true, if◌then◌else◌, List, Result, Option, Some, None}
+use Rattle.std.specs.Prelude.{◌≡◌, ℕ, true, if◌then◌else◌, List, Result, Option, Some, None}
 use Rattle.shared_core_base.specs.MessageType.{code_of}
 use Rattle.shared_core_stream.specs.declared.encoding.item.Item.{Item}
 use Rattle.shared_core_stream.specs.declared.encoding.item.Item.TheVariants.{Message, Unknown, Skipped}
@@ -24,7 +24,7 @@ HasLongPayload options item = ⊥
 abbrev pub IsLong : Options → Item → Type 0
 IsLong options item = (is_selected options.codes.now (item_code item) ≡ true) × HasLongPayload options item
 
--- What is wrong with an item: a code that is no type's, or of a selected message a payload that is not well-formed.
+-- What is wrong with an item: an unassigned code, or of a selected message a payload that is not well-formed.
 abbrev pub wrong_of : Options → Item → Option Trouble
 wrong_of options (Message message) =
     if is_selected options.codes.now (code_of message.header.ty)

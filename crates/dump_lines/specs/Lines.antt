@@ -32,12 +32,12 @@ payload_members texts (Some s) payload =
     then member (codes "message") (json_with texts s (payload_meaning s payload)) no_members
     else member (codes "malformed") (boolean true) (member (codes "bytes") (byte_string_json texts payload) no_members)
 
--- Members, with one before them that says whether an acknowledgement is requested, if the type has that flag.
+-- Members, with one before them for whether an acknowledgement is requested, if the type has that flag.
 abbrev pub ack_members : Option Bool → Members → Members
 ack_members None others = others
 ack_members (Some flag) others = member (codes "requestedAck") (boolean flag) others
 
--- The tokens of the member that says whether an acknowledgement is requested.
+-- The tokens of the member for whether an acknowledgement is requested.
 abbrev pub ack_tokens : Option Bool → List Token
 ack_tokens None = []
 ack_tokens (Some flag) = Token.key (codes "requestedAck") ∷ Token.boolean flag ∷ []
@@ -118,18 +118,18 @@ line_of options at word item =
     if is_selected options.codes.now (item_code item) then json_line options.pretty (item_json options at word item)
     else []
 
--- The member of the bytes that are in no item, if there are any and payloads are printed.
+-- The member of the trailing bytes, if there are any and payloads are printed.
 abbrev pub rest_members : Options → List ℕ → Members
 rest_members options rest =
     if options.payloads && nat_lt 0 (length rest) then member (codes "bytes") (byte_string_json options.texts rest)
     no_members else no_members
 
--- The line of the bytes that are in no item: their offset, how many they are, and these bytes.
+-- The line of the trailing bytes: their offset, how many they are, and these bytes.
 abbrev pub unread_line : Options → ℕ → List ℕ → List ℕ
 unread_line options at rest =
     json_line options.pretty (object (number_member (codes "offset") at
     (number_member (codes "rest") (length rest) (rest_members options rest))))
 
--- The last line, where the options have it: that of the bytes that are in no item.
+-- The last line, where the options have it: that of the trailing bytes.
 abbrev pub rest_line : Options → ℕ → List ℕ → List ℕ
 rest_line options at rest = if options.rest then unread_line options at rest else []

@@ -7,8 +7,8 @@ use Rattle.json.specs.Print.{print}
 use Rattle.json.specs.Token.{Token}
 use Rattle.json.specs.Tree.{json_tokens}
 
--- The text of these tokens: without spaces on one line, or with a line for each member and element, indented by two
--- spaces a level.
+-- The text of these tokens: without spaces on one line, or with one line per member and element, indented by two spaces
+-- a level.
 abbrev pub tokens_text : Bool → List Token → List ℕ
 tokens_text is_pretty tokens = if is_pretty then pretty tokens else print tokens
 

@@ -7,7 +7,7 @@ use Rattle.dump_lines.specs.declared.options.Options.{Options}
 use Rattle.dump_lines.specs.Dump.{IsLong, trouble_of}
 use Rattle.dump_lines.specs.Lines.{line_of, rest_line}
 
--- The options of the last line on a terminal, for this many bytes in no item: more than 64 are left out.
+-- The options of the last line on a terminal, for this many trailing bytes: more than 64 are left out.
 abbrev pub rest_options : Options → ℕ → Options
 rest_options options count = if nat_lt 64 count then record options { payloads = false } else options
 

@@ -1,5 +1,5 @@
-//! What a payload that is not canonical needs to be printed: its canonical payload. Whoever dumps a stream makes it by
-//! the records, on which this crate does not depend.
+//! What a payload that is not canonical needs to be printed: its canonical payload. The caller that dumps a stream
+//! makes it by the records, on which this crate does not depend.
 
 ghost use Rattle.shared_core_message.specs.Schemas.{schema_at};
 ghost use Rattle.dump_lines.specs.Canonical.{ReturnsEncoding};

@@ -1,4 +1,5 @@
-//! The lines of a dump: a stream as JSON, one object a line for each of its items, and last one for the bytes in none.
+//! The lines of a dump: a stream as JSON, one object per line for each of its items, and last one for the bytes in
+//! none.
 #![tactic(auto)]
 
 mod canonicalizer;

@@ -1,6 +1,6 @@
 //! The lines of a dump.
 
-ghost use Rattle.std.specs.Prelude.{◌≡◌, ◌∷◌, ◌++◌, [], true, codes, decimal, length, OnOk, IfOk, IfErr};
+ghost use Rattle.std.specs.Prelude.{◌≡◌, ◌∷◌, ◌++◌, [], true, codes, decimal, length, OnOk, IfErr};
 ghost use Rattle.std.specs.Str.{IsUtf8};
 ghost use Rattle.json.specs.Lex.{tokens};
 ghost use Rattle.json.specs.Print.{print};
@@ -53,7 +53,7 @@ pub fn is_selected(codes: &[u16], code: u16) -> bool
     codes.is_empty() || codes.contains(&code)
 }
 
-/// Writes the members of the bytes that are in no item.
+/// Writes the members of the trailing bytes.
 pub fn write_rest(
     options: &Options<'_>,
     offset: u128,

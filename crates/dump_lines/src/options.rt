@@ -7,7 +7,7 @@ use shared_core_base::version::Version;
 pub struct Options<'a> {
     /// The version of the protocol, at least V5 where a stream is dumped.
     pub version: Version,
-    /// The greatest length of a payload that is taken; `u32::MAX` is no limit.
+    /// The greatest length of a payload that is taken; `u32::MAX` means no limit.
     pub limit: u32,
     /// The codes whose items are printed; none for all items.
     pub codes: &'a [u16],
@@ -17,8 +17,8 @@ pub struct Options<'a> {
     pub texts: bool,
     /// Whether an object is on several lines, and not on one.
     pub pretty: bool,
-    /// Whether the bytes that are in no item have a line.
+    /// Whether the trailing bytes have a line.
     pub rest: bool,
-    /// Whether the report has the first trouble of an item.
+    /// Whether the report has the first error of an item.
     pub strict: bool,
 }

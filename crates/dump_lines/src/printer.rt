@@ -21,7 +21,7 @@ use shared_core_stream::encoding::{Decoder, Item, RawMessage};
 use std::alloc::{AllocError, Global};
 use stream_lines::{LinePrinter, PrintError, Trouble};
 
-/// The most bytes in no item that the last line has on a terminal: more are not for people to read.
+/// The most trailing bytes that the last line has on a terminal: more are not for people to read.
 pub const MOST_SHOWN: u64 = 64;
 
 /// Prints the lines of a dump.
@@ -102,7 +102,7 @@ impl<'a, C: Canonicalizer> LinePrinter for Printer<'a, C> {
     }
 }
 
-/// The options of the last line on a terminal, for this many bytes in no item.
+/// The options of the last line on a terminal, for this many trailing bytes.
 fn rest_options<'a>(options: &Options<'a>, count: u64) -> Options<'a>
     ensures { result ≡ rest_options options.now count }
 {
@@ -116,7 +116,7 @@ fn rest_options<'a>(options: &Options<'a>, count: u64) -> Options<'a>
     }
 }
 
-/// The trouble of a selected message whose payload is not well-formed.
+/// The error of a selected message whose payload is not well-formed.
 fn message_trouble(options: &Options<'_>, message: &RawMessage) -> Option<Trouble>
     ensures { result ≡ wrong_of options.now (variant.Message message.now) }
 {
@@ -147,7 +147,7 @@ fn append_rest(
     }
 }
 
-/// Appends the line of the bytes that are in no item.
+/// Appends the line of the trailing bytes.
 #[tactic(auto, using(crate::proofs::Good::good_tokens))]
 fn append_unread(
     alloc: Global,

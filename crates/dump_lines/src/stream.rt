@@ -18,13 +18,13 @@ use stream_lines::{PrintError, Report, print_lines};
 /// The number of bytes that are read at a time.
 const CHUNK: usize = 65536;
 
-/// Writes a line for each selected item of a stream, and at its end, where the options have it, a line for the bytes
-/// that are in no item.
+/// Writes one line per selected item of a stream, and at its end, where the options have it, a line for the trailing
+/// bytes.
 ///
 /// It reads at most 65,536 bytes at a time, and ends as `print_lines` says. `TooLong` comes only if payloads are
 /// printed and one of the items after the written lines is a selected message whose canonical payload has more bytes
-/// than 32 bits can count, and `MessageTooLong` at the first message that is longer than the limit of the options. If
-/// the options are strict, the report has the first item whose code is no type's, or which is a selected message whose
+/// than 32 bits can count. `MessageTooLong` comes at the first message that is longer than the limit of the options. If
+/// the options are strict, the report has the first item whose code is unassigned, or which is a selected message whose
 /// payload is not well-formed for its type at the version. The canonicalizer is called for each printed payload that is
 /// not canonical.
 pub fn dump<C: Canonicalizer, R: Read, W: Write>(
@@ -43,7 +43,7 @@ pub fn dump<C: Canonicalizer, R: Read, W: Write>(
     print_stream(alloc, options, canonicalizer, false, input, output)
 }
 
-/// Dumps a stream as `dump` does, but for the last line, which is without the bytes in no item if there are more of
+/// Dumps a stream as `dump` does, except for the last line, which is without the trailing bytes if there are more of
 /// them than `MOST_SHOWN`.
 pub fn dump_on_terminal<C: Canonicalizer, R: Read, W: Write>(
     alloc: Global,

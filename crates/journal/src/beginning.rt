@@ -1,6 +1,6 @@
 //! How an input begins: as a stream, or as the lines of a dump, which somebody took for one.
 //!
-//! It is found out by a reader around the input, in a cell, of which no contract can speak: it is tested.
+//! It is found out by a reader around the input, in a cell. No contract can speak of a cell: it is tested.
 
 use crate::call::Call;
 use command_line::note;
@@ -8,7 +8,7 @@ use shared_core_base::version::Version;
 use std::cell::Cell;
 use std::io::{self, Read};
 
-/// How the lines of a dump begin. In a stream these would be the code of no type.
+/// How the lines of a dump begin. In a stream these would be an unassigned code.
 const DUMP: &[u8] = b"{\"";
 
 /// How an input begins, as far as it is read.

@@ -1,4 +1,4 @@
-//! Compares two journals, of which one may be the standard input, and prints where they differ.
+//! Compares two journals, one of them possibly the standard input, and prints where they differ.
 
 ghost use Rattle.std.specs.Prelude.{◌≤◌};
 ghost use Rattle.shared_core_base.specs.Version.{version_number};

@@ -1,4 +1,4 @@
-//! Prints a stream as JSON, a file or the standard input: one object a line for each of its items.
+//! Prints a stream as JSON, a file or the standard input: one object per line for each of its items.
 
 ghost use Rattle.std.specs.Prelude.{◌≤◌};
 ghost use Rattle.shared_core_base.specs.Version.{version_number};
@@ -18,7 +18,7 @@ use std::process::ExitCode;
 use stream_lines::{PrintError, Report, Trouble};
 use terminal_text::{Escapes, Escaping};
 
-/// Reports the first trouble of the stream and the bytes that are in no item, and returns the status.
+/// Reports the first error of the stream and the trailing bytes, and returns the status.
 fn end(call: &Call<'_>, options: &Options<'_>, beginning: &Beginning, found: &Report) -> ExitCode {
     if let Some((offset, trouble)) = found.trouble {
         report_trouble(call, offset, trouble);
@@ -57,7 +57,7 @@ fn report_trouble(call: &Call<'_>, offset: u128, trouble: Trouble) {
     }
 }
 
-/// Reports the bytes that are in no item.
+/// Reports the trailing bytes.
 fn report_rest(call: &Call<'_>, options: &Options<'_>, found: &Report) {
     let (offset, count) = (found.end, found.rest);
     let bytes = if count == 1 { "byte" } else { "bytes" };
@@ -86,7 +86,7 @@ fn run_parsed(call: &Call<'_>, parsed: &Arguments<'_>, input: Input) -> ExitCode
         payloads: parsed.payloads,
         texts: parsed.texts,
         pretty: parsed.pretty,
-        // whoever selects messages goes on with what is in them
+        // a user who selects messages goes on with what is in them
         rest: parsed.codes.is_empty(),
         strict: parsed.strict,
     };

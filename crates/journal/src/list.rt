@@ -1,4 +1,4 @@
-//! Lists a stream, a file or the standard input: a line for each of its items.
+//! Lists a stream, a file or the standard input: one line for each of its items.
 
 ghost use Rattle.std.specs.Prelude.{◌≤◌, IfOk};
 ghost use Rattle.shared_core_base.specs.Version.{version_number};
@@ -46,7 +46,7 @@ fn parse_arguments<'a>(
     })
 }
 
-/// Reports that nothing before the bytes in no item is an item, and returns the status.
+/// Reports that nothing before the trailing bytes is an item, and returns the status.
 fn end(call: &Call<'_>, version: Version, beginning: &Beginning, found: &Report) -> ExitCode {
     if found.rest > 0 && found.end == 0 {
         beginning.report_no_message(call, version);

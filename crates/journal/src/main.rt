@@ -1,5 +1,5 @@
-//! Lists, prints, makes and compares journals: a program with a subcommand for each, which is that subcommand alone if
-//! it is called by its name, as `journal_dump`.
+//! Lists, prints, makes and compares journals: a program with a subcommand for each. If it is called by a subcommand's
+//! name, as `journal_dump`, it is only that subcommand.
 #![tactic(auto)]
 
 mod beginning;
@@ -45,8 +45,8 @@ fn run(call: &Call<'_>, subcommand: Subcommand) -> ExitCode {
     }
 }
 
-/// Why the arguments, of which the first is the program's path, name no subcommand; or their request for the help or
-/// the version.
+/// Why the arguments name no subcommand; the first argument is the program's path. Or their request for the help or the
+/// version.
 fn why_none(alloc: Global, arguments: &[String]) -> Result<Error, Error> {
     let mut command = definitions::journal(alloc)?;
     command.try_get_matches_from_mut(arguments)?;

@@ -12,7 +12,7 @@ use Rattle.journal_c_api.specs.declared.outcome.CallError.TheVariants.{Malformed
 use Rattle.journal_c_api.specs.declared.outcome.CallError.TheVariants.{UnknownType}
 
 -- If both payloads are well-formed for the schema, this holds of the result and of the two commands that they mean;
--- otherwise the result is Malformed if the first is not, and MalformedSecond if the second alone is not. An allocation
+-- otherwise the result is Malformed if the first is not, and MalformedSecond if only the second is not. An allocation
 -- may fail.
 abbrev pub ComparesPayloads : {T : Type 0} → (T → Parts → Parts → Type 0) → ℕ → List ℕ → List ℕ → Result T CallError →
     Type 0
@@ -23,7 +23,8 @@ ComparesPayloads holds s first second (Err MalformedSecond) = IsAccepted s first
 ComparesPayloads holds s first second (Err OutOfMemory) = Unit {0}
 ComparesPayloads holds s first second (Err error) = ⊥
 
--- The number is 1 and two commands of a schema are the same but for what is not compared, or it is 0 and they are not.
+-- The number is 1 and two commands of a schema are the same except for what is not compared, or it is 0 and they are
+-- not.
 abbrev pub IsOneWhereSame : ℕ → Bool → ℕ → Parts → Parts → Type 0
 IsOneWhereSame s ignore number a b = ((number ≡ 1) × AreSame s ignore a b) ⊎ ((number ≡ 0) × ¬ (AreSame s ignore a b))
 

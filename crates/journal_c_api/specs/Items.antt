@@ -30,7 +30,7 @@ abbrev pub item_ack : Item → ℕ
 item_ack (Message message) = ack_bit message.header.requested_ack
 item_ack other = 0
 
--- The payload of an item; an unknown code is skipped alone.
+-- The payload of an item; of an unknown code only the header is skipped.
 abbrev pub item_payload : Item → List ℕ
 item_payload (Message message) = message.payload
 item_payload (UnknownCode code) = []
@@ -47,8 +47,8 @@ WritesItem version bytes old new =
     (item : Item) × (first : List ℕ) × (rest : List ℕ) × IsItem version first item × (bytes ≡ first ++ rest)
     × (new ≡ written_over (item_numbers (front_word bytes) (length first) item) old)
 
--- The number of missing bytes of the item that the bytes begin with: with fewer bytes appended, no whole item is at the
--- front. If none are missing, the numbers of the item are written; otherwise the slice is unchanged.
+-- The number of missing bytes of the item that the bytes begin with: with fewer bytes appended, no complete item is at
+-- the front. If none are missing, the numbers of the item are written; otherwise the slice is unchanged.
 pub record FindsItem (version : Version) (bytes old new : List ℕ) (missing : ℕ) : Type 0 where
   pub counted : missing ≡ missing_bytes version bytes
   pub needed : (more : List ℕ) → length more < missing → NoItemBegins version (bytes ++ more)

@@ -13,7 +13,7 @@ use shared_core::messages::{CommandMessage, CommandVisitor, visit_command};
 use shared_core::wire::WireRecord;
 use std::alloc::Global;
 
-/// 1 if the commands that two payloads of a code mean are the same for a replay, otherwise 0; if payloads are ignored,
+/// 1 if the commands that two payloads of a code mean are the same for a replay, otherwise 0. If payloads are ignored,
 /// the content of user data is not compared, but that of a signal is.
 ///
 /// `UnknownType` if the code is that of no command, otherwise `Malformed` if the first payload is not well-formed for
@@ -37,8 +37,8 @@ pub fn header_eq(
     visit_command(ty, comparing).ok_or(CallError::UnknownType)?
 }
 
-/// Writes a line for each printed field in which the commands that two payloads of a code mean differ: a line feed,
-/// three spaces and `name: first != second`.
+/// Writes one line per printed field in which the commands that two payloads of a code mean differ: a line feed, three
+/// spaces and `name: first != second`.
 ///
 /// The errors are those of `header_eq`.
 #[tactic(auto, using(crate::proofs::Writing::writes_outcome))]

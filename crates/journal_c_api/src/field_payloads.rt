@@ -11,10 +11,10 @@ use std::alloc::Global;
 /// The number of numbers that are written for a table.
 const WRITING_NUMBERS: usize = 2;
 
-/// Writes a table of fields for a schema: two numbers, the kind of the result and an index, and as bytes the canonical
-/// payload whose fields of all levels the entries are, or nothing if one of them may not come. Texts and bytes are at
-/// their offsets in `bytes`. Returns the number of these bytes; if there is no room for them, the numbers are written
-/// nevertheless.
+/// Writes a table of fields for a schema: two numbers, the kind of the result and an index. As bytes it writes the
+/// canonical payload whose fields of all levels the entries are, or nothing if one of them may not come. Texts and
+/// bytes are at their offsets in `bytes`. Returns the number of these bytes; if there is no room for them, the numbers
+/// are written nevertheless.
 ///
 /// `UnknownSchema` if no schema has the number, otherwise `NoRoom` if there is room for fewer than two numbers, before
 /// the table is read; `TooLong` if the payload would have more than 4,294,967,295 bytes.

@@ -15,15 +15,15 @@ const ITEM_NUMBERS: usize = 6;
 /// The kind of a message.
 const MESSAGE: u64 = 0;
 
-/// The kind of a code that is no type's, and is skipped alone.
+/// The kind of an unassigned code. Only its header is skipped.
 const UNKNOWN_CODE: u64 = 1;
 
 /// The kind of a message of an unknown type, which is skipped with its payload.
 const SKIPPED: u64 = 2;
 
-/// Finds the item that the bytes begin with, and writes its six numbers: its kind, its first eight bytes as a number,
-/// its code, its flag, its size in bytes, and where its payload begins. Returns 0, or the least number of missing
-/// bytes; then nothing is written. It copies nothing and does not allocate.
+/// Finds the item that the bytes begin with, and writes its six numbers. They are its kind, its first eight bytes as a
+/// number, its code, its flag, its size in bytes, and where its payload begins. Returns 0, or the least number of
+/// missing bytes; then nothing is written. It copies nothing and does not allocate.
 ///
 /// `UnknownVersion` if the number denotes no version, otherwise `NoRoom` if the slice has fewer than six numbers. A
 /// reader that continues after the size of each item finds the items that the stream splits into, and stops at the rest

@@ -12,7 +12,7 @@ use std::alloc::Global;
 /// The number of numbers that are written for a text.
 const READ_NUMBERS: usize = 2;
 
-/// Reads a JSON text for a schema, and writes two numbers, the kind of the result and an offset, and as bytes the
+/// Reads a JSON text for a schema, and writes two numbers, the kind of the result and an offset. As bytes it writes the
 /// canonical payload of what the text means, or the path to the rejected value. Returns the number of these bytes; if
 /// there is no room for them, the numbers are written nevertheless.
 ///

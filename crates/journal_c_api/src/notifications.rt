@@ -18,9 +18,9 @@ use std::alloc::Global;
 const NOTIFICATION_NUMBERS: usize = 4;
 
 /// Reads the id and the result of a notification of any type. Writes its four numbers: the kind of its id, the number
-/// of the id, the length of a signal's name in bytes, and the kind of its result; and as bytes the name, and after it
-/// the result's canonical payload or text. Returns the number of these bytes; if there is no room for them, the numbers
-/// are written nevertheless.
+/// of the id, the length of a signal's name in bytes, and the kind of its result. As bytes it writes the name, and
+/// after it the result's canonical payload or text. Returns the number of these bytes; if there is no room for them,
+/// the numbers are written nevertheless.
 ///
 /// `UnknownType` if the code is that of no notification, then `NoRoom` if there is room for fewer than four numbers,
 /// then `Malformed`, `NoId`, `NoResult`, and last `TooLong` if the result's payload would have more than 4,294,967,295

@@ -30,8 +30,7 @@ pub fn list<R: Read, W: Write>(
     list_at(alloc, Version::V8, u32::MAX, input, output, chunk_size)
 }
 
-/// Writes a line for each item of a stream of a version, of at least V5, and at its end the count of the bytes that are
-/// in no item.
+/// Writes one line per item of a stream of a version, of at least V5, and at its end the count of the trailing bytes.
 ///
 /// It reads at most `chunk_size` bytes at a time, from 1 to 65,536, and writes the lines of the items that a chunk
 /// completes before it reads the next. `Ok` comes only if the reader has no byte left, and then all is written. After

@@ -11,8 +11,8 @@ const DEFAULT_CHUNK_SIZE: usize = 4096;
 
 const MAX_CHUNK_SIZE: usize = 65536;
 
-/// Returns the version, and how many bytes are read at a time, by the arguments after the program's name: one to five
-/// digits from 1 to 65,536, or none for 4,096; and after it `v9`, or nothing for V8. Returns `None` for other
+/// Returns the version, and how many bytes are read at a time, by the arguments after the program's name. They are one
+/// to five digits from 1 to 65,536, or none for 4,096; and after it `v9`, or nothing for V8. Returns `None` for other
 /// arguments.
 pub fn options(args: &[String]) -> Option<(Version, usize)>
     ensures some { IfSome result (λ found. AreOptions (map string_bytes args.now) found.0 found.1) }

@@ -53,7 +53,7 @@ pub fn run<R: Read, W: Write>(
 }
 
 /// Prints the line for the standard error, or nothing after a whole listing.
-// The usage names a chunk size and `v9` alone, and stays so, since the contract names it. It is printed only for
+// The usage names only a chunk size and `v9`, and stays so, since the contract names it. It is printed only for
 // arguments that can be meant so; of all others clap prints what is wrong, and the whole usage.
 impl fmt::Display for Outcome {
     ghost use Rattle.std.specs.Prelude.{Some};

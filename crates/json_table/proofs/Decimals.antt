@@ -10,7 +10,7 @@ use Rattle.std.specs.Char.{is_ascii_digit}
 use Rattle.json.specs.Word.{after_number}
 use Rattle.json.specs.Print.{IsNumber}
 
--- Digits alone, of which the first is 0 only where the number is.
+-- Digits only. The first is 0 only if the number is.
 record IsWhole (n : ℕ) (ds : List ℕ) : Type 0 where
   pub digits : prefix_len is_ascii_digit ds ≡ length ds
   pub some : 0 < length ds

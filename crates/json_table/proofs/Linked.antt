@@ -6,7 +6,7 @@ use Rattle.std.proofs.lemmas.Bool.{cases_lt}
 use Rattle.std.proofs.Common.{◌⊎◌, inl, inr}
 use Rattle.json.specs.Token.{Token}
 use Rattle.json.specs.Json as json
-use Rattle.json.specs.Json.{Json, Items, no_items, item, Members, no_members, member, skip_value, value}
+use Rattle.json.specs.Json.{Json, Items, no_items, item, Members, no_members, member, value}
 use Rattle.json.specs.Tape.{node_token, Passes, LinkAt, Linked}
 use Rattle.json.specs.Tree.{json_tokens, items_tokens, members_tokens, depth}
 use Rattle.json.specs.declared.tape.Node.{Node}

@@ -1,6 +1,6 @@
--- The places of names, as the members of an object are gone over.
+-- The places of names, as the members of an object are traversed.
 use Rattle.std.proofs.Common.{◌≡◌, ◌<◌, ◌≤◌, ℕ, zero, suc, List, [], ◌∷◌, length, get_or, replicate, Bool, true, false}
-use Rattle.std.proofs.Common.{cond, ◌||◌, Option, Some, None, refl, sym, ap, ap₂, subst, ◌∙◌, eqb, eq-eqb, arith}
+use Rattle.std.proofs.Common.{cond, ◌||◌, Some, None, refl, sym, ap, ap₂, subst, ◌∙◌, eqb, eq-eqb, arith}
 use Rattle.std.proofs.Math.ListN.{set, length-set}
 use Rattle.std.proofs.lemmas.List.{get_or-set_same, get_or-set_other, get_or-replicate, length-replicate}
 use Rattle.std.proofs.lemmas.Bool.{eqb-true, ne_eqb}
@@ -23,7 +23,7 @@ says_after ms Several n rest all t h = h
 
 module _ (finds : PlaceOf) (count place : ℕ) (ms rest : Members) (k : List ℕ) (j : Json) (places : List Place) (found :
     finds k ≡ Some place) (say : Say finds count ms (member k j rest) places) where
-  -- A key changes the values of its own place alone.
+  -- A key changes only the values of its own place.
   values_now : (n : ℕ) → values_at finds n (member k j rest) ≡ cond (eqb place n) (j ∷ values_at finds n rest)
       (values_at finds n rest)
   values_now n = ap (λ o. cond (is_place o n) (j ∷ values_at finds n rest) (values_at finds n rest)) found
@@ -151,7 +151,7 @@ module _ (finds : PlaceOf) (count place : ℕ) (ms rest : Members) (k : List ℕ
     are_several = h.are_several;
   }
 
--- A key that is no name is the first one.
+-- A key that is not a name is the first one.
 pub unknown_here : (finds : PlaceOf) (k : List ℕ) (j : Json) (rest : Members) → finds k ≡ None → first_unknown finds
     (member k j rest) ≡ Some k
 unknown_here finds k j rest e = ap (unknown_or k (first_unknown finds rest)) e

@@ -133,7 +133,7 @@ module _ (nodes : List Node) (at : ℕ) (j : Json) (h : BeginsValue nodes at j) 
   pub value_after : place_after at (entry_view (node nodes at)) ≡ at + value_len j
   value_after = ap (place_after at) value_entry ∙ after_own at j
 
--- The place after a node that is no array and no object.
+-- The place after a node that is neither an array nor an object.
 pub plain_after : (at : ℕ) (n : Node) → ((end : ℕ) → n ≡ Array end → ⊥) → ((end : ℕ) → n ≡ Object end → ⊥)
     → place_after at (entry_view n) ≡ at + 1
 plain_after at Null a o = omega arith

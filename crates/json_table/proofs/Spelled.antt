@@ -4,7 +4,7 @@ use Rattle.std.proofs.Common.{append-nil, refl, sym, ap, ◌∙◌, subst, arith
 use Rattle.std.specs.Prelude.{⊤, IsSome}
 use Rattle.json.specs.Token.{Token}
 use Rattle.json.specs.Json as json
-use Rattle.json.specs.Json.{Json, Items, no_items, item, Members, no_members, member, Parse, parse_map}
+use Rattle.json.specs.Json.{Json, Items, item, Members, member, Parse, parse_map}
 use Rattle.json.specs.Json.{after_end_array, read_key, items_step, members_step, items, members, value_with, value}
 use Rattle.json.specs.Json.{if_last, max_depth, document}
 use Rattle.json.specs.Lex.{tokens}

@@ -1,4 +1,4 @@
--- A value has its entries alone: they give it back.
+-- A value has no entries except its own: they give it back.
 use Rattle.std.proofs.Common.{◌≡◌, ℕ, suc, ◌≤◌, List, ◌∷◌, ◌++◌, length, map, refl, ap, ap₂}
 use Rattle.std.proofs.Common.{◌∙◌, arith, length-append}
 use Rattle.std.proofs.lemmas.List.{map-append}

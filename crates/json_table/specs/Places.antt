@@ -25,7 +25,7 @@ abbrev pub unknown_or : List ℕ → Option (List ℕ) → Option ℕ → Option
 unknown_or k later None = Some k
 unknown_or k later (Some n) = later
 
--- The first key that is no name.
+-- The first key that is not a name.
 abbrev pub first_unknown : PlaceOf → Members → Option (List ℕ)
 first_unknown finds no_members = None
 first_unknown finds (member k j ms) = unknown_or k (first_unknown finds ms) (finds k)
@@ -41,13 +41,13 @@ abbrev pub first_value : Members → Json
 first_value no_members = null
 first_value (member k j ms) = j
 
--- A place says which values there are among these members: `all`, of which `rest` were not seen yet.
+-- A place tells which values there are among these members: `all`. Of these, `rest` were not seen yet.
 abbrev pub Says : Members → Place → List Json → List Json → Type 0
 Says ms Absent rest all = rest ≡ all
 Says ms (Once n) rest all = IsTail n ms × (first_value (last_members n ms) ∷ rest ≡ all)
 Says ms Several rest all = 1 < length all
 
--- Each of so many places says which values these members have there; `rest` were not seen yet.
+-- Each of this many places tells which values these members have there; `rest` were not seen yet.
 abbrev pub Say : PlaceOf → ℕ → Members → Members → List Place → Type 0
 Say finds count ms rest places = (n : ℕ) → n < count → Says ms (get_or places n Absent) (values_at finds n rest)
     (values_at finds n ms)

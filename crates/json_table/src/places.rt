@@ -1,4 +1,4 @@
-//! Where an object has the members of some names: each key is looked up once, and the object is gone over once.
+//! Where an object has the members of some names: each key is looked up once, and the object is traversed once.
 
 ghost use Rattle.std.specs.Prelude.{◌≡◌, ◌<◌, ℕ, List, Option, Some, None, replicate, IfOk, MatchResult};
 ghost use Rattle.json.specs.Json.{no_members};
@@ -80,7 +80,7 @@ fn place_after(place: Place, left: usize) -> Place
 }
 
 /// Finds where an object has the values of some names, and returns whether a place has several. The error is the first
-/// key that is no name. A name whose place is none of these is passed over.
+/// key that is not a name. A name whose place is none of these is passed over.
 #[inline(always)]
 pub fn find_places<'a, N: Names, const COUNT: usize>(
     names: &N,

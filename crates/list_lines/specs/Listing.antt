@@ -1,4 +1,4 @@
--- The listing of a stream of frames: a line for each item, and last the count of the bytes that are in no item.
+-- The listing of a stream of frames: one line per item, and last the count of the trailing bytes.
 use Rattle.std.specs.Prelude.{ℕ, Bool, true, false, List, [], ◌++◌, length, codes, decimal, Result, Option, Some, None}
 use Rattle.std.specs.Fmt.{digits}
 use Rattle.shared_core_base.specs.declared.version.Version.{Version}
@@ -24,12 +24,12 @@ line_of (Unknown code) = codes "unknown 0x" ++ (digits 16 false code ++ codes "\
 line_of (Skipped code payload) =
     codes "skipped 0x" ++ (digits 16 false code ++ (codes " " ++ (decimal (length payload) ++ codes "\n")))
 
--- The last line: the number of bytes that are in no item.
+-- The last line: the number of trailing bytes.
 abbrev pub rest_line : ℕ → List ℕ
 rest_line count = codes "rest " ++ (decimal count ++ codes "\n")
 
 -- For the bytes that were read, the lines of their items are written, as far as the result says, with this limit on the
--- length of a payload; no item is too long for its line, and none has trouble.
+-- length of a payload; no item is too long for its line, and none has an error.
 abbrev pub IsListed : Version → ℕ → Result Report PrintError → List ℕ → List ℕ → Option (List ℕ) → Type 0
 IsListed version limit result read written left =
     ArePrinted (λ at word. line_of) (λ at rest. rest_line (length rest)) (λ item. ⊥) (λ item. None) version limit

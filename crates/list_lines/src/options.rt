@@ -7,7 +7,7 @@ use shared_core_base::version::Version;
 pub struct Options {
     /// The version of the protocol, at least V5 where a stream is listed.
     pub version: Version,
-    /// The greatest length of a payload that is taken; `u32::MAX` is no limit.
+    /// The greatest length of a payload that is taken; `u32::MAX` means no limit.
     pub limit: u32,
     /// The number of bytes that are read at a time, from 1 to 65,536 where a stream is listed.
     pub chunk_size: usize,

@@ -13,10 +13,10 @@ use std::alloc::{AllocError, Global};
 use std::io::{Read, Write};
 use stream_lines::{LinePrinter, PrintError, Report, Trouble, print_lines};
 
-/// Writes a line for each item of a stream, and at its end the count of the bytes that are in no item.
+/// Writes one line per item of a stream, and at its end the count of the trailing bytes.
 ///
 /// It reads at most `chunk_size` bytes at a time, and ends as `print_lines` says. `TooLong` never comes, and
-/// `MessageTooLong` at the first message that is longer than the limit of the options. The report has no trouble of an
+/// `MessageTooLong` at the first message that is longer than the limit of the options. The report has no error of an
 /// item.
 pub fn list<R: Read, W: Write>(
     alloc: Global,

@@ -46,7 +46,7 @@ pub bytes_rejected : (version : Version) (j : Json) (code : ℕ) (b : Json) (nam
 bytes_rejected version j code b name said no_message bytes known n e =
     rw (no_message, bytes, known) (subst (λ (name : List ℕ). bytes_said name b ≡ Err said) n e)
 
--- a header that cannot be alone rejects its line
+-- a header that cannot be without a payload rejects its line
 pub alone_rejected : (version : Version) (j : Json) (code : ℕ) (u : Json) (said : LineFault) →
     given (codes "message") j ≡ None → given_either (codes "bytes") (codes "payload") j ≡ None →
     given (codes "unknown") j ≡ Some u → nothing_said code u ≡ Err said → line_payload version code j ≡ Err said

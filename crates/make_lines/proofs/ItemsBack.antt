@@ -191,7 +191,7 @@ module _ (bytes : List ℕ) (word : ℕ) (headed : Headed bytes word) where
       by_test true e = by_size (ltb size 4294967296) refl (eqb-true word written e)
       by_test false e = given_again version code size f false a ∙ sized_back size
 
-  -- a header alone
+  -- only a header
   alone_back : (version : Version) (code : ℕ) → word_fault code false word ≡ None → skips_unknown_messages version ≡
       false → header_said version code false 0 true (option_map string (header_text word (code * 281474976710656))) ≡ Ok
       (take 8 bytes)

@@ -292,7 +292,7 @@ says_skipped at code len (Some h) b there = record {
   has_unknown = refl;
 }
 
--- the line of the bytes that are in no item, without them if there are none
+-- the line of the trailing bytes, without them if there are none
 abbrev pub rest_line : List ℕ → List ℕ → Option Json → Json
 rest_line at len None = object (member (codes "offset") (number at) (member (codes "rest") (number len) no_members))
 rest_line at len (Some b) = object (member (codes "offset") (number at)
@@ -303,7 +303,7 @@ pub rest_is : (version : Version) (at len : List ℕ) (b : Json) → present b �
 unfolding line_said rest_said shape_fault
 rest_is version at len b there = rw there refl
 
--- the fault of the number of bytes that are in no item
+-- the fault of the number of trailing bytes
 abbrev left_fault : List ℕ → LineFault
 left_fault len = at (codes "rest") (Wrong (number_reason (number len)))
 

@@ -1,4 +1,4 @@
--- The places of a line's names, as its members are gone over.
+-- The places of a line's names, as its members are traversed.
 use Rattle.std.proofs.Common.{◌≡◌, ◌≢◌, ℕ, zero, suc, ◌+◌, ◌-◌, ◌<◌, ◌≤◌, List, [], ◌∷◌, length, get_or, map, drop}
 use Rattle.std.proofs.Common.{Bool, true, false, cond, not, Option, Some, None, ◌||◌}
 use Rattle.std.proofs.Common.{refl, sym, ap, ap₂, ◌∙◌, arith, ltb, eqb, eq-eqb}
@@ -75,7 +75,7 @@ own_place (suc (suc (suc (suc (suc (suc (suc (suc (suc (suc (suc (suc (suc (suc 
 named_place : (key : List ℕ) (i : ℕ) → i < place_count → bytes_eq key (name_at i) ≡ true → place_of key ≡ Some i
 named_place key i h e = ap place_of ((bytes_eq-Decides key (name_at i)).0 e) ∙ own_place i h
 
--- A key is no name of another place than its own.
+-- A key is not a name of another place than its own.
 pub other_name : (key : List ℕ) (i j : ℕ) → j < place_count → place_of key ≡ Some i → i ≢ j →
     bytes_eq key (name_at j) ≡ false
 other_name key i j h e ne = by_test (bytes_eq key (name_at j)) refl

@@ -18,7 +18,7 @@ use Rattle.make_lines.proofs.Taking.{counted_next, counted_suc}
 begins_join : (front xs ys : List ℕ) → Begins xs ys → Begins (front ++ xs) (front ++ ys)
 begins_join front xs ys (more, e) = (more, ap (λ (zs : List ℕ). front ++ zs) e ∙ sym (append_assoc front xs more))
 
--- A making that is not at its end: what the whole lines mean is written, and the rest is pending.
+-- A making that is not at its end: what the complete lines mean is written, and the rest is pending.
 pub record GoesOn (version : Version) (first start left out : Option (List ℕ)) (pending : List ℕ) (taken : ℕ) : Type 0
   where
     pub read : List ℕ

@@ -113,7 +113,7 @@ IsFaultOf version text error =
     (fault_of error ≡ text_fault text offset))
     (λ j. line_said version j ≡ Err (fault_of error))
 
--- A line means nothing, and this error says why.
+-- A line means nothing, and this error has the reason.
 pub record IsRejected (version : Version) (text : List ℕ) (error : LineError) : Type 0 where
   pub nothing : line_made version text ≡ None
   pub fault : IsFaultOf version text error

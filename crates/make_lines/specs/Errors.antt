@@ -52,7 +52,7 @@ path_inside member inside = if length member == 0 then inside else
 abbrev pub inside : List ℕ → Reason → List ℕ → LineFault
 inside member reason path = at (path_inside member path) (Json reason)
 
--- The fault of a name that is no type's.
+-- The fault of a name that no type has.
 abbrev pub no_type_named : List ℕ → LineFault
 no_type_named name = record { reason = UnknownType; offset = None; path = codes "type"; name = Some name }
 

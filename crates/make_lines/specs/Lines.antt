@@ -69,7 +69,7 @@ is_name_of (Some ty) name = bytes_eq (debug_name_of ty) name
 abbrev pub code_if : ℕ → List ℕ → Result ℕ LineFault
 code_if code name = if is_name_of (type_of code) name then Ok code else Err (at (codes "type") OtherType)
 
--- The code by a type and a code, of which one may be absent; if both are present, they have to agree.
+-- The code by a type and a code. One of them may be absent; if both are present, they have to agree.
 abbrev pub code_said : Option Json → Option Json → Result ℕ LineFault
 code_said None None = Err (at [] NoType)
 code_said (Some t) None = then_read code_of_name (name_read t)
@@ -102,14 +102,14 @@ message_said version code m =
     then_read (message_read m) (ok_or (option_and_then (schema_at version) (type_of code))
     (at (codes "message") NoSchema))
 
--- No payload, if a member says that there is none and the code is no type's.
+-- No payload, if a member says that there is none and the code is unassigned.
 abbrev pub nothing_if : Option Bool → Option MessageType → Result (List ℕ) LineFault
 nothing_if (Some true) None = Ok []
 nothing_if (Some true) (Some ty) = Err (at (codes "unknown") CodeOfType)
 nothing_if (Some false) ty = Err (at (codes "unknown") (Wrong WrongKind))
 nothing_if None ty = Err (at (codes "unknown") (Wrong WrongKind))
 
--- No payload, of an item that is a header alone, whose code is no type's.
+-- No payload, of an item that is only a header, whose code is unassigned.
 abbrev pub nothing_said : ℕ → Json → Result (List ℕ) LineFault
 nothing_said code j = nothing_if (as_bool j) (type_of code)
 
@@ -145,7 +145,7 @@ flag_said code name None = Ok false
 flag_said code name (Some j) =
     if has_flag (type_of code) then ok_or (as_bool j) (at name (Wrong WrongKind)) else Err (at name NoFlag)
 
--- The name of the member that says whether an acknowledgement is requested.
+-- The name of the member for whether an acknowledgement is requested.
 abbrev pub ack_name : Json → List ℕ
 ack_name j = given_name (codes "requestedAck") (codes "ack") j
 
@@ -172,7 +172,7 @@ word_fault code flag word =
     then (if agrees_in_flag code flag word then None else Some (at (codes "header") OtherFlag))
     else Some (at (codes "header") OtherCode)
 
--- A header that stands alone. Where a message of an unknown type is skipped with its payload, it must not have a
+-- A header without a payload. Where a message of an unknown type is skipped with its payload, it must not have a
 -- length.
 abbrev pub alone_given : Version → ℕ → List ℕ → Result (List ℕ) LineFault
 alone_given version word bytes =

@@ -53,7 +53,7 @@ abbrev pub counted : ℕ → ℕ
 counted n = min n 18446744073709551615
 
 -- What is written for each result, where a line means bytes or fails with an error, for these lines and this rest, and
--- what the reader has left: what all lines mean, at the input's end; what the whole lines mean; a prefix of what the
+-- what the reader has left: what all lines mean, at the input's end; what the complete lines mean; a prefix of what the
 -- first lines mean; what the first lines mean; or what the lines before a rejected one mean.
 abbrev pub StandsMade : (List ℕ → Option (List ℕ)) → (List ℕ → LineError → Type 0) → Result (Unit {0}) MakeError → List
     (List ℕ) → List ℕ → List ℕ → Option (List ℕ) → Type 0

@@ -35,8 +35,8 @@ abbrev pub with_payload : List ℕ → List ℕ → Option (List ℕ)
 with_payload front payload = option_map (λ h. h ++ payload) (if nat_lt (length payload) 4294967296 then Some
     (front ++ to_be_bytes w32 (length payload)) else None)
 
--- The bytes that are made of the line of an item that the bytes begin with, if there are any: a header alone is the
--- same; any other item has its own code and flags, and its payload as it is made again.
+-- The bytes that are made of the line of an item that the bytes begin with, if there are any: an item that is only a
+-- header is the same; any other item has its own code and flags, and its payload as it is made again.
 abbrev pub item_again : Version → List ℕ → Item → Option (List ℕ)
 item_again version bytes (Message message) = with_payload (take 4 bytes)
     (payload_again (schema_at version message.header.ty) message.payload)
@@ -61,7 +61,7 @@ abbrev pub AreKept : Version → List Item → Type 0
 AreKept version [] = Unit {0}
 AreKept version (item ∷ items) = IsKept version item × AreKept version items
 
--- The dump has a line for each item, one alone, with its payload, and the line of the bytes that are in no item.
+-- The dump has exactly one line per item, with its payload, and the line of the trailing bytes.
 pub record IsWhole (options : Options) : Type 0 where
   pub all : length options.codes.now ≡ 0
   pub payloads : options.payloads ≡ true

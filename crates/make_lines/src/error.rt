@@ -25,7 +25,7 @@ pub enum LineReason {
     SeveralPayloads,
     /// It has a message, but the payloads of its code have no schema.
     NoSchema,
-    /// It says whether an acknowledgement is requested, but headers of its type have no such flag.
+    /// It has a member for whether an acknowledgement is requested, but headers of its type have no such flag.
     NoFlag,
     /// A header is not eight bytes long.
     HeaderLength,

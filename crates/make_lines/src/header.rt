@@ -26,7 +26,7 @@ const FLAG: u64 = 1 << 47;
 /// One more than the greatest length there.
 const LENGTHS: u64 = 1 << 32;
 
-/// The place of the member that says whether an acknowledgement is requested.
+/// The place of the member for whether an acknowledgement is requested.
 fn ack_place(line: &Line<'_, '_>) -> u8
     ensures { name_at result ≡ ack_name line.now }
 {
@@ -76,7 +76,7 @@ fn agrees_in_flag(coded: Coded, flag: bool, word: u64) -> bool
     !coded.has_flag() || word / FLAG % 2 == bit
 }
 
-/// What a line says of the header of its item, but for the length.
+/// What a line says of the header of its item, except for the length.
 #[derive(Clone, Copy, Drop)]
 pub struct Head {
     pub version: Version,
@@ -98,7 +98,7 @@ fn check_word(head: &Head, word: u64) -> Result<(), Fault>
     Ok(())
 }
 
-/// Appends a given header that stands alone. Where unknown types are skipped with their payloads, it has no length.
+/// Appends a given header without a payload. Where unknown types are skipped with their payloads, it has no length.
 fn append_alone(version: Version, word: u64, header: &[u8], out: &mut Vec<u8>) -> Result<(), Fault>
     ensures { AppendsAnywhere result (alone_given version word header.now) out.old.items out.new.items }
 {
@@ -120,8 +120,8 @@ fn append_sized(size: usize, header: &[u8], out: &mut Vec<u8>) -> Result<(), Fau
     append(&size.to_be_bytes(), out)
 }
 
-/// Appends the header by eight given bytes: all of them if there is no payload, otherwise the first four, which are the
-/// code and the flags, and the length of the payload.
+/// Appends the header by eight given bytes: all of them if there is no payload. Otherwise it appends the first four,
+/// which are the code and the flags, and the length of the payload.
 fn append_given(
     head: &Head,
     size: usize,

@@ -7,8 +7,8 @@ ghost use Rattle.dump_lines.specs.declared.options.Options.{Options};
 ghost use Rattle.make_lines.specs.MadeAgain.{payload_again, ItemIsMadeAgain};
 ghost use Rattle.make_lines.specs.MadeAgain.{DumpIsMadeAgain, KeepsStreams, ThereAndBack};
 
-/// The line of an item, in a dump with payloads, an object a line and the last line, means the item, with its header
-/// and its payload; a well-formed payload becomes the canonical one.
+/// The line of an item, in a dump with payloads, one object per line and the last line, means the item, with its header
+/// and its payload. A well-formed payload becomes the canonical one.
 pub fn items_are_made_again()
     ensures { (options : Options) → ItemIsMadeAgain options }
 {}

@@ -1,6 +1,6 @@
 //! The members of a line, by their names.
 //!
-//! A line is gone over once: each name has a place (`Line`), and only a line with a fault is gone over again.
+//! A line is traversed once: each name has a place (`Line`), and only a line with a fault is traversed again.
 
 ghost use Rattle.std.specs.Prelude.{◌≡◌, ◌≢◌, ◌<◌, None, map, option_map, replicate, IsTrue, MatchBool};
 ghost use Rattle.json.specs.Json.{object};
@@ -39,25 +39,34 @@ static NAMES: [&str; PLACES] = [
     "ack",
 ];
 
-/// The place of the member `type`; the names of the other places are their names.
+/// The place of the member `type`.
 pub const TYPE: u8 = 1;
 
+/// The place of the member `code`.
 pub const CODE: u8 = 2;
 
+/// The place of the member `requestedAck`.
 pub const REQUESTED_ACK: u8 = 4;
 
+/// The place of the member `header`.
 pub const HEADER: u8 = 5;
 
+/// The place of the member `message`.
 pub const MESSAGE: u8 = 6;
 
+/// The place of the member `bytes`.
 pub const BYTES: u8 = 7;
 
+/// The place of the member `unknown`.
 pub const UNKNOWN: u8 = 9;
 
+/// The place of the member `rest`.
 pub const REST: u8 = 11;
 
+/// The place of the member `payload`.
 pub const PAYLOAD: u8 = 12;
 
+/// The place of the member `ack`.
 pub const ACK: u8 = 13;
 
 /// The place of no member, whose name is empty: that of the line itself.

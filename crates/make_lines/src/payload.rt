@@ -58,7 +58,7 @@ fn message_of(
     }
 }
 
-/// Checks that an item may be a header alone: that its member says so, and that its code is no type's.
+/// Checks that an item may be only a header: that its member says so, and that its code is unassigned.
 fn check_alone(coded: Coded, value: &Node<'_, '_>) -> Result<(), Fault>
     ensures { MatchResult result (λ _. nothing_said coded.code value.now ≡ Ok [])
         (RejectsAnywhere (nothing_said coded.code value.now)) }

@@ -39,7 +39,7 @@ pub struct Rejected {
     pub error: LineError,
 }
 
-/// The line that the pending bytes and then these are. One that came in one piece is not copied.
+/// The line that the pending bytes and then these are. A line that was received in one chunk is not copied.
 #[inline(always)]
 fn whole_line<'a>(pending: &'a mut Vec<u8>, end: &'a [u8]) -> Result<&'a [u8], AllocError>
     ensures { IfOk result (λ line. line.now ≡ pending.old.items ++ end.now) }

@@ -1,5 +1,5 @@
-//! Callers of the public calls, proved from their contracts alone: the round trip of any message, and a loop over the
-//! messages that have come. The program does not call them.
+//! Callers of the public calls, proved only from their contracts: the round trip of any message, and a loop over the
+//! messages received. The program does not call them.
 
 ghost use Rattle.std.specs.Prelude.{◌≡◌, ◌≤◌, ◌^◌, IfOk};
 ghost use Rattle.std.specs.Result.{IsErrOf};

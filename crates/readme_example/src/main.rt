@@ -31,7 +31,7 @@ fn recorded(alloc: Global) -> Result<Vec<u8>> {
     Ok(stream)
 }
 
-/// Reads the messages that have come, and writes them again, with each state set to 2.
+/// Reads the messages received, and writes them again, with each state set to 2.
 fn change(alloc: Global, decoder: &mut Decoder, out: &mut Vec<u8>) -> Result<()> {
     for item in decoder.items() {
         // a header of an unknown type is an item too, and is left out

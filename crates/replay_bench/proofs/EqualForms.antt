@@ -67,7 +67,7 @@ module _ (fields : CommandFields) (ignore : Bool) (compared : fields.not_compare
 parts_same : (v w : Parts) → v ≡ w → parts_equal v w ≡ true
 parts_same v w e = subst (λ (u : Parts). parts_equal v u ≡ true) e (parts_equal_refl v)
 
--- a canonical payload, of which all is compared, is its own form
+-- a canonical payload that is compared completely is its own form
 pub own_form : (ignore : Bool) (s : ℕ) (payload : List ℕ) → ErasesNothing ignore s → IsCanonical s payload
     → IsForm ignore payload payload s
 own_form ignore s payload whole canonical = (

@@ -101,7 +101,7 @@ module _ (version : Version) (is_strict : Bool) where
     is = noted is_strict read.items read.is;
   }
 
-  -- the end, with the bytes that are in no item
+  -- the end, with the trailing bytes
   rest_noted : (first left : Option (List ℕ)) (rest : ℕ) (before after : Survey)
       → after ≡ record before { rest = rest }
       → HasRead version is_strict first left 0 before → HasRead version is_strict first left rest after

@@ -212,7 +212,7 @@ module _ (version : Version) where
       commands,
     )
 
-    -- the item is no command
+    -- the item is not a command
     pub follows_same : (recorded : Option (List ℕ)) (given : List Item) (item : Item) (ahead : Ahead)
         (coming : Option (List ℕ))
         → IfSome recorded (Follows version ignore (commands_among given) ahead coming) → command_of item ≡ None
@@ -382,7 +382,7 @@ module _ (version : Version) where
         let (rest, is) = journal_of version more in
         (left, followed, (rest, one_journal version bytes left (command ∷ rest) commands (takes rest is), is))
 
-    -- items that are no commands were passed
+    -- items that are not commands were passed
     pub reads_none : (recorded : Option (List ℕ)) (given : List RawMessage) (coming now : Option (List ℕ))
         → IfSome recorded (Follows version ignore given Unread coming) → TakesFirst version coming None now
         → IfSome recorded (Follows version ignore given Unread now)

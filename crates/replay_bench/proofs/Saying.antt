@@ -55,7 +55,7 @@ module _ (ignore : Bool) (index : ℕ) (recorded replayed : RawMessage) where
         ∙ ap (λ n. command_mismatch_text recorded.header.ty (pos n) (lines_of fields)) (sym found.1),
   )
 
--- the same of the next commands, of which each may be missing
+-- the same of the next commands, each of which may be missing
 pub said_next : (version : Version) (ignore is_listed : Bool) (index : ℕ) (next other : Option RawMessage)
     (found : Found) → ReturnsNext ignore is_listed index next other (Ok (Some found)) → IsTrue is_listed
     → IsSaid found.verdict (type_of next) (type_of other) found.fields.items

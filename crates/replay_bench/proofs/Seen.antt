@@ -12,7 +12,7 @@ use Rattle.replay_bench.specs.Verdicts.{IsFound, recorded_ended, recorded_seen, 
 use Rattle.replay_bench.specs.Verdicts.{stopped_index, ReturnsNext}
 use Rattle.replay_bench.proofs.Endings.{is_found}
 
--- The verdict has seen the commands up to this index of both journals, of which neither has ended.
+-- The verdict has seen the commands up to this index of both journals, neither of which has ended.
 pub record HasSeen (verdict : Verdict) (index : ℕ) : Type 0 where
   pub recorded_goes : recorded_ended verdict ≡ false
   pub replayed_goes : replayed_ended verdict ≡ false
@@ -40,7 +40,7 @@ found_seen ignore index recorded replayed (HeaderMismatch at text) found = recor
   stopped = found.1;
 }
 
--- The verdict has seen the next commands of both journals at this index, of which each may have ended.
+-- The verdict has seen the next commands of both journals at this index. Each journal may have ended.
 pub record HasSeenNext (verdict : Verdict) (index : ℕ) (next other : Option RawMessage) : Type 0 where
   pub recorded_goes : recorded_ended verdict ≡ is_none next
   pub replayed_goes : replayed_ended verdict ≡ is_none other

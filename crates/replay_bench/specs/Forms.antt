@@ -82,7 +82,7 @@ kinds_of (Optional n k) = k ∷ []
 kinds_of (Repeated n k) = k ∷ []
 kinds_of (OneOf members) = map (λ member. member.1) members
 
--- Whether values of a kind are no messages, or messages of a schema for which this holds.
+-- Whether values of a kind are not messages, or messages of a schema for which this holds.
 abbrev pub is_flat_or : (ℕ → Bool) → Kind → Bool
 is_flat_or holds (Message s) = holds s
 is_flat_or holds k = true

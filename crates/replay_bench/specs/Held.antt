@@ -22,7 +22,7 @@ IsHeld version (Some journal) index held (Some command) (Some left) =
     (commands : List RawMessage) → IsJournal version left commands
     → HasAfter version journal index (held ++ (command ∷ commands))
 
--- These are the offsets of the commands of a journal, of which the first is the one of this number, counted from 1.
+-- These are the offsets of the commands of a journal. The first is the command of this number, counted from 1.
 abbrev pub HasOffsets : Version → Option (List ℕ) → ℕ → List (Option ℕ) → Type 0
 HasOffsets version first number offsets = (i : ℕ) → i < length offsets
     → IsKnownLast version first (number + i) (slice_index_or offsets i None)

@@ -1,4 +1,4 @@
--- What says which of its type a command is.
+-- What identifies a command within its type.
 use Rattle.std.specs.Prelude.{◌≡◌, ◌⊎◌, ◌||◌, ℕ, Bool, List, [], ◌∷◌, codes, if◌then◌else◌, Option, Some, None}
 use Rattle.std.specs.Option.{IsSomeAnd}
 use Rattle.std.specs.Str.{bytes_eq}
@@ -10,7 +10,7 @@ use Rattle.shared_core_compare.specs.Differences.{FieldTexts, differing_fields}
 use Rattle.shared_core_stream.specs.declared.encoding.raw_message.RawMessage.{RawMessage}
 use Rattle.replay_bench.specs.Journals.{IsCommand}
 
--- Whether a field of this name says which of its type a command is: a key, the handler of a call, the id of an
+-- Whether a field of this name identifies a command within its type: a key, the handler of a call, the id of an
 -- awakeable, or a name that users give.
 abbrev pub is_key_name : List ℕ → Bool
 is_key_name name =
@@ -22,11 +22,11 @@ abbrev pub first_key : List FieldTexts → Option (List ℕ)
 first_key [] = None
 first_key (field ∷ fields) = if is_key_name field.name then Some field.actual else first_key fields
 
--- What says which of its type a command of a schema is, of the printed fields in which it differs from an empty one.
+-- What identifies a command of a schema within its type, of the printed fields in which it differs from an empty one.
 abbrev pub key_text : ℕ → Parts → Option (List ℕ)
 key_text s command = first_key (differing_fields s command (empty_value (table s)))
 
--- This is what says which command of a schema a payload is: nothing, if it is not well-formed.
+-- This is what identifies the command of a schema that a payload is: nothing, if it is not well-formed.
 abbrev pub IsKeyOf : List ℕ → Option (List ℕ) → ℕ → Type 0
 IsKeyOf payload key s =
     (IsAccepted s payload × (key ≡ key_text s (payload_meaning s payload)))

@@ -65,7 +65,7 @@ abbrev pub known_unless : Option LongMessage → Option (List ℕ) → Option (L
 known_unless None known = known
 known_unless (Some message) known = None
 
--- The bytes that are in no item of a reader of items, where these are known.
+-- The trailing bytes of a reader of items, where these are known.
 abbrev pub coming_of : Unread → Option (List ℕ) → Option (List ℕ)
 coming_of state remaining = known_unless state.rejected (prepend_known state.bytes remaining)
 

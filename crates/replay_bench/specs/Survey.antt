@@ -20,13 +20,13 @@ is_command (Message message) = is_some (command_type_of message.header.ty)
 is_command (Unknown code) = false
 is_command (Skipped code payload) = false
 
--- Whether an item is a message that is no command.
+-- Whether an item is a message that is not a command.
 abbrev pub is_other : Item → Bool
 is_other (Message message) = not (is_some (command_type_of message.header.ty))
 is_other (Unknown code) = false
 is_other (Skipped code payload) = false
 
--- Whether an item is a header of an unknown type alone.
+-- Whether an item is only a header, of an unknown type.
 abbrev pub is_unknown : Item → Bool
 is_unknown (Message message) = false
 is_unknown (Unknown code) = true
@@ -65,7 +65,7 @@ abbrev pub first_of : Option Fault → Option Fault → Option Fault
 first_of (Some fault) later = Some fault
 first_of None later = later
 
--- The first fault of items, of which the first begins at an offset.
+-- The first fault of items. The first item begins at an offset.
 abbrev pub first_fault : Version → ℕ → List Item → Option Fault
 first_fault version at [] = None
 first_fault version at (item ∷ items) =
@@ -73,7 +73,7 @@ first_fault version at (item ∷ items) =
 
 -- ---- surveys
 
--- The offset of the last command of items, of which the first begins at an offset, or else this one.
+-- The offset of the last command of items, or else the offset at which the first item begins.
 abbrev pub last_command : ℕ → Option ℕ → List Item → Option ℕ
 last_command at before [] = before
 last_command at before (item ∷ items) =

@@ -36,7 +36,7 @@ use Rattle.replay_bench.specs.Sources.{HasLonger}
 
 -- ---- the result for two commands at an index
 
--- Both payloads are well-formed for the schema, and the commands that they mean are the same but for what is not
+-- Both payloads are well-formed for the schema, and the commands that they mean are the same except for what is not
 -- compared.
 abbrev pub MeanTheSame : Bool → List ℕ → List ℕ → ℕ → Type 0
 MeanTheSame ignore recorded replayed s =
@@ -57,7 +57,8 @@ abbrev pub IsMalformedOn : Side → List ℕ → List ℕ → ℕ → Type 0
 IsMalformedOn Recorded recorded replayed s = ¬ (IsAccepted s recorded)
 IsMalformedOn Replayed recorded replayed s = IsAccepted s recorded × ¬ (IsAccepted s replayed)
 
--- Two commands at the same index are alike: of one type, both well-formed, and the same but for what is not compared.
+-- Two commands at the same index are alike: of one type, both well-formed, and the same except for what is not
+-- compared.
 abbrev pub AreAlike : Bool → RawMessage → RawMessage → Type 0
 AreAlike ignore recorded replayed =
     (recorded.header.ty ≡ replayed.header.ty) × IsSomeAnd (message_schema recorded.header.ty)

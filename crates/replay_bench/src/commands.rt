@@ -99,7 +99,7 @@ impl<S: Source> Commands<S> {
             → HasRead self.old.version is_strict first (S.coming self.old.source) 0 self.old.survey
             → HasReadOn self.old.version is_strict first (is_none found)
             (S.coming self.new.source) self.new.survey) }
-        // a failed allocation loses nothing but items that are no commands
+        // a failed allocation loses nothing but items that are not commands
         ensures kept { UnreadWithoutMemory result (IsStill self.old.version (S.coming self.old.source)
             (S.version self.old.source) (S.limit self.old.source) self.old.survey (S.coming self.new.source)
             (S.version self.new.source) (S.limit self.new.source) self.new.survey) }

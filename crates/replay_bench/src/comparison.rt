@@ -26,8 +26,8 @@ use std::alloc::Global;
 
 /// Compares two journals of a version, at least V5, each of which is given in chunks, split anywhere.
 ///
-/// The commands of a journal are, in order, the messages of its joined chunks whose type `CommandType::try_from` takes;
-/// all other items, and bytes after the last whole item, are passed over. Commands at the same index are compared,
+/// The commands of a journal are, in order, the messages of its joined chunks whose type `CommandType::try_from` takes.
+/// All other items, and bytes after the last complete item, are passed over. Commands at the same index are compared,
 /// first their types, then that the recorded payload is well-formed and the replayed one is, then what they hold, where
 /// `ignore_payload_equality` leaves out payloads (`CommandMessageHeaderEq`). The result is that of the first index at
 /// which a journal ends or something is found, and nothing after it is looked into. `TooLong` comes only where the

@@ -21,11 +21,11 @@ pub struct Fault {
 /// What is wrong with an item, or after the last one.
 #[derive(Clone, Copy, Debug, PartialEq, Eq, Drop)]
 pub enum FaultReason {
-    /// The code of a header is no type's, at a version before V9.
+    /// The code of a header is unassigned, at a version before V9.
     UnknownHeader(u16),
     /// The payload of a message of this type is not well-formed for the type.
     Malformed(MessageType),
-    /// This many bytes after the last whole item are in none.
+    /// This many bytes after the last complete item are in none.
     Rest(u64),
 }
 

@@ -1,4 +1,4 @@
-//! What says which of its type a command is.
+//! What identifies a command within its type.
 
 ghost use Rattle.std.specs.Prelude.{◌≡◌, IfOk, option_map};
 ghost use Rattle.std.specs.String.{string_bytes};
@@ -6,16 +6,15 @@ ghost use Rattle.replay_bench.specs.Fields.{listed_texts};
 ghost use Rattle.replay_bench.specs.Keys.{first_key, HasKey, is_key_name, IsKeyOf};
 
 use crate::fields::{FieldDifference, list_fields};
-use crate::verdicts::BenchError;
 use shared_core::CommandType;
 use shared_core::encoding::{DecodeMessage, RawMessage};
 use shared_core::messages::{CommandMessage, CommandVisitor, visit_command};
 use shared_core::wire::WireError;
 use std::alloc::{AllocError, Global};
 
-/// What says which of its type a command is, as the text of a mismatch prints it: its key, the handler that it calls,
-/// the id of its awakeable, or the name that it was given. `None` if these are empty, if its type has none of them, and
-/// if its payload is not well-formed.
+/// What identifies a command within its type, as the text of a mismatch prints it. It is its key, the handler that it
+/// calls, the id of its awakeable, or the name that it was given. `None` if these are empty, if its type has none of
+/// them, and if its payload is not well-formed.
 pub fn command_key(alloc: Global, command: &RawMessage) -> Result<Option<String>, AllocError>
     ensures { IfOk result (λ key. HasKey command.now (option_map string_bytes key)) }
 {
@@ -71,7 +70,7 @@ fn first_key(fields: &[FieldDifference]) -> Result<Option<String>, AllocError>
     Ok(None)
 }
 
-/// Whether a field of this name says which of its type a command is.
+/// Whether a field of this name identifies a command within its type.
 fn is_key_name(name: &str) -> bool
     ensures { result ≡ is_key_name name.now }
 {

@@ -22,7 +22,7 @@ pub fn verdict_exists_and_is_unique()
 {}
 
 /// The commands before the index of a verdict are alike, one by one, and the differences of those from there on begin
-/// with the first of them: the first entry of an alignment that is not the same is where the verdict is.
+/// with the first of them. So the first entry of an alignment that is not the same is where the verdict is.
 pub fn alignment_begins_at_the_verdict()
     ensures { (version : Version) (ignore : Bool) (recorded replayed : List ℕ) (verdict : AnyVerdict)
         (rest more : List RawMessage) (differences : List Difference)

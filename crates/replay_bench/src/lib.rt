@@ -1,5 +1,6 @@
 //! Two journals compared, what was recorded with what is replayed, command by command, and each surveyed; nothing is
-//! measured, in spite of the name. The crate is above `shared_core`, over its public calls and their contracts alone.
+//! measured, in spite of the name. The crate is above `shared_core`, and uses only its public calls and their
+//! contracts.
 #![tactic(auto)]
 
 mod aligned;

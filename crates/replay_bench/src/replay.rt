@@ -17,7 +17,7 @@ use std::marker::Model;
 ///
 /// The recording is any source of items: chunks (`SliceItems`), or a reader (`ItemReader`), which may have a limit. One
 /// command of it is held at a time, and nothing of the replay. A contract sees a replay as the `Following` that it
-/// holds, and says what is true for every recording and all items that it was given (`IsFollowing`).
+/// holds, and states what is true for every recording and all items that it was given (`IsFollowing`).
 #[derive(Drop)]
 pub struct Replay<S: Source> {
     following: Following<S>,
@@ -56,7 +56,7 @@ impl<S: Source> Replay<S> {
         }
     }
 
-    /// Takes the next item of the replay. Returns `None` if it is no command, or the same as the recorded command at
+    /// Takes the next item of the replay. Returns `None` if it is not a command, or the same as the recorded command at
     /// its index; or where the replay leaves its recording. Each is what `compare_journals` has of the recording and
     /// the items so far, whatever comes after them.
     ///

@@ -1,6 +1,6 @@
 //! The items of a journal that lies in chunks.
 
-ghost use Rattle.std.specs.Prelude.{◌≡◌, ◌≤◌, ◌++◌, [], IfErr, OnErr, OnOk, None};
+ghost use Rattle.std.specs.Prelude.{◌≡◌, ◌≤◌, ◌++◌, IfErr, OnErr, OnOk, None};
 ghost use Rattle.shared_core_base.specs.Version.{version_number};
 ghost use Rattle.shared_core_stream.specs.Unread.{fresh, IsUnlimited};
 ghost use Rattle.replay_bench.specs.Sources.{RejectsBytes};

@@ -64,9 +64,9 @@ impl From<AllocError> for SourceError {
 pub trait Source: Drop {
     // the version of the protocol at which they are read
     ghost version: { Self → AnyVersion };
-    // the greatest length of a payload that it takes; 2^32 - 1 is no limit
+    // the greatest length of a payload that it takes; 2^32 - 1 means no limit
     ghost limit: { Self → ℕ };
-    // the bytes that are in no item yet, where these are known
+    // the pending bytes, where these are known
     ghost coming: { Self → Option (List ℕ) };
     // whether it may fail where no message is too long and no allocation fails
     ghost may_fail: { Bool };

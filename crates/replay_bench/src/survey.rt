@@ -24,7 +24,7 @@ pub struct Survey {
     pub commands: u128,
     /// The offset of the last command, in bytes.
     pub last_command: Option<u128>,
-    /// The number of messages that are no commands: control messages, notifications and custom entries.
+    /// The number of messages that are not commands: control messages, notifications and custom entries.
     pub others: u128,
     /// The number of headers of an unknown type, before V9.
     pub unknown: u128,
@@ -32,7 +32,7 @@ pub struct Survey {
     pub skipped: u128,
     /// The number of messages whose payload is not well-formed for their type, if faults are looked for.
     pub malformed: u128,
-    /// The number of bytes after the last whole item.
+    /// The number of bytes after the last complete item.
     pub rest: u64,
     /// The first item that has an unknown header, or a payload that is not well-formed, if faults are looked for.
     pub fault: Option<Fault>,
@@ -78,14 +78,14 @@ impl Survey {
         self.size += item.size() as u128;
     }
 
-    /// The survey of a whole stream, of whose end this many bytes are in no item.
+    /// The survey of a whole stream, at whose end this many bytes are trailing.
     pub fn with_rest(self, rest: u64) -> Survey
         ensures { result ≡ record self { rest = rest } }
     {
         Survey { rest, ..self }
     }
 
-    /// What is wrong with the stream: the first fault that was found, or else the bytes that are in no item.
+    /// What is wrong with the stream: the first fault that was found, or else the trailing bytes.
     pub fn trouble(&self) -> Option<Fault>
         ensures { result ≡ trouble_of self.now }
     {
@@ -124,7 +124,7 @@ fn is_command(item: &Item) -> bool
     }
 }
 
-/// Whether an item is a message that is no command.
+/// Whether an item is a message that is not a command.
 fn is_other(item: &Item) -> bool
     ensures { result ≡ test.is_other item.now }
 {

@@ -54,7 +54,7 @@ pub enum Verdict {
     HeaderMismatch {
         /// The index of both.
         index: u64,
-        /// The type, and a line for each printed field in which they differ, the recorded command's first.
+        /// The type, and one line per printed field in which they differ, the recorded command's first.
         text: String,
     },
 }

@@ -26,7 +26,7 @@ abbrev pub IsMissing : RawMessage → List ℕ → DecodingError → Type 0
 IsMissing message field (MissingField expected missing) = (expected ≡ message.header.ty) × (missing.now ≡ field)
 IsMissing message field error = ⊥
 
--- The template lacks the field: an id, or a result beside an id.
+-- The template lacks the field: an id, or a result in addition to an id.
 abbrev pub LacksField : List ℕ → Parts → Type 0
 LacksField field parts =
     ((field ≡ codes "id") × (result : Part) × (parts ≡ template_parts Absent result))

@@ -68,7 +68,7 @@ impl<M: RestateMessage + CommandMessageHeaderDiff> CommandMismatchError<M> {
     }
 }
 
-/// Prints the index of the command and the difference: a line for each field, after three spaces.
+/// Prints the index of the command and the difference: one line per field, after three spaces.
 impl<M: RestateMessage + CommandMessageHeaderDiff> fmt::Display for CommandMismatchError<M> {
     ghost output = { λ error. Some (command_mismatch_text M.message_type error.command_index
         (difference M.schema (codes "   ") (M.parts error.actual) (M.parts error.expected))) };

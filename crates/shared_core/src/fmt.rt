@@ -8,8 +8,8 @@ use shared_core_compare::difference::CommandMessageHeaderDiff;
 pub use shared_core_errors::closed::{DefaultErrorFormatter, ErrorFormatter};
 use std::fmt::{self, Display, Formatter};
 
-/// The difference of two commands, as an error prints it: a line for each printed field in which they differ, each
-/// after a line feed and three spaces.
+/// The difference of two commands, as an error prints it: one line per printed field in which they differ, each after a
+/// line feed and three spaces.
 #[derive(Clone, Copy)]
 pub struct Difference<'a, M> {
     /// The command that was recorded.

@@ -42,8 +42,8 @@ pub fn written_frames_decode_to_their_values()
         → FrameEncodes version ty form (DecodesTo ty form.schema form.parts) }
 {}
 
-/// A suspension that is written before V7 decodes to its three lists, however deep its tree is: those of the futures in
-/// preorder, with duplicates, and empty if nothing is awaited.
+/// A suspension that is written before V7 decodes to its three lists, however deep its tree is. They are those of the
+/// futures in preorder, with duplicates, and empty if nothing is awaited.
 pub fn flat_suspensions_decode_to_their_lists()
     ensures { (version : Version) (suspension : Parts) → has_flat_suspensions version ≡ true
         → Fits table suspension (table tables.suspension) → wire_size (suspension_form suspension version) < 2 ^ 32
@@ -59,7 +59,7 @@ pub fn notifications_are_within_the_template()
         → is_within_template (table notification_template) (table s) ≡ true }
 {}
 
-/// A requested acknowledgement is decoded as it was encoded: the header of a proposal of a run's result requests one
+/// A requested acknowledgement is decoded as it was encoded. The header of a proposal of a run's result requests one
 /// from V7 on and not before, and the header of every other message has no such flag.
 pub fn acknowledgement_requests_are_read_back()
     ensures proposals { (version : Version) (proposal : Parts) → wire_size (proposal_form proposal version) < 2 ^ 32

@@ -11,7 +11,7 @@ use Rattle.shared_core_base.specs.MessageType.{code_of, type_of, allows_ack}
 abbrev pub word_code : ℕ → ℕ
 word_code word = word / 2 ^ 48
 
--- The length in a header word: bits 32 to 47 are no part of it.
+-- The length in a header word: bits 32 to 47 are not part of it.
 abbrev pub word_length : ℕ → ℕ
 word_length word = word % 2 ^ 32
 

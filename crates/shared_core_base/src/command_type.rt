@@ -98,8 +98,8 @@ impl From<CommandType> for MessageType {
     }
 }
 
-/// The command type of a message type. A type that is no named command's, and so every custom entry, is rejected: it is
-/// returned as the error.
+/// The command type of a message type. A type that does not belong to a named command, such as a custom entry, is
+/// rejected: it is returned as the error.
 impl TryFrom<MessageType> for CommandType {
     type Error = MessageType;
 

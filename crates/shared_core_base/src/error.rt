@@ -85,7 +85,7 @@ impl From<u16> for InvocationErrorCode {
     }
 }
 
-/// A number above 65,535 is no code, and denotes `INTERNAL`.
+/// A number above 65,535 is not a code, and denotes `INTERNAL`.
 impl From<u32> for InvocationErrorCode {
     ghost from_gives = { λ number code. code ≡ record { 0 = code_of_number number } };
 
@@ -241,7 +241,7 @@ impl fmt::Display for NotificationMetadata {
     }
 }
 
-/// The error that an invocation ends with: a code and a message, and what the service is given beside them.
+/// The error that an invocation ends with: a code and a message, and what the service is given in addition to them.
 #[derive(Debug, Drop, PartialEq, Eq)]
 pub struct Error {
     code: u16,

@@ -8,7 +8,7 @@ pub use crate::command_type::CommandType;
 pub use crate::message_header::MessageHeader;
 pub use crate::type_kinds::{DebugName, UnknownMessageType};
 
-/// The type of a message: one of 41 that have a name, or a custom entry, which is known by its code alone.
+/// The type of a message: one of 41 that have a name, or a custom entry, which is known only by its code.
 ///
 /// Codes below 0x0400 are the core's, from 0x0400 to below 0x8000 commands, from 0x8000 to below 0xFC00 notifications.
 #[derive(Clone, Copy, Debug, PartialEq, Eq)]

@@ -16,12 +16,12 @@ pub trait HeaderMap {
     /// The value of the header of a name, if there is one.
     ghost value_of: { Self → List ℕ → Option (List ℕ) };
 
-    /// Finds the value of the header with this name. It fails where there is a value that is no text.
+    /// Finds the value of the header with this name. It fails if a value is not text.
     fn extract(&self, name: &str) -> Result<Option<&str>, Self::Error>
         ensures { IfOk result (λ found. option_copied found ≡ value_of self.now name.now) };
 }
 
-/// The value is that of the first pair whose key is the name, whatever the case of ASCII letters. It never fails.
+/// The value is that of the first pair whose key is the name, without regard to ASCII case. It never fails.
 impl HeaderMap for Vec<(String, String)> {
     type Error = Infallible;
 
@@ -38,7 +38,7 @@ impl HeaderMap for Vec<(String, String)> {
     }
 }
 
-/// Whether two names of headers are the same, whatever the case of ASCII letters.
+/// Whether two names of headers are the same, without regard to ASCII case.
 fn is_same_name(key: &str, name: &str) -> bool
     ensures { result ≡ str_eq_ignore_ascii_case key.now name.now }
 {

@@ -40,7 +40,7 @@ impl MessageType {
         (FIRST_NOTIFICATION..END_OF_NOTIFICATIONS).contains(&u16::from(*self))
     }
 
-    /// Whether a header of this type may request an acknowledgement: true of `ProposeRunCompletion` alone.
+    /// Whether a header of this type may request an acknowledgement: only that of `ProposeRunCompletion`.
     pub fn allows_ack(&self) -> bool
         ensures { result ≡ allows_ack self.now }
     {

@@ -16,9 +16,9 @@ pub enum Value {
     Success(Bytes),
     /// The call failed for good.
     Failure(TerminalFailure),
-    /// The keys of the state, the result of a read of the keys alone.
+    /// The keys of the state: only a read of the keys has this result.
     StateKeys(Vec<String>),
-    /// The id of the invocation that a call made, the result of a call alone.
+    /// The id of the invocation that a call made: only a call has this result.
     InvocationId(String),
 }
 

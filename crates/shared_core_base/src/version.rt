@@ -1,7 +1,7 @@
 //! The versions of the protocol, and the content types that name them.
 //!
 //! For contracts a content type is one prefix and a version's number, so a further version is one more row of
-//! `version_number`; the texts are here alone, and a law reads each version again from its own.
+//! `version_number`; only this file has the texts, and a law reads each version again from its own.
 
 ghost use Rattle.std.specs.Prelude.{◌≡◌, ◌↔◌, ◌≤◌, IfOk, Some, decimal, map};
 ghost use Rattle.shared_core_base.specs.Version.{
@@ -196,7 +196,7 @@ impl Display for Version {
 pub enum ContentTypeError {
     /// The text is a content type of the protocol, of a version that is not supported.
     RestateContentType(String),
-    /// The text is no content type of the protocol.
+    /// The text is not a content type of the protocol.
     OtherContentType(String),
     /// The text names no version, and the allocation to keep it failed.
     OutOfMemory,

@@ -1,7 +1,6 @@
 -- Rules by which a test on fields decides whether their parts are equal; the search for the equality law of a record
--- uses them.
--- They are in specs, since a law of an impl may cite the specs of its own crate alone. The parts of an enum are an
--- injection of all integers, those out of its range too, since in a law an integer has no range.
+-- uses them. They are in specs, since a law of an impl may cite only the specs of its own crate. The parts of an enum
+-- are an injection of all integers, those out of its range too, since in a law an integer has no range.
 use Rattle.std.specs.Prelude.{ℕ, ℤ, pos, negsuc, ◌≡◌, ◌+◌, ◌-◌, ◌*◌, ◌^◌, ◌<◌, ◌≤◌, Bool, true, false, ◌&&◌, List, []}
 use Rattle.std.specs.Prelude.{◌∷◌, Option, Some, None, String, string_bytes, string_eq, refl}
 use Rattle.std.specs.Cmp.{IsEquivalence, IsPartialEquivalence, partial_equiv_from_equiv, on_equiv}

@@ -30,8 +30,8 @@ abbrev mutual
   PartsKept (cons p ps) (cons q qs) = PartKept p q × PartsKept ps qs
   PartsKept _ _ = ⊥
 
--- A part after a merge that has failed: a number and bytes are the same, a oneof holds the member that it held, of
--- which the same is true, and a message and a list are kept.
+-- A part after a merge that has failed: a number and bytes are the same, a oneof holds the member that it held, and the
+-- same is true of that member; a message and a list are kept.
 abbrev pub PartAfterError : Part → Part → Type 0
 PartAfterError (Member m p) (Member n q) = (m ≡ n) × PartAfterError p q
 PartAfterError (Number n) new = new ≡ Number n

@@ -7,7 +7,7 @@
 //! `Malformed` always means that the occurrence is none of the field's kind: another wire type (this project's own), a
 //! text that is not UTF-8, a packed run that does not fill its length, or a message that is not well-formed.
 //!
-//! A failed allocation becomes `WireError::OutOfMemory` in the kinds and presences alone, so the code of a record
+//! A failed allocation becomes `WireError::OutOfMemory` only in the kinds and presences, so the code of a record
 //! converts no error.
 
 ghost use Rattle.std.specs.Prelude.{◌≡◌, ◌+◌, ◌≤◌, ◌++◌, length, drop, OnOk, is_ok, IfOk, true, false};
@@ -40,7 +40,7 @@ pub trait FieldKind: Sized + Drop {
         ensures { IsEmptyField kind (part result) };
 
     /// Merges an occurrence into the value that is held: a message into the message; any other kind is replaced. After
-    /// an error it is unchanged, but for a message, which loses nothing that it held.
+    /// an error it is unchanged, except for a message, which loses nothing that it held.
     fn merge_value(&mut self, field: &Occurrence<'_>) -> Result<(), WireError>
         ensures ok { OnOk result (FieldBecomes field.now kind (part self.old) (part self.new)) }
         ensures malformed { IsErrOf result error.Malformed → field_accepts field.now kind ≡ false }

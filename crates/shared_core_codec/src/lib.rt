@@ -3,7 +3,7 @@
 //! Users of records call `record` and `error`. The code of a record uses the other modules: `kind`, with a file for
 //! each kind of field; the fields by their presence, `plain`, `optional`, `repeated`, `packed` and `oneof`; and below
 //! them `message_bytes` and `occurrence` for reading, `size` for measuring, and `write`; texts are checked by `utf8`,
-//! and bytes copied by `copy`. Whoever goes over payloads without a record has the rows of schemas in `rows`, and a
+//! and bytes copied by `copy`. A caller that reads payloads without a record has the rows of schemas in `rows`, and a
 //! check of payloads by them in `check`.
 #![tactic(auto)]
 

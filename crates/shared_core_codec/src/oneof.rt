@@ -26,8 +26,8 @@ pub trait OneOf: Sized + Drop + PartialEq {
     ghost part: { Self → Part };
 
     /// Merges an occurrence of one of the members. A message is merged into the held one if it is the same member,
-    /// otherwise into the empty one. After an error a oneof holds the member that it held, unchanged but for a message,
-    /// which loses nothing; where none was held, one may be.
+    /// otherwise into the empty one. After an error a oneof holds the member that it held, unchanged except for a
+    /// message, which loses nothing; where none was held, one may be.
     fn merge_member(oneof: &mut Option<Self>, field: &Occurrence<'_>) -> Result<(), WireError>
         requires member { IsMember field.now members }
         ensures ok { OnOk result (MemberBecomes field.now members (option_part part oneof.old)
@@ -54,8 +54,8 @@ pub trait OneOf: Sized + Drop + PartialEq {
     ghost equality: { (a b : Self) → DecidesEquality (Self.eq a b) (part a) (part b) };
 }
 
-/// Merges an occurrence of one of the members. After an error a oneof holds the member that it held, unchanged but for
-/// a message, which loses nothing; where none was held, one may be.
+/// Merges an occurrence of one of the members. After an error a oneof holds the member that it held, unchanged except
+/// for a message, which loses nothing; where none was held, one may be.
 #[inline]
 pub fn merge<O: OneOf>(field: &mut Option<O>, found: &Occurrence<'_>) -> Result<(), WireError>
     requires member { IsMember found.now O.members }

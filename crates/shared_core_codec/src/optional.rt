@@ -16,7 +16,7 @@ use crate::size::Size;
 use shared_core_wire::error::WireError;
 
 /// Merges an occurrence into the value that is held, or into the empty one. After an error a value that was held is
-/// unchanged, but for a message, which loses nothing; where none was held, one may be.
+/// unchanged, except for a message, which loses nothing; where none was held, one may be.
 #[inline]
 #[tactic(auto, using(crate::proofs::Keeping::absent_after))]
 pub fn merge<V: FieldKind>(field: &mut Option<V>, found: &Occurrence<'_>) -> Result<(), WireError>

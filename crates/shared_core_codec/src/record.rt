@@ -203,8 +203,8 @@ pub(crate) fn merge_occurrences<M: WireRecord>(
     Ok(())
 }
 
-/// Merges a payload that its owner keeps into a record of the caller's, whatever that holds, as `merge` does, without
-/// moving the record. The errors are those of `decode`.
+/// Merges a payload that its owner keeps into the caller's record, whatever that holds, as `merge` does, without moving
+/// the record. The errors are those of `decode`.
 ///
 /// After an error the payload's records are merged up to some one of them: numbers, texts, bytes and the members of
 /// oneofs may have been replaced by what these say. Lists have the elements that they had at their front, messages hold

@@ -15,8 +15,8 @@ use crate::occurrence::Occurrence;
 use crate::size::Size;
 use shared_core_wire::error::WireError;
 
-/// Appends an element, the meaning of the occurrence alone. It is read into its place in the list, and after an error
-/// it may be there, after those that the list had.
+/// Appends an element, the meaning only of the occurrence. It is read into its place in the list, and after an error it
+/// may be there, after those that the list had.
 pub fn merge<V: Element>(field: &mut Vec<V>, found: &Occurrence<'_>) -> Result<(), WireError>
     ensures ok { OnOk result (FieldExtends found.now V.kind (parts_of V.part field.old.items)
         (parts_of V.part field.new.items)) }

@@ -60,12 +60,12 @@ no_field_test : (test : Bool) (field : FieldTexts) → (if test then [] else (fi
 no_field_test true field e = refl
 no_field_test false field e = cc
 
--- What is no field of a difference holds the same.
+-- What is not a field of a difference holds the same.
 no_field_same : (name : List ℕ) (text : Part → List ℕ) (p q : Part) → field_difference name text p q ≡ [] → p ≡ q
 unfolding field_difference
 no_field_same name text p q e = part_equal_sound p q (no_field_test (part_equal p q) _ e)
 
--- What holds the same is no field of a difference.
+-- What holds the same is not a field of a difference.
 same_no_field : (name : List ℕ) (text : Part → List ℕ) (p q : Part) → p ≡ q → field_difference name text p q ≡ []
 unfolding field_difference
 same_no_field name text p q e = rw (e, part_equal_refl q) refl
@@ -75,7 +75,7 @@ by_test : {A : Type 0} (test : Bool) → (test ≡ true → A) → (test ≡ fal
 by_test true holds fails = holds refl
 by_test false holds fails = fails refl
 
--- If the names are the same, they are no field of a difference.
+-- If the names are the same, they are not a field of a difference.
 name_no_field : (rows : List Row) (a b : Parts) (n : ℕ) (name : List ℕ) → row_part rows a n ≡ row_part rows b n
     → numbered_difference (n, name) rows a b ≡ []
 name_no_field [] a b n name e = refl

@@ -16,7 +16,7 @@ use Rattle.shared_core_compare.proofs.Elements.{joined_elements}
 
 -- ---- one field
 
--- What is written unless a test holds that says whether two parts are the same is their field, if they differ.
+-- A test tells whether two parts are the same. What is written unless it holds is their field, if they differ.
 pub field_is : (test : Bool) (field : List ℕ) (text : Part → List ℕ) (p q : Part) →
     ((test ≡ true → p ≡ q) × (p ≡ q → test ≡ true))
     → (if test then [] else (field_texts field (text p) (text q) ∷ [])) ≡ field_difference field text p q

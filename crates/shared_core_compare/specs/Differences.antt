@@ -116,7 +116,7 @@ differing_fields s actual expected =
 abbrev pub field_line : List ℕ → FieldTexts → List ℕ
 field_line indentation field = diff_line indentation field.name field.actual field.expected
 
--- The difference of two commands of a schema: a line for each printed field in which they differ, in their order.
+-- The difference of two commands of a schema: one line per printed field in which they differ, in their order.
 abbrev pub difference : ℕ → List ℕ → Parts → Parts → List ℕ
 difference s indentation actual expected = flat_map (field_line indentation) (differing_fields s actual expected)
 

@@ -65,7 +65,7 @@ impl<'a, W: fmt::Write> DifferenceForm<Formatter<W>> for Lines<'a> {
     }
 }
 
-/// Commands whose difference can be printed: a line for each printed field in which the two differ. The fields, their
+/// Commands whose difference can be printed: one line per printed field in which the two differ. The fields, their
 /// order and their names are this project's own table, as in the Rust crate (`commands`); it does not know about
 /// ignored payloads.
 pub trait CommandMessageHeaderDiff: WireRecord {
@@ -96,9 +96,9 @@ pub trait CommandMessageHeaderDiff: WireRecord {
         self.write_fields(expected, &Lines(indentation), f)
     }
 
-    /// Writes a line for each printed field in which this command, the actual one, differs from the expected one: a
-    /// line feed, the formatter's indentation and `field: actual != expected`. Fails only if the writer fails, which
-    /// tests show.
+    /// Writes one line per printed field in which this command, the actual one, differs from the expected one: a line
+    /// feed, the formatter's indentation and `field: actual != expected`. Fails only if the writer fails, which tests
+    /// show.
     final fn write_diff<W: fmt::Write>(
         &self,
         expected: &Self,

@@ -16,7 +16,7 @@ use shared_core_codec::record::WireRecord;
 /// id of `SleepCommandMessage`, the time of `OneWayCallCommandMessage`. Payloads are what user code passes as bytes:
 /// the parameters of calls, the value of `SetStateCommandMessage`, and the value (no failure) that
 /// `OutputCommandMessage`, `GetEagerStateCommandMessage`, `CompletePromiseCommandMessage` and
-/// `CompleteAwakeableCommandMessage` hold. What a signal carries is no payload. (This project's own, as in the Rust
+/// `CompleteAwakeableCommandMessage` hold. What a signal carries is not a payload. (This project's own, as in the Rust
 /// crate; the table is `commands`.)
 pub trait CommandMessageHeaderEq: WireRecord {
     /// Whether the two are equal, apart from the fields that are never compared and, if payloads are ignored, the bytes

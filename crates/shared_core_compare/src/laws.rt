@@ -1,5 +1,5 @@
-//! Laws of every command, by the contracts of its calls alone. A law is the contract of a function that only compares;
-//! its other clauses tie its results to the commands, so that no other function meets them.
+//! Laws of every command, proved only from the contracts of its calls. A law is the contract of a function that only
+//! compares; its other clauses tie its results to the commands, so that no other function meets them.
 
 ghost use Rattle.std.specs.Prelude.{◌≡◌, ◌↔◌, IsFalse, IsTrue, List, ℕ, [], false, true};
 ghost use Rattle.shared_core_compare.specs.Commands.{name_part};

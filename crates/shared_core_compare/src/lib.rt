@@ -1,4 +1,4 @@
-//! Commands compared: their names, whether two are the same but for what replay may change, and how they differ.
+//! Commands compared: their names, whether two are the same except for what replay may change, and how they differ.
 #![tactic(auto)]
 
 mod commands;

@@ -1,4 +1,4 @@
-//! The names of commands, lent or copied.
+//! The names of commands, borrowed or copied.
 
 ghost use Rattle.std.specs.Prelude.{◌≡◌, [], IfOk, IsOk, string_bytes};
 ghost use Rattle.shared_core_wire.specs.Value.{Bytes as Content};
@@ -11,7 +11,7 @@ use std::alloc::Global;
 
 /// Commands with a name that users give.
 pub trait NamedCommandMessage: WireRecord {
-    /// The name of the command, lent.
+    /// The name of the command, borrowed.
     fn command_name(&self) -> &str
         ensures { Content result.now ≡ name_part Self.schema (Self.parts self.now) };
 

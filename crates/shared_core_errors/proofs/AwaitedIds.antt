@@ -1,4 +1,4 @@
--- Awaited ids in their order, which depends on the set alone.
+-- Awaited ids in their order, which depends only on the set.
 use Rattle.std.proofs.Common.{◌≡◌, ℕ, ◌+◌, ◌<◌, List, [], ◌∷◌, ◌++◌, length, get_or, map, codes, Bool, true, false}
 use Rattle.std.proofs.Common.{◌||◌, ◌==◌, if◌then◌else◌, nat_eq, Option, Some, None, ⊎_elim, refl, sym, ap, ◌∙◌, arith}
 use Rattle.std.proofs.Common.{rules}

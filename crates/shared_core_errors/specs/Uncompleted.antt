@@ -27,6 +27,6 @@ lines_text known = flat_map (λ id. line_text id (known id))
 abbrev pub uncompleted_head : List ℕ
 uncompleted_head = codes "Found a mismatch between the code paths taken during the previous execution and the paths taken during this execution.\n'await' could not be replayed. This usually means the code was mutated adding an 'await' without registering a new service revision.\nNotifications awaited on this await point:"
 
--- The text of an await, with a line for each awaited id in turn.
+-- The text of an await, with one line per awaited id in turn.
 abbrev pub uncompleted_text : (Id → Option NotificationMetadata) → List Id → List ℕ
 uncompleted_text known ids = uncompleted_head ++ lines_text known ids

@@ -1,8 +1,8 @@
 //! The error of a call on a closed state machine, and the formatters that print it.
 //!
-//! The body that `ErrorFormatter` provides is proved once for every impl, so no clause can bind an impl to a text of
-//! its own alone: an impl names its texts (`closed_texts`), beside which the default text is always allowed. One that
-//! names none is exact. That a formatter's own text comes in place of the default one is tested.
+//! The body that `ErrorFormatter` provides is proved once for every impl, so no clause can bind an impl to nothing but
+//! a text of its own. An impl names its texts (`closed_texts`), and the default text is always allowed in addition. One
+//! that names none is exact. That a formatter's own text comes in place of the default one is tested.
 
 ghost use Rattle.std.specs.Prelude.{◌≡◌, IfOk, Some};
 ghost use Rattle.std.specs.String.{string_bytes};

@@ -26,7 +26,7 @@ pub fn missing_content_type() -> Error
     )
 }
 
-/// A received message is no entry of the journal.
+/// A received message is not an entry of the journal.
 pub fn unexpected_input_message() -> Error
     ensures { error_parts result ≡ plain_error 571 (codes "Expected incoming message to be an entry") }
 {
@@ -43,7 +43,7 @@ pub fn known_entries_is_zero() -> Error
     constant(codes::INTERNAL, "Known entries is zero, expected >= 1")
 }
 
-/// A message received during the replay is no entry of the journal.
+/// A message received during the replay is not an entry of the journal.
 pub fn unexpected_entry_message() -> Error
     ensures { error_parts result ≡ plain_error 571 (codes "Expected entry messages only when waiting replay entries") }
 {

@@ -13,7 +13,7 @@ use shared_core_parts::notification::NotificationId;
 use std::alloc::AllocError;
 use std::collections::{HashMap, HashSet};
 
-/// The order of awaited ids depends on the set alone: two sets with the same ids print them in the same order, however
+/// The order of awaited ids depends only on the set. Two sets with the same ids print them in the same order, however
 /// each holds them, and so an error about either is the same text.
 pub fn order_depends_on_the_set(
     a: &HashSet<NotificationId>,

@@ -81,7 +81,7 @@ fn ids_in_order(
 }
 
 /// The order in which awaited ids print.
-// by lists of numbers: two ids are equal if and only if their lists are, so the order depends on the set of ids alone
+// by lists of numbers: two ids are equal if and only if their lists are, so the order depends only on the set of ids
 fn compare_ids(a: &NotificationId, b: &NotificationId) -> Ordering
     ensures { result ≡ slice_cmp nat_cmp (order_key a.now) (order_key b.now) }
 {
@@ -137,7 +137,7 @@ fn write_lines<W: fmt::Write>(
     Ok(())
 }
 
-/// Prints that the await is not recorded, and a line for each awaited id.
+/// Prints that the await is not recorded, and one line per awaited id.
 impl fmt::Display for UncompletedDoProgressDuringReplay {
     ghost output = { λ error. Some (uncompleted_text
         (get ⟦<NotificationId as PartialEq>⟧.eq error.metadata) error.notification_ids.items) };

@@ -257,7 +257,7 @@ known_of (k, b) n (Group bs) bytes rest h t =
 known_of (k, b) n (Fixed32 bs) bytes rest h t =
     absurd (let none = untyped (Fixed32 bs) (λ j. refl) refl k b in cc)
 
--- What a payload begins with, of which the records of these rows are left: a record of one of them.
+-- What a payload begins with if the records of these rows are left: a record of one of them.
 pub record Front (rows : List Row) (end : ℕ) (bytes : List ℕ) : Type 0 where
   pub number : ℕ
   pub wire : ℕ

@@ -50,7 +50,7 @@ typed_text k repeated w bytes e f h = text_typed repeated bytes (typed_as k Text
 
 -- ---- one record
 
--- The field that may come next, of which the record is one.
+-- The field that may come next; the record is an occurrence of it.
 record Turn (rows left : List Row) (r : FieldRecord) (coming : List Row) : Type 0 where
   next : Next
   is : next_field left r.number ≡ Some next

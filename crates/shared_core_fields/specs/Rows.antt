@@ -1,4 +1,5 @@
--- The rows of the table of a value's fields, by the value alone, and the rows that the program's entries are.
+-- The rows of the table of a value's fields, which depend only on the value, and the rows that the program's entries
+-- are.
 use Rattle.std.specs.Prelude.{◌≡◌, ◌≤◌, ◌<◌, ℕ, ◌+◌, List, [], ◌∷◌, map, take, drop, set, length, flat_map}
 use Rattle.std.specs.Int.{from_bool}
 use Rattle.shared_core_wire.specs.Schema.{Kind, U32, U64, Boolean, Enumeration, Text, ByteString, Message}

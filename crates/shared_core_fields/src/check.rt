@@ -50,7 +50,7 @@ fn is_canonical_bytes(schema: u32, bytes: &[u8], left: u32) -> bool
 }
 
 /// The rows of which records may come after the record that the bytes begin with, and the bytes after it; `None` if it
-/// is no record as it is written of one of these rows.
+/// is not a record as it is written of one of these rows.
 #[cycle(check)]
 #[inline(always)]
 fn rows_and_rest<'a, 'b>(

@@ -1,5 +1,5 @@
 //! The fields of canonical payloads, read without a record and without allocating. A payload is checked once; reading
-//! it has no error. Those of all levels are written into a table of the caller's, while the payload is checked.
+//! it has no error. Those of all levels are written into the caller's table, while the payload is checked.
 #![tactic(auto)]
 
 mod check;

@@ -21,7 +21,7 @@ pub(crate) struct FoundField<'a> {
 }
 
 impl<'a> FoundField<'a> {
-    /// Whether it is a plain field, of which a default is not written.
+    /// Whether it is a plain field, whose default is not written.
     #[inline(always)]
     pub(crate) fn is_plain(self) -> bool
         ensures { result ≡ is_plain (row_view self.entry.row.now) }
@@ -68,8 +68,8 @@ pub(crate) fn first_field<'a>(rows: &'a [Row], number: u32) -> Option<FoundField
     }
 }
 
-/// The field of the first row that has the number, as `next_field` has it. Of a row that is passed over, if it is no
-/// oneof, the number alone is looked at.
+/// The field of the first row that has the number, as `next_field` has it. Only the number of a row that is passed over
+/// is read, if the row is not a oneof.
 #[inline(always)]
 pub(crate) fn find_field<'a>(rows: &'a [Row], number: u32) -> Option<FoundField<'a>>
     ensures { option_map found_next result ≡ next_field (map row_view rows.now) number }

@@ -17,8 +17,8 @@ pub struct FieldEntry {
     pub number: u64,
     /// The kind of the field: one of the seven numbers below.
     pub kind: u64,
-    /// The number that it holds: 0 or 1 of a bool, sign-extended of an enum. Of a message the index of its schema, of a
-    /// text and bytes 0.
+    /// The number that it holds: 0 or 1 of a bool, sign-extended of an enum. For a message it is the index of its
+    /// schema, for a text and bytes 0.
     pub value: u64,
     /// Of a text, bytes or a message where its bytes begin in the payload, otherwise 0.
     pub offset: u64,

@@ -23,7 +23,7 @@ pub(crate) fn known_value<'a>(
     ensures { option_map (typed_parts (found_view found)) (value_after wire (number, bytes.now))
         ≡ Some (value_kind result.0, value_part result.0, value_bytes result.0, result.1.now) }
 {
-    // a kind has one wire type, but for a uint32
+    // a kind has one wire type, except for a uint32
     match found.kind {
         Kind::U32 => {
             if wire == 2 {

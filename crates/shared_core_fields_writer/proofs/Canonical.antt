@@ -182,7 +182,7 @@ all_good s = record {
   possible = rows_may_be_empty s;
 }
 
--- a plain field is no message
+-- a plain field is not a message
 plain_single : (row : Row) (n : ℕ) (f : Kind × Bool) → may_be_empty row ≡ true → field_in_row row n ≡ Some f → (t : ℕ) →
     f.0 ≡ Message t → is_plain row ≡ false
 plain_single (Plain m k) n f h i t j = by_test (eqb n m) i

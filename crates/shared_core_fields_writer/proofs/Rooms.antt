@@ -28,7 +28,7 @@ wrote_byte old at to byte m e h =
       written = λ k. ap (λ (j : ℕ). take j (set old at byte)) is ∙ take_more_set old at byte h;
     }
 
--- what stays before an index stays before one that is no greater
+-- what stays before an index stays before one that is not greater
 pub less_stays : (i j : ℕ) (xs ys : List ℕ) → i ≤ j → take j xs ≡ take j ys → take i xs ≡ take i ys
 less_stays i j xs ys h e = sym (take-take i j xs h) ∙ ap (take i) e ∙ take-take i j ys h
 

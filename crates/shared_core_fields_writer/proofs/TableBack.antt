@@ -188,7 +188,7 @@ message_rows below level n t r ps = ap (λ (l : ℕ). bytes_row level n (Message
 
 -- ---- one field and those after it
 
--- The first entry, if there is one, is no deeper than a level, and no further number of a packed field there.
+-- The first entry, if there is one, is not deeper than a level, and no further number of a packed field there.
 abbrev Follows : ℕ → Kind × Bool → ℕ → List FieldEntry → Type 0
 Follows level f n [] = Unit {0}
 Follows level f n (e ∷ es) = (e.level ≤ level) × (is_packed f ≡ true → (eqb e.level level && eqb e.number n) ≡ false)

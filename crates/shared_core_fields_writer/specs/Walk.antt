@@ -153,7 +153,7 @@ Goes result walked next old from new to left =
     MatchResult result (λ _. (bytes : List ℕ) × (walked ≡ onto bytes next) × Wrote old from new to bytes)
     (λ reason. walked ≡ Err (reason, length left))
 
--- How a function ended that goes over entries which give nothing more: or with this error.
+-- How a function ended that iterates over entries which give nothing more, or that it ended with this error.
 abbrev pub Continues : {T : Type 0} → Result T Reason → Walked → Walked → List FieldEntry → Type 0
 Continues result walked next left =
     MatchResult result (λ _. walked ≡ next) (λ reason. walked ≡ Err (reason, length left))

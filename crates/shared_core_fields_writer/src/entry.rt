@@ -114,7 +114,7 @@ fn number_of<'a>(kind: Kind, entry: &FieldEntry) -> Result<Given<'a>, Reason>
 }
 
 /// The number of an entry's field, and that field, which may come next in a message of the schema where these rows are
-/// left, after the last field: most often that of the first row, which is plain.
+/// left, after the last field. Most often it is that of the first row, which is plain.
 #[inline(always)]
 pub(crate) fn next_of(
     schema: u32,

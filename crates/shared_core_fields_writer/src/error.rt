@@ -21,7 +21,7 @@ pub enum Reason {
     NotUtf8,
     /// Its bytes are not within those that are given.
     OutOfBounds,
-    /// It is more than one level deeper than the last entry, or deeper than one that is no message.
+    /// It is more than one level deeper than the last entry, or deeper than an entry that is not a message.
     WrongLevel,
     /// It is a message that is nested more than one hundred levels deep.
     TooDeep,

@@ -1,4 +1,4 @@
-//! A few bytes written into a slice, and whether they are ASCII, which is tested beside it, by the same chunks.
+//! A few bytes written into a slice, and whether they are ASCII, which is tested at the same time, by the same chunks.
 
 ghost use Rattle.std.specs.Prelude.{◌≡◌, ◌+◌, ◌<◌, ◌≤◌, IsTrue, true, length};
 ghost use Rattle.std.specs.Str.{is_utf8};

@@ -14,9 +14,9 @@ use crate::walk::{Place, Source};
 use shared_core_codec::rows::{Kind, rows_of};
 use shared_core_fields::table::FieldEntry;
 
-/// Writes the records of the entries of a message, which are at a level, if each of them is of the next field of the
-/// schema, which is plain, and gives it a few bytes, of which a text is ASCII, and there is room for all. Returns the
-/// place after them. Otherwise the bytes from the place on may be any.
+/// Writes the records of the entries of a message, which are at a level, and returns the place after them. It does so
+/// if each entry is of the next field of the schema, which is plain, and gives it a few bytes, ASCII in a text, and if
+/// there is room for all. Otherwise the bytes from the place on may be any.
 #[inline(always)]
 pub(crate) fn write_flat(
     out: &mut [u8],
@@ -56,7 +56,7 @@ pub(crate) fn write_flat(
 }
 
 /// Writes the record of the text or the bytes that an entry gives to a plain field, if these are a few, a text is
-/// ASCII, and there is room for it; otherwise the bytes from the index on may be any.
+/// ASCII, and there is room for it. Otherwise the bytes from the index on may be any.
 #[inline(always)]
 fn write_few_of(
     out: &mut [u8],

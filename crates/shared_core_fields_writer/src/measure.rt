@@ -20,7 +20,7 @@ const SHALLOW: u64 = 3;
 const SHORT: usize = 4096;
 
 /// Measures a table whose entries are in a message of a schema, and whose payload is this long. Returns the length of
-/// the content of each message and run, at the index of its entry; none at all, if the payload is short and no message
+/// the content of each message and run, at the index of its entry. There is none if the payload is short and no message
 /// is nested deep.
 pub(crate) fn lengths_of(
     alloc: Global,
@@ -52,7 +52,7 @@ fn is_deep(entries: &[FieldEntry]) -> bool {
     false
 }
 
-/// Measures the entries of a message of a schema, which are at a level or deeper, from an index on; notes the length of
+/// Measures the entries of a message of a schema, which are at a level or deeper, from an index on. Notes the length of
 /// the content of each message and run at the index of its entry. Returns how many bytes they take. Messages may be
 /// nested `depth` deep in it.
 #[cycle(measure)]

@@ -1,7 +1,7 @@
 //! Records written into a slice, from an index on, as far as there is room: what has none is only counted.
 //!
 //! Each function returns the index after what it writes, or would write, at most the greatest number of 64 bits. So one
-//! pass over the parts of a payload says how long it is, and has written it if there is room for all of it.
+//! pass over the parts of a payload measures it, and has written it if there is room for all of it.
 
 ghost use Rattle.std.specs.Prelude.{◌≡◌, ◌+◌, ◌-◌, ◌<◌, ◌≤◌, ◌∷◌, [], Bool, true, length, take, drop, IfSome};
 ghost use Rattle.std.specs.Prelude.{IfNone};
@@ -230,8 +230,8 @@ fn write_long_length(out: &mut [u8], at: usize, start: usize, end: usize) -> usi
     last
 }
 
-/// Copies the bytes between two indices to another one. Those that are there are left, since the kit's `copy_within` is
-/// a loop over bytes.
+/// Copies the bytes between two indices to another one. Those that are there are left, since the standard library's
+/// `copy_within` is a loop over bytes.
 #[tactic(auto, using(crate::proofs::Rooms::copied_here))]
 fn move_bytes(out: &mut [u8], start: usize, end: usize, to: usize)
     requires order { start ≤ end }

@@ -27,7 +27,7 @@ use shared_core_wire::records::LEVELS;
 use shared_core_wire::varint::varint_len;
 
 /// The entries of a table, the bytes that they point to, and how long the content of their messages was measured to be,
-/// by their index: then room is left for that many, and otherwise for less than 128 bytes.
+/// by their index. If it was measured, room is left for that many bytes, otherwise for less than 128.
 #[derive(Clone, Copy)]
 pub(crate) struct Source<'a> {
     pub entries: &'a [FieldEntry],

@@ -35,11 +35,11 @@ const OUT_OF_MEMORY: FieldsError = FieldsError {
 };
 
 /// Returns the canonical payload of the value of a schema whose fields of all levels are these entries, which come in
-/// the order of the canonical payload; texts and bytes are at their offsets in `bytes`. The value and the bytes of a
+/// the order of the canonical payload. Texts and bytes are at their offsets in `bytes`. The value and the bytes of a
 /// message's entry are its fields, which come next; its offset and length are not looked at. A plain field that is the
 /// default may come, and is left out.
 ///
-/// The error says which entry is the first that may not come, and why. If the payload has more than 4,096 bytes, or has
+/// The error has the first entry that may not come, and the reason. If the payload has more than 4,096 bytes, or has
 /// more than 256 and entries are deeper than level 3, a number for each entry is allocated besides it for a while.
 pub fn payload_of_entries(
     alloc: Global,

@@ -117,7 +117,7 @@ filled_row row p old now start l s w =
 pub uncapped : (n len : ℕ) → len ≡ capped (0 + n) → len < 2 ^ 32 → len ≡ n
 uncapped n len is small = omega (arith, is, small)
 
--- the size of a row that is measured alone
+-- the size of a row that is measured by itself
 pub measured_member : (members : List (ℕ × Kind)) (p : Part) (len : ℕ) → len ≡ measured_row (OneOf members) p 0
     → len < 2 ^ 32 → len ≡ row_size (OneOf members) p
 measured_member members Absent len is small = is

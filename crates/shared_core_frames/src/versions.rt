@@ -29,7 +29,7 @@ impl RestateEncodableMessage for ProposeRunCompletionMessage {
 }
 
 /// Unchanged from V7 on. Before V7 as a `SuspensionMessageV6`: the three lists of all awaited futures, each future
-/// before those nested in it, duplicates kept, however deep they are nested; the lists are empty if nothing is awaited.
+/// before those nested in it, duplicates kept, however deep they are nested. The lists are empty if nothing is awaited.
 impl RestateEncodableMessage for SuspensionMessage {
     ghost wire_form = { λ message version. suspension_form
         (⟦<SuspensionMessage as WireRecord>⟧.parts message) version };

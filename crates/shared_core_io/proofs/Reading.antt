@@ -103,7 +103,7 @@ taken_long old new outside kept message (found, some, after) is gone =
       gone,
     )
 
--- what was taken of the decoder was taken of all that was there, if it is not that no whole item is there
+-- what was taken of the decoder was taken of all that was there, if it is not that no complete item is there
 took : (old new : Unread) (outside kept : List ℕ) (left : Option (List ℕ)) (item : Item) → IsTaken old outside
     (Ok (Some item)) new kept → IsRead (with_more old outside) left (Ok (Some item)) (with_more new kept)
 took old new outside kept left item (accepts, (taken, fits), after, same) =
@@ -141,7 +141,7 @@ word_of old first new outside kept before item word (accepts, (taken, fits), aft
     is ∙ sym (front_word_more old.bytes outside (omega (arith, long)))
     ∙ ap (λ (state : Unread). front_word state.bytes) before
 
--- at the end of a stream nothing is outside the decoder, and other errors are no end
+-- at the end of a stream nothing is outside the decoder, and other errors are not the end
 pub drained_end : (result : Result (Option (ℕ × Item)) ReadError) (outside : List ℕ) → outside ≡ [] → IsDrained result
     outside
 drained_end (Ok None) outside gone = gone

@@ -13,11 +13,11 @@ use Rattle.shared_core_stream.specs.declared.encoding.limit_error.MessageTooLong
 use Rattle.shared_core_io.specs.declared.error.ReadError.{ReadError}
 use Rattle.shared_core_io.specs.declared.error.ReadError.TheVariants.{Failed, TooLong, Truncated, OutOfMemory}
 
--- A decoder to which more bytes have come.
+-- A decoder that has received more bytes.
 abbrev pub with_more : Unread → List ℕ → Unread
 with_more state more = record state { bytes = state.bytes ++ more }
 
--- What is held: a decoder to which also those bytes have come that were read and are in a chunk or a buffer yet.
+-- What is held: a decoder that has also received the bytes that were read and are still in a chunk or a buffer.
 abbrev pub held : Unread → List ℕ → Filled → Unread
 held decoder chunk buffer = with_more decoder (chunk ++ buffer.items)
 
@@ -42,7 +42,7 @@ IsRead old left (Err (Failed reason)) new = (new ≡ old) × (error_kind reason 
 IsRead old left (Err OutOfMemory) new = new ≡ old
 
 -- What was taken of a decoder, and of the bytes outside it, which are dropped with a message that is too long: the item
--- at the front; nothing, since no whole item is there or an allocation failed.
+-- at the front; nothing, since no complete item is there or an allocation failed.
 abbrev pub IsTaken : Unread → List ℕ → Result (Option Item) ReadError → Unread → List ℕ → Type 0
 IsTaken old outside (Ok (Some item)) new kept =
     (rejection old ≡ None) × TakesWithin old.version old.limit old.bytes item new.bytes
@@ -56,7 +56,7 @@ IsTaken old outside (Err OutOfMemory) new kept = (new ≡ old) × (kept ≡ outs
 IsTaken old outside (Err error) new kept = ⊥
 
 -- What was taken without reading, of what was held, and what is held afterwards: the item at the front, if it is within
--- the limit; nothing, since no whole item is there; an error that the message at the front is too long, after which
+-- the limit; nothing, since no complete item is there; an error that the message at the front is too long, after which
 -- nothing is held; or a failed allocation, which takes nothing.
 abbrev pub IsTakenOf : Unread → Result (Option Item) ReadError → Unread → Type 0
 IsTakenOf old (Ok (Some item)) new =
@@ -92,13 +92,13 @@ IsDrained (Ok (Some next)) outside = Unit {0}
 IsDrained (Err (Truncated count)) outside = outside ≡ []
 IsDrained (Err error) outside = Unit {0}
 
--- The most bytes that hold no whole item: a header, and all but one byte of the longest payload.
+-- The most bytes that hold no complete item: a header, and all but one byte of the longest payload.
 abbrev pub most_of_a_part : ℕ
 most_of_a_part = 4294967302
 
 -- The error of a read, by the message that was rejected before, if any, and by what was held and is held: a failed
--- read, which is no interrupted one, and an error for that message change nothing; after a failed allocation what was
--- read is held.
+-- read, which is not an interrupted one, and an error for that message change nothing; after a failed allocation what
+-- was read is held.
 abbrev pub LosesNothing : {T : Type 0} → Option MessageTooLong → T → T → ReadError → Type 0
 LosesNothing rejected old new (Failed reason) = (new ≡ old) × (error_kind reason ≢ Interrupted)
 LosesNothing rejected old new (TooLong message) = (rejected ≡ Some message) × (new ≡ old)

@@ -12,7 +12,7 @@ pub enum ReadError {
     Failed(io::Error),
     /// The next message is longer than the limit. Nothing is held any more, and each later call returns this error too.
     TooLong(MessageTooLong),
-    /// The stream ended within an item, of which this many bytes have come. Nothing is lost: a later call reads again.
+    /// The stream ended within an item, after this many of its bytes. Nothing is lost: a later call reads again.
     Truncated(u64),
     /// An allocation failed. Nothing is lost.
     OutOfMemory,

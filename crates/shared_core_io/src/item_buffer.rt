@@ -1,4 +1,4 @@
-//! The items of a stream whose reader is lent to each call.
+//! The items of a stream whose reader each call borrows.
 //!
 //! What was read and not used is held for the next call, so no error loses a byte. A payload that lies in what one read
 //! gave shares the memory that it was read into.
@@ -31,13 +31,13 @@ pub const CHUNK: usize = 65536;
 /// bytes at a time does not take a block for each read.
 const LEAST_ROOM: usize = 4096;
 
-/// The most bytes that hold no whole item: a header, and all but one byte of the longest payload.
+/// The most bytes that hold no complete item: a header, and all but one byte of the longest payload.
 const MOST_OF_A_PART: u64 = 4_294_967_302;
 
 /// What was read of a stream and is in no item that was returned.
 ///
-/// It is what an `ItemReader` has beside its reader, which here each call that reads is lent: so a reader that is only
-/// borrowed can be read too, and what it has left is known.
+/// It is what an `ItemReader` has in addition to its reader. Here each call that reads borrows the reader: so a reader
+/// that is only borrowed can be read too, and what it has left is known.
 #[derive(Drop)]
 pub struct ItemBuffer {
     decoder: Decoder,
@@ -58,8 +58,8 @@ pub struct ItemBuffer {
 impl ItemBuffer {
     ghost use Rattle.shared_core_io.specs.Reading.{held};
 
-    /// Nothing yet of a stream of this version, which is at least V5, of whose messages none may have a payload of more
-    /// bytes than a limit, and of which one read takes at most a number of bytes, from 1 to 65,536. Does not allocate.
+    /// Nothing yet of a stream of this version, which is at least V5. No message of it may have a payload of more bytes
+    /// than a limit. One read takes at most a number of bytes, from 1 to 65,536. Does not allocate.
     pub fn new(alloc: Global, version: Version, limit: u32, most: usize) -> ItemBuffer
         requires spoken { 5 ≤ version_number version }
         requires low { 1 ≤ most }
@@ -75,13 +75,13 @@ impl ItemBuffer {
     }
 
     /// Returns the next item with the word of its header, or `None` if the stream ends before it. It reads only while
-    /// what was read holds no whole item, into blocks of 65,536 bytes, of which one is read into until less than 4,096
-    /// are left.
+    /// what was read holds no complete item, into blocks of 65,536 bytes. A block is read into until less than 4,096
+    /// bytes of it are left.
     ///
-    /// `TooLong` if the next message is longer than the limit: it comes as soon as its header was read, and from then
-    /// on nothing is held, and each call returns it. `Truncated` if the stream ends within an item; `Failed` if a read
-    /// failed, though an interrupted one is repeated; `OutOfMemory`. After these three nothing that was read is lost:
-    /// a later call goes on from there. At the end all that is held is in the decoder.
+    /// `TooLong` if the next message is longer than the limit. It comes as soon as the header was read. From then on
+    /// nothing is held, and each call returns it. `Truncated` if the stream ends within an item; `Failed` if a read
+    /// failed, though an interrupted one is repeated; `OutOfMemory`. After these three nothing that was read is lost: a
+    /// later call goes on from there. At the end all that is held is in the decoder.
     pub fn next_with_word<R: Read>(
         &mut self,
         reader: &mut R,
@@ -90,7 +90,7 @@ impl ItemBuffer {
             × IsRead (with_more (held self.old.decoder self.old.chunk self.old.buffer) read) (R.remaining reader.new)
             (without_word result) (held self.new.decoder self.new.chunk self.new.buffer)
             × HasWord result (with_more (held self.old.decoder self.old.chunk self.old.buffer) read).bytes }
-        // a whole item is returned before anything is read, so it does not wait for what comes after it
+        // a complete item is returned before anything is read, so it does not wait for what comes after it
         ensures idle { (item : AnyItem) (rest : List ℕ) → TakesItem self.old.decoder.version
             (held self.old.decoder self.old.chunk self.old.buffer).bytes item rest → reader.new ≡ reader.old }
         ensures drained { IsDrained result (self.new.chunk ++ self.new.buffer.items) }
@@ -108,7 +108,7 @@ impl ItemBuffer {
     }
 
     /// Returns the next item of what was read with the word of its header, and reads nothing; `None` if that holds no
-    /// whole item.
+    /// complete item.
     ///
     /// `TooLong` and `OutOfMemory` are as of `next_with_word`, and no other error comes.
     #[inline(always)]
@@ -133,8 +133,8 @@ impl ItemBuffer {
     /// gives. Returns whether the stream goes on: if it does not, all that is held is in the decoder.
     ///
     /// So a loop that takes what was read by `take_with_word` reads on by this where that returns `None`. It reads
-    /// nothing while the decoder holds more than 4,294,967,302 bytes, since a whole item is among them. `TooLong` after
-    /// a message was rejected, and then nothing is read; `Failed` and `OutOfMemory` are as of `next_with_word`.
+    /// nothing while the decoder holds more than 4,294,967,302 bytes, since a complete item is among them. `TooLong`
+    /// after a message was rejected, and then nothing is read; `Failed` and `OutOfMemory` are as of `next_with_word`.
     pub fn fill<R: Read>(&mut self, reader: &mut R) -> Result<bool, ReadError>
         ensures filled { (read : List ℕ) × Consumes (R.remaining reader.old) (R.remaining reader.new) read
             × (held self.new.decoder self.new.chunk self.new.buffer
@@ -179,7 +179,7 @@ impl ItemBuffer {
         Ok(bytes)
     }
 
-    /// The decoder. At the end of a stream, and after `Truncated`, it holds all bytes that are in no item.
+    /// The decoder. At the end of a stream, and after `Truncated`, it holds all trailing bytes.
     pub fn decoder(&self) -> &Decoder
         ensures { result.now ≡ self.now.decoder }
     {
@@ -210,7 +210,7 @@ impl ItemBuffer {
         }
     }
 
-    /// Gives the decoder the next of the bytes that are held outside it, of which there are some.
+    /// Gives the decoder the next of the bytes that are held outside it. There is at least one.
     fn push_held(&mut self) -> Result<(), ReadError>
         requires accepted { self.old.decoder.rejected ≡ None }
         requires short { length self.old.decoder.bytes ≤ most_of_a_part }
@@ -302,7 +302,7 @@ impl ItemBuffer {
     }
 }
 
-/// The result at the end of a stream, of which a decoder holds the last bytes.
+/// The result at the end of a stream whose last bytes a decoder holds.
 fn end_of(decoder: &Decoder) -> Result<Option<(u64, Item)>, ReadError>
     ensures result { without_word result ≡ result_at_end decoder.now.bytes }
     ensures word { (bytes : List ℕ) → HasWord result bytes }

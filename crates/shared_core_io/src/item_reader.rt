@@ -46,18 +46,18 @@ impl<R: Read + Drop> ItemReader<R> {
         }
     }
 
-    /// Returns the next item, or `None` if the stream ends before it. It reads only while what was read holds no whole
-    /// item, into blocks of 65,536 bytes, of which one is read into until less than 4,096 are left.
+    /// Returns the next item, or `None` if the stream ends before it. It reads only while what was read holds no
+    /// complete item, into blocks of 65,536 bytes. A block is read into until less than 4,096 bytes of it are left.
     ///
-    /// `TooLong` if the next message is longer than the limit: it comes as soon as its header was read, and from then
-    /// on nothing is held, and each call returns it. `Truncated` if the stream ends within an item; `Failed` if a read
-    /// failed, though an interrupted one is repeated; `OutOfMemory`. After these three nothing that was read is lost:
-    /// a later call goes on from there.
+    /// `TooLong` if the next message is longer than the limit. It comes as soon as the header was read. From then on
+    /// nothing is held, and each call returns it. `Truncated` if the stream ends within an item; `Failed` if a read
+    /// failed, though an interrupted one is repeated; `OutOfMemory`. After these three nothing that was read is lost: a
+    /// later call goes on from there.
     pub fn next_item(&mut self) -> Result<Option<Item>, ReadError>
         ensures read { (read : List ℕ) × Consumes (R.remaining self.old.reader) (R.remaining self.new.reader) read
             × IsRead (with_more (held_in self.old.items) read) (R.remaining self.new.reader) result
             (held_in self.new.items) }
-        // a whole item is returned before anything is read, so it does not wait for what comes after it
+        // a complete item is returned before anything is read, so it does not wait for what comes after it
         ensures idle { (item : AnyItem) (rest : List ℕ) → TakesItem self.old.items.decoder.version
             (held_in self.old.items).bytes item rest → self.new.reader ≡ self.old.reader }
     {

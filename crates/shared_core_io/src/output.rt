@@ -13,7 +13,7 @@ use std::{fmt, io};
 pub struct WriteError {
     /// How many of them were: the first ones.
     pub written: usize,
-    /// Why no more were. A write that was interrupted is no reason, and is repeated.
+    /// Why no more were. A write that was interrupted is not a reason, and is repeated.
     pub reason: io::Error,
 }
 
@@ -30,8 +30,8 @@ impl fmt::Display for WriteError {
 
 impl Error for WriteError {}
 
-/// Writes until all bytes are written, a write fails, or one writes nothing (`WriteZero`). The error says how many
-/// bytes were written, the first ones and not all.
+/// Writes until all bytes are written, a write fails, or one writes nothing (`WriteZero`). The error has the number of
+/// bytes that were written, the first ones and not all.
 pub fn write_whole<W: Write>(output: &mut W, bytes: &[u8]) -> Result<(), WriteError>
     ensures written { Appends (W.contents output.old) (W.contents output.new) (written result bytes.now) }
     ensures part { IfErr result (λ error. error.written < length bytes.now) }

@@ -54,7 +54,7 @@ own_number : (n : ℕ) → includes (n ∷ []) n ≡ true
 own_number n = rw (eq-eqb n n refl) refl
 
 module _ (texts : Bool) (names : List (ℕ × List ℕ)) where
-  -- a field that is no element
+  -- a field that is not an element
   one : (n : ℕ) (k : Kind) (repeated : Bool) (p : Part) (rest : List FieldPart) (ms : Members) (open_list : ℕ)
       → may_recur (k, repeated) ≡ false → eqb open_list n ≡ false
       → fields_tokens texts names 0 rest ++ end_object ∷ [] ≡ members_tokens ms

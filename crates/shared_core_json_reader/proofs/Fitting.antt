@@ -1,4 +1,4 @@
--- What is read fits its schema, and is no deeper than it may be.
+-- What is read fits its schema, and is not deeper than it may be.
 use Rattle.std.proofs.Common.{◌≡◌, ℕ, zero, suc, ◌-◌, ◌%◌, ◌^◌, ◌<◌, ◌≤◌, List, [], ◌∷◌, map, Bool, true, false, cond}
 use Rattle.std.proofs.Common.{not, ◌&&◌, ◌||◌, Option, Some, None, option_map, option_and_then, refl, sym, ap, subst}
 use Rattle.std.proofs.Common.{◌∙◌, arith, eqb, ltb, leb}
@@ -10,7 +10,6 @@ use Rattle.std.proofs.lemmas.Str.{is_utf8-from_IsUtf8, IsUtf8-nil}
 use Rattle.json.specs.Json.{Json, null, boolean, number, string, array, object, Items, no_items, item, Members}
 use Rattle.json.specs.Find.{as_str}
 use Rattle.shared_core_wire.specs.Schema.{Kind, Row, U32, U64, Boolean, Enumeration, Text, ByteString, Message}
-use Rattle.shared_core_wire.specs.Schema.{includes, member_kind, all_numbers}
 use Rattle.shared_core_wire.specs.Schema as schema
 use Rattle.shared_core_wire.specs.Value.{Part, Parts, Absent, Number, Bytes, Nested, Elements, Member, nil, cons}
 use Rattle.shared_core_wire.specs.Value.{default_of}

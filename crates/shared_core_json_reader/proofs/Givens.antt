@@ -1,7 +1,7 @@
 -- What an object gives a field, by the number of the field.
-use Rattle.std.proofs.Common.{◌≡◌, ◌<◌, ◌≤◌, ℕ, zero, suc, List, [], ◌∷◌, map, length, drop, get_or, replicate}
+use Rattle.std.proofs.Common.{◌≡◌, ◌<◌, ℕ, zero, suc, List, [], ◌∷◌, map, drop, get_or}
 use Rattle.std.proofs.Common.{Bool, true, false}
-use Rattle.std.proofs.Common.{cond, ◌&&◌, ◌||◌, Option, Some, None, refl, sym, ap, ap₂, subst, ◌∙◌, eqb, eq-eqb, arith}
+use Rattle.std.proofs.Common.{cond, ◌&&◌, ◌||◌, Option, Some, None, refl, sym, ap, ap₂, ◌∙◌, eqb, eq-eqb, arith}
 use Rattle.std.proofs.Common.{◌≢◌, Result, Ok, Err}
 use Rattle.std.specs.Option.{is_some, option_or}
 use Rattle.std.specs.Result.{IsErrAnd}
@@ -157,7 +157,7 @@ lacks_member i xs ys x ms places h r e l = lacks_given x.number (kind_view x.kin
 
 -- ---- the keys that are known
 
--- the first key that finds no number is the first one that is no name of a field
+-- the first key that finds no number is the first one that is not a name of a field
 pub same_unknown : (s : ℕ) (ms : Members) → first_unplaced (number_of s) ms ≡ first_unknown (named_rows s) ms
 same_unknown s no_members = refl
 same_unknown s (member k j ms) =

@@ -1,4 +1,4 @@
--- Numbers that are written with digits alone.
+-- Numbers that are written only with digits.
 use Rattle.std.proofs.Common.{◌≡◌, ◌≢◌, ℕ, ◌+◌, ◌-◌, ◌*◌, ◌^◌, ◌<◌, ◌≤◌, List, length, take, get_or}
 use Rattle.std.proofs.Common.{false, Some, refl, sym, ap, subst, ◌∙◌, arith, decimal}
 use Rattle.std.specs.Int.{IsInRange}

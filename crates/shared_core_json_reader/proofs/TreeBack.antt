@@ -7,7 +7,7 @@ use Rattle.std.proofs.lemmas.Bool.{eqb-true, eqb-false, ne_eqb}
 use Rattle.base64.specs.GeneralPurpose.{IsBytes}
 use Rattle.json.specs.Json.{Json, Members}
 use Rattle.shared_core_wire.specs.Schema.{Kind, Row, U32, U64, Boolean, Enumeration, Text, ByteString, Message}
-use Rattle.shared_core_wire.specs.Schema.{table_of, includes, member_kind, are_distinct, numbers, all_numbers}
+use Rattle.shared_core_wire.specs.Schema.{includes, member_kind, are_distinct, numbers, all_numbers}
 use Rattle.shared_core_wire.specs.Schema as schema
 use Rattle.shared_core_wire.specs.Value.{Part, Parts, Absent, Number, Bytes, Nested, Elements, Member, nil, cons}
 use Rattle.shared_core_wire.specs.Value.{default_of}

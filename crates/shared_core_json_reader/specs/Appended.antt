@@ -70,7 +70,7 @@ abbrev pub held_after : Bool → Option Json → Bool
 held_after held None = held
 held_after held (Some j) = true
 
--- The record of a oneof, of which a member is held before these fields or not.
+-- The record of a oneof. A member of it is held before these fields, or none is.
 abbrev pub oneof_bytes : (ℕ → Json → Option (List ℕ)) → Members → Bool → List NamedField → Option (List ℕ)
 oneof_bytes nested ms held [] = Some []
 oneof_bytes nested ms held (f ∷ fs) =

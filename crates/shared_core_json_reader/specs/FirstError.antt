@@ -116,7 +116,7 @@ given_error read f None = Some (RepeatedMember, Member f.name ∷ [])
 given_error read f (Some None) = None
 given_error read f (Some (Some j)) = within (Member f.name) (read j)
 
--- The error of a member of a oneof, of which a member is there before or not.
+-- The error of a member of a oneof. A member of the oneof is there before, or none is.
 abbrev pub member_error : (ℕ → Json → Option PathError) → Bool → NamedField → Json → Option PathError
 member_error nested true f j = Some (SeveralMembers, [])
 member_error nested false f j = field_error nested f j
@@ -127,7 +127,7 @@ holds_after held None = held
 holds_after held (Some None) = held
 holds_after held (Some (Some j)) = true
 
--- The error of a oneof, of which a member is there before these fields or not.
+-- The error of a oneof. A member of it is there before these fields, or none is.
 abbrev pub oneof_error : (ℕ → Json → Option PathError) → Members → Bool → List NamedField → Option PathError
 oneof_error nested ms held [] = None
 oneof_error nested ms held (f ∷ fs) =
@@ -148,12 +148,12 @@ rows_error nested ms (r ∷ rs) = option_or (row_error nested ms r) (rows_error 
 
 -- ---- messages
 
--- The first key of an object that is no name of a field of the rows.
+-- The first key of an object that is not a name of a field of the rows.
 abbrev pub first_unknown : List NamedRow → Members → Option (List ℕ)
 first_unknown rows no_members = None
 first_unknown rows (member k j ms) = if names_row rows k then first_unknown rows ms else Some k
 
--- The error of the members of an object, of which this is the first unknown key.
+-- The error of the members of an object. This is its first unknown key.
 abbrev pub known_error : (ℕ → Json → Option PathError) → List NamedRow → Members → Option (List ℕ) → Option PathError
 known_error nested rows ms (Some k) = Some (UnknownMember, Member k ∷ [])
 known_error nested rows ms None = rows_error nested ms rows

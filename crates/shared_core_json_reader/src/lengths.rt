@@ -1,6 +1,6 @@
 //! Lengths put before what they count.
 
-ghost use Rattle.std.specs.Prelude.{◌≡◌, ◌+◌, ◌-◌, ◌*◌, ◌<◌, ◌≤◌, [], ◌∷◌, ◌++◌, OnOk, length, max, take, drop};
+ghost use Rattle.std.specs.Prelude.{◌≡◌, ◌+◌, ◌-◌, ◌<◌, ◌≤◌, [], ◌∷◌, ◌++◌, OnOk, length, max, take, drop};
 ghost use Rattle.shared_core_wire.specs.Encoding.{shortest_varint, key_bytes};
 ghost use Rattle.shared_core_wire.specs.WrittenRecords.{number_record, content_size, at_most_64_bits};
 
@@ -69,7 +69,7 @@ pub fn number_len(plain: bool, number: u32, value: u64) -> u64
 }
 
 /// The number of bytes of the record of some bytes, by how many these are, or the greatest number of 64 bits if that is
-/// fewer; no bytes are left out in a plain field.
+/// fewer. No bytes are left out in a plain field.
 pub fn content_len(plain: bool, number: u32, length: u64) -> u64
     ensures { result ≡ at_most_64_bits (content_size plain number length) }
 {

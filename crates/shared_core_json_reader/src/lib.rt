@@ -1,8 +1,8 @@
 //! JSON read as payloads: the canonical payload that a text of proto3's JSON form means, by the names of
 //! proto/journal.proto.
 //!
-//! A text is read into a table of JSON (`json_table`), and the table is gone over once, by the rows of schemas that
-//! `shared_core_codec` has: what each row is given is appended as records, in the order of the schema (`payload`).
+//! A text is read into a table of JSON (`json_table`), and the table is traversed once, by the rows of schemas that
+//! `shared_core_codec` has. What each row is given is appended as records, in the order of the schema (`payload`).
 #![tactic(auto)]
 
 mod bytes;

@@ -195,7 +195,7 @@ fn measure_value<'t, 'a>(
     Ok(single_len(plain, schema, field, value))
 }
 
-/// The length of the record of a value that is no message.
+/// The length of the record of a value that is not a message.
 fn single_len<'t, 'a>(plain: bool, schema: u32, field: &Field, value: &Node<'t, 'a>) -> u64 {
     match field.kind {
         Kind::Text => content_len(plain, field.number, text_len(value)),

@@ -6,7 +6,7 @@
 //! The original name of a field is defined by that in lower camel case: for a capital letter an underscore and the
 //! small letter. So one table of names serves for both.
 
-ghost use Rattle.std.specs.Prelude.{◌≡◌, true, false, Some, None, map, option_map, IfErr, IfSome, IsTrue, OnOk};
+ghost use Rattle.std.specs.Prelude.{◌≡◌, true, false, Some, None, map, option_map, IfErr, IsTrue, OnOk};
 ghost use Rattle.std.specs.Prelude.{MatchResult, replicate};
 ghost use Rattle.std.specs.Str.{bytes_eq};
 ghost use Rattle.json.specs.Json.{no_members};
@@ -176,7 +176,7 @@ impl Names for FieldNames {
     }
 }
 
-/// Finds where an object of a schema has the values of its fields. The error is the first key that is no name of a
+/// Finds where an object of a schema has the values of its fields. The error is the first key that is not a name of a
 /// field.
 #[inline(always)]
 pub fn find_places<'a>(

@@ -199,7 +199,7 @@ pub fn payload_into(
 }
 
 /// Returns the canonical payload of what a JSON value means for a schema, by its index, as `payload_of` does for a
-/// text. Its errors are those of `Reason` but for `NotJson`, with a path that begins in the value.
+/// text. Its errors are those of `Reason` except for `NotJson`, with a path that begins in the value.
 pub fn payload_of_node(
     alloc: Global,
     schema: u32,
@@ -228,10 +228,10 @@ pub fn payload_of_node(
 
 /// Returns the canonical payload of what a JSON text means for the schema at this index of the table.
 ///
-/// The text is proto3's JSON form of the message: an object with the members of its fields in any order, by their names
-/// in lower camel case or by their original ones. A number is a number or a string of one, also with a point or an
-/// exponent if it is whole; a value of an enum is its number or its name; bytes are base64, in the standard alphabet or
-/// that of URLs, with padding or without; `null` is absent. The errors are those of `Reason`.
+/// The text is proto3's JSON form of the message. It is an object with the members of its fields in any order, by their
+/// names in lower camel case or by their original ones. A number is a number or a string of one, also with a point or
+/// an exponent if it is an integer. A value of an enum is its number or its name. Bytes are base64, in the standard
+/// alphabet or that of URLs, with padding or without; `null` is absent. The errors are those of `Reason`.
 pub fn payload_of(alloc: Global, schema: u32, text: &[u8]) -> Result<Vec<u8>, JsonReadError>
     ensures ok { IfOk result (λ payload. text_payload schema text.now ≡ Some payload.items) }
     // the payload is accepted, and means what the text means

@@ -4,7 +4,7 @@
 //! and `put_length` of `short` and `lengths` puts it there. After an error no content of the buffer is promised: it was
 //! empty when the reader began, and `payload_into` says so to the caller.
 
-ghost use Rattle.std.specs.Prelude.{◌≡◌, ◌+◌, ◌*◌, ◌<◌, ◌++◌, IfOk, OnOk, length};
+ghost use Rattle.std.specs.Prelude.{◌≡◌, ◌+◌, ◌<◌, ◌++◌, IfOk, OnOk, length};
 ghost use Rattle.shared_core_wire.specs.Encoding.{shortest_varint, key_bytes};
 ghost use Rattle.shared_core_wire.specs.WrittenRecords.{number_record, content_record};
 

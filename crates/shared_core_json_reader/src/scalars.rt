@@ -50,7 +50,7 @@ fn skip_minus(text: &[u8]) -> &[u8]
 /// How many digits a number may have that is surely below 2 ^ 64.
 const SHORT: usize = 19;
 
-/// The number that a text writes with digits alone, as most numbers are written: with few, of which the first is not 0.
+/// The number that a text writes only with digits, as most numbers are written: with few, the first of them not 0.
 #[inline(always)]
 fn short_number(text: &[u8]) -> Option<u64>
     ensures { IfSome result (λ number. (number < 2 ^ 64) × (text.now ≡ decimal number)) }

@@ -1,7 +1,7 @@
 //! Escapes for the bytes between the quotes of `b".."`.
 //!
-//! The kit's `Bytes` prints the same by `Debug`, but its contract leaves the text open, so a difference that holds it
-//! could not be exact.
+//! the standard library's `Bytes` prints the same by `Debug`, but its contract leaves the text open, so a difference
+//! that holds it could not be exact.
 
 ghost use Rattle.std.specs.Prelude.{◌≡◌, ◌<◌, false};
 ghost use Rattle.std.specs.Fmt.{WritesOnOk, digit_glyph};

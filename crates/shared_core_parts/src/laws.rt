@@ -1,5 +1,5 @@
-//! Laws of conversions, and of the equality of records, oneofs and ids, by the contracts of these alone. Each law is
-//! the contract of a function that makes the calls that it speaks of.
+//! Laws of conversions, and of the equality of records, oneofs and ids, proved only from the contracts of these. Each
+//! law is the contract of a function that makes the calls that it speaks of.
 
 ghost use Rattle.std.specs.Prelude.{◌≡◌, ◌↔◌, IsTrue, IfOk, Ok, fold};
 ghost use Rattle.shared_core_parts.specs.Conversions.{failure_contents, terminal_contents, terminal_contents_of};
@@ -23,7 +23,7 @@ pub fn terminal_failures_convert_back(
     terminal: TerminalFailure,
 ) -> Result<TerminalFailure, OutOfMemory>
     ensures ok { IfOk result (λ back. terminal_contents back ≡ terminal_contents terminal) }
-    // for all results that the two calls may have: calls that always run out of memory would meet `ok` alone
+    // for all results that the two calls may have: calls that always run out of memory would meet `ok` by itself
     ensures any { (failure : AnyFailure) (back : AnyTerminalFailure)
         → failure_contents failure ≡ terminal_contents terminal
         → terminal_contents back ≡ terminal_contents_of failure → terminal_contents back ≡ terminal_contents terminal }

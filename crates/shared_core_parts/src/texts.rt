@@ -91,7 +91,7 @@ impl<'a> fmt::Display for StateKeysText<'a> {
     }
 }
 
-// a loop of its own beside `write_joined`, whose trait of items cannot be given to the `Bytes` of another crate
+// a loop in addition to `write_joined`, whose trait of items cannot be given to the `Bytes` of another crate
 fn write_keys<W: fmt::Write>(f: &mut fmt::Formatter<W>, keys: &[Bytes]) -> fmt::Result
     ensures { WritesOnOk W.write_str_gives f.old result (join_by state_key_text comma_space keys.now) f.new }
 {

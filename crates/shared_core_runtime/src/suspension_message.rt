@@ -19,7 +19,7 @@ use shared_core_parts::future::Future;
 use shared_core_wire::error::WireError;
 use std::alloc::Global;
 
-/// Suspends the invocation until something that it awaits has come.
+/// Suspends the invocation until something that it awaits is there.
 #[derive(Debug, PartialEq, Drop)]
 pub struct SuspensionMessage {
     /// What is awaited.

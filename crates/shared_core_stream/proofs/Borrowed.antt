@@ -11,7 +11,7 @@ use Rattle.shared_core_stream.specs.Borrowed.{Announces, IsAtFront, IsMissing, a
 use Rattle.shared_core_stream.specs.Borrowed.{kind_announced}
 use Rattle.shared_core_stream.proofs.Items.{item_is_long, none_partial, takes_announced}
 
--- fewer than eight bytes are no item
+-- fewer than eight bytes are not an item
 pub header_missing : (version : Version) (bytes : List ℕ) → length bytes < 8 → IsMissing version bytes
     (8 - length bytes)
 header_missing version bytes short = record {

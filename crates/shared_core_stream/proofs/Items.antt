@@ -116,7 +116,7 @@ module _ (version : Version) where
           by_version true skips = refl
           by_version false skips = let means = rw (untyped, skips) at is.means in cc
 
-  -- the code of an unknown item is no type's
+  -- the code of an unknown item is unassigned
   pub unknown_item_is_untyped : (bytes : List ℕ) (code : ℕ) → IsItem version bytes (Unknown code) → type_of code ≡ None
   unfolding item_of header_of
   unknown_item_is_untyped bytes code is = by_type (type_of (word_code (front_word bytes))) refl

@@ -174,7 +174,7 @@ module _ (state : Unread) (version : Version) (bytes : List ℕ) (limit offset :
     )
 
     module _ (bytes_is : bytes ≡ state.bytes) (offset_is : offset ≡ state.offset) where
-      -- no whole item is left
+      -- no complete item is left
       pub none_returned : NoItemBegins state.version state.bytes → ReturnsWithin state (Ok None) (record
           { version = version; bytes = bytes; limit = limit; offset = offset; rejected = rejected })
       none_returned no_more = (

@@ -48,12 +48,12 @@ pub record IsAtFront (version : Version) (bytes : List ℕ) (item : ItemRef) (re
   pub taken : TakesItem version bytes (item_borrowed item) rest
 
 -- The least number of missing bytes: of a header that is not whole, otherwise of the payload that it announces; 0 if
--- the bytes begin with a whole item.
+-- the bytes begin with a complete item.
 abbrev pub missing_bytes : Version → List ℕ → ℕ
 missing_bytes version bytes =
     if nat_lt (length bytes) 8 then 8 - length bytes else (8 + body_length version (front_word bytes)) - length bytes
 
--- This many bytes are missing, at least one: with fewer bytes appended, no whole item is at the front.
+-- This many bytes are missing, at least one: with fewer bytes appended, no complete item is at the front.
 pub record IsMissing (version : Version) (bytes : List ℕ) (missing : ℕ) : Type 0 where
   pub counted : missing ≡ missing_bytes version bytes
   pub some : 0 < missing
@@ -64,7 +64,7 @@ abbrev pub too_long_for : ItemRefs → Option MessageTooLong
 too_long_for items = too_long_at items.version items.limit (items.count - length items.rest.now) items.rest.now
 
 -- `next` changed old to new, of the same version, the same limit and the same bytes. `None`: the message at the front
--- of the bytes that were left is longer than the limit, or no whole item is left; nothing changes. An item: it is at
+-- of the bytes that were left is longer than the limit, or no complete item is left; nothing changes. An item: it is at
 -- the front of those bytes, within the limit, and the bytes after it are left.
 abbrev pub GivesBorrowed : ItemRefs → Option ItemRef → ItemRefs → Type 0
 GivesBorrowed old None new =

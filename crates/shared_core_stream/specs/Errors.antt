@@ -26,7 +26,7 @@ abbrev pub pieces_error_text : PiecesError → List ℕ
 pieces_error_text chunks.TooLong = codes "the chunks have more than 2^64 - 1 bytes"
 pieces_error_text chunks.OutOfMemory = codes "out of memory"
 
--- The text of the error of bytes that do not begin with a whole item.
+-- The text of the error of bytes that do not begin with a complete item.
 abbrev pub missing_bytes_text : MissingBytes → List ℕ
 missing_bytes_text missing =
     codes "at least " ++ (decimal missing.count ++ codes " bytes are missing of an item")

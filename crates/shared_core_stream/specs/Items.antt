@@ -18,21 +18,21 @@ use Rattle.shared_core_stream.specs.declared.encoding.error.PushError.TheVariant
 unfoldable pub front_word : List ℕ → ℕ
 front_word bytes = from_be_bytes w64 (take 8 bytes)
 
--- The number of bytes of an item after its first eight: the length in its header; for a code that is no type's, the
--- length in its word if the version skips such a message, otherwise 0.
+-- The number of bytes of an item after its first eight: the length in its header; for an unassigned code, the length in
+-- its word if the version skips such a message, otherwise 0.
 unfoldable pub body_length : Version → ℕ → ℕ
 body_length version word =
     option_map_or (λ header. header.length) (header_of word)
     (if skips_unknown_messages version then word_length word else 0)
 
--- The item that a word and the bytes after it are: a message with its payload; or a code that is no type's, with its
--- payload if the version skips such a message, otherwise alone.
+-- The item that a word and the bytes after it are: a message with its payload; or an unassigned code, with its payload
+-- if the version skips such a message, otherwise without one.
 unfoldable pub item_of : Version → ℕ → List ℕ → Item
 item_of version word body =
     option_map_or (λ header. Message (record { header = header; payload = body })) (header_of word)
     (if skips_unknown_messages version then Skipped (word_code word) body else Unknown (word_code word))
 
--- The bytes encode the item: eight whose word says what it is, and as many after them as that word says.
+-- The bytes encode the item: eight whose word determines the item, and after them as many as that word has it.
 pub record IsItem (version : Version) (bytes : List ℕ) (item : Item) : Type 0 where
   pub whole : length bytes ≡ 8 + body_length version (front_word bytes)
   pub means : item ≡ item_of version (front_word bytes) (drop 8 bytes)
@@ -48,7 +48,7 @@ AreItems version bytes (item ∷ items) =
 abbrev pub TakesItem : Version → List ℕ → Item → List ℕ → Type 0
 TakesItem version old item new = (first : List ℕ) × IsItem version first item × (old ≡ first ++ new)
 
--- No whole item is at the front of the bytes.
+-- No complete item is at the front of the bytes.
 abbrev pub NoItemBegins : Version → List ℕ → Type 0
 NoItemBegins version bytes = (item : Item) (rest : List ℕ) → TakesItem version bytes item rest → ⊥
 
@@ -74,7 +74,7 @@ abbrev pub HasPayload : Item → Type 0
 HasPayload (Unknown code) = ⊥
 HasPayload item = Unit {0}
 
--- A whole item with a payload is next.
+-- A complete item with a payload is next.
 abbrev pub PayloadIsNext : Version → List ℕ → Type 0
 PayloadIsNext version bytes = (item : Item) × (rest : List ℕ) × TakesItem version bytes item rest × HasPayload item
 

@@ -26,7 +26,7 @@ too_long_by version limit offset word =
     then Some (record { code = word_code word; length = body_length version word; limit = limit; offset = offset })
     else None
 
--- The message that the bytes at an offset begin with, if it is longer than the limit. Its payload need not have come.
+-- The message that the bytes at an offset begin with, if it is longer than the limit. Its payload need not be complete.
 abbrev pub too_long_at : Version → ℕ → ℕ → List ℕ → Option MessageTooLong
 too_long_at version limit offset bytes =
     if nat_lt (length bytes) 8 then None else too_long_by version limit offset (front_word bytes)
@@ -61,7 +61,7 @@ after_item state bytes =
     record state { bytes = bytes; offset = offset_after state.offset (length state.bytes - length bytes) }
 
 -- The next item was asked for. If a message was rejected, or the one at the front is too long, the error is `TooLong`,
--- and nothing is held any more. Otherwise: `None` if and only if no whole item is at the front, and nothing changes;
+-- and nothing is held any more. Otherwise: `None` if and only if no complete item is at the front, and nothing changes;
 -- the item at the front, which is taken; or an allocation failed for an item with a payload, and nothing changes.
 abbrev pub ReturnsWithin : Unread → Result (Option Item) ItemError → Unread → Type 0
 ReturnsWithin old (Err error.TooLong) new =

@@ -12,7 +12,7 @@ pub record Unread : Type 0 where
   pub offset : ℕ
   pub rejected : Option MessageTooLong
 
--- A decoder of this version and this limit to which no byte has come.
+-- A decoder of this version and this limit that has received no byte.
 abbrev pub fresh : Version → ℕ → Unread
 fresh version limit = record { version = version; bytes = []; limit = limit; offset = 0; rejected = None }
 
@@ -30,6 +30,6 @@ abbrev pub held_length : Option (List ℕ) → ℕ
 held_length None = 0
 held_length (Some head) = 8
 
--- The offset of the pending bytes, if this many have come and so many of them are pending.
+-- The offset of the pending bytes, if this many were received, and that many of them are pending.
 abbrev pub offset_of : ℕ → ℕ → ℕ
 offset_of pushed pending = min (pushed - pending) (2 ^ 64 - 1)

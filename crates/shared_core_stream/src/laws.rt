@@ -31,8 +31,8 @@ pub fn split_exists()
         → (items : List AnyItem) × (rest : List ℕ) × SplitsInto version stream items rest }
 {}
 
-/// The version decides what a code that is no type's is: an unknown header, at a version that does not skip such
-/// messages, and otherwise a skipped message. No stream has both.
+/// The version decides what an unassigned code is: an unknown header, at a version that does not skip such messages,
+/// and otherwise a skipped message. No stream has both.
 pub fn version_decides_untyped_items()
     ensures unknown { (version : Version) (bytes : List ℕ) (code : ℕ)
         → IsItem version bytes (Unknown code) → skips_unknown_messages version ≡ false }
@@ -57,7 +57,7 @@ pub fn taken_item_is_the_first()
         → SplitsInto version old (item ∷ items) rest }
 {}
 
-/// A stream that begins with no whole item splits into no items, and all of it is the rest.
+/// A stream that begins with no complete item splits into no items, and all of it is the rest.
 #[tactic(auto, using(crate::proofs::Splits::none_is_all_rest))]
 pub fn stream_without_items_is_rest()
     ensures { (version : Version) (stream : List ℕ) → NoItemBegins version stream

@@ -1,4 +1,4 @@
-//! The bytes that have come and that no item has taken.
+//! The bytes that were received and that no item has taken.
 
 ghost use Rattle.std.specs.Prelude.{◌≡◌, ◌+◌, ◌^◌, ◌<◌, ◌≤◌, ◌↔◌, ◌++◌, [], length, IsTrue};
 ghost use Rattle.std.specs.Prelude.{take, drop, IfOk, IfErr, IsOk, OnOk, OnErr};
@@ -157,7 +157,7 @@ fn take_head_of(block: &mut BytesMut) -> [u8; 8]
     head
 }
 
-/// Takes the first `count` bytes, of which not all are shared: cut from the block if none are, otherwise joined in one
+/// Takes the first `count` bytes if not all of them are shared: cut from the block if none are, otherwise joined in one
 /// copy. An `Err` takes nothing.
 fn split_both_to(
     chunks: &mut SharedChunks,

@@ -140,7 +140,7 @@ impl SharedChunks {
         Ok(bytes)
     }
 
-    /// A copy of the first `count` bytes, of which the front segment has a part.
+    /// A copy of the first `count` bytes. The front segment has a part of them.
     fn joined(&self, count: usize) -> Result<Bytes, AllocError>
         requires { count ≤ length self.now }
         ensures { IfOk result (λ bytes. bytes ≡ take count self.now) }

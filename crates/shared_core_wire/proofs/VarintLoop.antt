@@ -40,7 +40,7 @@ with_low_none low scale most i lt =
 pub scale_fits : (i : ℕ) → i < 9 → 128 ^ i ≤ 2 ^ 56
 scale_fits i h = pow-le-pow_right {n = 128} (lit< tt) {i = i} {j = 8} (omega arith)
 
--- what fits beside a part below the scale
+-- what fits next to a part below the scale
 pub fits_above : (scale low b : ℕ) → low < scale → b < 128 → low + scale * b < scale * 128
 fits_above scale low b h k = omega (arith, mul-le-mul_left scale (let e : b + 1 ≤ 128 = omega arith in e))
 

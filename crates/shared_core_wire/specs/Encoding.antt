@@ -1,4 +1,4 @@
--- The shortest encodings, of which canonical payloads are made.
+-- The shortest encodings. Canonical payloads consist of them.
 use Rattle.std.specs.Prelude.{ℕ, zero, suc, ◌+◌, ◌*◌, ◌/◌, ◌%◌, ◌^◌, Bool, ◌&&◌, List, [], ◌∷◌, ◌++◌, length, nat_lt}
 use Rattle.std.specs.Prelude.{if◌then◌else◌, flat_map}
 use Rattle.shared_core_wire.specs.Grammar.{Varint, Fixed64, Length, Group, Fixed32, FieldRecord}

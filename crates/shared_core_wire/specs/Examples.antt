@@ -137,7 +137,7 @@ abbrev pub a_future : List ℕ → List ℕ → Parts → Parts → Parts
 a_future completions signals names nested = cons (Elements (numbers_of completions))
     (cons (Elements (numbers_of signals)) (cons (Elements names) (two (Elements nested) (Number 0))))
 
--- Lists of completions alone.
+-- Lists of completions only.
 abbrev pub completions_alone : List ℕ → Parts
 completions_alone completions = cons (Elements (numbers_of completions)) (two (Elements nil) (Elements nil))
 

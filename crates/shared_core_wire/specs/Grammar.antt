@@ -62,7 +62,7 @@ pub record IsKey (bytes : List ℕ) (number wire : ℕ) : Type 0 where
   pub typed : wire < 8
   pub fits : 8 * number + wire < 2 ^ 32
 
--- The bytes after the key of a record with this number encode this value; IsContent says what a group may contain.
+-- The bytes after the key of a record with this number encode this value; IsContent defines what a group may contain.
 abbrev pub IsRecordBody : (List ℕ → Type 0) → List ℕ → ℕ → RecordValue → Type 0
 IsRecordBody IsContent bytes number (Varint n) = IsVarint bytes n
 IsRecordBody IsContent bytes number (Fixed64 bs) = (bytes ≡ bs) × (length bs ≡ 8)

@@ -99,7 +99,7 @@ module _ (table : Table) (nested : NestedOverlay) where
   singular_over k p (w ∷ ws) = singular_of k p w ws
 
   -- The elements that one occurrence adds to a repeated field: each number of a packed run, or one element; a message
-  -- is the meaning of its own bytes alone.
+  -- is the meaning only of its own bytes.
   abbrev pub elements_of : Kind → RecordValue → Parts
   elements_of U32 (Length bytes) = packed_elements (packed_numbers bytes)
   elements_of (Message s) (Length bytes) = one_part (Nested (nested s (empty_value (table s)) bytes))

@@ -26,7 +26,7 @@ IsValueWithin payload from to (Length bytes) = IsSliceWithin payload from to byt
 IsValueWithin payload from to (Group bytes) = IsSliceWithin payload from to bytes
 IsValueWithin payload from to (Fixed32 bytes) = IsSliceWithin payload from to bytes
 
--- The items that the bytes of the payload from an offset on give, where Encodes says which bytes encode a record.
+-- The items that the bytes of the payload from an offset on give, where Encodes defines which bytes encode a record.
 -- Records come in order, and the span of each begins where the one before ended; the slice of its span encodes it, and
 -- its value's slice is part of that. The list ends without Malformed at the payload's end. Malformed comes where bytes
 -- are left that do not begin with a record, and it is the last item.

@@ -1,7 +1,7 @@
 //! An iterator over the records of a payload.
 //!
 //! An iterator is specified by the list of what it will still yield: one relation says all of it (`AreRecordsFrom`),
-//! and a computed form beside it serves proofs about loops.
+//! and a computed form in addition serves proofs about loops.
 
 ghost use Rattle.std.specs.Prelude.{◌≡◌, ◌≤◌, ◌+◌, ◌*◌, ◌↔◌, List, length, map, Ok};
 

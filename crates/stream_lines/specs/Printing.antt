@@ -1,5 +1,5 @@
--- What is written when the printing of a stream ends: a line for each of its items, and last one for the bytes that are
--- in none.
+-- What is written when the printing of a stream ends: one line for each of its items, and last one for the bytes that
+-- are in none.
 use Rattle.std.specs.Prelude.{◌≡◌, ◌⊎◌, ◌≤◌, ℕ, ◌+◌, All, Some, List, [], ◌∷◌, ◌++◌, length, drop, codes}
 use Rattle.std.specs.Prelude.{Result, Ok, Err, Option, None}
 use Rattle.std.specs.Option.{option_map, option_or}
@@ -36,11 +36,11 @@ lines line at bytes (item ∷ items) =
 abbrev pub all_lines : (ℕ → ℕ → Item → List ℕ) → (ℕ → List ℕ → List ℕ) → List ℕ → List Item → List ℕ → List ℕ
 all_lines line last stream items rest = lines line 0 stream items ++ last (items_size items) rest
 
--- The trouble of an item, with the offset at which the item begins.
+-- The error of an item, with the offset at which the item begins.
 abbrev pub trouble_at : (Item → Option Trouble) → ℕ → Item → Option (ℕ × Trouble)
 trouble_at trouble at item = option_map (λ what. (at, what)) (trouble item)
 
--- The first trouble of items, the first of which begins at an offset.
+-- The first error of items, the first of which begins at an offset.
 abbrev pub first_trouble : (Item → Option Trouble) → ℕ → List Item → Option (ℕ × Trouble)
 first_trouble trouble at [] = None
 first_trouble trouble at (item ∷ items) = option_or (trouble_at trouble at item)

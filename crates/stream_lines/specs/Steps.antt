@@ -11,7 +11,7 @@ use Rattle.stream_lines.specs.Printing.{first_trouble, items_size, lines}
 use Rattle.stream_lines.specs.declared.report.Trouble.{Trouble}
 
 -- Items at the front of the bytes, the first of which begins at an offset, each within the limit, were added to the
--- text, to the offset and to the first trouble; these bytes are left.
+-- text, to the offset and to the first error; these bytes are left.
 pub record Added (line : ℕ → ℕ → Item → List ℕ) (trouble : Item → Option Trouble) (version : Version) (limit : ℕ)
     (at : ℕ) (before : Option (ℕ × Trouble)) (text : List ℕ) (bytes : List ℕ) (offset : ℕ)
     (found : Option (ℕ × Trouble)) (longer rest : List ℕ) : Type 0 where
@@ -32,7 +32,7 @@ holding version limit offset bytes = record {
   rejected = None;
 }
 
--- No whole item is at the front of these bytes, nor a message that is longer than the limit, and they are held.
+-- No complete item is at the front of these bytes, nor a message that is longer than the limit, and they are held.
 abbrev pub AreLeft : Version → ℕ → ℕ → List ℕ → Unread → Type 0
 AreLeft version limit offset rest state =
     NoItemBegins version rest × (too_long_at version limit (offset_after 0 offset) rest ≡ None)

@@ -1,4 +1,4 @@
-//! Printing a stream as it comes: a line for each of its items, and last one for the bytes that are in none.
+//! Printing a stream as it comes: one line for each of its items, and last one for the bytes that are in none.
 #![tactic(auto)]
 
 pub mod error;

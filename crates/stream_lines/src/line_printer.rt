@@ -19,19 +19,19 @@ pub trait LinePrinter {
     /// printed.
     ghost item_line: { Self → ℕ → ℕ → AnyItem → List ℕ };
 
-    /// The last line, by the offset of the bytes that are in no item, and these bytes.
+    /// The last line, by the offset of the trailing bytes, and these bytes.
     ghost rest_line: { Self → ℕ → List ℕ → List ℕ };
 
     /// Holds of the items for which `print_item` may return `TooLong`.
     ghost is_long: { Self → AnyItem → Type 0 };
 
-    /// The trouble of an item, if a report has it.
+    /// The error of an item, if a report has it.
     ghost item_trouble: { Self → AnyItem → Option AnyTrouble };
 
     /// Returns empty buffers.
     fn scratch(&self, alloc: Global) -> Self::Scratch;
 
-    /// The trouble of an item, if the report is to have it.
+    /// The error of an item, if the report is to have it.
     fn trouble(&self, item: &Item) -> Option<Trouble>
         ensures trouble { result ≡ item_trouble self.now item.now };
 
@@ -49,7 +49,7 @@ pub trait LinePrinter {
         ensures line { OnOk result (lines.new.items ≡ lines.old.items ++ item_line self.now offset word item) }
         ensures lack { IfErr result (IsLack (is_long self.now item)) };
 
-    /// Appends the last line. The bytes that are in no item are those that the decoder has pending.
+    /// Appends the last line. The trailing bytes are those that the decoder has pending.
     fn print_rest(
         &self,
         alloc: Global,

@@ -2,8 +2,8 @@
 //!
 //! It stands on what the library holds of a stream. The lines of the items that a read completes are made in one text,
 //! which is reused, and are written before anything more is read. If an allocation fails among them, none of them is
-//! written, so that what is written is whole lines; the last line too is whole before any of it is written. An item is
-//! taken in one place, so that all of that is compiled into the loop.
+//! written, so that what is written is complete lines; the last line too is complete before any of it is written. An
+//! item is taken in one place, so that all of that is compiled into the loop.
 //!
 //! What calls `print_lines` has its own lines of contract on what is read and written, each of its own reader and
 //! writer. `ArePrinted` takes the four definitions of a printer one by one, since those below it take one or two.
@@ -27,17 +27,16 @@ use shared_core_stream::encoding::{Item, MessageTooLong};
 use std::alloc::Global;
 use std::io::{Read, Write};
 
-/// Writes a line for each item of a stream of a version, of at least V5, and at its end a line for the bytes that are
-/// in no item.
+/// Writes one line per item of a stream of a version, of at least V5, and at its end a line for the trailing bytes.
 ///
 /// It reads at most `chunk` bytes at a time, from 1 to 65,536, and writes the lines of the items that it has read
-/// before it reads on. `Ok` comes only if the reader has no byte left, and then all is written; the report has
-/// the first trouble that the printer finds in an item, and the bytes that are in no item. After `Input` the lines of
-/// all items of what was read are written; after `Output` a prefix of these lines, or of all if the input had ended;
-/// after `OutOfMemory` and `TooLong` the lines of the first items. `TooLong` comes only if one of the items after them
-/// is too long for a line. `MessageTooLong` comes after the lines of the items before the first message whose payload
-/// is longer than the limit, as soon as its header has come; a limit of `u32::MAX` is none. Whatever is returned, no
-/// line is of a message that is longer, or of what comes after one.
+/// before it reads on. `Ok` comes only if the reader has no byte left, and then all is written. The report has the
+/// first error that the printer finds in an item, and the trailing bytes. After `Input` the lines of all items of what
+/// was read are written; after `Output` a prefix of these lines, or of all if the input had ended; after `OutOfMemory`
+/// and `TooLong` the lines of the first items. `TooLong` comes only if one of the items after them is too long for a
+/// line. `MessageTooLong` comes after the lines of the items before the first message whose payload is longer than the
+/// limit, as soon as its header is received; `u32::MAX` means no limit. Whatever is returned, no line is of a message
+/// that is longer, or of what comes after one.
 pub fn print_lines<P: LinePrinter, R: Read, W: Write>(
     alloc: Global,
     version: Version,
@@ -96,7 +95,7 @@ struct Lines {
     text: Vec<u8>,
     /// Where the next item begins. 2^64 - 1 reads may give more bytes than 64 bits can count.
     offset: u128,
-    /// The first trouble.
+    /// The first error.
     trouble: Option<(u128, Trouble)>,
 }
 
@@ -157,7 +156,7 @@ impl Lines {
     }
 }
 
-/// The first trouble: the one that was found before, otherwise that of this item.
+/// The first error: the one that was found before, otherwise that of this item.
 fn first<P: LinePrinter>(
     printer: &P,
     offset: u128,

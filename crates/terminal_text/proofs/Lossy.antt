@@ -16,7 +16,7 @@ front_shown text front (same, is) = same ∙ sym (utf8_lossy-IsUtf8 front is)
 pub whole_shown : (text bytes : List ℕ) → (text ≡ bytes) × IsUtf8 bytes → text ≡ utf8_lossy (take (length bytes) bytes)
 whole_shown text bytes is = rw take-length (front_shown text bytes is)
 
--- nothing is left after a byte that is no text
+-- nothing is left after a byte that is not text
 after_one : (byte : ℕ) → drop (0 + unwrap_or (utf8_error_len (byte ∷ [])) 1) (byte ∷ []) ≡ []
 unfolding utf8_error_len
 after_one byte = by (is_in_range 0xC2 0xF4 byte)

@@ -7,7 +7,7 @@ use Rattle.std.specs.Int.{is_in_range}
 use Rattle.terminal_text.specs.declared.texts.Escapes.{Escapes}
 use Rattle.terminal_text.specs.declared.texts.Escapes.TheVariants.{Text, Lines, Json}
 
--- The characters that a terminal may take as commands, or that change how it shows what is beside them: the control
+-- The characters that a terminal may take as commands, or that change how it shows what is next to them: the control
 -- characters, the separators of lines and of paragraphs, and those that set the direction of text.
 abbrev pub is_steering : ℕ → Bool
 is_steering c =

@@ -21,8 +21,8 @@ pub enum Escapes {
     Json,
 }
 
-/// Whether a terminal may take a character as a command, or may show what is beside it elsewhere: a control character,
-/// a separator of lines or of paragraphs, or one that sets the direction of text.
+/// Whether a terminal may take a character as a command, or may move what is next to it. Such are a control character,
+/// a separator of lines or of paragraphs, and one that sets the direction of text.
 fn is_steering(c: char) -> bool
     ensures { result ≡ is_steering c }
 {
@@ -91,7 +91,7 @@ pub fn push_escaped(escaped: &mut String, escapes: Escapes, text: &str) -> Resul
 }
 
 /// A writer before another one, which may be a terminal. If it is, characters that it may take as commands are escaped
-/// on the way, and bytes that are not UTF-8 are shown as U+FFFD; otherwise it has the bytes as they come.
+/// on the way, and bytes that are not UTF-8 are shown as U+FFFD. Otherwise it has the bytes as they come.
 ///
 /// It holds nothing back, so a character of which a write has only a part is shown as U+FFFD too. The programs write
 /// whole lines.
@@ -99,7 +99,7 @@ pub fn push_escaped(escaped: &mut String, escapes: Escapes, text: &str) -> Resul
 pub struct Escaping<W> {
     alloc: Global,
     writer: W,
-    /// How characters are escaped; nothing if the writer is no terminal.
+    /// How characters are escaped; nothing if the writer is not a terminal.
     escapes: Option<Escapes>,
 }
 

@@ -189,7 +189,7 @@ module Pendratsoa
     ])
   end
 
-  # Suspends the invocation until something that it awaits has come.
+  # Suspends the invocation until something that it awaits is there.
   #
   # - awaiting_on, Future, or nil: what is awaited.
   class SuspensionMessage < Record

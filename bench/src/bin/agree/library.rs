@@ -14,7 +14,7 @@ use pendratsoa_bench::tally::Tally;
 /// The version from which on an unknown code is skipped with its payload.
 const SKIPS: u32 = 9;
 
-/// Compares random cases by the words SEED, COUNT and FIRST, where these are no others. Returns whether all agree.
+/// Compares random cases by the words SEED, COUNT and FIRST, if there are no others. Returns whether all agree.
 pub fn compare(words: &[String]) -> Option<bool> {
     let [seed, count, first] = options(words)?;
     let mut tally = Tally::default();
@@ -237,7 +237,7 @@ fn equal(tally: &mut Tally, kind: &'static str, case: &Case, ours: &str, expecte
 /// Numbers that are rejected, and room that is one too short, which is an error for words and not for bytes.
 fn compare_refusals(tally: &mut Tally) {
     use Refusal::{NoRoom, Unknown};
-    // an end, and then a code of no type
+    // an end, and then an unassigned code
     const STREAM: [u8; 16] = [0, 3, 0, 0, 0, 0, 0, 0, 0, 8, 0, 0, 0, 0, 0, 0];
     const END: u16 = 0x0003;
     const CUSTOM: u16 = 0xFC01;

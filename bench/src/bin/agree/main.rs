@@ -1,9 +1,8 @@
-//! Compares results with those of the peer and of the rules:
+//! Compares results with those of the baseline and of the rules:
 //!
 //! - agree --vectors FILE..: the results that are in files of test vectors;
 //! - agree [SEED [COUNT [FIRST]]]: the results of the library for random cases, where this was built with it. A case is
-//!   made of the seed and the
-//!   case's number alone, so `agree SEED 1 FIRST` does one case again.
+//!   made only of the seed and the case's number, so `agree SEED 1 FIRST` does one case again.
 //!
 //! The last line is 'N passed, M failed', of comparisons; the status is 1 where one failed.
 

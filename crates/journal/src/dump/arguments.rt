@@ -29,11 +29,11 @@ pub struct Arguments<'a> {
     pub texts: bool,
     /// Whether an object is printed on several lines.
     pub pretty: bool,
-    /// Whether an unknown code, a malformed payload or bytes in no item is a failure.
+    /// Whether an unknown code, a malformed payload or trailing bytes is a failure.
     pub strict: bool,
 }
 
-/// The code of the type that has this name, in any case of letters: a named type's, with or without `Message` at the
+/// The code of the type that has this name, in upper or lower case: a named type's, with or without `Message` at the
 /// end, or that of a custom entry, as `CustomEntry(64513)`.
 fn code_of(alloc: Global, name: &str) -> Result<Option<u16>, AllocError> {
     let short = name.strip_suffix("Message").unwrap_or(name);
@@ -53,7 +53,7 @@ fn custom_code(alloc: Global, name: &str) -> Result<Option<u16>, AllocError> {
     let Ok(ty) = MessageType::try_from(code) else {
         return Ok(None);
     };
-    // a number can be written in several ways, of which a name has one
+    // a number can be written in several ways, and a name has one of them
     let printed = ty.debug_name().to_string(alloc)?;
     let is_name = printed.as_str().eq_ignore_ascii_case(name);
     Ok(is_name.then_some(code))

@@ -14,14 +14,14 @@ pub trait ConsumeNext {
     /// The decoder as contracts see it.
     ghost unread: { Self → Unread };
 
-    /// The next message, or `None` if and only if the pending bytes begin with no whole item; then at most
+    /// The next message, or `None` if and only if the pending bytes begin with no complete item. Then at most
     /// 4,294,967,302 bytes are pending, a header and all but one byte of its payload.
     ///
     /// A payload within one chunk shares its memory; one that straddles chunks is joined, once. If the next header's
-    /// code is no type's, the result depends on the version: before V9 it is `UnknownMessageType`, and exactly the
-    /// eight bytes of the header are taken; from V9 on it is `SkippedMessage` once the payload has come, and the header
-    /// and the payload are taken. `OutOfMemory` comes only if a whole payload would be taken, and takes nothing: a
-    /// later call returns as if this one had not been made.
+    /// code is unassigned, the result depends on the version. Before V9 it is `UnknownMessageType`, and exactly the
+    /// eight bytes of the header are taken. From V9 on it is `SkippedMessage` once the payload is complete, and the
+    /// header and the payload are taken. `OutOfMemory` comes only if a complete payload would be taken, and takes
+    /// nothing: a later call returns as if this one had not been made.
     ///
     /// With a limit the result is also `None` if the next message is longer, and from then on: `rejected` says so,
     /// nothing is held, and `push` returns each chunk. `next_item` returns an error there.

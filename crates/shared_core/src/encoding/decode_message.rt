@@ -31,7 +31,7 @@ pub trait DecodeMessage {
 
     /// The message as a record of its type.
     ///
-    /// First the types are compared, without allocating and whatever the payload: if they differ the result is
+    /// First the types are compared, without allocating and whatever the payload. If they differ, the result is
     /// `UnexpectedMessageType` with the index, this message's type as the actual and the record's as the expected one.
     /// Then `DecodeMessage` if the payload is not well-formed, `OutOfMemory` if an allocation fails, and if both are
     /// the case either. Bytes fields share the payload.
@@ -75,7 +75,7 @@ pub trait DecodeMessage {
         ensures ok { IfOk result (λ found.
             MeansParts notification_template (raw self.now).payload (notification_parts found)) }
         ensures err { IfErr result (RejectsNotification (raw self.now)) }
-        // what the notification's own type accepts is no error, and the view holds what its meaning holds
+        // what the notification's own type accepts is not an error, and the view holds what its meaning holds
         ensures accepts { (s : ℕ) → message_schema (raw self.now).header.ty ≡ Some s
             → IsOfNotification s (raw self.now).payload → IsAccepted notification_template (raw self.now).payload }
         ensures agrees { IfOk result (λ found. (s : ℕ) → message_schema (raw self.now).header.ty ≡ Some s

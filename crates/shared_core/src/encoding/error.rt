@@ -12,7 +12,7 @@ use std::fmt;
 /// Why no message was returned or decoded.
 #[derive(Debug, Drop)]
 pub enum DecodingError {
-    /// The payload of a message of this type is not well-formed. The error beside it is always `Malformed`.
+    /// The payload of a message of this type is not well-formed. The error next to it is always `Malformed`.
     DecodeMessage(MessageType, WireError),
     /// The message is of another type than the code expects.
     UnexpectedMessageType(CommandTypeMismatchError),
@@ -23,9 +23,9 @@ pub enum DecodingError {
         /// `id` or `result`.
         field: &'static str,
     },
-    /// The next header's code is no type's, before V9. Its eight bytes are taken.
+    /// The next header's code is unassigned, before V9. Its eight bytes are taken.
     UnknownMessageType(UnknownMessageType),
-    /// The next message's code is no type's, from V9 on. Its header and its payload are taken: this is the code, and
+    /// The next message's code is unassigned, from V9 on. Its header and its payload are taken: this is the code, and
     /// the payload.
     SkippedMessage(u16, Bytes),
     /// An allocation failed. Nothing is taken.

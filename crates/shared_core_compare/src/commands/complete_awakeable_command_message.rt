@@ -16,7 +16,7 @@ use shared_core_codec::oneof::OneOf;
 use std::fmt;
 use std::fmt::Formatter;
 
-/// Whether two results are the same but for the content of a value.
+/// Whether two results are the same except for the content of a value.
 fn same_but_payload(oneof: &Option<Result>, other: &Option<Result>) -> bool
     ensures { IsTrue result ↔ (without_payloads (2 ∷ []) (row.OneOf ⟦<Result as OneOf>⟧.members)
         (option_part ⟦<Result as OneOf>⟧.part oneof.now)

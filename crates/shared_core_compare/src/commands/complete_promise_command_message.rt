@@ -18,7 +18,7 @@ use shared_core_codec::oneof::OneOf;
 use std::fmt;
 use std::fmt::Formatter;
 
-/// Whether two completions are the same but for the content of a completion value.
+/// Whether two completions are the same except for the content of a completion value.
 fn same_but_payload(oneof: &Option<Completion>, other: &Option<Completion>) -> bool
     ensures { IsTrue result ↔ (without_payloads (2 ∷ []) (row.OneOf ⟦<Completion as OneOf>⟧.members)
         (option_part ⟦<Completion as OneOf>⟧.part oneof.now)

@@ -46,10 +46,10 @@ const NOTHING: FieldEntry = FieldEntry {
 };
 
 /// Checks a payload for the schema at an index of the table, and writes the entries of the fields of all levels, in
-/// order, at the front of a slice: as many as there is room for. Returns how many the payload has, at most as many as
+/// order, at the front of a slice, as many as there is room for. Returns how many the payload has, at most as many as
 /// it has bytes; or `None` if it is not canonical, and then the slice is unchanged. Does not allocate, and makes one
-/// pass over the bytes, and a second one if there are more than twenty-four entries, more than eight in fewer than 64
-/// bytes, or more than five in fewer than 32.
+/// pass over the bytes. It makes a second one if there are more than twenty-four entries, more than eight in fewer than
+/// 64 bytes, or more than five in fewer than 32.
 pub fn write_checked(out: &mut [FieldEntry], schema: u32, payload: &[u8]) -> Option<usize>
     ensures canonical { (is_some result ≡ true) ↔ IsCanonical schema payload.now }
     ensures rows { IfSome result (λ n. WritesTo payload.now (table_rows schema (payload_meaning schema payload.now)) 0
@@ -154,8 +154,7 @@ fn check_message<'a>(
     Some(count)
 }
 
-/// The same of a record of a message, of which one of these rows may come next. Returns also the rows that may come
-/// after it.
+/// The same of a record of a message. One of these rows may come next. Returns also the rows that may come after it.
 #[cycle(check)]
 #[inline(always)]
 fn check_record<'a, 'b>(
@@ -336,7 +335,7 @@ fn check_content<'a>(
 }
 
 /// The number of the only field of a schema, if that is a plain field of bytes, and these are one record of it whose
-/// key and length are one byte each: most messages within others are such.
+/// key and length are one byte each. Most messages within others are such.
 #[inline(always)]
 pub(crate) fn single_bytes(schema: u32, bytes: &[u8]) -> Option<u32>
     ensures { IfSome result (λ n. IsSingle n schema bytes.now) }

@@ -1,4 +1,4 @@
-//! Writing the entries of a payload into memory of the caller's.
+//! Writing the entries of a payload into the caller's memory.
 
 ghost use Rattle.std.specs.Prelude.{◌≡◌, ◌<◌, ◌≤◌, ℕ, ◌+◌, ◌^◌, List, true, length, set};
 ghost use Rattle.shared_core_codec.specs.Canonicity.{is_canonical_payload};
@@ -139,7 +139,7 @@ pub(super) fn put(out: &mut [FieldEntry], at: usize, entry: FieldEntry)
     }
 }
 
-/// The entry of a value, of which only a run has none of its own.
+/// The entry of a value. Only a run has no entry of its own.
 fn entry_of(value: FieldValue<'_>, number: u32, offset: usize, level: u32) -> FieldEntry
     ensures is { result ≡ value_entry value.entry number offset level }
     ensures exact { IsExact value.entry }

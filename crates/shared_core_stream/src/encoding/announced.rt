@@ -11,9 +11,9 @@ use shared_core_base::version::Version;
 #[derive(Drop)]
 pub(crate) enum Announced {
     Message(MessageHeader),
-    /// A code that is no type's, to which no payload belongs.
+    /// An unassigned code, to which no payload belongs.
     Unknown(UnknownMessageType),
-    /// A code that is no type's, and the length of the payload that is skipped with it.
+    /// An unassigned code, and the length of the payload that is skipped with it.
     Skipped(UnknownMessageType, u32),
 }
 

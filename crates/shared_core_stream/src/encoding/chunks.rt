@@ -1,4 +1,4 @@
-//! The items of a whole stream.
+//! The items of a complete stream.
 
 ghost use Rattle.std.specs.Prelude.{◌≡◌, ◌+◌, ◌++◌, ◌^◌, ◌≤◌, List, [], ℕ, length, IfOk, IsOk, OnOk, IsErrOf};
 ghost use Rattle.std.specs.List.{concat};
@@ -39,7 +39,7 @@ pub fn decode_pieces(
     Ok((items, decoder))
 }
 
-/// Pushes a chunk, and then moves each whole item to the list.
+/// Pushes a chunk, and then moves each complete item to the list.
 fn feed(decoder: &mut Decoder, items: &mut Vec<Item>, chunk: &Bytes) -> Result<(), PiecesError>
     requires { IsUnlimited decoder.old }
     ensures moved { OnOk result ((stream : List ℕ)
@@ -57,7 +57,7 @@ fn feed(decoder: &mut Decoder, items: &mut Vec<Item>, chunk: &Bytes) -> Result<(
     }
 }
 
-/// Moves each whole item to the list.
+/// Moves each complete item to the list.
 fn drain(decoder: &mut Decoder, items: &mut Vec<Item>) -> Result<(), PiecesError>
     requires { IsUnlimited decoder.old }
     ensures moved { OnOk result ((stream : List ℕ)

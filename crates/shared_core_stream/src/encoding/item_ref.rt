@@ -15,16 +15,16 @@ use std::fmt;
 pub enum ItemKind {
     /// A message with this header.
     Message(MessageHeader),
-    /// A header whose code, this one, is no type's, before V9. No payload belongs to it.
+    /// A header whose code, this one, is unassigned, before V9. No payload belongs to it.
     Unknown(u16),
-    /// A message whose code, this one, is no type's, from V9 on.
+    /// A message whose code, this one, is unassigned, from V9 on.
     Skipped(u16),
 }
 
 /// An item of a stream, as an `Item` that owns nothing.
 ///
 /// Its bytes are the eight of `head` and the payload. Written one after the other, they encode the same item, even if
-/// its code is no type's.
+/// its code is unassigned.
 #[derive(Clone, Copy, Debug, PartialEq, Eq)]
 pub struct ItemRef<'a> {
     /// Its first eight bytes as a number, the most significant byte first.
@@ -39,7 +39,7 @@ impl<'a> ItemRef<'a> {
     /// The item that the bytes begin with, and the bytes after it. It copies nothing and does not allocate.
     ///
     /// The error has the least number of missing bytes: of a header that is not whole, otherwise of the payload that it
-    /// announces. With fewer bytes appended, no whole item is at the front.
+    /// announces. With fewer bytes appended, no complete item is at the front.
     #[inline(always)]
     pub fn first(version: Version, bytes: &'a [u8]) -> Result<(ItemRef<'a>, &'a [u8]), MissingBytes>
         ensures item { IfOk result (λ found. IsAtFront version bytes.now found.0 found.1.now) }
@@ -82,7 +82,7 @@ impl<'a> ItemRef<'a> {
     }
 }
 
-/// Bytes that do not begin with a whole item.
+/// Bytes that do not begin with a complete item.
 #[derive(Clone, Copy, Debug, PartialEq, Eq)]
 pub struct MissingBytes {
     /// The least number of missing bytes, which is never 0.

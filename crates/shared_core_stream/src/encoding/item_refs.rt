@@ -6,9 +6,9 @@ ghost use Rattle.shared_core_stream.specs.Borrowed.{too_long_for};
 use crate::encoding::{ItemRef, MessageTooLong};
 use shared_core_base::version::Version;
 
-/// An iterator over the items of a slice, in order, each borrowed from it. It ends if no whole item is left, or before
-/// the first message whose payload is longer than a limit. It copies nothing, does not allocate, and counts no owners:
-/// for a stream that is in memory as a whole.
+/// An iterator over the items of a slice, in order, each borrowed from it. It ends if no complete item is left, or
+/// before the first message whose payload is longer than a limit. It copies nothing, does not allocate, and counts no
+/// owners: for a stream that is in memory as a whole.
 ///
 /// A contract sees it as its version, its limit, the number of all bytes, and those that it has not returned.
 #[derive(Clone, Debug, Drop)]

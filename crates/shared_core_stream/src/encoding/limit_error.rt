@@ -12,7 +12,7 @@ use std::fmt;
 /// A message whose payload is longer than the limit.
 #[derive(Clone, Copy, Debug, PartialEq, Eq, Drop)]
 pub struct MessageTooLong {
-    /// The code of its type; from V9 on it may be no type's.
+    /// The code of its type; from V9 on it may be unassigned.
     pub code: u16,
     /// The length of its payload in bytes, by its header.
     pub length: u32,

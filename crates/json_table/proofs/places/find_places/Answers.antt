@@ -1,4 +1,4 @@
-use Rattle.std.proofs.Common.{◌≡◌, ◌∙◌, None, Some, subst, sym, ap}
+use Rattle.std.proofs.Common.{◌∙◌, subst, sym, ap}
 use Rattle.json.specs.Json.{Members}
 use Rattle.json_table.specs.Entries.{members_len}
 use Rattle.json_table.specs.Places.{Say, first_unknown}

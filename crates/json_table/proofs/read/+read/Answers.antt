@@ -4,7 +4,7 @@ use Rattle.std.proofs.lemmas.List.{map-append, length-map}
 use Rattle.std.proofs.lemmas.Result.{on_ok_weaker}
 use Rattle.json.specs.Token.{Token}
 use Rattle.json.specs.Json as json
-use Rattle.json.specs.Json.{Json, no_items, item, no_members, member, parse_map, after_end_array, read_key, items}
+use Rattle.json.specs.Json.{no_items, item, no_members, member, parse_map, after_end_array, read_key, items}
 use Rattle.json.specs.Json.{members, value}
 use Rattle.json.specs.Reads.{token_of}
 use Rattle.json.proofs.Grammar.{value_is, value-begin_array, value-begin_object, read_key-shorter}

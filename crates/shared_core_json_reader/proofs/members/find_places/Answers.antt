@@ -1,8 +1,7 @@
-use Rattle.std.proofs.Common.{◌≡◌, ◌∙◌, ℕ, None, Some, sym, ap}
+use Rattle.std.proofs.Common.{◌∙◌, ℕ, sym, ap}
 use Rattle.json_table.specs.Places.{first_unknown as first_unplaced}
 use Rattle.shared_core_json_reader.specs.Rows.{named_rows}
 use Rattle.shared_core_json_reader.specs.Places.{number_of}
-use Rattle.shared_core_json_reader.specs.FirstError.{first_unknown}
 use Rattle.shared_core_json_reader.proofs.Givens.{same_unknown, known_true, known_false}
 use Rattle.shared_core_json_reader.proofs.members.find_places.Goals as goal
 

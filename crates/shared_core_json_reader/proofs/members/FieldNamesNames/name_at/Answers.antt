@@ -1,4 +1,4 @@
-use Rattle.std.proofs.Common.{◌≡◌, ◌∙◌, ◌<◌, ℕ, List, [], Some, map, length, get_or, sym, ap, subst, arith}
+use Rattle.std.proofs.Common.{◌≡◌, ◌∙◌, ℕ, List, [], Some, map, length, get_or, sym, ap, subst, arith}
 use Rattle.shared_core_json.specs.Fields.{name_view, names_of}
 use Rattle.shared_core_json_reader.specs.Places.{number_of}
 use Rattle.shared_core_json_reader.proofs.NamesApart.{name_here, named_at}

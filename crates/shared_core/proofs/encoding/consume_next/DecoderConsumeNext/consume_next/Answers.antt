@@ -6,7 +6,7 @@ pub returns-in-Ok-None-clause-next : goal.returns-in-Ok-None-clause-next
 returns-in-Ok-None-clause-next c none =
     let taken = rw c.in-Ok-None.field-0-is at c.in-Ok-None.ensures.taken in (taken.0, taken.1)
 
--- the code of an unknown item is no type's
+-- the code of an unknown item is unassigned
 pub unreachable-requires : goal.unreachable-requires
 unreachable-requires c =
     let taken = rw (c.in-Ok-Some.field-0-is, c.in-Unknown.is) at c.in-Ok-Some.ensures.taken in
