@@ -120,20 +120,6 @@ PLAIN = ("crates/", "include/", "tests/", "examples/", "bench/")
 
 # Phrases that stay in comments, by the file, each with the reason.
 KEPT = {
-    "crates/shared_core_stream/src/encoding/decoder.rt": {
-        "has come": "goes with the rewriting of that code",
-        "have come": "goes with the rewriting of that code",
-        ", of which": "goes with the rewriting of that code",
-    },
-    "crates/shared_core_stream/src/encoding/error.rt": {
-        "that came": "goes with the rewriting of that code",
-        "says which": "goes with the rewriting of that code",
-    },
-    "crates/shared_core_stream/src/encoding/item.rt": {
-        "code that is no type's": "goes with the rewriting of that code",
-        "is no type": "goes with the rewriting of that code",
-        "no type's": "goes with the rewriting of that code",
-    },
     "crates/shared_core_codec/specs/Canonicity.antt": {
         "says which": "goes with the rewriting of that code",
         ", of which": "goes with the rewriting of that code",

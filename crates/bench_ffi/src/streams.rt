@@ -54,8 +54,11 @@ fn write_words(
             let Some(word) = words.get_mut(count) else {
                 return Err(CallError::NoRoom);
             };
-            // a decoder without a limit has no other error
-            *word = word_of(item.or(Err(CallError::OutOfMemory))?);
+            // a decoder without a limit has no other error; `or` would be a call, which moves each item twice more
+            let Ok(item) = item else {
+                return Err(CallError::OutOfMemory);
+            };
+            *word = word_of(item);
             count += 1;
         }
     }
@@ -84,8 +87,10 @@ fn decode_all(
     for _chunk in 0..chunks_of(stream, chunk_size) {
         push_chunk(&mut decoder, &mut unpushed, chunk_size)?;
         for item in decoder.items() {
-            let Item::Message(message) = item.or(Err(CallError::OutOfMemory))? else {
-                continue;
+            let message = match item {
+                Ok(Item::Message(message)) => message,
+                Ok(_) => continue,
+                Err(_) => return Err(CallError::OutOfMemory),
             };
             let records = decode(alloc, &message)?;
             count = count.checked_add(records).ok_or(CallError::TooLong)?;

@@ -15,9 +15,9 @@ use std::marker::Model;
 
 /// Takes a stream in chunks, and returns its items in order.
 ///
-/// It may have a limit on the length of a payload. Then the first longer message ends the stream: as soon as its header
-/// has come, whatever has come of its payload, `next_item` returns `TooLong`. From the first such error on nothing is
-/// held, each call returns it, and `push` returns each chunk. A limit of `u32::MAX` is none.
+/// It may have a limit on the length of a payload. The first longer message ends the stream: `next_item` returns
+/// `TooLong` as soon as that message's header is there, with or without bytes of its payload. From then on nothing is
+/// held, each call returns this error, and `push` returns each chunk. A limit of `u32::MAX` is none.
 ///
 /// A contract sees a decoder as its version; its pending bytes, those that no call has taken, where a header that was
 /// read is still among them until its message is returned; its limit; the offset of the pending bytes; and the message
@@ -28,7 +28,7 @@ pub struct Decoder {
     limit: u32,
     head: Option<[u8; 8]>,
     pending: PendingBytes,
-    /// How many bytes have come, or 2^128 - 1 from there on. Without those that a rejected message dropped.
+    /// How many bytes were pushed, or 2^128 - 1 from there on. Those that a rejected message dropped do not count.
     pushed: u128,
     rejected: Option<MessageTooLong>,
 }
@@ -53,7 +53,7 @@ impl Model for Decoder {
         × IfSome decoder.rejected (λ _. held_bytes decoder.head ++ decoder.pending ≡ []) };
 }
 
-/// The eight bytes that are held as a header. If none are held and eight have come, these are held from now on.
+/// The eight bytes that are held as a header. If none are held and eight are pending, these are held from now on.
 fn hold_head(head: &mut Option<[u8; 8]>, pending: &mut PendingBytes) -> Option<[u8; 8]>
     requires { length (held_bytes head.old) ≡ held_length head.old }
     ensures same { held_bytes head.new ++ pending.new ≡ held_bytes head.old ++ pending.old }
@@ -72,7 +72,7 @@ fn hold_head(head: &mut Option<[u8; 8]>, pending: &mut PendingBytes) -> Option<[
     Some(bytes)
 }
 
-/// Takes the held header and `count` bytes after it, if as many have come. An `Err` takes nothing.
+/// Takes the held header and `count` bytes after it, if as many are pending. An `Err` takes nothing.
 #[inline(always)]
 fn take_payload(
     head: &mut Option<[u8; 8]>,
@@ -103,7 +103,7 @@ impl Decoder {
     ghost use Rattle.shared_core_stream.specs.Unread.{fresh, IsUnlimited};
     ghost use Rattle.shared_core_stream.specs.declared.encoding.error.ItemError.TheVariants as error;
 
-    /// Returns a decoder of this version, which is at least V5, without a limit, before any byte has come. Does not
+    /// Returns a decoder of this version, which is at least V5, without a limit, at the start of a stream. Does not
     /// allocate.
     pub fn new(alloc: Global, version: Version) -> Decoder
         requires { 5 ≤ version_number version }
@@ -165,7 +165,7 @@ impl Decoder {
         held + self.pending.len() as u64
     }
 
-    /// Returns a copy of the bytes that no call has taken yet: at the end of a stream, of those that are in no item.
+    /// Returns a copy of the bytes that no call has taken yet: at the end of a stream, its trailing bytes.
     pub fn copy_pending(&self) -> Result<Vec<u8>, AllocError>
         ensures { IfOk result (λ bytes. bytes.items ≡ self.now.bytes) }
     {
@@ -216,7 +216,7 @@ impl Decoder {
     ///
     /// A payload within one chunk shares its memory; one that straddles chunks is joined, once. A failed allocation
     /// takes nothing, and comes only if a whole payload would be taken: a later call returns as if this one had not
-    /// been made. `TooLong` comes if a header has come whose message is longer than the limit, and from then on;
+    /// been made. `TooLong` comes as soon as the header of a message over the limit is there, and from then on;
     /// without a limit it never comes.
     #[tactic(auto, using(crate::proofs::Returned::memory_of, crate::proofs::Returned::version_of))]
     #[inline(always)]
@@ -237,7 +237,7 @@ impl Decoder {
         self.next_with_word(&mut word)
     }
 
-    /// The next item as of `next_item`. With an item, `word` is that of its header, of which an item holds only a part.
+    /// The next item as of `next_item`. With an item, `word` is that of its header; an item holds only a part of it.
     #[inline(always)]
     pub fn next_with_word(&mut self, word: &mut u64) -> Result<Option<Item>, ItemError>
         ensures next { ReturnsWithin self.old result self.new }

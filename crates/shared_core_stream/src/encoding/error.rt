@@ -10,8 +10,8 @@ use std::fmt;
 pub enum PushError {
     /// The allocation of one more segment failed.
     OutOfMemory(Bytes),
-    /// The pending bytes would be more than 2^64 - 1; or a message that came before is longer than the decoder's limit
-    /// (`Decoder::rejected`), which no message is for a decoder without one.
+    /// The pending bytes would be more than 2^64 - 1, or an earlier message is longer than the decoder's limit
+    /// (`Decoder::rejected`). The latter never comes from a decoder without one.
     TooLong(Bytes),
 }
 
@@ -39,7 +39,7 @@ impl Error for PushError {}
 pub enum ItemError {
     /// The allocation of a payload failed. Nothing is taken.
     OutOfMemory,
-    /// The next message is longer than the limit; `Decoder::rejected` says which. Each later call returns this error
+    /// The next message is longer than the limit: the one of `Decoder::rejected`. Each later call returns this error
     /// too.
     TooLong,
 }
