@@ -1,5 +1,6 @@
 -- Checking the records of a payload one after the other.
-use Rattle.std.proofs.Common.{◌≡◌, ℕ, zero, suc, ◌-◌, ◌<◌, ◌≤◌, List, [], ◌∷◌, length, map, get_or, Bool, true, false}
+use Rattle.std.proofs.Common.{◌≡◌, ℕ, zero, suc, ◌+◌, ◌-◌, ◌<◌, ◌≤◌, List, [], ◌∷◌, length, map, get_or, Bool, true}
+use Rattle.std.proofs.Common.{false}
 use Rattle.std.proofs.Common.{cond, ◌&&◌, ◌||◌, Option, Some, None, refl, sym, ap, ◌∙◌, eqb, arith}
 use Rattle.std.specs.List.{list_all}
 use Rattle.std.specs.Option.{option_or, is_some}
@@ -7,7 +8,8 @@ use Rattle.std.proofs.lemmas.List.{length-append}
 use Rattle.shared_core_wire.specs.Grammar.{FieldRecord, RecordValue}
 use Rattle.shared_core_wire.specs.Reader.{◌>>=◌, sequence_past, varint_at, packed_numbers, record_at, record_list}
 use Rattle.shared_core_wire.specs.ReadRecords.{records_past, read_records}
-use Rattle.shared_core_wire.specs.Schema.{Kind, Row, Plain, Optional, Repeated, OneOf, table_of, numbers, includes}
+use Rattle.shared_core_wire.specs.Schema.{Table, Kind, Row, Plain, Optional, Repeated, OneOf, table_of, numbers}
+use Rattle.shared_core_wire.specs.Schema.{includes}
 use Rattle.shared_core_wire.specs.Schema.{member_kind, are_distinct, all_numbers}
 use Rattle.shared_core_wire.specs.Acceptance.{NestedAcceptance, some_passes, accepts_value, accepts_element}
 use Rattle.shared_core_wire.specs.Acceptance.{accepts_in_row, accepts_record, accepts_message, accepts_payload}
@@ -15,10 +17,10 @@ use Rattle.shared_core_wire.proofs.Runs.{and_split}
 use Rattle.shared_core_wire.proofs.ReadBack.{or_split, includes-append, distinct_back, distinct_other}
 use Rattle.shared_core_wire.proofs.Readers.{varint_pos, varint_reads}
 use Rattle.shared_core_wire.proofs.Sequences.{all_more, all_nil, all_stop}
-use Rattle.shared_core_codec.specs.Table.{schemas, schema_count, table}
+use Rattle.shared_core_codec.specs.Table.{schemas, schema_count}
+use Rattle.shared_core_codec.specs.Tables.{IsTable}
 use Rattle.shared_core_codec.specs.Checking.{accepts_found, all_read}
 use Rattle.shared_core_codec.specs.ProgramRows.{if_numbered, member_numbered, field_in_row, field_numbered}
-use Rattle.shared_core_codec.proofs.Tables.{are_schemas}
 
 with_true : (b c : Bool) → c ≡ true → (b && c) ≡ b
 with_true true c h = h
@@ -51,11 +53,26 @@ module _ (one : List ℕ → Option (FieldRecord × List ℕ)) (test : FieldReco
   read_past (b ∷ bs) (suc past) = read_past bs past
   read_past (b ∷ bs) zero = read_first b bs (one (b ∷ bs)) refl (read_past bs)
 
-pub all_checked : (left s : ℕ) (bytes : List ℕ) → all_read (accepts_record (accepts_message table left) (table s))
+pub all_checked : (table : Table) (left s : ℕ) (bytes : List ℕ) → all_read (accepts_record (accepts_message table left)
+    (table s))
     (read_records left bytes) ≡ accepts_payload table left s bytes
 unfolding read_records record_list
-all_checked left s bytes = read_past (record_at left) (accepts_record (accepts_message table left) (table s))
+all_checked table left s bytes = read_past (record_at left) (accepts_record (accepts_message table left) (table s))
     (length bytes) bytes 0
+
+-- ---- one level down
+
+pub message_zero_in : (table : Table) (s : ℕ) (bytes : List ℕ) → accepts_message table 0 s bytes ≡ false
+unfolding accepts_message
+message_zero_in table s bytes = refl
+
+pub message_below_in : (table : Table) (below left s : ℕ) (bytes : List ℕ) → below + 1 ≡ left → accepts_message table
+    left
+    s bytes ≡ accepts_payload table below s bytes
+unfolding accepts_message
+message_below_in table below zero s bytes h = absurd (omega (arith, h))
+message_below_in table below (suc left) s bytes h = let e : left ≡ below = omega (arith, h) in ap
+    (λ l. accepts_payload table l s bytes) e
 
 -- ---- the field of a record
 
@@ -191,5 +208,7 @@ pub schema_count_is : {A : Type 0} (view : A → List Row) (xs : List A) → map
     schema_count
 schema_count_is view xs e = sym (map_len view xs) ∙ ap length e
 
-pub distinct_rows : (s : ℕ) (rows : List Row) → rows ≡ table s → are_distinct (all_numbers rows) ≡ true
-distinct_rows s rows e = ap (λ (rs : List Row). are_distinct (all_numbers rs)) e ∙ (and_split _ _ (are_schemas s)).1
+pub distinct_rows : (table : Table) → IsTable table → (s : ℕ) (rows : List Row) → rows ≡ table s → are_distinct
+    (all_numbers rows) ≡ true
+distinct_rows table valid s rows e = ap (λ (rs : List Row). are_distinct (all_numbers rs)) e ∙
+    (and_split _ _ (and_split _ _ (valid s)).0).1

@@ -12,6 +12,9 @@ pub mod Varints
 pub mod Tables
 pub mod PayloadLaws
 pub mod Checked
+pub mod LoadedTables
+pub mod CanonicityIn
+pub mod CanonicityExactIn
 pub mod Canonicity
 pub mod CanonicityExact
 pub mod NextFields

@@ -3,7 +3,8 @@ use Rattle.std.proofs.Common.{◌≡◌, ℕ, List, [], ◌∷◌, Bool, true, f
 use Rattle.std.proofs.Common.{◌∙◌, eqb}
 use Rattle.std.proofs.Math.Bool.{or-true}
 use Rattle.std.specs.Option.{option_or}
-use Rattle.shared_core_wire.specs.Schema.{Kind, Row, Plain, Optional, Repeated, OneOf, numbers, includes, are_distinct}
+use Rattle.shared_core_wire.specs.Schema.{Table, Kind, Row, Plain, Optional, Repeated, OneOf, numbers, includes}
+use Rattle.shared_core_wire.specs.Schema.{are_distinct}
 use Rattle.shared_core_wire.specs.Schema.{all_numbers}
 use Rattle.shared_core_wire.proofs.Runs.{and_split}
 use Rattle.shared_core_wire.proofs.Readers.{some_is}
@@ -11,7 +12,8 @@ use Rattle.shared_core_wire.proofs.ReadBack.{includes-append, distinct_back, dis
 use Rattle.shared_core_codec.specs.Table.{table}
 use Rattle.shared_core_codec.specs.ProgramRows.{member_numbered, field_in_row, field_numbered}
 use Rattle.shared_core_codec.specs.Canonicity.{Next, may_recur, found_or, next_field}
-use Rattle.shared_core_codec.proofs.Tables.{are_schemas}
+use Rattle.shared_core_codec.proofs.Tables.{is_table}
+use Rattle.shared_core_codec.specs.Tables.{IsTable}
 
 -- ---- what has a number is one of the numbers
 
@@ -67,8 +69,11 @@ pub record AreLeft (rows left : List Row) : Type 0 where
   pub distinct : are_distinct (all_numbers left) ≡ true
   pub finds : (n : ℕ) (f : Kind × Bool) → field_numbered left n ≡ Some f → field_numbered rows n ≡ Some f
 
+pub all_left_in : (t : Table) → IsTable t → (s : ℕ) → AreLeft (t s) (t s)
+all_left_in t valid s = record { distinct = (and_split _ _ (and_split _ _ (valid s)).0).1; finds = λ n f e. e }
+
 pub all_left : (s : ℕ) → AreLeft (table s) (table s)
-all_left s = record { distinct = (and_split _ _ (are_schemas s)).1; finds = λ n f e. e }
+all_left = all_left_in table is_table
 
 pub later_left : (rows : List Row) (row : Row) (left : List Row) → AreLeft rows (row ∷ left) → AreLeft rows left
 later_left rows row left a = record {

@@ -1,30 +1,35 @@
--- Which payloads are canonical, and how the records of a payload are checked for it, one after the other.
+-- Which payloads are canonical for the schemas of a table, and for those of the protocol, and how the records of a
+-- payload are checked for it, one after the other.
 use Rattle.std.specs.Prelude.{◌≡◌, ℕ, zero, suc, ◌+◌, ◌-◌, ◌^◌, ◌<◌, ◌≤◌, Bool, true, false, not, ◌&&◌, ◌||◌, List, []}
 use Rattle.std.specs.Prelude.{◌∷◌, length, nat_lt, ◌==◌, if◌then◌else◌, Option, Some, None, is_some, Result, Ok, Err}
 use Rattle.shared_core_wire.specs.Grammar.{RecordValue, Varint, Length, FieldRecord}
 use Rattle.shared_core_wire.specs.Reader.{◌>>=◌, varint_at, sequence_past, record_list}
 use Rattle.shared_core_wire.specs.ReadRecords.{PlacedRecord}
 use Rattle.shared_core_wire.specs.Encoding.{shortest_varint}
-use Rattle.shared_core_wire.specs.Schema.{Kind, Row, U32, U64, Boolean, Enumeration, Text, ByteString}
+use Rattle.shared_core_wire.specs.Schema.{Table, Kind, Row, U32, U64, Boolean, Enumeration, Text, ByteString}
 use Rattle.shared_core_wire.specs.Schema.{Message, Plain}
-use Rattle.shared_core_wire.specs.Acceptance.{NestedAcceptance, accepts_bytes, some_passes}
+use Rattle.shared_core_wire.specs.Acceptance.{NestedAcceptance, accepts_bytes, accepts_payload, some_passes}
+use Rattle.shared_core_wire.specs.Overlay.{meaning}
 use Rattle.shared_core_wire.specs.Canonical.{canonical_payload, levels}
 use Rattle.shared_core_wire.specs.Fitting.{Fits}
 use Rattle.shared_core_wire.specs.declared.error.WireError.{WireError}
-use Rattle.shared_core_codec.specs.Table.{table}
-use Rattle.shared_core_codec.specs.Payloads.{IsAccepted, payload_meaning}
+use Rattle.shared_core_codec.specs.Table.{table as protocol}
 use Rattle.shared_core_codec.specs.ProgramRows.{found_view, rows_view, field_in_row}
 use Rattle.shared_core_codec.specs.declared.canonical.NextField.{NextField}
 use Rattle.shared_core_codec.specs.RowEncoding.{varint_record, length_record, unpacked}
 
 -- The payload is not too long for a header, is accepted, and is the canonical payload of what it means, which fits the
 -- schema and is at most one hundred levels deep.
-pub record IsCanonical (s : ℕ) (payload : List ℕ) : Type 0 where
+pub record IsCanonicalIn (table : Table) (s : ℕ) (payload : List ℕ) : Type 0 where
   pub short : length payload < 2 ^ 32
-  pub accepted : IsAccepted s payload
-  pub fits : Fits table (payload_meaning s payload) (table s)
-  pub low : levels (payload_meaning s payload) ≤ 100
-  pub canonical : payload ≡ canonical_payload table s (payload_meaning s payload)
+  pub accepted : accepts_payload table 100 s payload ≡ true
+  pub fits : Fits table (meaning table 100 s payload) (table s)
+  pub low : levels (meaning table 100 s payload) ≤ 100
+  pub canonical : payload ≡ canonical_payload table s (meaning table 100 s payload)
+
+-- The same for the schemas of the protocol.
+abbrev pub IsCanonical : ℕ → List ℕ → Type 0
+IsCanonical s payload = IsCanonicalIn protocol s payload
 
 -- ---- record by record
 
@@ -153,12 +158,22 @@ all_come_read nested s (Err e ∷ items) = false
 
 -- Whether the bytes of a nested message are canonical, where the record that holds them allows `left` levels of
 -- nesting.
-unfoldable pub is_canonical_message : ℕ → NestedAcceptance
-is_canonical_message zero s bytes = false
-is_canonical_message (suc left) s bytes =
-    some_passes (all_come (is_canonical_message left) (table s, length bytes)) (record_list 0 bytes)
+unfoldable pub is_canonical_message_in : Table → ℕ → NestedAcceptance
+is_canonical_message_in table zero s bytes = false
+is_canonical_message_in table (suc left) s bytes =
+    some_passes (all_come (is_canonical_message_in table left) (table s, length bytes)) (record_list 0 bytes)
 
 -- Whether a payload is canonical, where its records allow `left` levels of nesting; no group is.
+abbrev pub is_canonical_payload_in : Table → ℕ → ℕ → List ℕ → Bool
+is_canonical_payload_in table left s bytes =
+    some_passes (all_come (is_canonical_message_in table left) (table s, length bytes)) (record_list 0 bytes)
+
+-- ---- for the schemas of the protocol
+
+-- Whether the bytes of a nested message are canonical.
+abbrev pub is_canonical_message : ℕ → NestedAcceptance
+is_canonical_message = is_canonical_message_in protocol
+
+-- Whether a payload is canonical.
 abbrev pub is_canonical_payload : ℕ → ℕ → List ℕ → Bool
-is_canonical_payload left s bytes =
-    some_passes (all_come (is_canonical_message left) (table s, length bytes)) (record_list 0 bytes)
+is_canonical_payload = is_canonical_payload_in protocol

@@ -9,6 +9,8 @@ use Rattle.shared_core_codec.specs.declared.rows.Field.{Field}
 use Rattle.shared_core_codec.specs.declared.rows.Row.{Row}
 use Rattle.shared_core_codec.specs.declared.rows.Row.TheVariants as row
 use Rattle.shared_core_codec.specs.declared.rows.Found.{Found}
+use Rattle.shared_core_codec.specs.declared.any_table.RowShape.{RowShape}
+use Rattle.shared_core_codec.specs.declared.any_table.RowShape.TheVariants as shape
 
 -- The kind of a kind of the program.
 abbrev pub kind_view : Kind → schema.Kind
@@ -30,6 +32,13 @@ row_view (row.Plain f) = schema.Plain f.number (kind_view f.kind)
 row_view (row.Optional f) = schema.Optional f.number (kind_view f.kind)
 row_view (row.Repeated f) = schema.Repeated f.number (kind_view f.kind)
 row_view (row.OneOf fs) = schema.OneOf (map field_view fs.now)
+
+-- The row that a row of a table is.
+abbrev pub shape_view : RowShape → schema.Row
+shape_view (shape.Plain f) = schema.Plain f.now.number (kind_view f.now.kind)
+shape_view (shape.Optional f) = schema.Optional f.now.number (kind_view f.now.kind)
+shape_view (shape.Repeated f) = schema.Repeated f.now.number (kind_view f.now.kind)
+shape_view (shape.OneOf fs) = schema.OneOf (map field_view fs.now)
 
 -- The rows of a list of the program.
 abbrev pub rows_view : Bor (List Row) → List schema.Row

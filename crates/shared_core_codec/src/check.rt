@@ -7,13 +7,14 @@ ghost use Rattle.shared_core_wire.specs.Acceptance.{accepts_element, accepts_val
 ghost use Rattle.shared_core_wire.specs.Reader.{packed_numbers};
 ghost use Rattle.shared_core_wire.specs.Schema.{are_distinct, all_numbers};
 ghost use Rattle.shared_core_wire.specs.View.{value_of};
-ghost use Rattle.shared_core_codec.specs.Table.{table};
 ghost use Rattle.shared_core_codec.specs.Payloads.{IsAccepted};
+ghost use Rattle.shared_core_codec.specs.Tables.{IsAcceptedIn};
 ghost use Rattle.shared_core_codec.specs.Checking.{field_record_of};
-ghost use Rattle.shared_core_codec.specs.ProgramRows.{kind_view, row_view};
+ghost use Rattle.shared_core_codec.specs.ProgramRows.{kind_view};
 
+use crate::any_table::{ProtocolSchemas, Schemas};
 pub use crate::rows::is_schema;
-use crate::rows::{Kind, Row, find_field, rows_of};
+use crate::rows::{Kind, find_field};
 use crate::utf8::is_text;
 use shared_core_wire::record::WireValue;
 use shared_core_wire::records::{LEVELS, Record, Records};
@@ -25,21 +26,27 @@ use shared_core_wire::varint::read_varint;
 pub fn is_well_formed(schema: u32, payload: &[u8]) -> bool
     ensures { IsTrue result ↔ IsAccepted schema payload.now }
 {
-    accepts_payload(schema, payload, LEVELS)
+    is_well_formed_in(&ProtocolSchemas, schema, payload)
+}
+
+/// The same for the schemas of any table.
+pub fn is_well_formed_in<T: Schemas>(schemas: &T, schema: u32, payload: &[u8]) -> bool
+    ensures { IsTrue result ↔ IsAcceptedIn (T.table schemas.now) schema payload.now }
+{
+    accepts_payload(schemas, schema, payload, LEVELS)
 }
 
 /// Whether a payload is well-formed for a schema; its records may be nested `left` deep.
 #[cycle(payload)]
-#[tactic(auto, using(crate::proofs::Checked::distinct_rows))]
-fn accepts_payload(schema: u32, payload: &[u8], left: u32) -> bool
-    ensures { result ≡ accepts_payload table left schema payload.now }
+fn accepts_payload<T: Schemas>(schemas: &T, schema: u32, payload: &[u8], left: u32) -> bool
+    ensures { result ≡ accepts_payload (T.table schemas.now) left schema payload.now }
 {
-    let rows = rows_of(schema);
+    let rows = schemas.rows_of(schema);
     for item in Records::within(payload, left) {
         let Ok(found) = item else {
             return false;
         };
-        if !accepts_record(rows, &found, left) {
+        if !accepts_record(schemas, rows, &found, left) {
             return false;
         }
     }
@@ -48,44 +55,47 @@ fn accepts_payload(schema: u32, payload: &[u8], left: u32) -> bool
 
 /// Whether a payload with these rows may have a record.
 #[cycle(payload)]
-fn accepts_record(rows: &[Row], found: &Record<'_>, left: u32) -> bool
-    requires { are_distinct (all_numbers (map row_view rows.now)) ≡ true }
-    ensures { result ≡ accepts_record (accepts_message table left) (map row_view rows.now) (field_record_of found.now) }
+fn accepts_record<T: Schemas>(schemas: &T, rows: &[T::Row], found: &Record<'_>, left: u32) -> bool
+    requires { are_distinct (all_numbers (map T.Row.view rows.now)) ≡ true }
+    ensures { result ≡ accepts_record (accepts_message (T.table schemas.now) left) (map T.Row.view rows.now)
+        (field_record_of found.now) }
 {
     let Some(field) = find_field(rows, found.number) else {
         return true;
     };
     if field.is_repeated {
-        accepts_element(field.kind, found.value, left)
+        accepts_element(schemas, field.kind, found.value, left)
     } else {
-        accepts_value(field.kind, found.value, left)
+        accepts_value(schemas, field.kind, found.value, left)
     }
 }
 
 /// Whether a repeated field of a kind accepts the value of a record.
 #[cycle(payload)]
-fn accepts_element(kind: Kind, value: WireValue<'_>, left: u32) -> bool
-    ensures { result ≡ accepts_element (accepts_message table left) (kind_view kind) (value_of value.entry) }
+fn accepts_element<T: Schemas>(schemas: &T, kind: Kind, value: WireValue<'_>, left: u32) -> bool
+    ensures { result ≡ accepts_element (accepts_message (T.table schemas.now) left) (kind_view kind)
+        (value_of value.entry) }
 {
     if let Kind::U32 = kind {
         if let WireValue::Length(run) = value {
             return is_run(run);
         }
     }
-    accepts_value(kind, value, left)
+    accepts_value(schemas, kind, value, left)
 }
 
 /// Whether a field of a kind accepts the value of a record.
 #[cycle(payload)]
-fn accepts_value(kind: Kind, value: WireValue<'_>, left: u32) -> bool
-    ensures { result ≡ accepts_value (accepts_message table left) (kind_view kind) (value_of value.entry) }
+fn accepts_value<T: Schemas>(schemas: &T, kind: Kind, value: WireValue<'_>, left: u32) -> bool
+    ensures { result ≡ accepts_value (accepts_message (T.table schemas.now) left) (kind_view kind)
+        (value_of value.entry) }
 {
     match value {
         WireValue::Varint(_number) => is_number(kind),
         WireValue::Length(bytes) => match kind {
             Kind::Text => is_text(bytes),
             Kind::ByteString => true,
-            Kind::Message(schema) => left > 0 && accepts_payload(schema, bytes, left - 1),
+            Kind::Message(schema) => left > 0 && accepts_payload(schemas, schema, bytes, left - 1),
             _ => false,
         },
         _ => false,

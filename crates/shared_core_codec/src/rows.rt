@@ -2,10 +2,11 @@
 
 ghost use Rattle.std.specs.Prelude.{◌≡◌, map, nat_lt, option_map};
 ghost use Rattle.shared_core_codec.specs.Table.{table, schemas, schema_count};
-ghost use Rattle.shared_core_codec.specs.ProgramRows.{row_view, rows_view, field_view, found_view};
+ghost use Rattle.shared_core_codec.specs.ProgramRows.{rows_view, field_view, found_view};
 ghost use Rattle.shared_core_codec.specs.ProgramRows.{if_numbered, member_numbered, field_in_row, field_numbered};
 ghost use Rattle.shared_core_codec.specs.Canonicity.{is_packed, may_recur};
 
+use crate::any_table::{RowShape, SchemaRow};
 use crate::schemas::SCHEMAS;
 
 /// The kind of a field.
@@ -122,21 +123,21 @@ fn find_member(members: &[Field], number: u32) -> Option<Found>
 
 /// The field of a row that has a number.
 #[inline(always)]
-pub fn find_in_row(row: &Row, number: u32) -> Option<Found>
-    ensures { option_map found_view result ≡ field_in_row (row_view row.now) number }
+pub fn find_in_row<R: SchemaRow>(row: &R, number: u32) -> Option<Found>
+    ensures { option_map found_view result ≡ field_in_row (R.view row.now) number }
 {
-    match row {
-        Row::Plain(field) => if_numbered(field, false, number),
-        Row::Optional(field) => if_numbered(field, false, number),
-        Row::Repeated(field) => if_numbered(field, true, number),
-        Row::OneOf(members) => find_member(members, number),
+    match row.shape() {
+        RowShape::Plain(field) => if_numbered(field, false, number),
+        RowShape::Optional(field) => if_numbered(field, false, number),
+        RowShape::Repeated(field) => if_numbered(field, true, number),
+        RowShape::OneOf(members) => find_member(members, number),
     }
 }
 
 /// The field of some rows that has a number.
 #[inline(always)]
-pub fn find_field(rows: &[Row], number: u32) -> Option<Found>
-    ensures { option_map found_view result ≡ field_numbered (map row_view rows.now) number }
+pub fn find_field<R: SchemaRow>(rows: &[R], number: u32) -> Option<Found>
+    ensures { option_map found_view result ≡ field_numbered (map R.view rows.now) number }
 {
     for row in rows {
         if let Some(found) = find_in_row(row, number) {
