@@ -5,7 +5,7 @@ Each phrase below is searched in pages, comments and docstrings, code in backquo
 the end of a line. A word with honest other uses is here only in the wrong phrase. Each page is plain: it has none of
 the phrases of DIALECT either, and of a hundred sentences fewer than five with more than 30 words. So are the help texts
 and the texts of the man pages, in the description of the programs. Comments of public items and of headers have as few
-long sentences, and comments of the folders of PLAIN have none of the phrases of DIALECT, except for those of KEPT.
+long sentences, and comments of the folders of PLAIN have none of the phrases of DIALECT.
 """
 from __future__ import annotations
 
@@ -117,15 +117,6 @@ DIALECT_PATTERNS = [(re.compile(pattern), better) for pattern, better in DIALECT
 
 # The folders whose comments have none of these phrases.
 PLAIN = ("crates/", "include/", "tests/", "examples/", "bench/")
-
-# Phrases that stay in comments, by the file, each with the reason.
-KEPT = {
-    "crates/shared_core_codec/specs/Canonicity.antt": {
-        "says which": "goes with the rewriting of that code",
-        ", of which": "goes with the rewriting of that code",
-    },
-    "crates/shared_core_codec/src/canonical.rt": {", of which": "goes with the rewriting of that code"},
-}
 
 # How many words a sentence may have, and how many of a hundred may have more.
 WORDS, LONG = 30, 5
@@ -269,11 +260,9 @@ def main(check: checks.Check) -> None:
         if ending in (PAGE, PROGRAMS):
             plain(check, file, texts)
         elif file.startswith(PLAIN):
-            kept = KEPT.get(file, {})
             phrases += [
                 f"{file}:{number}: {phrase.strip()} (better: {better})"
                 for number, phrase, better in found(texts, DIALECT_PATTERNS)
-                if phrase.strip() not in kept
             ]
         if ending in COUNTED:
             what, mark = COUNTED[ending]

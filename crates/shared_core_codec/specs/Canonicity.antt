@@ -41,8 +41,8 @@ is_written_number Boolean n = nat_lt n 2
 is_written_number Enumeration n = nat_lt n 2147483648 || nat_lt 18446744071562067967 n
 is_written_number k n = false
 
--- Whether a value of the kind is written as this value of a record, where `nested` says which bytes of a nested message
--- are canonical.
+-- Whether a value of the kind is written as this value of a record; `nested` decides whether the bytes of a nested
+-- message are canonical.
 abbrev pub is_written_value : NestedAcceptance → Kind → RecordValue → Bool
 is_written_value nested k (Varint n) = is_written_number k n
 is_written_value nested k (Length bytes) = accepts_bytes nested k bytes
@@ -69,7 +69,7 @@ is_default_value (Varint n) = n == 0
 is_default_value (Length bytes) = length bytes == 0
 is_default_value w = false
 
--- Whether a row is a plain field, of which a default is not written.
+-- Whether a row is a plain field, whose default is not written.
 abbrev pub is_plain : Row → Bool
 is_plain (Plain n k) = true
 is_plain row = false

@@ -19,7 +19,7 @@ field_fault count later f =
     else (if includes later f.0 then Some (f.0, fault.NumberTwice)
     else (if knows_kind count f.1 then None else Some (f.0, fault.UnknownSchema)))
 
--- The same of a plain field, which is no message.
+-- The same of a plain field, which is not a message.
 abbrev pub plain_fault : ℕ → List ℕ → ℕ × Kind → Option (ℕ × TableFault)
 plain_fault count later f = option_or (field_fault count later f)
     (if is_message f.1 then Some (f.0, fault.PlainMessage) else None)

@@ -19,7 +19,7 @@ use shared_core_wire::varint::read_varint;
 #[derive(Clone, Copy)]
 pub struct NextField<'a> {
     pub field: Found,
-    /// Whether it is a plain field, of which a default is not written.
+    /// Whether it is a plain field, whose default is not written.
     pub is_plain: bool,
     /// The rows of which records may come after that record.
     pub rows: &'a [Row],
@@ -57,7 +57,7 @@ pub fn is_written_number(kind: Kind, number: u64) -> bool
     }
 }
 
-/// Whether a row is a plain field, of which a default is not written.
+/// Whether a row is a plain field, whose default is not written.
 fn is_plain(row: &Row) -> bool
     ensures { result ≡ is_plain (row_view row.now) }
 {
