@@ -6,6 +6,7 @@
     --systems FILE     likewise, what sh scripts/check.sh before_release has printed
     --machine NAME     for this processor alone, x86_64 or aarch64
     --only KIND        files of this kind alone, which may be given several times; --list lists the kinds
+    --sign KEY         also SHA256SUMS.minisig, a signature of the checksums by this secret key of minisign
     --draft            also of changes that are not committed, which PROVED then says
 
 The files are listed by --list. Beside them are PROVED, which says what is proved and what is trusted, a list of what is
@@ -383,6 +384,8 @@ def make(options: argparse.Namespace, work: pathlib.Path) -> list[pathlib.Path]:
     out = pathlib.Path(options.folder)
     if out.exists() and (not out.is_dir() or any(out.iterdir())):
         raise NotMade(f"{out} is there, and is no empty folder")
+    if options.sign:
+        needs("minisign")
     release = Release(work, options)
     out.mkdir(parents=True, exist_ok=True)
     os.environ["SOURCE_DATE_EPOCH"] = str(release.date)
@@ -401,8 +404,23 @@ def make(options: argparse.Namespace, work: pathlib.Path) -> list[pathlib.Path]:
     package.write(release.out / f"pendratsoa-{version()}.spdx.json", contents(release, files))
     files = sorted(release.out.iterdir())
     sums = "".join(f"{hashlib.sha256(file.read_bytes()).hexdigest()}  {file.name}\n" for file in files)
-    package.write(release.out / "SHA256SUMS", sums)
-    return [*files, release.out / "SHA256SUMS"]
+    made = [*files, release.out / "SHA256SUMS"]
+    package.write(made[-1], sums)
+    if options.sign:
+        tell("the signature of the checksums")
+        made.append(signature(made[-1], options))
+    return made
+
+
+def signature(sums: pathlib.Path, options: argparse.Namespace) -> pathlib.Path:
+    """The signature of the checksums, with the version and the commit in its trusted comment; minisign asks for the
+    password of the key, if it has one."""
+    comment = f"pendratsoa {version()}, commit {commit(options.draft)}"
+    signed = sums.with_name(f"{sums.name}.minisig")
+    words = ["minisign", "-S", "-s", options.sign, "-m", str(sums), "-x", str(signed), "-t", comment]
+    if subprocess.run(words, stdout=subprocess.DEVNULL).returncode != 0:
+        raise NotMade(f"minisign does not sign with the key {options.sign}")
+    return signed
 
 
 def wanted(kind: collections.abc.Callable[..., None], options: argparse.Namespace) -> bool:
@@ -417,6 +435,7 @@ def arguments(words: list[str]) -> argparse.Namespace:
     parser.add_argument("--systems")
     parser.add_argument("--machine", choices=[machine.name for machine in MACHINES])
     parser.add_argument("--only", action="append", choices=kinds)
+    parser.add_argument("--sign", metavar="KEY")
     parser.add_argument("--draft", action="store_true")
     return parser.parse_args(words)
 
@@ -433,6 +452,7 @@ def main(words: list[str]) -> int:
     options.folder = os.path.abspath(options.folder)
     options.gate = options.gate and os.path.abspath(options.gate)
     options.systems = options.systems and os.path.abspath(options.systems)
+    options.sign = options.sign and os.path.abspath(options.sign)
     os.umask(0o022)
     os.chdir(ROOT)
     try:

@@ -13,6 +13,7 @@ import re
 
 import checks
 import crates
+import interface
 from generators import calls_data
 
 
@@ -167,11 +168,19 @@ def crates_and_tests(check: checks.Check) -> None:
     )
 
 
+def declarations(check: checks.Check) -> None:
+    """The C headers declare what proto/interface.txt has, so that no change of a declaration goes unseen."""
+    for change in interface.changes():
+        check.case(f"tools/interface.py: {change}", False)
+    check.case("the declarations of the C headers", bool(interface.before()))
+
+
 def main(check: checks.Check) -> None:
     versions(check)
     calls(check)
     languages(check)
     crates_and_tests(check)
+    declarations(check)
 
 
 if __name__ == "__main__":

@@ -1,5 +1,6 @@
 #!/usr/bin/env python3
-"""A release for this processor: each stage has a line; the tarball is installed, used, removed; wrong words rejected.
+"""A release for this processor: each stage has a line; the tarball is installed, used, removed; the checksums are
+signed; wrong words are rejected.
 
 It takes the proved programs and library, and installs the tarball below a folder. What needs other compilers, another
 processor or a bare system is in release.py, which is run before a release.
@@ -39,6 +40,7 @@ def main(check: checks.Check) -> None:
     for kind in KINDS:
         check.case(f"release.sh says that it makes {kind}", f"release.sh: {kind} for x86_64\n" in said, said)
     used(check, folder)
+    release.signed(check)
 
 
 if __name__ == "__main__":

@@ -462,6 +462,7 @@ def rejected(check: checks.Check) -> None:
         (["--only", "nothing", "x"], "invalid choice"),
         (["--draft", full], "is no empty folder"),
         (["--draft", "--gate", gate, check.work / "none"], "'5 passed, 1 failed'"),
+        (["--draft", "--sign"], "expected one argument"),
     ):
         ended = checks.run(["sh", "scripts/release.sh", *words])
         is_right = ended.status == 2 and why.encode() in ended.err and not ended.out
@@ -489,6 +490,34 @@ def made(
     check.stop_if_failed()
     check.command("sha256sum -c", ["sha256sum", "--check", "--strict", "--quiet", "SHA256SUMS"], cwd=release)
     return release, ended.err.decode()
+
+
+def signed(check: checks.Check) -> None:
+    """The checksums of a release are signed by a key that is made here; a changed list, and another key, are found; a
+    key that is absent makes no signature."""
+    if not check.has("minisign", "the signature of the checksums"):
+        return
+    keys = {name: check.work / name for name in ("key", "key.pub", "other", "other.pub")}
+    for name in ("key", "other"):
+        check.command(f"minisign makes {name}", ["minisign", "-G", "-W", "-p", keys[f"{name}.pub"], "-s", keys[name]])
+    folder = check.work / "signed"
+    words = ["sh", "scripts/release.sh", "--draft", "--machine", "x86_64", "--only", "tarball"]
+    ended = checks.run([*words, "--sign", keys["key"], folder])
+    sums = folder / "SHA256SUMS"
+    check.case("release.sh --sign", ended.status == 0 and sums.with_name("SHA256SUMS.minisig").exists(), ended)
+    check.stop_if_failed()
+
+    def verified(by: pathlib.Path) -> checks.Run:
+        return checks.run(["minisign", "-V", "-p", by, "-m", sums])
+
+    ended = verified(keys["key.pub"])
+    check.case("the signature is verified", ended.status == 0 and VERSION.encode() in ended.out, ended)
+    check.case("another key does not verify it", verified(keys["other.pub"]).status != 0)
+    sums.write_text(sums.read_text().replace("0", "1", 1))
+    check.case("a changed list is not verified", verified(keys["key.pub"]).status != 0)
+    ended = checks.run([*words, "--sign", check.work / "absent", check.work / "unsigned"])
+    is_right = ended.status == 2 and b"minisign does not sign with the key" in ended.err
+    check.case("release.sh --sign with a key that is absent", is_right, ended)
 
 
 def again(check: checks.Check, release: pathlib.Path) -> None:
