@@ -7,18 +7,18 @@ use Rattle.shared_core_wire.specs.Grammar.{RecordValue, Length, FieldRecord, IsV
 use Rattle.shared_core_wire.specs.Reader.{record_at}
 use Rattle.shared_core_wire.specs.ReadRecords.{PlacedRecord, records_past, read_records}
 use Rattle.shared_core_wire.specs.Encoding.{shortest_varint, key_bytes}
-use Rattle.shared_core_wire.specs.Schema.{Row, ByteString, Plain}
+use Rattle.shared_core_wire.specs.Schema.{Table, Row, ByteString, Plain}
 use Rattle.shared_core_wire.specs.Value.{Bytes}
 use Rattle.shared_core_wire.specs.declared.error.WireError.{WireError}
 use Rattle.shared_core_wire.proofs.Places.{read_lie}
 use Rattle.shared_core_wire.proofs.ReadRecords.{place, step, read_again, read_nil}
 use Rattle.shared_core_wire.proofs.Shortest.{shortest_small}
 use Rattle.shared_core_codec.specs.Canonicity.{IsCanonical, Next, found_or, next_field, written_size}
-use Rattle.shared_core_codec.specs.Canonicity.{is_canonical_message, is_canonical_payload, all_come_read}
+use Rattle.shared_core_codec.specs.Canonicity.{is_canonical_message_in, is_canonical_payload_in, all_come_read}
 use Rattle.shared_core_codec.specs.Payloads.{payload_meaning}
 use Rattle.shared_core_codec.specs.Table.{table}
-use Rattle.shared_core_codec.proofs.Canonicity.{all_come_is}
-use Rattle.shared_core_fields.specs.Checked.{IsSingle, WritesTo}
+use Rattle.shared_core_codec.proofs.CanonicityIn.{all_come_is}
+use Rattle.shared_core_fields.specs.Checked.{IsSingle, IsSingleOf, WritesTo}
 use Rattle.shared_core_fields.specs.Fields.{FieldPart, message_fields, record_part}
 use Rattle.shared_core_fields.specs.Rows.{bytes_entry, fields_rows, level_rows}
 use Rattle.shared_core_fields.specs.Entries.{field_entries}
@@ -83,10 +83,10 @@ count_content bytes tail more content rest b m n first second third size high w 
       ap length (shortest_small (length content) (omega (arith, size, h))),
     )
 
-pub is_single : (s b m n : ℕ) (bytes tail content : List ℕ) → table s ≡ Plain n ByteString ∷ [] → bytes ≡ b ∷ tail →
-    tail ≡ m ∷ content → 8 ≤ b → b < 128 → b ≡ 8 * n + 2 → m < 128 → length content ≡ m → 0 < length content → IsSingle
-    n s bytes
-is_single s b m n bytes tail content rows first second low high key h size some =
+pub is_single : (all : List Row) (b m n : ℕ) (bytes tail content : List ℕ) → all ≡ Plain n ByteString ∷ [] → bytes ≡ b ∷
+    tail → tail ≡ m ∷ content → 8 ≤ b → b < 128 → b ≡ 8 * n + 2 → m < 128 → length content ≡ m → 0 < length content →
+    IsSingleOf n all bytes
+is_single all b m n bytes tail content rows first second low high key h size some =
     let whole : content ≡ content ++ [] = sym (append-nil content) in
     let whole_is : bytes ≡ b ∷ m ∷ content = first ∙ ap (λ (t : List ℕ). b ∷ t) second in
     let many : length content + 1 + 1 ≡ length bytes = omega (arith, ap length whole_is) in
@@ -104,13 +104,13 @@ is_single s b m n bytes tail content rows first second low high key h size some 
       some = some;
     }
 
-pub single_at : (s b m n : ℕ) (bytes : List ℕ) → table s ≡ Plain n ByteString ∷ [] → 3 ≤ length bytes → length bytes <
-    130 → b ≡ get_or bytes 0 0 → m ≡ get_or bytes 1 0 → m ≡ length bytes - 2 → 8 ≤ b → b < 128 → b ≡ 8 * n + 2 →
-    IsSingle n s bytes
-single_at s b m n [] rows long short first second size low high key = absurd (omega (arith, long))
-single_at s b m n (x ∷ []) rows long short first second size low high key = absurd (omega (arith, long))
-single_at s b m n (x ∷ y ∷ content) rows long short first second size low high key =
-    is_single s x y n (x ∷ y ∷ content) (y ∷ content) content rows refl refl (omega (arith, first, low))
+pub single_at : (all : List Row) (b m n : ℕ) (bytes : List ℕ) → all ≡ Plain n ByteString ∷ [] → 3 ≤ length bytes →
+    length bytes < 130 → b ≡ get_or bytes 0 0 → m ≡ get_or bytes 1 0 → m ≡ length bytes - 2 → 8 ≤ b → b < 128 → b ≡ 8 *
+    n + 2 → IsSingleOf n all bytes
+single_at all b m n [] rows long short first second size low high key = absurd (omega (arith, long))
+single_at all b m n (x ∷ []) rows long short first second size low high key = absurd (omega (arith, long))
+single_at all b m n (x ∷ y ∷ content) rows long short first second size low high key =
+    is_single all x y n (x ∷ y ∷ content) (y ∷ content) content rows refl refl (omega (arith, first, low))
     (omega (arith, first, high)) (omega (arith, first, key)) (omega (arith, second, size, short))
     (omega (arith, second, size)) (omega (arith, long))
 
@@ -121,10 +121,11 @@ next_single : (n : ℕ) → next_field (Plain n ByteString ∷ []) n ≡ Some
 next_single n =
     ap (λ (b : Bool). found_or (Plain n ByteString) [] None (cond b (Some (ByteString, false)) None)) (eq-eqb n n refl)
 
-pub single_canonical : (left n s : ℕ) (bytes : List ℕ) → IsSingle n s bytes → is_canonical_payload left s bytes ≡ true
+pub single_canonical : (table : Table) (left n s : ℕ) (bytes : List ℕ) → IsSingleOf n (table s) bytes →
+    is_canonical_payload_in table left s bytes ≡ true
 unfolding read_records
-single_canonical left n s bytes h =
-    let nested = is_canonical_message left in
+single_canonical table left n s bytes h =
+    let nested = is_canonical_message_in table left in
     let r = numbered n (Length h.content) in
     let one = step 0 (length bytes) bytes r [] h.read in
     let rows = Plain n ByteString ∷ [] in
@@ -135,7 +136,7 @@ single_canonical left n s bytes h =
     let goes = ap (λ (m : ℕ). Some (with_room m [])) (sym none)
     ∙ comes_then nested rows (length bytes) (written_size r) r next (sym (next_single n)) refl (omega (arith, h.size))
     some in
-    sym (all_come_is left s bytes)
+    sym (all_come_is table left s bytes)
     ∙ ap (λ (rs : List Row). all_come_read nested (rs, length bytes) (records_past (record_at 0) (length bytes) 0
     bytes)) h.rows ∙ ap (all_come_read nested (rows, length bytes)) one.more
     ∙ comes_on nested rows (length bytes) ([], 0) (place (length bytes) bytes r [])

@@ -28,13 +28,17 @@ pub record WritesNext (payload : List ℕ) (left : ℕ) (rows : List Row) (r : F
   pub rest_is : rest ≡ next.rows
   pub written : WritesTo payload (record_rows left r.number next.field r.value) at old new after
 
--- The only row of the schema s is a plain field of bytes with this number, and the bytes are one record of it, as it is
+-- The only row of a schema is a plain field of bytes with this number, and the bytes are one record of it, as it is
 -- written, after whose key and length of one byte each comes what it holds.
-pub record IsSingle (n s : ℕ) (bytes : List ℕ) : Type 0 where
+pub record IsSingleOf (n : ℕ) (all : List Row) (bytes : List ℕ) : Type 0 where
   pub content : List ℕ
-  pub rows : table s ≡ Plain n ByteString ∷ []
+  pub rows : all ≡ Plain n ByteString ∷ []
   pub read : record_at 0 bytes ≡ Some (record { number = n; value = Length content }, [])
   pub size : written_size (record { number = n; value = Length content }) ≡ length bytes
   pub there : drop 2 bytes ≡ content
   pub long : 2 + length content ≡ length bytes
   pub some : 0 < length content
+
+-- The same of the schema of the protocol at an index.
+abbrev pub IsSingle : ℕ → ℕ → List ℕ → Type 0
+IsSingle n s bytes = IsSingleOf n (table s) bytes

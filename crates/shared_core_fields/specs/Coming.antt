@@ -8,9 +8,8 @@ use Rattle.shared_core_wire.specs.Acceptance.{NestedAcceptance}
 use Rattle.shared_core_wire.specs.declared.error.WireError.{WireError}
 use Rattle.shared_core_codec.specs.Canonicity.{is_canonical_payload, is_written_value, is_written_element, next_field}
 use Rattle.shared_core_codec.specs.Canonicity.{Next, is_plain}
-use Rattle.shared_core_codec.specs.ProgramRows.{kind_view, row_view, rows_view}
+use Rattle.shared_core_codec.specs.ProgramRows.{kind_view}
 use Rattle.shared_core_codec.specs.declared.rows.Field.{Field}
-use Rattle.shared_core_fields.specs.declared.next.FoundField.{FoundField}
 
 -- Whether bytes are a canonical payload of the schema s, if they are short.
 abbrev pub is_nested : NestedAcceptance
@@ -58,10 +57,6 @@ IsRowField (Optional n k) o = o ≡ Some (n, k)
 IsRowField (Repeated n k) o = o ≡ Some (n, k)
 IsRowField (OneOf members) o = o ≡ None
 
--- The field of which a record may come next that a field of the program is.
-abbrev pub found_next : FoundField → Next
-found_next f = record {
-  field = of_row (row_view f.row.now) f.field.now;
-  is_plain = is_plain (row_view f.row.now);
-  rows = rows_view f.rows;
-}
+-- The field of which a record may come next that a field of a row is, with the rows that may come after that record.
+abbrev pub found_next : Row → Field → List Row → Next
+found_next row f rows = record { field = of_row row f; is_plain = is_plain row; rows = rows }

@@ -7,11 +7,12 @@ ghost use Rattle.shared_core_wire.specs.Reader.{record_at};
 ghost use Rattle.shared_core_wire.specs.ReadRecords.{records_past};
 ghost use Rattle.shared_core_fields.specs.Coming.{are_coming};
 
-use crate::check::is_canonical;
+use crate::check::is_canonical_in;
 use crate::known::known_front;
 use crate::next::known_next;
 use crate::runs::Run;
 use crate::typed::{content_offset, known_value};
+use shared_core_codec::any_table::ProtocolSchemas;
 use shared_core_codec::rows::{Row, rows_of};
 
 /// A payload that is canonical for a schema: `check` makes one, and so does reading a message field, without a second
@@ -80,7 +81,7 @@ impl<'a> CanonicalPayload<'a> {
         ensures canonical { (is_some result ≡ true) ↔ IsCanonical schema payload.now }
         ensures same { IfSome result (λ c. (c.schema ≡ schema) × (c.bytes.now ≡ payload.now)) }
     {
-        if is_canonical(schema, payload) {
+        if is_canonical_in(&ProtocolSchemas, schema, payload) {
             Some(CanonicalPayload {
                 schema,
                 bytes: payload,

@@ -2,7 +2,7 @@
 //! it has no error. Those of all levels are written into the caller's table, while the payload is checked.
 #![tactic(auto)]
 
-mod check;
+pub mod check;
 pub mod fields;
 mod known;
 pub mod laws;

@@ -4,82 +4,62 @@ ghost use Rattle.std.specs.Prelude.{◌≡◌, map, option_map, is_some, true, f
 ghost use Rattle.std.specs.Borrow.{Bor};
 ghost use Rattle.shared_core_codec.specs.Canonicity.{is_plain, next_field, next_view};
 ghost use Rattle.shared_core_codec.specs.ProgramRows.{field_in_row, field_view, found_view, kind_view};
-ghost use Rattle.shared_core_codec.specs.ProgramRows.{member_numbered, row_view};
+ghost use Rattle.shared_core_codec.specs.ProgramRows.{member_numbered, row_view, rows_view};
 ghost use Rattle.shared_core_codec.specs.declared.rows.Field.{Field};
 ghost use Rattle.shared_core_fields.specs.Coming.{IsRowField, found_next, is_repeated, of_row, IsSingleRow};
 
+use shared_core_codec::any_table::{RowShape, SchemaRow};
 use shared_core_codec::canonical::NextField;
 use shared_core_codec::rows::{Field, Found, Row};
 
-/// A field of which a record may come next: the row that it is of, the field, and the rows of which records may come
-/// after that record.
-#[derive(Clone, Copy)]
-pub(crate) struct FoundField<'a> {
-    pub row: &'a Row,
-    pub field: &'a Field,
-    pub rows: &'a [Row],
-}
-
-impl<'a> FoundField<'a> {
-    /// Whether it is a plain field, whose default is not written.
-    #[inline(always)]
-    pub(crate) fn is_plain(self) -> bool
-        ensures { result ≡ is_plain (row_view self.entry.row.now) }
-    {
-        match self.row {
-            Row::Plain(_) => true,
-            _ => false,
-        }
-    }
-
-    /// Whether it is repeated.
-    #[inline(always)]
-    pub(crate) fn is_repeated(self) -> bool
-        ensures { result ≡ is_repeated (row_view self.entry.row.now) }
-    {
-        is_repeated(self.row)
-    }
-
-    /// The same as `next_field` returns it.
-    #[inline(always)]
-    fn as_next(self) -> NextField<'a>
-        ensures { next_view result ≡ found_next self.entry }
-    {
-        NextField {
-            field: found_in(self.row, self.field),
-            is_plain: self.is_plain(),
-            rows: self.rows,
-        }
-    }
-}
-
-/// The field of the first row, if that is one field which is not repeated and has the number, as most often. `None`
-/// says nothing.
+/// A field of a row of which a record may come next, as `next_field` returns it, with the rows of which records may
+/// come after that record.
 #[inline(always)]
-pub(crate) fn first_field<'a>(rows: &'a [Row], number: u32) -> Option<FoundField<'a>>
-    ensures { IfSome result (λ f. Some (found_next f) ≡ next_field (map row_view rows.now) number) }
+fn as_next<'a>(row: &Row, field: &Field, rows: &'a [Row]) -> NextField<'a>
+    ensures { next_view result ≡ found_next (row_view row.now) field.now (rows_view rows.entry) }
+{
+    NextField {
+        field: found_in(row, field),
+        is_plain: is_plain(row),
+        rows,
+    }
+}
+
+/// The first row and its field, if that is one field which is not repeated and has the number, as most often, and the
+/// rows of which records may come after a record of it. `None` says nothing.
+#[inline(always)]
+pub(crate) fn first_field<'a, R: SchemaRow>(
+    rows: &'a [R],
+    number: u32,
+) -> Option<(&'a R, &'a Field, &'a [R])>
+    ensures { IfSome result (λ f. Some (found_next (R.view f.0.now) f.1.now (map R.view f.2.now))
+        ≡ next_field (map R.view rows.now) number) }
 {
     let (row, rows) = rows.split_first()?;
     let field = single_field(row)?;
     if field.number == number {
-        Some(FoundField { row, field, rows })
+        Some((row, field, rows))
     } else {
         None
     }
 }
 
-/// The field of the first row that has the number, as `next_field` has it. Only the number of a row that is passed over
-/// is read, if the row is not a oneof.
+/// The first row that has the number and its field, as `next_field` has it, and the rows of which records may come
+/// after a record of it. Only the number of a row that is passed over is read, if the row is not a oneof.
 #[inline(always)]
-pub(crate) fn find_field<'a>(rows: &'a [Row], number: u32) -> Option<FoundField<'a>>
-    ensures { option_map found_next result ≡ next_field (map row_view rows.now) number }
+pub(crate) fn find_field<'a, R: SchemaRow>(
+    rows: &'a [R],
+    number: u32,
+) -> Option<(&'a R, &'a Field, &'a [R])>
+    ensures { option_map (λ f. found_next (R.view f.0.now) f.1.now (map R.view f.2.now)) result
+        ≡ next_field (map R.view rows.now) number }
 {
     let mut rest = rows;
     while let Some((row, after)) = rest.split_first() {
         if let Some(field) = field_of(row, number) {
             let recurs = found_in(row, field).may_recur();
             let rows = if recurs { rest } else { after };
-            return Some(FoundField { row, field, rows });
+            return Some((row, field, rows));
         }
         rest = after;
     }
@@ -88,22 +68,22 @@ pub(crate) fn find_field<'a>(rows: &'a [Row], number: u32) -> Option<FoundField<
 
 /// The field of a row that is one field which is not repeated.
 #[inline(always)]
-fn single_field(row: &Row) -> Option<&Field>
-    ensures { IfSome result (λ field. IsSingleRow (row_view row.now) (field_view field.now)) }
+fn single_field<R: SchemaRow>(row: &R) -> Option<&Field>
+    ensures { IfSome result (λ field. IsSingleRow (R.view row.now) (field_view field.now)) }
 {
-    match row {
-        Row::Plain(field) | Row::Optional(field) => Some(field),
+    match row.shape() {
+        RowShape::Plain(field) | RowShape::Optional(field) => Some(field),
         _ => None,
     }
 }
 
 /// The field of a row that has the number.
 #[inline(always)]
-fn field_of(row: &Row, number: u32) -> Option<&Field>
-    ensures { option_map (λ (f : Bor Field). of_row (row_view row.now) f.now) result
-        ≡ field_in_row (row_view row.now) number }
+fn field_of<R: SchemaRow>(row: &R, number: u32) -> Option<&Field>
+    ensures { option_map (λ (f : Bor Field). of_row (R.view row.now) f.now) result
+        ≡ field_in_row (R.view row.now) number }
 {
-    if let Row::OneOf(members) = row {
+    if let RowShape::OneOf(members) = row.shape() {
         return find_member(members, number);
     }
     let field = row_field(row)?;
@@ -116,12 +96,14 @@ fn field_of(row: &Row, number: u32) -> Option<&Field>
 
 /// The field of a row that is one field.
 #[inline(always)]
-fn row_field(row: &Row) -> Option<&Field>
-    ensures { IsRowField (row_view row.now) (option_map (λ (f : Bor Field). field_view f.now) result) }
+fn row_field<R: SchemaRow>(row: &R) -> Option<&Field>
+    ensures { IsRowField (R.view row.now) (option_map (λ (f : Bor Field). field_view f.now) result) }
 {
-    match row {
-        Row::Plain(field) | Row::Optional(field) | Row::Repeated(field) => Some(field),
-        Row::OneOf(_) => None,
+    match row.shape() {
+        RowShape::Plain(field) | RowShape::Optional(field) | RowShape::Repeated(field) => {
+            Some(field)
+        }
+        RowShape::OneOf(_) => None,
     }
 }
 
@@ -141,8 +123,8 @@ fn find_member(members: &[Field], number: u32) -> Option<&Field>
 
 /// The kind of a field of a row, and whether it is repeated.
 #[inline(always)]
-fn found_in(row: &Row, field: &Field) -> Found
-    ensures { found_view result ≡ of_row (row_view row.now) field.now }
+fn found_in<R: SchemaRow>(row: &R, field: &Field) -> Found
+    ensures { found_view result ≡ of_row (R.view row.now) field.now }
 {
     Found {
         kind: field.kind,
@@ -150,13 +132,24 @@ fn found_in(row: &Row, field: &Field) -> Found
     }
 }
 
+/// Whether a row is a plain field, whose default is not written.
+#[inline(always)]
+pub(crate) fn is_plain<R: SchemaRow>(row: &R) -> bool
+    ensures { result ≡ is_plain (R.view row.now) }
+{
+    match row.shape() {
+        RowShape::Plain(_) => true,
+        _ => false,
+    }
+}
+
 /// Whether a row is a repeated field.
 #[inline(always)]
-fn is_repeated(row: &Row) -> bool
-    ensures { result ≡ is_repeated (row_view row.now) }
+pub(crate) fn is_repeated<R: SchemaRow>(row: &R) -> bool
+    ensures { result ≡ is_repeated (R.view row.now) }
 {
-    match row {
-        Row::Repeated(_) => true,
+    match row.shape() {
+        RowShape::Repeated(_) => true,
         _ => false,
     }
 }
@@ -166,10 +159,11 @@ fn is_repeated(row: &Row) -> bool
 pub(crate) fn find_next<'a>(rows: &'a [Row], number: u32) -> Option<NextField<'a>>
     ensures { option_map next_view result ≡ next_field (map row_view rows.now) number }
 {
-    if let Some(found) = first_field(rows, number) {
-        return Some(found.as_next());
+    if let Some((row, field, after)) = first_field(rows, number) {
+        return Some(as_next(row, field, after));
     }
-    Some(find_field(rows, number)?.as_next())
+    let (row, field, after) = find_field(rows, number)?;
+    Some(as_next(row, field, after))
 }
 
 /// The same where there is such a field.

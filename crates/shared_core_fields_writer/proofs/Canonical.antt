@@ -29,7 +29,7 @@ use Rattle.shared_core_codec.specs.Table.{table}
 use Rattle.shared_core_codec.specs.RowEncoding.{varint_record, length_record}
 use Rattle.shared_core_codec.specs.Canonicity.{Next, next_field, is_written_field, rows_after, coming_after, all_come}
 use Rattle.shared_core_codec.specs.Canonicity.{Coming, is_packed}
-use Rattle.shared_core_codec.specs.Canonicity.{written_size, is_canonical_message}
+use Rattle.shared_core_codec.specs.Canonicity.{written_size, is_canonical_message, is_canonical_message_in}
 use Rattle.shared_core_codec.specs.Canonicity.{is_written_number, is_written_value, is_default_value}
 use Rattle.shared_core_codec.specs.Canonicity.{is_written_run, low_varint_at, IsCanonical, may_recur, found_or}
 use Rattle.shared_core_codec.specs.Canonicity.{is_plain}
@@ -523,7 +523,7 @@ onto_split a (Err x) out e = absurd cc
 pub nested_canonical : (below t : ℕ) (content : List ℕ) → Records below (table t) content → is_canonical_message (suc
     below) t
     content ≡ true
-unfolding is_canonical_message
+unfolding is_canonical_message_in
 nested_canonical below t content x =
     let read : record_list 0 content ≡ Some x.rs = ap (record_list 0) x.is ∙ records_encoded 0 x.rs x.encodes in
     let size : length content ≡ total_size x.rs = ap length x.is ∙ sym (total_is x.rs x.encodes) in

@@ -10,7 +10,7 @@ ghost use Rattle.shared_core_codec.specs.Checking.{field_record_of};
 ghost use Rattle.shared_core_codec.specs.Payloads.{payload_meaning};
 ghost use Rattle.shared_core_codec.specs.ProgramRows.{found_view, row_view, rows_view};
 ghost use Rattle.shared_core_codec.specs.Table.{table};
-ghost use Rattle.shared_core_fields.specs.Checked.{IsSingle, WritesNext, WritesTo, record_rows};
+ghost use Rattle.shared_core_fields.specs.Checked.{IsSingleOf, WritesNext, WritesTo, record_rows};
 ghost use Rattle.shared_core_fields.specs.Fields.{message_fields};
 ghost use Rattle.shared_core_fields.specs.Rows.{fields_rows, table_rows};
 ghost use Rattle.shared_core_fields.specs.Views.{IsAt, content_offset};
@@ -20,6 +20,7 @@ use super::{FieldEntry, kind_number};
 use crate::next::find_next;
 use crate::runs::Run;
 use crate::shortest::read_written;
+use shared_core_codec::any_table::{ProtocolSchemas, RowShape, SchemaRow, Schemas};
 use shared_core_codec::canonical::{NextField, is_written_number, is_written_run};
 use shared_core_codec::rows::{Kind, Row, rows_of};
 use shared_core_codec::size::Size;
@@ -303,7 +304,7 @@ fn check_content<'a>(
                     level,
                 ),
             );
-            if let Some(inner) = single_bytes(schema, content) {
+            if let Some(inner) = single_bytes(&ProtocolSchemas, schema, content) {
                 put(
                     out,
                     at + 1,
@@ -337,8 +338,8 @@ fn check_content<'a>(
 /// The number of the only field of a schema, if that is a plain field of bytes, and these are one record of it whose
 /// key and length are one byte each. Most messages within others are such.
 #[inline(always)]
-pub(crate) fn single_bytes(schema: u32, bytes: &[u8]) -> Option<u32>
-    ensures { IfSome result (λ n. IsSingle n schema bytes.now) }
+pub(crate) fn single_bytes<T: Schemas>(schemas: &T, schema: u32, bytes: &[u8]) -> Option<u32>
+    ensures { IfSome result (λ n. IsSingleOf n (T.table schemas.now schema) bytes.now) }
 {
     // the bytes first, so that each test is compiled on its own
     if bytes.len() < 3 || bytes.len() >= 130 || usize::from(bytes[1]) != bytes.len() - 2 {
@@ -348,11 +349,11 @@ pub(crate) fn single_bytes(schema: u32, bytes: &[u8]) -> Option<u32>
     if key < 8 || key >= 128 {
         return None;
     }
-    let (row, others) = rows_of(schema).split_first()?;
+    let (row, others) = schemas.rows_of(schema).split_first()?;
     if !others.is_empty() {
         return None;
     }
-    let Row::Plain(field) = row else {
+    let RowShape::Plain(field) = row.shape() else {
         return None;
     };
     let Kind::ByteString = field.kind else {

@@ -89,7 +89,7 @@ check_content-returns-in-Some-clause-canonical t c =
       | check_content-else-next-via-then-next+else-not-next w ↦ absurd (let s = w.if-not-next.false in cc)
       | check_content-else-next-via-else-next w ↦ absurd (let s = w.if-next.false in cc)
     ] in
-    sym (single_canonical (c.args.place.left - 1) c.in-Some.inner c.in-Message.schema c.args.content.now
+    sym (single_canonical table (c.args.place.left - 1) c.in-Some.inner c.in-Message.schema c.args.content.now
     c.in-Some.ensures)
     ∙ sym (canonical_below (c.args.place.left - 1) c.args.place.left c.in-Message.schema c.args.content.now
     (omega (arith, c.if-place-eq0.false)))
@@ -107,7 +107,7 @@ check_content-returns-in-Some-clause-rows t c =
     let place = c.args.place.offset + 2 in
     let h = c.in-Some.ensures in
     let canonical = nested_canonical (c.args.place.left - 1) s bytes (λ i. omega (arith, c.type_inv.content i))
-    c.requires.short (omega (arith, c.requires.levels)) (single_canonical (c.args.place.left - 1) n s bytes h) in
+    c.requires.short (omega (arith, c.requires.levels)) (single_canonical table (c.args.place.left - 1) n s bytes h) in
     let deeper : level + 1 ≡ within = omega (arith, c.if-place-eq0.false, c.requires.levels) in
     let size : length bytes - 2 ≡ length h.content = omega (arith, h.long) in
     let next : c.args.at + 1 + 1 ≡ c.args.at + 2 = omega arith in
