@@ -1,4 +1,5 @@
 pub mod NamesAt
+pub mod SortedNames
 pub mod Members
 pub mod Values
 pub mod PlainScalars

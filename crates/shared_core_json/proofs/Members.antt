@@ -7,23 +7,23 @@ use Rattle.std.specs.Prelude.{if◌then◌else◌}
 use Rattle.json.specs.Token.{Token, begin_object, end_object, begin_array, end_array, key}
 use Rattle.json.specs.Json.{Members, member, array}
 use Rattle.json.specs.Tree.{json_tokens, members_tokens, items_tokens}
-use Rattle.shared_core_wire.specs.Schema.{Kind, Row, U32, Plain, Optional, Repeated, OneOf, numbers, includes}
+use Rattle.shared_core_wire.specs.Schema.{Table, Kind, Row, U32, Plain, Optional, Repeated, OneOf, numbers, includes}
 use Rattle.shared_core_wire.specs.Schema.{member_kind, are_distinct, all_numbers}
 use Rattle.shared_core_wire.specs.Value.{Part, Parts, Absent, Number, Bytes, Nested, Elements, Member, nil, cons}
 use Rattle.shared_core_wire.specs.Fitting.{has_shape, Fits}
 use Rattle.shared_core_wire.specs.Canonical.{kind_of, number_of, is_default, part_levels, levels}
 use Rattle.shared_core_wire.proofs.ReadBack.{or_split, includes-append, distinct_back, distinct_other}
 use Rattle.shared_core_wire.proofs.Runs.{and_split}
-use Rattle.shared_core_codec.specs.Table.{table}
-use Rattle.shared_core_codec.specs.Canonicity.{may_recur, IsCanonical}
-use Rattle.shared_core_codec.specs.Payloads.{payload_meaning}
-use Rattle.shared_core_codec.proofs.Tables.{are_schemas}
+use Rattle.shared_core_wire.specs.Overlay.{meaning}
+use Rattle.shared_core_codec.specs.Canonicity.{may_recur, IsCanonicalIn}
+use Rattle.shared_core_codec.specs.Tables.{IsTable}
 use Rattle.shared_core_wire.specs.Encoding.{is_field_number}
 use Rattle.std.specs.List.{list_all}
 use Rattle.shared_core_codec.specs.RowEncoding.{unpacked}
 use Rattle.shared_core_fields.specs.Fields.{FieldPart, each_field, row_fields, message_fields}
-use Rattle.shared_core_json.specs.Fields.{name_of, names_of, named}
-use Rattle.shared_core_json.specs.Form.{is_present, member_if, part_json, items_json, members_json, json_with}
+use Rattle.shared_core_json.specs.Fields.{Names, name_of, named}
+use Rattle.shared_core_json.specs.Form.{is_present, member_if, part_json_in, items_json_in, members_json_in}
+use Rattle.shared_core_json.specs.Form.{json_with_in}
 use Rattle.shared_core_json.specs.Written.{end_tokens, lead_tokens, open_list_after, fields_tokens}
 
 regroup : {A : Type 0} (a b c d e : List A) → ((a ++ b) ++ (c ++ d)) ++ e ≡ a ++ (b ++ (c ++ (d ++ e)))
@@ -53,72 +53,82 @@ no_zero (n ∷ ns) h = let e = and_split _ _ h in by_test (eqb 0 n) refl (ltb-tr
 own_number : (n : ℕ) → includes (n ∷ []) n ≡ true
 own_number n = rw (eq-eqb n n refl) refl
 
-module _ (texts : Bool) (names : List (ℕ × List ℕ)) where
+module _ (table : Table) (all_names : Names) (texts : Bool) (names : List (ℕ × List ℕ)) where
   -- a field that is not an element
   one : (n : ℕ) (k : Kind) (repeated : Bool) (p : Part) (rest : List FieldPart) (ms : Members) (open_list : ℕ)
       → may_recur (k, repeated) ≡ false → eqb open_list n ≡ false
-      → fields_tokens texts names 0 rest ++ end_object ∷ [] ≡ members_tokens ms
-      → fields_tokens texts names open_list ((n, (k, repeated), p) ∷ rest) ++ end_object ∷ []
-      ≡ end_tokens open_list ++ members_tokens (member (name_of names n) (part_json texts p k) ms)
+      → fields_tokens table all_names texts names 0 rest ++ end_object ∷ [] ≡ members_tokens ms
+      → fields_tokens table all_names texts names open_list ((n, (k, repeated), p) ∷ rest) ++ end_object ∷ []
+      ≡ end_tokens open_list ++ members_tokens (member (name_of names n) (part_json_in table all_names texts p k) ms)
   unfolding fields_tokens
   one n k repeated p rest ms open_list m ne next =
-      rw (m, ne) (regroup (end_tokens open_list) (key (name_of names n) ∷ []) (json_tokens (part_json texts p k))
-      (fields_tokens texts names 0 rest) (end_object ∷ [])
-      ∙ ap (λ (ts : List Token). end_tokens open_list ++ (key (name_of names n) ∷ (json_tokens (part_json texts p k) ++
+      rw (m, ne) (regroup (end_tokens open_list) (key (name_of names n) ∷ [])
+      (json_tokens (part_json_in table all_names texts p k))
+      (fields_tokens table all_names texts names 0 rest) (end_object ∷ [])
+      ∙ ap (λ (ts : List Token). end_tokens open_list ++ (key (name_of names n) ∷
+      (json_tokens (part_json_in table all_names texts p k) ++
       ts))) next)
 
   -- the elements of an open list
   others : (n : ℕ) (k : Kind) (ps : Parts) (rest : List FieldPart) (tail : List Token) → unpacked k ≡ true
-      → fields_tokens texts names n rest ++ end_object ∷ [] ≡ end_array ∷ tail
-      → fields_tokens texts names n (each_field n k ps ++ rest) ++ end_object ∷ []
-      ≡ items_tokens (items_json texts ps k) ++ tail
-  unfolding fields_tokens part_json
+      → fields_tokens table all_names texts names n rest ++ end_object ∷ [] ≡ end_array ∷ tail
+      → fields_tokens table all_names texts names n (each_field n k ps ++ rest) ++ end_object ∷ []
+      ≡ items_tokens (items_json_in table all_names texts ps k) ++ tail
+  unfolding fields_tokens part_json_in
   others n k nil rest tail u next = next
   others n k (cons p ps) rest tail u next =
-      let json = json_tokens (part_json texts p k) in
-      rw (eq-eqb n n refl, u) (append_assoc json (fields_tokens texts names n (each_field n k ps ++ rest))
+      let json = json_tokens (part_json_in table all_names texts p k) in
+      rw (eq-eqb n n refl, u) (append_assoc json (fields_tokens table all_names texts names n
+      (each_field n k ps ++ rest))
       (end_object ∷ [])
       ∙ ap (λ (ts : List Token). json ++ ts) (others n k ps rest tail u next)
-      ∙ sym (append_assoc json (items_tokens (items_json texts ps k)) tail))
+      ∙ sym (append_assoc json (items_tokens (items_json_in table all_names texts ps k)) tail))
 
   -- a list
   list : (n : ℕ) (k : Kind) (p : Part) (ps : Parts) (rest : List FieldPart) (ms : Members) (open_list : ℕ)
       → unpacked k ≡ true → eqb open_list n ≡ false → eqb n 0 ≡ false
-      → fields_tokens texts names n rest ++ end_object ∷ [] ≡ end_tokens n ++ members_tokens ms
-      → fields_tokens texts names open_list (each_field n k (cons p ps) ++ rest) ++ end_object ∷ []
-      ≡ end_tokens open_list ++ members_tokens (member (name_of names n) (array (items_json texts (cons p ps) k)) ms)
-  unfolding fields_tokens part_json
+      → fields_tokens table all_names texts names n rest ++ end_object ∷ [] ≡ end_tokens n ++ members_tokens ms
+      → fields_tokens table all_names texts names open_list (each_field n k (cons p ps) ++ rest) ++ end_object ∷ []
+      ≡ end_tokens open_list ++ members_tokens (member (name_of names n) (array
+      (items_json_in table all_names texts (cons p ps) k)) ms)
+  unfolding fields_tokens part_json_in
   list n k p ps rest ms open_list u ne nz next =
-      let json = json_tokens (part_json texts p k) in
-      let ended : fields_tokens texts names n rest ++ end_object ∷ [] ≡ end_array ∷ members_tokens ms = rw nz at next in
+      let json = json_tokens (part_json_in table all_names texts p k) in
+      let ended : fields_tokens table all_names texts names n rest ++ end_object ∷ [] ≡ end_array ∷ members_tokens ms =
+      rw nz at next in
       rw (u, ne) (regroup (end_tokens open_list) (key (name_of names n) ∷ begin_array ∷ []) json
-      (fields_tokens texts names n (each_field n k ps ++ rest)) (end_object ∷ [])
+      (fields_tokens table all_names texts names n (each_field n k ps ++ rest)) (end_object ∷ [])
       ∙ ap (λ (ts : List Token). end_tokens open_list ++ (key (name_of names n) ∷ (begin_array ∷ (json ++ ts))))
       (others n k ps rest (members_tokens ms) u ended)
       ∙ ap (λ (ts : List Token). end_tokens open_list ++ (key (name_of names n) ∷ (begin_array ∷ ts)))
-      (sym (append_assoc json (items_tokens (items_json texts ps k)) (members_tokens ms))))
+      (sym (append_assoc json (items_tokens (items_json_in table all_names texts ps k)) (members_tokens ms))))
 
   module _ (rest : List FieldPart) (ms : Members) (open_list : ℕ) where
     -- a plain field, whose default is left out
     plain : (n : ℕ) (k : Kind) (p : Part) (default : Bool) → eqb open_list n ≡ false
-        → fields_tokens texts names open_list rest ++ end_object ∷ [] ≡ end_tokens open_list ++ members_tokens ms
-        → fields_tokens texts names 0 rest ++ end_object ∷ [] ≡ members_tokens ms
-        → fields_tokens texts names open_list ((if default then [] else (n, (k, false), p) ∷ []) ++ rest) ++
+        → fields_tokens table all_names texts names open_list rest ++ end_object ∷ [] ≡ end_tokens open_list ++
+        members_tokens ms
+        → fields_tokens table all_names texts names 0 rest ++ end_object ∷ [] ≡ members_tokens ms
+        → fields_tokens table all_names texts names open_list ((if default then [] else (n, (k, false), p) ∷ []) ++
+        rest) ++
         end_object ∷ []
-        ≡ end_tokens open_list ++ members_tokens (member_if (not default) (name_of names n) (part_json texts p k) ms)
+        ≡ end_tokens open_list ++ members_tokens (member_if (not default) (name_of names n)
+        (part_json_in table all_names texts p k) ms)
     plain n k p true ne stay next = stay
     plain n k p false ne stay next = one n k false p rest ms open_list refl ne next
 
     row : (row : Row) (p : Part) → includes (numbers row) open_list ≡ false → includes (numbers row) 0 ≡ false
         → has_shape row p ≡ true
-        → fields_tokens texts names open_list rest ++ end_object ∷ [] ≡ end_tokens open_list ++ members_tokens ms
-        → fields_tokens texts names 0 rest ++ end_object ∷ [] ≡ members_tokens ms
-        → ((n : ℕ) → includes (numbers row) n ≡ true → fields_tokens texts names n rest ++ end_object ∷ [] ≡ end_tokens
+        → fields_tokens table all_names texts names open_list rest ++ end_object ∷ [] ≡ end_tokens open_list ++
+        members_tokens ms
+        → fields_tokens table all_names texts names 0 rest ++ end_object ∷ [] ≡ members_tokens ms
+        → ((n : ℕ) → includes (numbers row) n ≡ true → fields_tokens table all_names texts names n rest ++ end_object ∷
+        [] ≡ end_tokens
         n ++ members_tokens ms)
-        → fields_tokens texts names open_list (row_fields row p ++ rest) ++ end_object ∷ []
+        → fields_tokens table all_names texts names open_list (row_fields row p ++ rest) ++ end_object ∷ []
         ≡ end_tokens open_list ++ members_tokens (member_if (is_present row p) (name_of names (number_of row p))
-        (part_json texts p (kind_of row p)) ms)
-    unfolding part_json
+        (part_json_in table all_names texts p (kind_of row p)) ms)
+    unfolding part_json_in
     row (Plain n k) Absent b z h stay next nextn = absurd cc
     row (Plain n k) (Elements ps) b z h stay next nextn = absurd cc
     row (Plain n k) (Member m p) b z h stay next nextn = absurd cc
@@ -151,9 +161,9 @@ module _ (texts : Bool) (names : List (ℕ × List ℕ)) where
 
   pub members : (v : Parts) (rows : List Row) (open_list : ℕ) → are_distinct (all_numbers rows) ≡ true
       → includes (all_numbers rows) open_list ≡ false → includes (all_numbers rows) 0 ≡ false → Fits table v rows
-      → fields_tokens texts names open_list (message_fields rows v) ++ end_object ∷ []
-      ≡ end_tokens open_list ++ members_tokens (members_json texts names v rows)
-  unfolding fields_tokens part_json Fits
+      → fields_tokens table all_names texts names open_list (message_fields rows v) ++ end_object ∷ []
+      ≡ end_tokens open_list ++ members_tokens (members_json_in table all_names texts names v rows)
+  unfolding fields_tokens part_json_in Fits
   members nil [] open_list d b z h = refl
   members nil (r ∷ rows) open_list d b z h = absurd h
   members (cons p ps) [] open_list d b z h = absurd h
@@ -163,41 +173,49 @@ module _ (texts : Bool) (names : List (ℕ × List ℕ)) where
       let zero_of = or_split (includes (numbers r) 0) _ (sym (includes-append (numbers r) (all_numbers rows) 0) ∙ z) in
       let later = λ (n : ℕ) (g : includes (all_numbers rows) n ≡ false). members ps rows n
       (distinct_back (numbers r) (all_numbers rows) d) g zero_of.1 h.2 in
-      row (message_fields rows ps) (members_json texts names ps rows) open_list r p before.0 zero_of.0 h.0
+      row (message_fields rows ps) (members_json_in table all_names texts names ps rows) open_list r p before.0
+      zero_of.0 h.0
       (later open_list before.1) (later 0 zero_of.1) (λ n g. later n
       (distinct_other (numbers r) (all_numbers rows) n d g))
 
 -- ---- a walk
 
 -- one more field
-pub turn : (texts : Bool) (names : List (ℕ × List ℕ)) (open_list now : ℕ) (f : FieldPart) (fs rest : List FieldPart)
+pub turn : (table : Table) (all_names : Names) (texts : Bool) (names : List (ℕ × List ℕ)) (open_list now : ℕ)
+    (f : FieldPart) (fs rest : List FieldPart)
     (old mid new all : List Token) → fs ≡ f ∷ rest → mid ≡ old ++ lead_tokens open_list (named names f.0 f.1)
-    → new ≡ mid ++ json_tokens (part_json texts f.2 f.1.0) → now ≡ open_list_after (named names f.0 f.1)
-    → old ++ fields_tokens texts names open_list fs ≡ all → new ++ fields_tokens texts names now rest ≡ all
+    → new ≡ mid ++ json_tokens (part_json_in table all_names texts f.2 f.1.0) → now ≡ open_list_after
+    (named names f.0 f.1)
+    → old ++ fields_tokens table all_names texts names open_list fs ≡ all → new ++ fields_tokens table all_names texts
+    names now rest ≡ all
 unfolding fields_tokens
-turn texts names open_list now f fs rest old mid new all e m n o h =
-    let json = json_tokens (part_json texts f.2 f.1.0) in
+turn table all_names texts names open_list now f fs rest old mid new all e m n o h =
+    let json = json_tokens (part_json_in table all_names texts f.2 f.1.0) in
     rw (n, m, o) (append_assoc (old ++ lead_tokens open_list (named names f.0 f.1)) json _
     ∙ append_assoc old (lead_tokens open_list (named names f.0 f.1)) _)
     ∙ (rw e at h)
 
 -- all of them, between the braces
-pub whole : (texts : Bool) (s open_list : ℕ) (bytes : List ℕ) (left : List FieldPart)
-    (old begun looped ended : List Token) → IsCanonical s bytes → begun ≡ old ++ begin_object ∷ [] → left ≡ []
+pub whole : (table : Table) (all_names : Names) → IsTable table → (texts : Bool) (s open_list : ℕ) (bytes : List ℕ)
+    (left : List FieldPart)
+    (old begun looped ended : List Token) → IsCanonicalIn table s bytes → begun ≡ old ++ begin_object ∷ [] → left ≡ []
     → ended ≡ looped ++ end_tokens open_list
-    → looped ++ fields_tokens texts (names_of s) open_list left
-    ≡ begun ++ fields_tokens texts (names_of s) 0 (message_fields (table s) (payload_meaning s bytes))
-    → ended ++ end_object ∷ [] ≡ old ++ json_tokens (json_with texts s (payload_meaning s bytes))
+    → looped ++ fields_tokens table all_names texts (all_names s) open_list left
+    ≡ begun ++ fields_tokens table all_names texts (all_names s) 0 (message_fields (table s)
+    (meaning table 100 s bytes))
+    → ended ++ end_object ∷ [] ≡ old ++ json_tokens (json_with_in table all_names texts s (meaning table 100 s bytes))
 unfolding fields_tokens
-whole texts s open_list bytes left old begun looped ended c b n e h =
-    let schema = and_split _ _ (are_schemas s) in
+whole table all_names valid texts s open_list bytes left old begun looped ended c b n e h =
+    let schema = and_split _ _ (and_split _ _ (valid s)).0 in
     let zero_of = no_zero (all_numbers (table s)) schema.0 in
-    let fields = fields_tokens texts (names_of s) 0 (message_fields (table s) (payload_meaning s bytes)) in
+    let fields = fields_tokens table all_names texts (all_names s) 0 (message_fields (table s)
+    (meaning table 100 s bytes)) in
     ap (λ (ts : List Token). ts ++ end_object ∷ []) (e ∙ (rw n at h) ∙ ap (λ (ts : List Token). ts ++ fields) b)
     ∙ append_assoc (old ++ begin_object ∷ []) fields (end_object ∷ [])
     ∙ append_assoc old (begin_object ∷ []) (fields ++ end_object ∷ [])
     ∙ ap (λ (ts : List Token). old ++ (begin_object ∷ ts))
-    (members texts (names_of s) (payload_meaning s bytes) (table s) 0 schema.1 zero_of zero_of c.fits)
+    (members table all_names texts (all_names s) (meaning table 100 s bytes) (table s) 0 schema.1 zero_of zero_of
+    c.fits)
 
 -- ---- how deep fields are
 

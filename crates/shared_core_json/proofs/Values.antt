@@ -13,7 +13,7 @@ use Rattle.json.specs.Json.{object, member, no_members}
 use Rattle.json.specs.Json as json
 use Rattle.json.specs.Tree.{items_tokens, json_tokens}
 use Rattle.shared_core_wire.specs.Overlay.{low_numbers}
-use Rattle.shared_core_wire.specs.Schema.{U32, Boolean, Enumeration}
+use Rattle.shared_core_wire.specs.Schema.{Table, U32, Boolean, Enumeration}
 use Rattle.shared_core_wire.specs.Value.{Elements, Number}
 use Rattle.shared_core_codec.specs.FieldParts.{enum_number}
 use Rattle.shared_core_fields.specs.Views.{value_kind, value_part}
@@ -22,31 +22,35 @@ use Rattle.shared_core_fields.specs.declared.fields.FieldValue.TheVariants as v
 use Rattle.shared_core_fields.specs.declared.fields.CanonicalPayload.{CanonicalPayload}
 use Rattle.shared_core_codec.specs.Payloads.{payload_meaning}
 use Rattle.shared_core_wire.specs.Canonical.{part_levels, levels}
-use Rattle.shared_core_json.specs.Form.{byte_string_json, enum_digits, items_json, part_json}
+use Rattle.shared_core_json.specs.Fields.{Names}
+use Rattle.shared_core_json.specs.Form.{byte_string_json, enum_digits, items_json_in, part_json_in}
 
 -- one number of a run
-pub run_turn : (texts : Bool) (n : ℕ) (ns rest : List ℕ) → ns ≡ n ∷ rest → n < 4294967296
-    → items_tokens (items_json texts (low_numbers ns) U32)
-    ≡ number (decimal n) ∷ items_tokens (items_json texts (low_numbers rest) U32)
-unfolding items_json
-run_turn texts n ns rest e l =
+pub run_turn : (table : Table) (all_names : Names) (texts : Bool) (n : ℕ) (ns rest : List ℕ) → ns ≡ n ∷ rest → n <
+    4294967296
+    → items_tokens (items_json_in table all_names texts (low_numbers ns) U32)
+    ≡ number (decimal n) ∷ items_tokens (items_json_in table all_names texts (low_numbers rest) U32)
+unfolding items_json_in
+run_turn table all_names texts n ns rest e l =
     let low : n % 2 ^ 32 ≡ n = omega (arith, l) in
-    ap (λ (xs : List ℕ). items_tokens (items_json texts (low_numbers xs) U32)) e
-    ∙ ap (λ (x : ℕ). number (decimal x) ∷ items_tokens (items_json texts (low_numbers rest) U32)) low
+    ap (λ (xs : List ℕ). items_tokens (items_json_in table all_names texts (low_numbers xs) U32)) e
+    ∙ ap (λ (x : ℕ). number (decimal x) ∷ items_tokens (items_json_in table all_names texts (low_numbers rest) U32)) low
 
 -- the whole run
 pub run_done : {E : Type 0} (r : Result (Unit {0}) E) (old begun looped new : List Token) (ns left : List ℕ)
     → begun ≡ old ++ begin_array ∷ [] → left ≡ []
-    → ((texts : Bool) → looped ++ items_tokens (items_json texts (low_numbers left) U32)
-    ≡ begun ++ items_tokens (items_json texts (low_numbers ns) U32))
+    → ((table : Table) (all_names : Names) (texts : Bool) → looped ++ items_tokens
+    (items_json_in table all_names texts (low_numbers left) U32)
+    ≡ begun ++ items_tokens (items_json_in table all_names texts (low_numbers ns) U32))
     → OnOk r (new ≡ looped ++ end_array ∷ [])
-    → OnOk r ((texts : Bool) → new ≡ old ++ json_tokens (part_json texts (Elements (low_numbers ns)) U32))
-unfolding items_json part_json
+    → OnOk r ((table : Table) (all_names : Names) (texts : Bool) → new ≡ old ++ json_tokens
+    (part_json_in table all_names texts (Elements (low_numbers ns)) U32))
+unfolding items_json_in
 run_done (Err e) old begun looped new ns left b n i w = tt
-run_done (Ok x) old begun looped new ns left b n i w = λ texts.
-    w ∙ (rw n at i texts)
-    ∙ ap (λ (ts : List Token). ts ++ items_tokens (items_json texts (low_numbers ns) U32)) b
-    ∙ append_assoc old (begin_array ∷ []) (items_tokens (items_json texts (low_numbers ns) U32))
+run_done (Ok x) old begun looped new ns left b n i w = λ table all_names texts.
+    w ∙ (rw n at i table all_names texts)
+    ∙ ap (λ (ts : List Token). ts ++ items_tokens (items_json_in table all_names texts (low_numbers ns) U32)) b
+    ∙ append_assoc old (begin_array ∷ []) (items_tokens (items_json_in table all_names texts (low_numbers ns) U32))
 
 -- the digits of an enum's number are those of the number itself
 pub enum_shown : (z : ℤ) → FitsSigned w32 z → signed_decimal z ≡ enum_digits (enum_number z)
@@ -57,19 +61,21 @@ enum_shown (negsuc n) h =
     rw (lt-ltb n (2 ^ 31) h.sfits) (rw (le-ltb (2 ^ 32 - 1 - n) (2 ^ 31) k) (ap (λ (x : ℕ). 45 ∷ decimal x) m))
 
 -- what is written for a value whose variant is known
-pub shown : {E : Type 0} (r : Result (Unit {0}) E) (old new ts : List Token) (texts : Bool) (value known : FieldValue)
+pub shown : (table : Table) (all_names : Names) {E : Type 0} (r : Result (Unit {0}) E) (old new ts : List Token)
+    (texts : Bool) (value known : FieldValue)
     → value ≡ known → OnOk r (new ≡ old ++ ts)
-    → ts ≡ json_tokens (part_json texts (value_part known) (value_kind known))
-    → OnOk r (new ≡ old ++ json_tokens (part_json texts (value_part value) (value_kind value)))
-shown (Err x) old new ts texts value known is w e = tt
-shown (Ok x) old new ts texts value known is w e =
+    → ts ≡ json_tokens (part_json_in table all_names texts (value_part known) (value_kind known))
+    → OnOk r (new ≡ old ++ json_tokens (part_json_in table all_names texts (value_part value) (value_kind value)))
+shown table all_names (Err x) old new ts texts value known is w e = tt
+shown table all_names (Ok x) old new ts texts value known is w e =
     w ∙ ap (λ (us : List Token). old ++ us) (e ∙ sym (ap (λ (v : FieldValue). json_tokens
-    (part_json texts (value_part v) (value_kind v))) is))
+    (part_json_in table all_names texts (value_part v) (value_kind v))) is))
 
-pub flag_shown : (texts b : Bool) → boolean b ∷ [] ≡ json_tokens (part_json texts (Number (from_bool b)) Boolean)
-unfolding part_json
-flag_shown texts true = refl
-flag_shown texts false = refl
+pub flag_shown : (table : Table) (all_names : Names) (texts b : Bool) → boolean b ∷ [] ≡ json_tokens
+    (part_json_in table all_names texts (Number (from_bool b)) Boolean)
+unfolding part_json_in
+flag_shown table all_names texts true = refl
+flag_shown table all_names texts false = refl
 
 -- a message in a value is less deep than the value
 pub deeper : (value : FieldValue) (m : CanonicalPayload) (left : ℕ) → value ≡ v.Message m → part_levels
@@ -77,10 +83,10 @@ pub deeper : (value : FieldValue) (m : CanonicalPayload) (left : ℕ) → value 
 unfolding levels
 deeper value m left is h = subst (λ (x : FieldValue). part_levels (value_part x) ≤ left) is h
 
-pub enum_json : (texts : Bool) (n : ℕ)
-    → json_tokens (part_json texts (Number n) Enumeration) ≡ number (enum_digits n) ∷ []
-unfolding part_json
-enum_json texts n = refl
+pub enum_json : (table : Table) (all_names : Names) (texts : Bool) (n : ℕ)
+    → json_tokens (part_json_in table all_names texts (Number n) Enumeration) ≡ number (enum_digits n) ∷ []
+unfolding part_json_in
+enum_json table all_names texts n = refl
 
 -- ---- bytes of any kind
 

@@ -12,14 +12,18 @@ pub record NamedField : Type 0 where
   pub name : List ℕ
   pub is_element : Bool
 
+-- The numbers and the names of the fields of each schema, by its index in a table.
+abbrev pub Names : Type 0
+Names = ℕ → List (ℕ × List ℕ)
+
 -- The names of a schema's fields, by its index in a list.
-abbrev pub names_at : List (List (ℕ × List ℕ)) → ℕ → List (ℕ × List ℕ)
+abbrev pub names_at : List (List (ℕ × List ℕ)) → Names
 names_at [] s = []
 names_at (ns ∷ nss) zero = ns
 names_at (ns ∷ nss) (suc s) = names_at nss s
 
--- The names of a schema's fields.
-abbrev pub names_of : ℕ → List (ℕ × List ℕ)
+-- The names of the fields of a schema of the protocol.
+abbrev pub names_of : Names
 names_of = names_at names
 
 -- The name of a field, by its number.

@@ -1,4 +1,5 @@
--- The JSON form of a value of the protocol's messages, by proto3's JSON mapping, and with bytes as texts.
+-- The JSON form of a value of a message, by proto3's JSON mapping, and with bytes as texts: for any table of schemas
+-- with names, and for the messages of the protocol.
 use Rattle.std.specs.Prelude.{ℕ, ◌-◌, ◌^◌, Bool, true, false, not, ◌&&◌, List, [], ◌∷◌, ◌++◌, codes, decimal, nat_lt}
 use Rattle.std.specs.Prelude.{◌==◌, if◌then◌else◌}
 use Rattle.std.specs.Str.{is_utf8}
@@ -8,12 +9,12 @@ use Rattle.json.specs.Json.{Json, null, boolean, number, string, array, object, 
 use Rattle.json.specs.Json.{no_members, member}
 use Rattle.json.specs.Tree.{json_tokens}
 use Rattle.json.specs.Print.{print}
-use Rattle.shared_core_wire.specs.Schema.{Kind, Row, U64, Boolean, Enumeration, ByteString, Message, Plain, Optional}
-use Rattle.shared_core_wire.specs.Schema.{Repeated, OneOf}
+use Rattle.shared_core_wire.specs.Schema.{Table, Kind, Row, U64, Boolean, Enumeration, ByteString, Message, Plain}
+use Rattle.shared_core_wire.specs.Schema.{Optional, Repeated, OneOf}
 use Rattle.shared_core_wire.specs.Value.{Part, Parts, Absent, Number, Bytes, Nested, Elements, Member, nil, cons}
 use Rattle.shared_core_wire.specs.Canonical.{number_of, kind_of, rows_of_kind, is_default}
-use Rattle.shared_core_codec.specs.Table.{table}
-use Rattle.shared_core_json.specs.Fields.{names_of, name_of}
+use Rattle.shared_core_codec.specs.Table.{table as protocol}
+use Rattle.shared_core_json.specs.Fields.{Names, names_of, name_of}
 
 -- The digits of an enum's number, whose low 32 bits are an i32.
 abbrev pub enum_digits : ℕ → List ℕ
@@ -47,43 +48,65 @@ is_present (Optional n k) p = true
 is_present (Repeated n k) p = true
 is_present (OneOf members) p = true
 
--- The names of the fields of a kind's message.
-abbrev pub names_of_kind : Kind → List (ℕ × List ℕ)
-names_of_kind (Message s) = names_of s
-names_of_kind k = []
-
 -- A member before others, if it is present.
 abbrev pub member_if : Bool → List ℕ → Json → Members → Members
 member_if present name json others = if present then member name json others else others
 
-unfoldable mutual
-  -- The JSON of a part: a number, bytes, a message as an object, the elements of a repeated field as an array, the
-  -- member of a oneof.
-  pub part_json : Bool → Part → Kind → Json
-  part_json texts Absent k = null
-  part_json texts (Number n) k = number_json k n
-  part_json texts (Bytes bytes) k = bytes_json texts k bytes
-  part_json texts (Nested ps) k = object (members_json texts (names_of_kind k) ps (rows_of_kind table k))
-  part_json texts (Elements ps) k = array (items_json texts ps k)
-  part_json texts (Member n p) k = part_json texts p k
+-- The names of the fields of a kind's message.
+abbrev pub names_of_kind : Names → Kind → List (ℕ × List ℕ)
+names_of_kind all_names (Message s) = all_names s
+names_of_kind all_names k = []
 
-  -- The elements of a repeated field, in order.
-  pub items_json : Bool → Parts → Kind → Items
-  items_json texts nil k = no_items
-  items_json texts (cons p ps) k = item (part_json texts p k) (items_json texts ps k)
+-- ---- for the schemas of a table, whose fields have these names
 
-  -- The members of a message's object: one for each present row, in the order of the schema, each by the name of its
-  -- field.
-  pub members_json : Bool → List (ℕ × List ℕ) → Parts → List Row → Members
-  members_json texts names nil rows = no_members
-  members_json texts names (cons p ps) [] = no_members
-  members_json texts names (cons p ps) (row ∷ rows) =
-      member_if (is_present row p) (name_of names (number_of row p)) (part_json texts p (kind_of row p))
-      (members_json texts names ps rows)
+module _ (table : Table) (all_names : Names) where
+  unfoldable mutual
+    -- The JSON of a part: a number, bytes, a message as an object, the elements of a repeated field as an array, the
+    -- member of a oneof.
+    pub part_json_in : Bool → Part → Kind → Json
+    part_json_in texts Absent k = null
+    part_json_in texts (Number n) k = number_json k n
+    part_json_in texts (Bytes bytes) k = bytes_json texts k bytes
+    part_json_in texts (Nested ps) k = object
+        (members_json_in texts (names_of_kind all_names k) ps (rows_of_kind table k))
+    part_json_in texts (Elements ps) k = array (items_json_in texts ps k)
+    part_json_in texts (Member n p) k = part_json_in texts p k
+
+    -- The elements of a repeated field, in order.
+    pub items_json_in : Bool → Parts → Kind → Items
+    items_json_in texts nil k = no_items
+    items_json_in texts (cons p ps) k = item (part_json_in texts p k) (items_json_in texts ps k)
+
+    -- The members of a message's object: one for each present row, in the order of the schema, each by the name of its
+    -- field.
+    pub members_json_in : Bool → List (ℕ × List ℕ) → Parts → List Row → Members
+    members_json_in texts names nil rows = no_members
+    members_json_in texts names (cons p ps) [] = no_members
+    members_json_in texts names (cons p ps) (row ∷ rows) =
+        member_if (is_present row p) (name_of names (number_of row p)) (part_json_in texts p (kind_of row p))
+        (members_json_in texts names ps rows)
+
+  -- The JSON of a value of the schema s, with texts or without.
+  abbrev pub json_with_in : Bool → ℕ → Parts → Json
+  json_with_in texts s v = object (members_json_in texts (all_names s) v (table s))
+
+-- ---- for the schemas of the protocol
+
+-- The JSON of a part.
+abbrev pub part_json : Bool → Part → Kind → Json
+part_json = part_json_in protocol names_of
+
+-- The elements of a repeated field, in order.
+abbrev pub items_json : Bool → Parts → Kind → Items
+items_json = items_json_in protocol names_of
+
+-- The members of a message's object.
+abbrev pub members_json : Bool → List (ℕ × List ℕ) → Parts → List Row → Members
+members_json = members_json_in protocol names_of
 
 -- The JSON of a value of the schema s, with texts or without.
 abbrev pub json_with : Bool → ℕ → Parts → Json
-json_with texts s v = object (members_json texts (names_of s) v (table s))
+json_with = json_with_in protocol names_of
 
 -- The JSON of a value of the schema s, by proto3's JSON mapping: without texts.
 abbrev pub value_json : ℕ → Parts → Json

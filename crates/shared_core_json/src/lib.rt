@@ -9,7 +9,11 @@
 
 mod canonical;
 mod error;
+pub mod loaded_names;
+pub mod name_error;
 mod name_table;
+pub mod named_schemas;
+pub mod named_table;
 pub mod names;
 mod write;
 

@@ -1,6 +1,6 @@
 //! Writing the fields of a canonical payload as JSON.
 
-ghost use Rattle.std.specs.Prelude.{◌≡◌, ◌<◌, ◌≤◌, ◌∷◌, ◌++◌, [], ℕ, Bool, codes, length, true, OnOk};
+ghost use Rattle.std.specs.Prelude.{◌≡◌, ◌<◌, ◌≤◌, ◌∷◌, ◌++◌, [], ℕ, Bool, List, codes, length, true, OnOk};
 ghost use Rattle.json.specs.Token.{number as digits};
 ghost use Rattle.json.specs.Token as token;
 ghost use Rattle.json.specs.Json.{object, string, member, no_members};
@@ -10,20 +10,21 @@ ghost use Rattle.base64.specs.Engines.{standard};
 ghost use Rattle.shared_core_codec.specs.FieldParts.{enum_number};
 ghost use Rattle.shared_core_wire.specs.Canonical.{levels, part_levels};
 ghost use Rattle.shared_core_wire.specs.Overlay.{low_numbers};
-ghost use Rattle.shared_core_wire.specs.Schema.{U32};
+ghost use Rattle.shared_core_wire.specs.Schema.{Table, U32};
 ghost use Rattle.shared_core_wire.specs.Value.{Elements};
 ghost use Rattle.shared_core_codec.specs.Canonicity.{is_canonical_payload, may_recur};
 ghost use Rattle.shared_core_codec.specs.Payloads.{payload_meaning};
 ghost use Rattle.shared_core_fields.specs.Runs.{run_numbers};
 ghost use Rattle.shared_core_fields.specs.Views.{value_kind, value_part};
-ghost use Rattle.shared_core_json.specs.Fields.{named, names_of};
-ghost use Rattle.shared_core_json.specs.Form.{byte_string_json, enum_digits, json_with, part_json};
+ghost use Rattle.shared_core_json.specs.Fields.{Names, named};
+ghost use Rattle.shared_core_json.specs.Form.{byte_string_json, enum_digits, json_with, part_json, part_json_in};
 ghost use Rattle.shared_core_json.specs.Written.{end_tokens, lead_tokens, open_list_after};
 
-use crate::names::name_of;
+use crate::named_schemas::NamedSchemas;
 use base64::encoded_len;
 use base64::engine::general_purpose::STANDARD;
 use json::Writer;
+use shared_core_codec::any_table::ProtocolSchemas;
 use shared_core_codec::utf8::as_text;
 use shared_core_fields::fields::{CanonicalPayload, Field, FieldValue};
 use shared_core_fields::runs::Run;
@@ -83,7 +84,7 @@ fn write_within(
     out.begin_object()?;
     let mut open_list = 0;
     for field in (CanonicalPayload { schema, bytes }).fields() {
-        begin_member(out, schema, &field, open_list)?;
+        begin_member(&ProtocolSchemas, out, schema, &field, open_list)?;
         write_value(out, base64, texts, field.value, left)?;
         open_list = open_list_after(&field);
     }
@@ -103,29 +104,30 @@ fn is_element(field: &Field<'_>) -> bool
 
 /// The number of the field whose list is open after a field, or 0.
 fn open_list_after(field: &Field<'_>) -> u32
-    ensures { (schema : ℕ) → result ≡ open_list_after
-        (named (names_of schema) field.now.number (value_kind field.now.value, field.now.is_repeated)) }
+    ensures { (names : List (ℕ × List ℕ)) → result ≡ open_list_after
+        (named names field.now.number (value_kind field.now.value, field.now.is_repeated)) }
 {
     if is_element(field) { field.number } else { 0 }
 }
 
 /// Writes the name of a field of a schema, and the beginning of its list, after closing the open list; nothing, if its
 /// own list is open.
-fn begin_member(
+fn begin_member<T: NamedSchemas>(
+    schemas: &T,
     out: &mut Writer,
     schema: u32,
     field: &Field<'_>,
     open_list: u32,
 ) -> Result<(), AllocError>
     ensures tokens { OnOk result (out.new.tokens ≡ out.old.tokens ++ lead_tokens open_list
-        (named (names_of schema) field.now.number (value_kind field.now.value, field.now.is_repeated))) }
+        (named (T.names schemas.now schema) field.now.number (value_kind field.now.value, field.now.is_repeated))) }
     ensures before { out.new.before ≡ out.old.before }
 {
     if field.number == open_list {
         return Ok(());
     }
     end_list(out, open_list)?;
-    out.key(name_of(schema, field.number))?;
+    out.key(schemas.name_of(schema, field.number))?;
     if is_element(field) {
         out.begin_array()?;
     }
@@ -183,8 +185,9 @@ fn write_enumeration(out: &mut Writer, number: i32) -> Result<(), AllocError>
 
 /// Writes the numbers of a packed run as an array.
 fn write_run(out: &mut Writer, run: Run<'_>) -> Result<(), AllocError>
-    ensures tokens { OnOk result ((texts : Bool) → out.new.tokens ≡ out.old.tokens ++ json_tokens
-        (part_json texts (Elements (low_numbers (run_numbers run.entry.bytes.now))) U32)) }
+    ensures tokens { OnOk result ((table : Table) (names : Names) (texts : Bool) → out.new.tokens
+        ≡ out.old.tokens ++ json_tokens (part_json_in table names texts
+        (Elements (low_numbers (run_numbers run.entry.bytes.now))) U32)) }
     ensures before { out.new.before ≡ out.old.before }
 {
     out.begin_array()?;

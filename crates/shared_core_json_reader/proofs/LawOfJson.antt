@@ -26,6 +26,7 @@ use Rattle.shared_core_wire.proofs.Runs.{and_split}
 use Rattle.shared_core_codec.specs.Table.{table}
 use Rattle.shared_core_json.specs.Fields.{names_of, name_of}
 use Rattle.shared_core_json.specs.Form.{is_present, member_if, number_json, byte_string_json, bytes_json, part_json}
+use Rattle.shared_core_json.specs.Form.{part_json_in}
 use Rattle.shared_core_json.specs.Form.{items_json, members_json, json_with}
 use Rattle.shared_core_json_reader.specs.Laws.{JsonIsReadBack}
 use Rattle.shared_core_json_reader.specs.Reading.{only_value, text_payload}
@@ -100,7 +101,7 @@ member_low true name j others bound h g = omega arith
 member_low false name j others bound h g = g
 
 mutual
-  unfolding PartFits part_levels part_json
+  unfolding PartFits part_levels part_json_in
 
   part_low : (texts : Bool) (p : Part) (k : Kind) → PartFits table p k → HoldsSingle p → Low texts p k
   part_low texts Absent k f h = record { low = omega arith; lower = λ e. omega arith }

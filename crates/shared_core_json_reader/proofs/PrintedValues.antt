@@ -21,7 +21,7 @@ use Rattle.shared_core_codec.specs.Table.{table}
 use Rattle.shared_core_json.specs.Names.{names}
 use Rattle.shared_core_json.specs.Fields.{names_at, names_of, name_of}
 use Rattle.shared_core_json.specs.Form.{is_present, member_if, enum_digits, number_json, byte_string_json, bytes_json}
-use Rattle.shared_core_json.specs.Form.{part_json, items_json, members_json, json_with}
+use Rattle.shared_core_json.specs.Form.{part_json, part_json_in, items_json, members_json, json_with}
 use Rattle.shared_core_json_reader.proofs.Printed.{visible_decimal, MayPrint, ItemsMay, MembersMay}
 
 -- ---- numbers and bytes
@@ -113,7 +113,7 @@ member_may true name j others u h g = (u, h, g)
 member_may false name j others u h g = g
 
 mutual
-  unfolding PartFits part_json
+  unfolding PartFits part_json_in
 
   part_may : (texts : Bool) (p : Part) (k : Kind) → PartFits table p k → MayPrint (part_json texts p k)
   part_may texts Absent k f = tt

@@ -18,7 +18,8 @@ use Rattle.shared_core_wire.proofs.Runs.{and_split}
 use Rattle.shared_core_codec.specs.Table.{table}
 use Rattle.shared_core_codec.proofs.Tables.{are_schemas}
 use Rattle.shared_core_json.specs.Fields.{names_of, name_of}
-use Rattle.shared_core_json.specs.Form.{is_present, member_if, part_json, items_json, members_json, json_with}
+use Rattle.shared_core_json.specs.Form.{is_present, member_if, part_json, part_json_in, items_json, members_json}
+use Rattle.shared_core_json.specs.Form.{json_with}
 use Rattle.shared_core_json.proofs.Meanings.{PartBytes, PartsBytes}
 use Rattle.shared_core_json_reader.specs.Rows.{NamedField, NamedRow, Plain, Optional, Repeated, named_field, named_row}
 use Rattle.shared_core_json_reader.specs.Rows.{named_rows}
@@ -111,7 +112,7 @@ values_are : (texts : Bool) (s n : ℕ) (k : Kind) (v : Parts) (rows : List Row)
     (all_numbers (table s)) n ≡ true
     → ((m : ℕ) → includes (all_numbers rows) m ≡ true → includes (all_numbers (table s)) m ≡ true)
     → values_named (named_field s n k) (members_json texts (names_of s) v rows) ≡ all_mine texts n v rows
-unfolding PartFits part_json
+unfolding PartFits part_json_in
 values_are texts s n k nil [] f h w = refl
 values_are texts s n k nil (row ∷ rows) f h w = absurd f
 values_are texts s n k (cons p ps) [] f h w = absurd f
@@ -203,7 +204,7 @@ rows_known s (row ∷ rows) m h = by_test (λ k. rows_known s rows m k) (include
 all_known : (texts : Bool) (s : ℕ) (all : List NamedRow) (v : Parts) (rows : List Row) → Fits table v rows →
     ((m : ℕ) → includes (all_numbers rows) m ≡ true → names_row all (name_of (names_of s) m) ≡ true)
     → are_known all (members_json texts (names_of s) v rows) ≡ true
-unfolding PartFits part_json
+unfolding PartFits part_json_in
 all_known texts s all nil [] f w = refl
 all_known texts s all nil (row ∷ rows) f w = absurd f
 all_known texts s all (cons p ps) [] f w = absurd f
@@ -229,7 +230,7 @@ module _ (texts : Bool) (s : ℕ) (ms : Members) (nested : ℕ → Json → Opti
     there : present (part_json texts p k) ≡ Some (part_json texts p k)
 
   number_back : (k : Kind) (values : List (List ℕ × ℕ)) (n : ℕ) → NumberFits k n → Back k values (Number n)
-  unfolding part_json
+  unfolding part_json_in
   number_back U32 values n h = record { read = ap (option_map Number) (u32_back n h); there = refl }
   number_back U64 values n h = record { read = ap (option_map Number) (u64_back n h); there = refl }
   number_back Boolean values n h = record { read = ap (option_map Number) (boolean_back n h); there = refl }
@@ -240,7 +241,7 @@ module _ (texts : Bool) (s : ℕ) (ms : Members) (nested : ℕ → Json → Opti
 
   content_back : (k : Kind) (values : List (List ℕ × ℕ)) (b : List ℕ) → BytesFit k b → IsBytes b → Back k values
       (Bytes b)
-  unfolding part_json
+  unfolding part_json_in
   content_back Text values b h g = record { read = ap (option_map Bytes) (text_back b h); there = refl }
   content_back ByteString values b h g = record {
     read = ap (option_map Bytes) (byte_string_back texts b g);
@@ -255,7 +256,7 @@ module _ (texts : Bool) (s : ℕ) (ms : Members) (nested : ℕ → Json → Opti
 
   nested_back : (k : Kind) (values : List (List ℕ × ℕ)) (ps : Parts) → PartFits table (Nested ps) k → suc (levels ps) ≤
       bound → PartsBytes ps → Back k values (Nested ps)
-  unfolding PartFits part_json
+  unfolding PartFits part_json_in
   nested_back (Message t) values ps h l g = record { read = ap (option_map Nested) (back t ps h l g); there = refl }
   nested_back U32 values ps h l g = absurd h
   nested_back U64 values ps h l g = absurd h
@@ -276,7 +277,7 @@ module _ (texts : Bool) (s : ℕ) (ms : Members) (nested : ℕ → Json → Opti
 
   elements_back : (f : NamedField) (ps : Parts) → ElementsFit table ps f.kind → levels ps ≤ bound → PartsBytes ps →
       elements_read nested f (items_json texts ps f.kind) ≡ Some ps
-  unfolding PartFits part_levels part_json
+  unfolding PartFits part_levels part_json_in
   elements_back f nil h l g = refl
   elements_back f (cons p ps) h l g =
       let one = single_back f.kind f.values p h.0 h.1 (omega arith) g.0 in
@@ -364,7 +365,7 @@ module _ (texts : Bool) (s : ℕ) (ms : Members) (nested : ℕ → Json → Opti
   list_back : (f : NamedField) (ps : Parts) → elements_read nested f (items_json texts ps f.kind) ≡ Some ps
       → given f ms ≡ given_one (is_present (schema.Repeated f.number f.kind) (Elements ps))
       (part_json texts (Elements ps) f.kind) → row_read nested ms (Repeated f) ≡ Some (Elements ps)
-  unfolding part_json
+  unfolding part_json_in
   list_back f nil b e = ap (option_and_then (or_absent (Elements nil) (list_read nested f))) e
   list_back f (cons p ps) b e = ap (option_and_then (or_absent (Elements nil) (list_read nested f))) e ∙ ap
       (option_map Elements) b
@@ -459,7 +460,7 @@ module _ (texts : Bool) (s : ℕ) (ms : Members) (nested : ℕ → Json → Opti
       → PartBytes p → are_distinct (numbers row) ≡ true
       → ((n : ℕ) (k : Kind) → includes (numbers row) n ≡ true → values_named (named_field s n k) ms ≡ mine texts n row
       p) → row_read nested ms (named_row s row) ≡ Some p
-  unfolding PartFits part_levels part_json
+  unfolding PartFits part_levels part_json_in
   row_back (schema.Plain n k) p i h l g d e =
       let f = named_field s n k in
       let b = single_back k f.values p i h l g in

@@ -16,8 +16,9 @@ decreases-write_within l = 2 * l.left + 1
 
 abbrev pub invariant-write_within-loop-field : goal.invariant-write_within-loop-field
 invariant-write_within-loop-field l = record {
-  tokens : l.out.tokens ++ fields_tokens l.texts (names_of l.schema) l.open_list (fields_left l.field-iterator)
-      ≡ l.initial.out.tokens ++ fields_tokens l.texts (names_of l.schema) 0
+  tokens : l.out.tokens ++ fields_tokens table names_of l.texts (names_of l.schema) l.open_list
+      (fields_left l.field-iterator)
+      ≡ l.initial.out.tokens ++ fields_tokens table names_of l.texts (names_of l.schema) 0
       (message_fields (table l.schema) (payload_meaning l.schema l.bytes));
   low : AllLow l.left (fields_left l.field-iterator);
   before : l.out.before ≡ l.fn.out.before;

@@ -5,7 +5,7 @@ use Rattle.json.specs.Tree.{items_tokens}
 use Rattle.shared_core_wire.specs.Overlay.{low_numbers}
 use Rattle.shared_core_wire.specs.Schema.{U32}
 use Rattle.shared_core_fields.specs.Runs.{numbers_left}
-use Rattle.shared_core_json.specs.Form.{items_json}
+use Rattle.shared_core_json.specs.Form.{items_json_in}
 use Rattle.shared_core_json.proofs.Values.{run_turn, run_done, step_on}
 use Rattle.shared_core_json.proofs.write.write_run.Goals as goal
 
@@ -13,12 +13,13 @@ pub loop-number-preserved : goal.loop-number-preserved
 loop-number-preserved c =
     let low : c.in-Some.number < 4294967296 = search rules in
     record {
-      tokens = λ texts. step_on c.loop-number.out.tokens c.u64.new.self.tokens (number (decimal c.in-Some.number) ∷ [])
-          (items_tokens (items_json texts (low_numbers (numbers_left c.next.new.self)) U32)) _
+      tokens = λ table all_names texts. step_on c.loop-number.out.tokens c.u64.new.self.tokens
+          (number (decimal c.in-Some.number) ∷ [])
+          (items_tokens (items_json_in table all_names texts (low_numbers (numbers_left c.next.new.self)) U32)) _
           (c.in_ok-u64.ensures.ok ∙ ap (λ n. c.loop-number.out.tokens ++ number (decimal n) ∷ []) c.from.ensures)
           (ap (λ (ts : List Token). c.loop-number.out.tokens ++ ts)
-          (sym (run_turn texts c.in-Some.number _ _ c.in-Some.ensures.steps low))
-          ∙ c.loop-number.invariant.tokens texts);
+          (sym (run_turn table all_names texts c.in-Some.number _ _ c.in-Some.ensures.steps low))
+          ∙ c.loop-number.invariant.tokens table all_names texts);
       before = search rules;
     }
 
