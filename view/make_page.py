@@ -82,6 +82,7 @@ def parse_arguments(words):
     parser.add_argument(
         "--protocol", type=int, default=8, metavar="N", help="the version of the protocol, 8 by default"
     )
+    parser.add_argument("--ignore-ids", action="store_true", help="completion ids are not compared")
     parser.add_argument("--ignore-payloads", action="store_true", help="payloads of user data are not compared")
     parser.add_argument(
         "--items", type=int, default=ITEMS, metavar="N", help=f"how many items the page shows, {ITEMS:,} by default"
@@ -366,7 +367,8 @@ def run(arguments):
         # a page of dumps takes no program
         journal = None if all(of_dumps) else program(getattr(arguments, "unproved", False))
         if len(paths) == 2 and not any(of_dumps):
-            options = [*protocol, *(["--ignore-payloads"] if arguments.ignore_payloads else [])]
+            ignored = {"--ignore-ids": arguments.ignore_ids, "--ignore-payloads": arguments.ignore_payloads}
+            options = [*protocol, *(option for option, is_given in ignored.items() if is_given)]
             comparison = Comparison([journal, "diff", *options], sources)
         most = max(1, arguments.items // len(paths))
         begin = arguments.begin

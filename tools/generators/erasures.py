@@ -1,24 +1,41 @@
 """What is not compared of each command, erased: the impls of `Erase`, what leads from a command's type to its record
-there, and of which types nothing is erased. It is said as shared_core_compare has it, by the options of
-proto/journal.proto.
+there, of which types nothing is erased, and which fields are completion ids. What is compared is said as
+shared_core_compare has it, by the options of proto/journal.proto.
 """
 from . import laid_out
 from . import missing_rt as missing  # noqa: F401
-from .dispatch import arms_by_type
+from .dispatch import arms_by_type, visited
 from .forms import bound
-from .proto import OneOf, camel, messages, snake
+from .proto import OneOf, camel, messages, schema_name, snake
 from .records import EMPTY
 
 ABOUT = "What is not compared of a command, erased."
 SOURCE = "proto/journal.proto"
 
 PATH = "crates/replay_bench/src/erasures.rt"
+TABLE_PATH = "crates/replay_bench/specs/IdTable.antt"
+
+# The names of the fields that are completion ids.
+ID_NAMES = {"invocation_id_notification_idx", "result_completion_id"}
+
+TABLE = """\
+-- The completion ids of commands.
+use Rattle.std.specs.Prelude.{ℕ, List, [], ◌∷◌}
+use Rattle.shared_core_codec.specs.Table as schema
+
+-- The fields of each command that are completion ids and are compared, by their numbers. A schema without any is left
+-- out.
+abbrev pub id_fields : List (ℕ × List ℕ)
+id_fields =
+"""
 
 HEAD = """\
 //! Commands without what is not compared of them, and from a command's type to its form.
 
-ghost use Rattle.std.specs.Prelude.{IfOk, IfSome, IsTrue, refl};
+ghost use Rattle.std.specs.Prelude.{IfOk, IfSome, IsSome, IsTrue, refl};
+ghost use Rattle.shared_core_base.specs.CommandType.{command_type_of};
 ghost use Rattle.shared_core_message.specs.Messages.{message_schema};
+ghost use Rattle.shared_core.specs.Visiting.{IsVisited, command_schema};
 ghost use Rattle.replay_bench.specs.Forms.{ErasesNothing, HasForm};
 
 """
@@ -28,7 +45,7 @@ FORM = """\
 pub(crate) fn erased_form(
     alloc: Global,
     command: &RawMessage,
-    ignore: bool,
+    ignore: Ignored,
 ) -> Result<Form, AllocError>
     ensures { IfOk result (HasForm ignore command.now) }
 {
@@ -38,9 +55,22 @@ pub(crate) fn erased_form(
 }
 """
 
+VISIT = """
+/// The result of a visitor for a command's type, or `None` if it is not the type of a command.
+pub(crate) fn visit_erased<V: EraseVisitor>(ty: MessageType, visitor: V) -> Option<V::Output>
+    requires { V.may_visit visitor ty }
+    ensures visited { IsVisited (V.results visitor ty) (command_schema ty) result }
+    ensures each { IsSome (command_type_of ty) → IsSome result }
+{
+    Some(match ty {
+%s        _ => return None,
+    })
+}
+"""
+
 WHOLE = """
 /// Whether all of a command of this type is compared.
-pub(crate) fn is_compared_whole(ty: MessageType, ignore: bool) -> bool
+pub(crate) fn is_compared_whole(ty: MessageType, ignore: Ignored) -> bool
     ensures {{ IsTrue result → IfSome (message_schema ty) (ErasesNothing ignore) }}
 {{
     match ty {{
@@ -53,6 +83,9 @@ IMPL = """
 impl Erase for {name} {{
     fn erase(self, {alloc}: Global, {ignore}: bool) -> {name} {{
 {body}    }}
+
+    fn without_ids(self) -> {name} {{
+{bare}    }}
 
     ghost shallow = {{ refl }};
 }}
@@ -73,12 +106,19 @@ def is_payload(row):
     return not is_erased(row) and any(field.payload for field in members(row))
 
 
+def is_id(row):
+    """Whether a row is a completion id that is compared, and is erased if ids are ignored."""
+    return row.name in ID_NAMES and not is_erased(row)
+
+
 def whole():
-    """Of which types of commands all is compared, in any case or unless payloads are ignored."""
-    found = {"true": [], "!ignore": []}
+    """Of which types of commands all is compared, in any case or unless payloads or ids are ignored."""
+    found = {}
     for message in commands():
         if not any(is_erased(row) for row in message.rows):
-            found["!ignore" if any(is_payload(row) for row in message.rows) else "true"].append(message)
+            unless = ["!ignore.payloads"] if any(is_payload(row) for row in message.rows) else []
+            unless += ["!ignore.ids"] if any(is_id(row) for row in message.rows) else []
+            found.setdefault(" && ".join(unless) or "true", []).append(message)
     arms = (
         f"        {' | '.join(f'MessageType::{message.type_name()}' for message in those)} => {answer},\n"
         for answer, those in found.items()
@@ -153,11 +193,18 @@ def body(message):
     return f"if !ignore {{\nreturn {compared};\n}}\n{ignoring(message, erased)}"
 
 
+def bare(message):
+    """The body of `without_ids`."""
+    ids = {row.name: absent(row) for row in message.rows if is_id(row)}
+    return f"{struct(message.name, ids)}\n" if ids else "self\n"
+
+
 def impl(message):
     text = body(message)
     return IMPL.format(
         name=message.name,
         body=text,
+        bare=bare(message),
         alloc="alloc" if "alloc" in text else "_alloc",
         ignore="ignore" if "ignore" in text else "_ignore",
     )
@@ -168,10 +215,11 @@ def uses(code):
     found = {message.name for message in commands()}
     found |= {snake(message.name) for message in commands() if f"{snake(message.name)}::" in code}
     found |= {message.name for message in messages() if f"{message.name}::empty(alloc)" in code}
-    helpers = ["Erase", *(name for name in ("empty_value", "form_as") if f"{name}(" in code or f"{name}::" in code)]
+    called = (name for name in ("empty_value", "form_as") if f"{name}(" in code or f"{name}::" in code)
+    helpers = ["Erase", "EraseVisitor", *called]
     records = "use shared_core::wire::WireRecord;\n" if "::empty(alloc)" in code else ""
     return (
-        f"use crate::erase::{{{', '.join(helpers)}}};\nuse crate::forms::Form;\n"
+        f"use crate::erase::{{{', '.join(helpers)}}};\nuse crate::forms::Form;\nuse crate::journals::Ignored;\n"
         + ("use bytes::Bytes;\n" if "Bytes::new()" in code else "")
         + "use shared_core::encoding::RawMessage;\n"
         + f"use shared_core::messages::{{{', '.join(sorted(found))}}};\n{records}"
@@ -179,15 +227,26 @@ def uses(code):
     )
 
 
+def table():
+    """Which fields are completion ids."""
+    rows = []
+    for message in commands():
+        ids = "".join(f"{row.number} ∷ " for row in message.rows if is_id(row))
+        if ids:
+            rows.append(f"(schema.{schema_name(message.name)}, {ids}[])")
+    return TABLE + "".join(f"    {'∷ ' if place else ''}{row}\n" for place, row in enumerate(rows)) + "    ∷ []\n"
+
+
 def texts():
-    """The file, not yet laid out."""
+    """The files, not yet laid out."""
     arms = arms_by_type(commands(), lambda record: f"form_as::<{record}>(alloc, command, ignore)")
-    code = FORM % arms + whole() + "".join(impl(message) for message in commands())
-    return {PATH: HEAD + uses(code) + code}
+    visits = arms_by_type(commands(), visited)
+    code = FORM % arms + VISIT % visits + whole() + "".join(impl(message) for message in commands())
+    return {PATH: HEAD + uses(code) + code, TABLE_PATH: table()}
 
 
 def paths():
-    return [PATH]
+    return [PATH, TABLE_PATH]
 
 
 def files():

@@ -1,5 +1,6 @@
 use Rattle.std.proofs.Common.{◌≡◌, ℕ, Bool, List, [], Option, None, Some, Result, Ok, Err, refl, sym, subst}
 use Rattle.shared_core_base.specs.declared.version.Version.{Version}
+use Rattle.replay_bench.specs.declared.journals.Ignored.{Ignored}
 use Rattle.replay_bench.specs.declared.verdicts.Comparison.{Comparison}
 use Rattle.replay_bench.specs.declared.verdicts.BenchError.TheVariants.{OutOfMemory}
 use Rattle.replay_bench.specs.declared.verdicts.ReaderError.TheVariants.{Bench}
@@ -16,7 +17,7 @@ use Rattle.diff_lines.specs.PassedOver.{found_trouble}
 use Rattle.diff_lines.specs.Verdicts.{IsFaulty, MayFailFor, ReportsFound, ReportsVerdict}
 
 -- an allocation may always fail
-pub out_of_memory : (version : Version) (ignore : Bool) (a b : Option (List ℕ)) → ComparesKnown version ignore a b
+pub out_of_memory : (version : Version) (ignore : Ignored) (a b : Option (List ℕ)) → ComparesKnown version ignore a b
     (Err (Bench OutOfMemory))
 out_of_memory version ignore (Some a) (Some b) = tt
 out_of_memory version ignore (Some a) None = tt
@@ -25,7 +26,7 @@ out_of_memory version ignore None b = tt
 -- the verdict is reported of what was found of the two journals
 pub reported : (version : Version) (options : DiffOptions) (a b : Option (List ℕ)) (found : Comparison)
     (result : Result Findings DiffError) (written : List ℕ)
-    → IsComparison version options.comparison.ignore_payload_equality options.comparison.is_strict a b found
+    → IsComparison version options.comparison.ignored options.comparison.is_strict a b found
     → found_trouble options.comparison.is_strict found.recorded found.replayed ≡ None
     → ReportsFound options.form found result written
     → ReportsVerdict version options a b result written
@@ -35,15 +36,15 @@ reported version options a b found (Err Output) written compared none reports =
     (found, record { compared = compared; trouble_is = none }, reports)
 reported version options a b found (Err (Faulty trouble)) written compared none reports = absurd reports
 reported version options a b found (Err (NoVerdict why)) written compared none reports = (
-  subst (λ w. ComparesKnown version options.comparison.ignore_payload_equality a b (Err w)) (sym reports.0)
-      (out_of_memory version options.comparison.ignore_payload_equality a b),
+  subst (λ w. ComparesKnown version options.comparison.ignored a b (Err w)) (sym reports.0)
+      (out_of_memory version options.comparison.ignored a b),
   reports.1,
 )
 
 -- what is wrong with a journal is the error, and nothing is written
 pub faulty : (version : Version) (options : DiffOptions) (a b : Option (List ℕ)) (found : Comparison)
     (error : DiffError)
-    → IsComparison version options.comparison.ignore_payload_equality options.comparison.is_strict a b found
+    → IsComparison version options.comparison.ignored options.comparison.is_strict a b found
     → IsFaulty options.comparison.is_strict found error → ReportsVerdict version options a b (Err error) []
 faulty version options a b found error compared (trouble, is, has) =
     subst (λ e. ReportsVerdict version options a b (Err e) []) (sym is)
@@ -52,7 +53,7 @@ faulty version options a b found error compared (trouble, is, has) =
 -- what moved is reported of the two journals
 pub reported_moved : (version : Version) (options : DiffOptions) (a b : Option (List ℕ)) (found : AlignedComparison)
     (result : Result Findings DiffError) (written : List ℕ)
-    → IsAligned version options.comparison.ignore_payload_equality options.comparison.is_strict alignment_limit a b
+    → IsAligned version options.comparison.ignored options.comparison.is_strict alignment_limit a b
     found
     → found_trouble options.comparison.is_strict found.comparison.recorded found.comparison.replayed ≡ None
     → ReportsAligned options found result written
@@ -63,15 +64,15 @@ reported_moved version options a b found (Err Output) written aligned none repor
     (found, record { aligned = aligned; trouble_is = none }, reports)
 reported_moved version options a b found (Err (Faulty trouble)) written aligned none reports = absurd reports
 reported_moved version options a b found (Err (NoVerdict why)) written aligned none reports = (
-  subst (λ w. ComparesKnown version options.comparison.ignore_payload_equality a b (Err w)) (sym reports.0)
-      (out_of_memory version options.comparison.ignore_payload_equality a b),
+  subst (λ w. ComparesKnown version options.comparison.ignored a b (Err w)) (sym reports.0)
+      (out_of_memory version options.comparison.ignored a b),
   reports.1,
 )
 
 -- the same of what is wrong with a journal
 pub faulty_moved : (version : Version) (options : DiffOptions) (a b : Option (List ℕ)) (found : AlignedComparison)
     (error : DiffError)
-    → IsAligned version options.comparison.ignore_payload_equality options.comparison.is_strict alignment_limit a b
+    → IsAligned version options.comparison.ignored options.comparison.is_strict alignment_limit a b
     found
     → IsFaulty options.comparison.is_strict found.comparison error → ReportsMoved version options a b (Err error) []
 faulty_moved version options a b found error aligned (trouble, is, has) =

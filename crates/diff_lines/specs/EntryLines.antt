@@ -9,6 +9,7 @@ use Rattle.edit_script.specs.declared.sequences.Change.TheVariants.{Removed, Ins
 use Rattle.edit_script.specs.declared.sequences.Difference.{Difference}
 use Rattle.replay_bench.specs.declared.aligned.AlignedComparison.{AlignedComparison}
 use Rattle.replay_bench.specs.declared.fields.FieldDifference.{FieldDifference}
+use Rattle.replay_bench.specs.declared.journals.Ignored.{Ignored}
 use Rattle.replay_bench.specs.Alignments.{HasChangedFields}
 use Rattle.replay_bench.specs.Verdicts.{stopped_index}
 use Rattle.diff_lines.specs.declared.entries.Entry.{Entry}
@@ -59,7 +60,7 @@ entry_line found entry =
     (at_index found.replayed.offsets.items (stopped_index found.comparison.verdict) entry.replayed))))
 
 -- The fields in which two commands differ, if there are both.
-abbrev pub AreFieldsOfBoth : Bool → Option RawMessage → Option RawMessage → List FieldDifference → Type 0
+abbrev pub AreFieldsOfBoth : Ignored → Option RawMessage → Option RawMessage → List FieldDifference → Type 0
 AreFieldsOfBoth ignore None replayed fields = fields ≡ []
 AreFieldsOfBoth ignore (Some recorded) None fields = fields ≡ []
 AreFieldsOfBoth ignore (Some recorded) (Some replayed) fields = HasChangedFields ignore recorded replayed fields
@@ -72,7 +73,7 @@ is_of_verdict found entry =
 
 -- The fields in which the commands of a change differ: those of the verdict, if it is of these commands, otherwise
 -- those that are found of both.
-abbrev pub AreChanged : Bool → AlignedComparison → Entry → List FieldDifference → Type 0
+abbrev pub AreChanged : Ignored → AlignedComparison → Entry → List FieldDifference → Type 0
 AreChanged ignore found entry fields =
     (IsTrue (is_of_verdict found entry) × (fields ≡ found.comparison.fields.items))
     ⊎ AreFieldsOfBoth ignore
@@ -80,14 +81,14 @@ AreChanged ignore found entry fields =
     (at_index found.replayed.commands.items (stopped_index found.comparison.verdict) entry.replayed) fields
 
 -- The fields in which the commands of an entry of this kind differ: none, unless it is a change.
-abbrev pub HasFieldsOf : EntryKind → Bool → AlignedComparison → Entry → List FieldDifference → Type 0
+abbrev pub HasFieldsOf : EntryKind → Ignored → AlignedComparison → Entry → List FieldDifference → Type 0
 HasFieldsOf (Same count) ignore found entry fields = fields ≡ []
 HasFieldsOf (Differs Inserted) ignore found entry fields = fields ≡ []
 HasFieldsOf (Differs Removed) ignore found entry fields = fields ≡ []
 HasFieldsOf (Differs Changed) ignore found entry fields = AreChanged ignore found entry fields
 
 -- The fields in which the commands of an entry differ.
-abbrev pub HasFields : Bool → AlignedComparison → Entry → List FieldDifference → Type 0
+abbrev pub HasFields : Ignored → AlignedComparison → Entry → List FieldDifference → Type 0
 HasFields ignore found entry fields = HasFieldsOf entry.kind ignore found entry fields
 
 -- The line of an entry and the lines of its fields.
@@ -96,14 +97,14 @@ entry_text look found entry fields =
     entry_line found entry ++ (flat_map (field_line look) fields ++ codes "\n")
 
 -- A text goes on with the line of an entry and the lines of its fields.
-pub record IsEntryText (ignore : Bool) (look : Look) (found : AlignedComparison) (entry : Entry) (old new : List ℕ)
+pub record IsEntryText (ignore : Ignored) (look : Look) (found : AlignedComparison) (entry : Entry) (old new : List ℕ)
     : Type 0 where
   pub fields : List FieldDifference
   pub has_fields : HasFields ignore found entry fields
   pub is : new ≡ old ++ entry_text look found entry fields
 
 -- A text goes on with the lines of entries, one after the other.
-abbrev pub GoesOn : Bool → Look → AlignedComparison → List Entry → List ℕ → List ℕ → Type 0
+abbrev pub GoesOn : Ignored → Look → AlignedComparison → List Entry → List ℕ → List ℕ → Type 0
 GoesOn ignore look found [] old new = new ≡ old
 GoesOn ignore look found (entry ∷ entries) old new =
     (text : List ℕ) × IsEntryText ignore look found entry old text × GoesOn ignore look found entries text new
@@ -121,7 +122,8 @@ sentence_line look found sentence =
     ++ codes "\n"
 
 -- This is the text of two journals that were aligned with this limit: their sentence, and the lines of their entries.
-pub record IsText (ignore : Bool) (look : Look) (limit : ℕ) (found : AlignedComparison) (text : List ℕ) : Type 0 where
-  pub sentence : List ℕ
-  pub is_sentence : IsSentence look.is_escaped limit found sentence
-  pub goes_on : GoesOn ignore look found (entries_of found) (sentence_line look found sentence) text
+pub record IsText (ignore : Ignored) (look : Look) (limit : ℕ) (found : AlignedComparison) (text : List ℕ) : Type 0
+  where
+    pub sentence : List ℕ
+    pub is_sentence : IsSentence look.is_escaped limit found sentence
+    pub goes_on : GoesOn ignore look found (entries_of found) (sentence_line look found sentence) text

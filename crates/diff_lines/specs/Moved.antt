@@ -2,6 +2,7 @@
 use Rattle.std.specs.Prelude.{◌≡◌, ℕ, Bool, true, false, List, [], ◌++◌, Option, Some, None, Result, Ok, Err}
 use Rattle.shared_core_base.specs.declared.version.Version.{Version}
 use Rattle.replay_bench.specs.declared.aligned.AlignedComparison.{AlignedComparison}
+use Rattle.replay_bench.specs.declared.journals.Ignored.{Ignored}
 use Rattle.replay_bench.specs.declared.verdicts.BenchError.TheVariants.{OutOfMemory}
 use Rattle.replay_bench.specs.declared.verdicts.ReaderError.TheVariants.{Bench}
 use Rattle.replay_bench.specs.Holding.{IsAligned}
@@ -23,13 +24,13 @@ abbrev pub alignment_limit : ℕ
 alignment_limit = 1000
 
 -- Two journals are aligned, and this is what is wrong with them, if that is an error.
-pub record HasMoved (version : Version) (ignore is_strict : Bool) (recorded replayed : Option (List ℕ))
+pub record HasMoved (version : Version) (ignore : Ignored) (is_strict : Bool) (recorded replayed : Option (List ℕ))
     (found : AlignedComparison) (trouble : Option Trouble) : Type 0 where
   pub aligned : IsAligned version ignore is_strict alignment_limit recorded replayed found
   pub trouble_is : found_trouble is_strict found.comparison.recorded found.comparison.replayed ≡ trouble
 
 -- This text tells what moved between two journals, in a form.
-abbrev pub IsMovedText : Bool → Form → AlignedComparison → List ℕ → Type 0
+abbrev pub IsMovedText : Ignored → Form → AlignedComparison → List ℕ → Type 0
 IsMovedText ignore (Text look) found text = IsText ignore look alignment_limit found text
 IsMovedText ignore Json found text = IsJsonText ignore alignment_limit found text
 
@@ -38,23 +39,23 @@ IsMovedText ignore Json found text = IsJsonText ignore alignment_limit found tex
 abbrev pub ReportsAligned : DiffOptions → AlignedComparison → Result Findings DiffError → List ℕ → Type 0
 ReportsAligned options found (Ok findings) written =
     (findings ≡ findings_of found.comparison)
-    × IsMovedText options.comparison.ignore_payload_equality options.form found written
+    × IsMovedText options.comparison.ignored options.form found written
 ReportsAligned options found (Err (NoVerdict why)) written = (why ≡ Bench OutOfMemory) × (written ≡ [])
 ReportsAligned options found (Err (Faulty trouble)) written = ⊥
 ReportsAligned options found (Err Output) written =
-    (rest : List ℕ) × IsMovedText options.comparison.ignore_payload_equality options.form found (written ++ rest)
+    (rest : List ℕ) × IsMovedText options.comparison.ignored options.form found (written ++ rest)
 
 -- What is written and returned of two sources' journals, where all that moved is wanted: it is reported, if nothing is
 -- wrong that is an error; or else nothing is written, and the error is what is wrong, or why there is no verdict.
 abbrev pub ReportsMoved : Version → DiffOptions → Option (List ℕ) → Option (List ℕ) → Result Findings DiffError
     → List ℕ → Type 0
 ReportsMoved version options recorded replayed (Err (NoVerdict why)) written =
-    ComparesKnown version options.comparison.ignore_payload_equality recorded replayed (Err why) × (written ≡ [])
+    ComparesKnown version options.comparison.ignored recorded replayed (Err why) × (written ≡ [])
 ReportsMoved version options recorded replayed (Err (Faulty trouble)) written =
-    (found : AlignedComparison) × HasMoved version options.comparison.ignore_payload_equality
+    (found : AlignedComparison) × HasMoved version options.comparison.ignored
     options.comparison.is_strict recorded replayed found (Some trouble) × (written ≡ [])
 ReportsMoved version options recorded replayed result written =
-    (found : AlignedComparison) × HasMoved version options.comparison.ignore_payload_equality
+    (found : AlignedComparison) × HasMoved version options.comparison.ignored
     options.comparison.is_strict recorded replayed found None × ReportsAligned options found result written
 
 -- The same of what is wanted: all that moved, or the verdict.

@@ -11,6 +11,7 @@ use Rattle.edit_script.specs.declared.sequences.Change.TheVariants.{Removed, Ins
 use Rattle.replay_bench.specs.declared.aligned.AlignedComparison.{AlignedComparison}
 use Rattle.replay_bench.specs.declared.commands.HeldCommands.{HeldCommands}
 use Rattle.replay_bench.specs.declared.fields.FieldDifference.{FieldDifference}
+use Rattle.replay_bench.specs.declared.journals.Ignored.{Ignored}
 use Rattle.replay_bench.specs.Verdicts.{stopped_index}
 use Rattle.diff_lines.specs.declared.entries.Entry.{Entry}
 use Rattle.diff_lines.specs.declared.entries.EntryKind.{EntryKind}
@@ -116,7 +117,7 @@ abbrev pub entry_json : AlignedComparison → Entry → List FieldDifference →
 entry_json found entry fields = object (entry_member found entry (changed_members entry.kind fields))
 
 -- This is the line of an entry.
-pub record IsEntryJson (ignore : Bool) (found : AlignedComparison) (entry : Entry) (line : List ℕ) : Type 0 where
+pub record IsEntryJson (ignore : Ignored) (found : AlignedComparison) (entry : Entry) (line : List ℕ) : Type 0 where
   pub fields : List FieldDifference
   pub has_fields : HasFields ignore found entry fields
   pub is : line ≡ line_of (entry_json found entry fields)
@@ -124,14 +125,14 @@ pub record IsEntryJson (ignore : Bool) (found : AlignedComparison) (entry : Entr
 -- ---- all lines
 
 -- A text goes on with the lines of entries, one after the other.
-abbrev pub GoesOnAsJson : Bool → AlignedComparison → List Entry → List ℕ → List ℕ → Type 0
+abbrev pub GoesOnAsJson : Ignored → AlignedComparison → List Entry → List ℕ → List ℕ → Type 0
 GoesOnAsJson ignore found [] old new = new ≡ old
 GoesOnAsJson ignore found (entry ∷ entries) old new =
     (line : List ℕ) × IsEntryJson ignore found entry line × GoesOnAsJson ignore found entries (old ++ line) new
 
 -- These are the lines of two journals that were aligned with this limit: that of the whole alignment, and those of
 -- their entries.
-pub record IsJsonText (ignore : Bool) (limit : ℕ) (found : AlignedComparison) (text : List ℕ) : Type 0 where
+pub record IsJsonText (ignore : Ignored) (limit : ℕ) (found : AlignedComparison) (text : List ℕ) : Type 0 where
   pub whole : List ℕ
   pub is_whole : IsWholeLine limit found whole
   pub goes_on : GoesOnAsJson ignore found (entries_of found) whole text

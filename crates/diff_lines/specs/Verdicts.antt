@@ -1,6 +1,7 @@
 -- What is printed for two compared journals.
 use Rattle.std.specs.Prelude.{◌≡◌, ℕ, Bool, true, false, List, [], ◌++◌, codes, Option, Some, None, Result, Ok, Err}
 use Rattle.shared_core_base.specs.declared.version.Version.{Version}
+use Rattle.replay_bench.specs.declared.journals.Ignored.{Ignored}
 use Rattle.replay_bench.specs.declared.verdicts.Verdict.{Verdict}
 use Rattle.replay_bench.specs.declared.verdicts.Verdict.TheVariants.{Same}
 use Rattle.replay_bench.specs.declared.verdicts.BenchError.TheVariants.{OutOfMemory}
@@ -59,7 +60,7 @@ IsFaulty is_strict found error =
     × (found_trouble is_strict found.recorded found.replayed ≡ Some trouble)
 
 -- Two journals have this comparison, and this is what is wrong with them, if that is an error.
-pub record HasFound (version : Version) (ignore is_strict : Bool) (recorded replayed : Option (List ℕ))
+pub record HasFound (version : Version) (ignore : Ignored) (is_strict : Bool) (recorded replayed : Option (List ℕ))
     (found : Comparison) (trouble : Option Trouble) : Type 0 where
   pub compared : IsComparison version ignore is_strict recorded replayed found
   pub trouble_is : found_trouble is_strict found.recorded found.replayed ≡ trouble
@@ -75,10 +76,10 @@ MayFailFor recorded limit replayed other_limit result = Unit {0}
 abbrev pub ReportsVerdict : Version → DiffOptions → Option (List ℕ) → Option (List ℕ) → Result Findings DiffError
     → List ℕ → Type 0
 ReportsVerdict version options recorded replayed (Err (NoVerdict why)) written =
-    ComparesKnown version options.comparison.ignore_payload_equality recorded replayed (Err why) × (written ≡ [])
+    ComparesKnown version options.comparison.ignored recorded replayed (Err why) × (written ≡ [])
 ReportsVerdict version options recorded replayed (Err (Faulty trouble)) written =
-    (found : Comparison) × HasFound version options.comparison.ignore_payload_equality options.comparison.is_strict
+    (found : Comparison) × HasFound version options.comparison.ignored options.comparison.is_strict
     recorded replayed found (Some trouble) × (written ≡ [])
 ReportsVerdict version options recorded replayed result written =
-    (found : Comparison) × HasFound version options.comparison.ignore_payload_equality options.comparison.is_strict
+    (found : Comparison) × HasFound version options.comparison.ignored options.comparison.is_strict
     recorded replayed found None × ReportsFound options.form found result written

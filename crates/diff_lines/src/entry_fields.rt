@@ -1,11 +1,12 @@
 //! The fields in which the commands of an entry differ.
 
-ghost use Rattle.std.specs.Prelude.{◌≡◌, Bool, IfOk, IfSome};
+ghost use Rattle.std.specs.Prelude.{◌≡◌, IfOk, IfSome};
+ghost use Rattle.replay_bench.specs.declared.journals.Ignored.{Ignored as AnyIgnored};
 ghost use Rattle.diff_lines.specs.EntryLines.{HasFields, is_of_verdict};
 
 use crate::entries::{Entry, EntryKind, command_at, stopped_index};
 use edit_script::Change;
-use replay_bench::{AlignedComparison, FieldDifference, changed_fields};
+use replay_bench::{AlignedComparison, FieldDifference, Ignored, changed_fields};
 use std::alloc::{AllocError, Global};
 
 /// The fields of the verdict, if an entry is a change of the commands at its index.
@@ -13,7 +14,7 @@ pub(crate) fn verdict_fields<'a>(
     found: &'a AlignedComparison,
     entry: &Entry,
 ) -> Option<&'a [FieldDifference]>
-    ensures { IfSome result (λ fields. (ignore : Bool) → HasFields ignore found.now entry.now fields.now) }
+    ensures { IfSome result (λ fields. (ignore : AnyIgnored) → HasFields ignore found.now entry.now fields.now) }
 {
     let EntryKind::Differs(Change::Changed) = entry.kind else {
         return None;
@@ -29,9 +30,9 @@ pub(crate) fn listed_fields(
     alloc: Global,
     found: &AlignedComparison,
     entry: &Entry,
-    ignore_payloads: bool,
+    ignore: Ignored,
 ) -> Result<Vec<FieldDifference>, AllocError>
-    ensures { IfOk result (λ fields. HasFields ignore_payloads found.now entry.now fields.items) }
+    ensures { IfOk result (λ fields. HasFields ignore found.now entry.now fields.items) }
 {
     let EntryKind::Differs(Change::Changed) = entry.kind else {
         return Ok(Vec::new(alloc));
@@ -43,7 +44,7 @@ pub(crate) fn listed_fields(
     let Some(replayed) = command_at(&found.replayed, start, entry.replayed) else {
         return Ok(Vec::new(alloc));
     };
-    changed_fields(alloc, recorded, replayed, ignore_payloads)
+    changed_fields(alloc, recorded, replayed, ignore)
 }
 
 /// Whether an entry is of the commands at the index of the verdict.

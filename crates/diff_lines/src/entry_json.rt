@@ -17,7 +17,7 @@ use crate::json_line::{write_fields, write_number, write_offset, write_text, wri
 use crate::sentence::sentence;
 use edit_script::Change;
 use json::Writer;
-use replay_bench::{AlignedComparison, FieldDifference};
+use replay_bench::{AlignedComparison, FieldDifference, Ignored};
 use shared_core_base::header::MessageType;
 use std::alloc::{AllocError, Global};
 
@@ -25,16 +25,16 @@ use std::alloc::{AllocError, Global};
 pub(crate) fn aligned_json(
     alloc: Global,
     found: &AlignedComparison,
-    ignore_payloads: bool,
+    ignore: Ignored,
     limit: u32,
 ) -> Result<Vec<u8>, AllocError>
-    ensures { IfOk result (λ text. IsJsonText ignore_payloads limit found.now text.items) }
+    ensures { IfOk result (λ text. IsJsonText ignore limit found.now text.items) }
 {
     let mut lines = whole_line(alloc, found, limit)?;
     let entries = entries(alloc, found)?;
     let mut left = entries.as_slice();
     while let [entry, rest @ ..] = left {
-        let line = entry_line(alloc, found, entry, ignore_payloads)?;
+        let line = entry_line(alloc, found, entry, ignore)?;
         lines.extend_from_slice(line.as_slice())?;
         left = rest;
     }
@@ -137,14 +137,14 @@ fn entry_line(
     alloc: Global,
     found: &AlignedComparison,
     entry: &Entry,
-    ignore_payloads: bool,
+    ignore: Ignored,
 ) -> Result<Vec<u8>, AllocError>
-    ensures { IfOk result (λ line. IsEntryJson ignore_payloads found.now entry.now line.items) }
+    ensures { IfOk result (λ line. IsEntryJson ignore found.now entry.now line.items) }
 {
     if let Some(fields) = verdict_fields(found, entry) {
         return line_of(alloc, found, entry, fields);
     }
-    let fields = listed_fields(alloc, found, entry, ignore_payloads)?;
+    let fields = listed_fields(alloc, found, entry, ignore)?;
     line_of(alloc, found, entry, fields.as_slice())
 }
 

@@ -10,7 +10,7 @@ use crate::entry_fields::{listed_fields, verdict_fields};
 use crate::look::Pen;
 use crate::sentence::{push_name, sentence};
 use edit_script::{Change, Difference};
-use replay_bench::{AlignedComparison, FieldDifference};
+use replay_bench::{AlignedComparison, FieldDifference, Ignored};
 use std::alloc::AllocError;
 use terminal_text::Style;
 
@@ -20,10 +20,10 @@ use terminal_text::Style;
 pub(crate) fn aligned_text(
     pen: Pen,
     found: &AlignedComparison,
-    ignore_payloads: bool,
+    ignore: Ignored,
     limit: u32,
 ) -> Result<Vec<u8>, AllocError>
-    ensures { IfOk result (λ text. IsText ignore_payloads pen.look limit found.now text.items) }
+    ensures { IfOk result (λ text. IsText ignore pen.look limit found.now text.items) }
 {
     let sentence = sentence(pen.alloc, found, limit, pen.look.is_escaped)?;
     let mut text = Vec::new(pen.alloc);
@@ -36,7 +36,7 @@ pub(crate) fn aligned_text(
     let entries = entries(pen.alloc, found)?;
     let mut left = entries.as_slice();
     while let [entry, rest @ ..] = left {
-        push_entry(pen, &mut text, found, entry, ignore_payloads)?;
+        push_entry(pen, &mut text, found, entry, ignore)?;
         left = rest;
     }
     Ok(text)
@@ -61,14 +61,14 @@ fn push_entry(
     text: &mut Vec<u8>,
     found: &AlignedComparison,
     entry: &Entry,
-    ignore_payloads: bool,
+    ignore: Ignored,
 ) -> Result<(), AllocError>
-    ensures { OnOk result (IsEntryText ignore_payloads pen.look found.now entry.now text.old.items text.new.items) }
+    ensures { OnOk result (IsEntryText ignore pen.look found.now entry.now text.old.items text.new.items) }
 {
     if let Some(fields) = verdict_fields(found, entry) {
         return push_with_fields(pen, text, found, entry, fields);
     }
-    let fields = listed_fields(pen.alloc, found, entry, ignore_payloads)?;
+    let fields = listed_fields(pen.alloc, found, entry, ignore)?;
     push_with_fields(pen, text, found, entry, fields.as_slice())
 }
 

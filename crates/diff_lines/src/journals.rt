@@ -218,18 +218,13 @@ fn moved_text(
     found: &AlignedComparison,
     options: DiffOptions,
 ) -> Result<Vec<u8>, AllocError>
-    ensures { IfOk result (λ text. IsMovedText options.comparison.ignore_payload_equality options.form found.now
+    ensures { IfOk result (λ text. IsMovedText options.comparison.ignored options.form found.now
         text.items) }
 {
-    let ignore_payloads = options.comparison.ignore_payload_equality;
+    let ignore = options.comparison.ignored;
     match options.form {
-        Form::Text(look) => aligned_text(
-            Pen { alloc, look },
-            found,
-            ignore_payloads,
-            ALIGNMENT_LIMIT,
-        ),
-        Form::Json => aligned_json(alloc, found, ignore_payloads, ALIGNMENT_LIMIT),
+        Form::Text(look) => aligned_text(Pen { alloc, look }, found, ignore, ALIGNMENT_LIMIT),
+        Form::Json => aligned_json(alloc, found, ignore, ALIGNMENT_LIMIT),
     }
 }
 

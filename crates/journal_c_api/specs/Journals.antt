@@ -3,6 +3,7 @@ use Rattle.std.specs.Prelude.{◌≡◌, ℕ, Bool, nat_lt, List, [], ◌∷◌,
 use Rattle.std.specs.String.{string_bytes}
 use Rattle.shared_core_base.specs.declared.version.Version.{Version}
 use Rattle.replay_bench.specs.declared.verdicts.Side.TheVariants.{Recorded, Replayed}
+use Rattle.replay_bench.specs.Ids.{only_payloads}
 use Rattle.replay_bench.specs.Outcomes.{Outcome, SameCommands, RecordedEnds, ReplayedEnds, OtherType, OtherCommand}
 use Rattle.replay_bench.specs.Outcomes.{NotWellFormed}
 use Rattle.replay_bench.specs.Verdicts.{HasOutcome}
@@ -35,12 +36,14 @@ ReportsOutcome outcome report =
 -- A report has the numbers and the text of the result of two journals. An allocation may fail.
 abbrev pub ReportsJournals : Version → Bool → List ℕ → List ℕ → Result Report CallError → Type 0
 ReportsJournals version ignore recorded replayed (Ok report) =
-    (outcome : Outcome) × HasOutcome version ignore recorded replayed outcome × ReportsOutcome outcome report
+    (outcome : Outcome) × HasOutcome version (only_payloads ignore) recorded replayed outcome
+    × ReportsOutcome outcome report
 ReportsJournals version ignore recorded replayed (Err error) = error ≡ OutOfMemory
 
 -- The result is that of two journals. An allocation may fail.
 abbrev pub ReturnsJournals : Version → Bool → List ℕ → List ℕ → Result Outcome CallError → Type 0
-ReturnsJournals version ignore recorded replayed (Ok outcome) = HasOutcome version ignore recorded replayed outcome
+ReturnsJournals version ignore recorded replayed (Ok outcome) =
+    HasOutcome version (only_payloads ignore) recorded replayed outcome
 ReturnsJournals version ignore recorded replayed (Err error) = error ≡ OutOfMemory
 
 -- The result of journal_verdict: NoRoom if there is room for fewer than two numbers.

@@ -4,6 +4,7 @@ use Rattle.std.proofs.Common.{inr, subst, sym}
 use Rattle.std.specs.Prelude.{MatchOption}
 use Rattle.shared_core_base.specs.declared.version.Version.{Version}
 use Rattle.shared_core_stream.specs.declared.encoding.raw_message.RawMessage.{RawMessage}
+use Rattle.replay_bench.specs.declared.journals.Ignored.{Ignored}
 use Rattle.replay_bench.specs.declared.mismatches.Found.{Found}
 use Rattle.replay_bench.specs.declared.verdicts.Verdict.{Verdict}
 use Rattle.replay_bench.specs.declared.verdicts.BenchError.{BenchError}
@@ -16,7 +17,7 @@ use Rattle.replay_bench.specs.Verdicts.{ReturnsPair, AreAlike, ComparesKnown, Ha
 use Rattle.replay_bench.specs.Verdicts.{ReturnsNext}
 use Rattle.replay_bench.proofs.Fronts.{journal_of}
 
-module _ (version : Version) (ignore : Bool) where
+module _ (version : Version) (ignore : Ignored) where
   -- Whatever is the outcome, from this index on, of what is left of two journals is the outcome of the whole ones.
   pub record Decides (recorded replayed : List ℕ) (index : ℕ) (left others : List ℕ) : Type 0 where
     pub decides : (left_commands other_commands : List RawMessage) (outcome : Outcome)

@@ -30,8 +30,10 @@ use Rattle.shared_core_compare.specs.Erasure.{erased, erased_part, erased_parts,
 use Rattle.shared_core_stream.specs.declared.encoding.raw_message.RawMessage.{RawMessage}
 use Rattle.shared_core.specs.Typed.{MeansParts}
 use Rattle.replay_bench.specs.declared.forms.Form.{Form}
+use Rattle.replay_bench.specs.declared.journals.Ignored.{Ignored}
 use Rattle.replay_bench.specs.Forms.{ErasesNothing, HasForm, HaveForms, IsForm, are_flat_or, is_flat_or, is_shallow}
 use Rattle.replay_bench.specs.Forms.{kinds_of}
+use Rattle.replay_bench.specs.Ids.{erased_but, id_numbers, ids_erased, seen}
 use Rattle.replay_bench.specs.Verdicts.{AreAlike, MeanTheSame}
 
 -- ---- what is not erased
@@ -64,24 +66,32 @@ module _ (fields : CommandFields) (ignore : Bool) (compared : fields.not_compare
       ap (λ (q : Part). cons q (erased_parts fields ignore rows ps)) (part_kept row p)
       ∙ ap (λ (qs : Parts). cons p qs) (parts_kept rows ps fits.2)
 
+-- no id is erased
+seen_kept : (ids : Bool) (s : ℕ) (v : Parts) → (IsTrue ids → id_numbers s ≡ []) → Fits table v (table s)
+    → seen ids s v ≡ v
+seen_kept false s v none fits = refl
+seen_kept true s v none fits = parts_kept (ids_erased s) false (none refl) (λ no. refl) (table s) v fits
+
 parts_same : (v w : Parts) → v ≡ w → parts_equal v w ≡ true
 parts_same v w e = subst (λ (u : Parts). parts_equal v u ≡ true) e (parts_equal_refl v)
 
 -- a canonical payload that is compared completely is its own form
-pub own_form : (ignore : Bool) (s : ℕ) (payload : List ℕ) → ErasesNothing ignore s → IsCanonical s payload
+pub own_form : (ignore : Ignored) (s : ℕ) (payload : List ℕ) → ErasesNothing ignore s → IsCanonical s payload
     → IsForm ignore payload payload s
 own_form ignore s payload whole canonical = (
   canonical.accepted,
   (
-    parts_same (payload_meaning s payload) (erased s ignore (payload_meaning s payload))
-        (sym (parts_kept (command_fields s) ignore whole.compared whole.kept (table s) (payload_meaning s payload)
+    parts_same (payload_meaning s payload) (erased_but ignore s (payload_meaning s payload))
+        (sym (ap (erased s ignore.payloads)
+        (seen_kept ignore.ids s (payload_meaning s payload) whole.without canonical.fits)
+        ∙ parts_kept (command_fields s) ignore.payloads whole.compared whole.kept (table s) (payload_meaning s payload)
         canonical.fits)),
     canonical.canonical,
   ),
 )
 
 -- the same by the schema of a type
-pub own_form_of : (ignore : Bool) (payload : List ℕ) (schema : Option ℕ) → IfSome schema (ErasesNothing ignore)
+pub own_form_of : (ignore : Ignored) (payload : List ℕ) (schema : Option ℕ) → IfSome schema (ErasesNothing ignore)
     → IsSomeAnd schema (λ s. IsCanonical s payload) → IsSomeAnd schema (IsForm ignore payload payload)
 own_form_of ignore payload None whole canonical = absurd canonical
 own_form_of ignore payload (Some s) whole canonical = own_form ignore s payload whole canonical
@@ -156,24 +166,24 @@ shallow_low (suc n) s v shallow fits =
     rows_low (is_shallow n) (suc n) (λ t w is f. omega (arith, shallow_low n t w is f)) v (table s) shallow fits
 
 -- the canonical payload of a command without what is erased of it is its form
-pub made_form : (ignore : Bool) (s : ℕ) (payload form : List ℕ) (decoded compared : Parts)
-    → MeansParts s payload decoded → compared ≡ erased s ignore decoded → is_shallow 4 s ≡ true
+pub made_form : (ignore : Ignored) (s : ℕ) (payload form : List ℕ) (decoded compared : Parts)
+    → MeansParts s payload decoded → compared ≡ erased_but ignore s decoded → is_shallow 4 s ≡ true
     → Fits table compared (table s) → form ≡ canonical_payload table s compared → IsReadBack s compared form
     → IsForm ignore payload form s
 made_form ignore s payload form decoded compared means erases shallow fits is reads =
     let back = reads (omega (arith, shallow_low 4 s compared shallow fits)) in (
       means.0,
       (
-        parts_same (payload_meaning s form) (erased s ignore (payload_meaning s payload))
-            (back.1 ∙ erases ∙ ap (erased s ignore) means.1),
+        parts_same (payload_meaning s form) (erased_but ignore s (payload_meaning s payload))
+            (back.1 ∙ erases ∙ ap (erased_but ignore s) means.1),
         is ∙ ap (canonical_payload table s) (sym back.1),
       ),
     )
 
 -- the same by the schema of a type
-pub made_form_of : (ignore : Bool) (schema : Option ℕ) (s : ℕ) (payload form : List ℕ) (decoded compared : Parts)
+pub made_form_of : (ignore : Ignored) (schema : Option ℕ) (s : ℕ) (payload form : List ℕ) (decoded compared : Parts)
     → schema ≡ Some s
-    → MeansParts s payload decoded → compared ≡ erased s ignore decoded → is_shallow 4 s ≡ true
+    → MeansParts s payload decoded → compared ≡ erased_but ignore s decoded → is_shallow 4 s ≡ true
     → Fits table compared (table s) → form ≡ canonical_payload table s compared → IsReadBack s compared form
     → IsSomeAnd schema (IsForm ignore payload form)
 made_form_of ignore schema s payload form decoded compared own means erases shallow fits is reads =
@@ -182,7 +192,7 @@ made_form_of ignore schema s payload form decoded compared own means erases shal
 
 -- ---- forms compared
 
-module _ (ignore : Bool) (recorded replayed : RawMessage) (typed : recorded.header.ty ≡ replayed.header.ty) where
+module _ (ignore : Ignored) (recorded replayed : RawMessage) (typed : recorded.header.ty ≡ replayed.header.ty) where
   -- commands are alike if and only if their forms are the same
   pub equal_forms : (one other : List ℕ) (answer : Bool)
       → IsSomeAnd (message_schema recorded.header.ty) (IsForm ignore recorded.payload one)
@@ -244,7 +254,7 @@ module _ (ignore : Bool) (recorded replayed : RawMessage) (typed : recorded.head
 
 -- ---- the forms of a list
 
-module _ (ignore : Bool) where
+module _ (ignore : Ignored) where
   -- the form of the command at a place
   pub form_at : (commands : List RawMessage) (forms : List Form) (i : ℕ) (command : RawMessage) (form : Form)
       → HaveForms ignore commands forms → i < length commands

@@ -9,6 +9,7 @@ pub mod Pairs
 pub mod Places
 pub mod Readings
 pub mod Rejections
+pub mod Renamings
 pub mod Saying
 pub mod Seen
 pub mod Stops

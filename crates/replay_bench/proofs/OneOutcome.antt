@@ -18,15 +18,16 @@ use Rattle.shared_core_codec.specs.Payloads.{IsAccepted, payload_meaning}
 use Rattle.shared_core_codec.specs.Table.{table}
 use Rattle.shared_core_message.specs.Messages.{message_schema}
 use Rattle.shared_core_compare.specs.Differences.{difference}
-use Rattle.shared_core_compare.specs.Erasure.{erased}
 use Rattle.shared_core_errors.specs.Mismatch.{command_type_mismatch_text}
 use Rattle.shared_core_stream.specs.declared.encoding.item.Item.{Item}
 use Rattle.shared_core_stream.specs.declared.encoding.item.Item.TheVariants.{Message, Unknown, Skipped}
 use Rattle.shared_core_stream.specs.declared.encoding.raw_message.RawMessage.{RawMessage}
 use Rattle.shared_core.specs.Errors.{command_mismatch_text}
 use Rattle.shared_core_stream.proofs.Items.{split_is_unique}
+use Rattle.replay_bench.specs.declared.journals.Ignored.{Ignored}
 use Rattle.replay_bench.specs.declared.verdicts.Side.{Side}
 use Rattle.replay_bench.specs.declared.verdicts.Side.TheVariants.{Recorded, Replayed}
+use Rattle.replay_bench.specs.Ids.{erased_but}
 use Rattle.replay_bench.specs.Outcomes.{Outcome, SameCommands, RecordedEnds, ReplayedEnds, OtherType, OtherCommand}
 use Rattle.replay_bench.specs.Outcomes.{NotWellFormed}
 use Rattle.replay_bench.specs.Journals.{IsCommand, IsJournal, command_of, commands_among, if_command, with_first}
@@ -52,7 +53,7 @@ command_has_schema ty = elim ty as (λ ty. IsSome (command_type_of ty) → (s : 
 
 -- ---- two commands
 
-module _ (ignore : Bool) (index : ℕ) (recorded replayed : RawMessage) where
+module _ (ignore : Ignored) (index : ℕ) (recorded replayed : RawMessage) where
   abbrev Alike : ℕ → Type 0
   Alike = MeanTheSame ignore recorded.payload replayed.payload
 
@@ -137,10 +138,10 @@ module _ (ignore : Bool) (index : ℕ) (recorded replayed : RawMessage) where
     of_schema holds that = subst (λ schema. IsSomeAnd schema holds) (sym is) that
 
     both_read : IsAccepted s recorded.payload → IsAccepted s replayed.payload
-        → (parts_equal (erased s ignore (payload_meaning s recorded.payload))
-        (erased s ignore (payload_meaning s replayed.payload)) ≡ true)
-        ⊎ (parts_equal (erased s ignore (payload_meaning s recorded.payload))
-        (erased s ignore (payload_meaning s replayed.payload)) ≡ false)
+        → (parts_equal (erased_but ignore s (payload_meaning s recorded.payload))
+        (erased_but ignore s (payload_meaning s replayed.payload)) ≡ true)
+        ⊎ (parts_equal (erased_but ignore s (payload_meaning s recorded.payload))
+        (erased_but ignore s (payload_meaning s replayed.payload)) ≡ false)
         → AlikeOrFound
     both_read one other (inl same) = inl (one_type, of_schema Alike (one, other, (parts_equal_decides _ _).sound same))
     both_read one other (inr differ) =
@@ -159,8 +160,8 @@ module _ (ignore : Bool) (index : ℕ) (recorded replayed : RawMessage) where
     replayed_read : IsAccepted s recorded.payload → (accepts_payload table 100 s replayed.payload ≡ true) ⊎
         (accepts_payload table 100 s replayed.payload ≡ false) → AlikeOrFound
     replayed_read one (inl other) = both_read one other (either
-        (parts_equal (erased s ignore (payload_meaning s recorded.payload))
-        (erased s ignore (payload_meaning s replayed.payload))))
+        (parts_equal (erased_but ignore s (payload_meaning s recorded.payload))
+        (erased_but ignore s (payload_meaning s replayed.payload))))
     replayed_read one (inr bad) = inr (
       NotWellFormed Replayed index,
       (one_type, refl, of_schema (IsBad Replayed) (one, λ other. both_ways _ bad other)),
@@ -195,14 +196,14 @@ abbrev AreCommands : List RawMessage → Type 0
 AreCommands [] = Unit {0}
 AreCommands (first ∷ rest) = IsCommand first × AreCommands rest
 
-by_first : (ignore : Bool) (index : ℕ) (one other : RawMessage) (recorded replayed : List RawMessage) →
+by_first : (ignore : Ignored) (index : ℕ) (one other : RawMessage) (recorded replayed : List RawMessage) →
     (outcome : Outcome) × IsOutcome ignore (index + 1) recorded replayed outcome
     → AreAlike ignore one other ⊎ ((outcome : Outcome) × IsFound ignore index one other outcome) → (outcome : Outcome) ×
     IsOutcome ignore index (one ∷ recorded) (other ∷ replayed) outcome
 by_first ignore index one other recorded replayed (outcome, is) (inl alike) = (outcome, inl (alike, is))
 by_first ignore index one other recorded replayed then (inr (outcome, found)) = (outcome, inr found)
 
-pub some_outcome : (ignore : Bool) (index : ℕ) (recorded replayed : List RawMessage) → AreCommands recorded →
+pub some_outcome : (ignore : Ignored) (index : ℕ) (recorded replayed : List RawMessage) → AreCommands recorded →
     (outcome : Outcome) × IsOutcome ignore index recorded replayed outcome
 some_outcome ignore index [] [] all = (SameCommands index, refl)
 some_outcome ignore index [] (other ∷ replayed) all = (RecordedEnds index, refl)
@@ -211,8 +212,8 @@ some_outcome ignore index (one ∷ recorded) (other ∷ replayed) all =
     by_first ignore index one other recorded replayed (some_outcome ignore (index + 1) recorded replayed all.1)
     (alike_or_found ignore index one other all.0)
 
-pub one_outcome : (ignore : Bool) (index : ℕ) (recorded replayed : List RawMessage) (a b : Outcome) → IsOutcome ignore
-    index recorded replayed a → IsOutcome ignore index recorded replayed b → a ≡ b
+pub one_outcome : (ignore : Ignored) (index : ℕ) (recorded replayed : List RawMessage) (a b : Outcome)
+    → IsOutcome ignore index recorded replayed a → IsOutcome ignore index recorded replayed b → a ≡ b
 one_outcome ignore index [] [] a b f g = f ∙ sym g
 one_outcome ignore index [] (other ∷ replayed) a b f g = f ∙ sym g
 one_outcome ignore index (one ∷ recorded) [] a b f g = f ∙ sym g
@@ -254,7 +255,7 @@ one_journal version stream a b f g =
     g.among
 
 -- two journals have an outcome
-pub journals_have_outcome : (version : Version) (ignore : Bool) (recorded replayed : List ℕ) → (outcome : Outcome) ×
+pub journals_have_outcome : (version : Version) (ignore : Ignored) (recorded replayed : List ℕ) → (outcome : Outcome) ×
     HasOutcome version ignore recorded replayed outcome
 journals_have_outcome version ignore recorded replayed =
     let (recorded_commands, is) = journal_of version recorded in
@@ -272,7 +273,7 @@ journals_have_outcome version ignore recorded replayed =
     )
 
 -- they have no other
-pub journals_have_one_outcome : (version : Version) (ignore : Bool) (recorded replayed : List ℕ) (a b : Outcome) →
+pub journals_have_one_outcome : (version : Version) (ignore : Ignored) (recorded replayed : List ℕ) (a b : Outcome) →
     HasOutcome version ignore recorded replayed a → HasOutcome version ignore recorded replayed b → a ≡ b
 journals_have_one_outcome version ignore recorded replayed a b f g =
     let one = one_journal version recorded g.recorded_commands f.recorded_commands g.is_recorded f.is_recorded in

@@ -11,15 +11,16 @@ use Rattle.shared_core_wire.specs.Value.{Parts}
 use Rattle.shared_core_codec.specs.Payloads.{IsAccepted, payload_meaning}
 use Rattle.shared_core_message.specs.Messages.{message_schema}
 use Rattle.shared_core_compare.specs.Differences.{difference, differing_fields}
-use Rattle.shared_core_compare.specs.Erasure.{AreSame, erased}
 use Rattle.shared_core_errors.specs.Mismatch.{command_type_mismatch_text}
 use Rattle.shared_core_stream.specs.declared.encoding.raw_message.RawMessage.{RawMessage}
 use Rattle.shared_core.specs.Errors.{command_mismatch_text}
 use Rattle.shared_core.specs.Typed.{MeansParts}
+use Rattle.replay_bench.specs.declared.journals.Ignored.{Ignored}
 use Rattle.replay_bench.specs.declared.fields.FieldDifference.{FieldDifference}
 use Rattle.replay_bench.specs.declared.verdicts.Side.TheVariants.{Recorded, Replayed}
 use Rattle.replay_bench.specs.declared.verdicts.Verdict.TheVariants.{TypeMismatch, HeaderMismatch}
 use Rattle.replay_bench.specs.declared.verdicts.BenchError.TheVariants.{OutOfMemory}
+use Rattle.replay_bench.specs.Ids.{erased_but}
 use Rattle.replay_bench.specs.Fields.{AreFieldsOf, listed_texts}
 use Rattle.replay_bench.specs.Outcomes.{OtherCommand}
 use Rattle.replay_bench.specs.Verdicts.{IsFound, ReturnsPair, IsMalformedOn, IsPair, MeanOthers, MeanTheSame}
@@ -38,7 +39,7 @@ are_typed index recorded replayed ty s pair own = record {
 }
 
 module _ (recorded replayed : RawMessage) (s : ℕ) (typed : AreTyped recorded replayed s) where
-  by_schema : (holds : ℕ → Type 0) → holds s → IsSomeAnd (message_schema recorded.header.ty) holds
+  pub by_schema : (holds : ℕ → Type 0) → holds s → IsSomeAnd (message_schema recorded.header.ty) holds
   by_schema holds is = subst (λ schema. IsSomeAnd schema holds) (sym typed.schema) is
 
   module _ (one other : Parts) (means : MeansParts s recorded.payload one)
@@ -53,10 +54,10 @@ module _ (recorded replayed : RawMessage) (s : ℕ) (typed : AreTyped recorded r
         ∙ ap (λ v. differing_fields s (payload_meaning s recorded.payload) v) means_other.1)
 
 -- two commands do not mean the same, and this text has their difference
-pub differs_by : (ignore : Bool) (index : ℕ) (recorded replayed : RawMessage) (s : ℕ)
+pub differs_by : (ignore : Ignored) (index : ℕ) (recorded replayed : RawMessage) (s : ℕ)
     (typed : AreTyped recorded replayed s) (one other : Parts)
     → MeansParts s recorded.payload one → MeansParts s replayed.payload other
-    → ¬ (erased s ignore one ≡ erased s ignore other)
+    → ¬ (erased_but ignore s one ≡ erased_but ignore s other)
     → IsFound ignore index recorded replayed (OtherCommand index (command_mismatch_text recorded.header.ty (pos index)
     (difference s (codes "   ") (payload_meaning s recorded.payload) (payload_meaning s replayed.payload))))
 differs_by ignore index recorded replayed s typed one other means means_other differ = (
@@ -67,12 +68,12 @@ differs_by ignore index recorded replayed s typed one other means means_other di
       (difference s (codes "   ") (payload_meaning s recorded.payload) (payload_meaning s replayed.payload)))) (
         means.0,
         means_other.0,
-        (λ same. differ (ap (erased s ignore) means.1 ∙ same ∙ ap (erased s ignore) (sym means_other.1))),
+        (λ same. differ (ap (erased_but ignore s) means.1 ∙ same ∙ ap (erased_but ignore s) (sym means_other.1))),
         refl,
       ),
 )
 
-module _ (ignore is_listed : Bool) (index : ℕ) (recorded replayed : RawMessage) where
+module _ (ignore : Ignored) (is_listed : Bool) (index : ℕ) (recorded replayed : RawMessage) where
   -- an allocation may fail
   pub pair_out_of_memory : ReturnsPair ignore is_listed index recorded replayed (Err OutOfMemory)
   unfolding ReturnsPair
@@ -127,19 +128,22 @@ module _ (ignore is_listed : Bool) (index : ℕ) (recorded replayed : RawMessage
     module _ (one other : Parts) (means : MeansParts s recorded.payload one)
         (means_other : MeansParts s replayed.payload other) where
       -- both mean the same
-      pub pair_alike : erased s ignore one ≡ erased s ignore other → ReturnsPair ignore is_listed index recorded
+      pub pair_alike : erased_but ignore s one ≡ erased_but ignore s other → ReturnsPair ignore is_listed index recorded
           replayed (Ok None)
       unfolding ReturnsPair
       pair_alike same = (
         typed.one_type,
-        by_schema recorded replayed s typed (MeanTheSame ignore recorded.payload replayed.payload)
-            (means.0, means_other.0, ap (erased s ignore) (sym means.1) ∙ same ∙ ap (erased s ignore) means_other.1),
+        by_schema recorded replayed s typed (MeanTheSame ignore recorded.payload replayed.payload) (
+          means.0,
+          means_other.0,
+          ap (erased_but ignore s) (sym means.1) ∙ same ∙ ap (erased_but ignore s) means_other.1,
+        ),
       )
 
       -- they do not
       pub pair_differs : (text : String Global) (fields : Vec FieldDifference Global)
           → (IsTrue is_listed → listed_texts fields.items ≡ differing_fields s one other) → ¬
-          (erased s ignore one ≡ erased s ignore other) → string_bytes text ≡ command_mismatch_text
+          (erased_but ignore s one ≡ erased_but ignore s other) → string_bytes text ≡ command_mismatch_text
           recorded.header.ty (pos index) (difference s (codes "   ") one other) → ReturnsPair ignore is_listed index
           recorded replayed (Ok (Some (record { verdict = HeaderMismatch index text; fields = fields })))
       unfolding ReturnsPair

@@ -4,6 +4,7 @@ use Rattle.std.proofs.Common.{subst, append_assoc, length-append}
 use Rattle.std.specs.Prelude.{IsTrue}
 use Rattle.shared_core_base.specs.declared.version.Version.{Version}
 use Rattle.shared_core_stream.specs.declared.encoding.raw_message.RawMessage.{RawMessage}
+use Rattle.replay_bench.specs.declared.journals.Ignored.{Ignored}
 use Rattle.replay_bench.specs.declared.fields.FieldDifference.{FieldDifference}
 use Rattle.replay_bench.specs.declared.verdicts.Verdict.{Verdict}
 use Rattle.replay_bench.specs.declared.verdicts.Verdict.TheVariants.{Same, RecordedEnded, ReplayedEnded, TypeMismatch}
@@ -60,7 +61,7 @@ module _ (version : Version) where
         record { before = before; after = commands; is = whole; place = place }
 
   -- fields of two commands are those of their verdict
-  pub fields_found : (ignore is_listed : Bool) (index : ℕ) (one other : RawMessage)
+  pub fields_found : (ignore : Ignored) (is_listed : Bool) (index : ℕ) (one other : RawMessage)
       (recorded replayed : Option (List ℕ)) (verdict : Verdict) (fields : List FieldDifference)
       → IsKnownCommandAt version recorded index one → IsKnownCommandAt version replayed index other
       → IsFound ignore index one other (outcome_of verdict) → HasFields is_listed one other verdict fields
@@ -83,7 +84,7 @@ module _ (version : Version) where
       )
 
   -- fields that come with the result for the next commands
-  pub fields_next : (ignore is_listed : Bool) (index : ℕ) (next other : Option RawMessage) (found : Found)
+  pub fields_next : (ignore : Ignored) (is_listed : Bool) (index : ℕ) (next other : Option RawMessage) (found : Found)
       (recorded replayed left others now then : Option (List ℕ))
       → IsKnownAfter recorded index left → IsKnownAfter replayed index others
       → IsNext version ignore version left next now → IsNext version ignore version others other then

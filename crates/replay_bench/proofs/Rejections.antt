@@ -1,6 +1,7 @@
 -- What an error of one side says of a comparison.
 use Rattle.std.proofs.Common.{◌≡◌, ℕ, Bool, List, Option, Some, None, Err, subst, sym, ◌∙◌, inl, inr}
 use Rattle.shared_core_base.specs.declared.version.Version.{Version}
+use Rattle.replay_bench.specs.declared.journals.Ignored.{Ignored}
 use Rattle.replay_bench.specs.declared.verdicts.Side.{Side}
 use Rattle.replay_bench.specs.declared.verdicts.Side.TheVariants.{Recorded, Replayed}
 use Rattle.replay_bench.specs.declared.verdicts.ReaderError.{ReaderError}
@@ -33,7 +34,7 @@ module _ (may other_may : Bool) (version : Version) (limit other_limit : ℕ) (f
   fails_replayed side (MessageTooLong Recorded message) is reject = absurd (not_recorded (reject.0 ∙ is))
   fails_replayed side (Bench failure) is reject = tt
 
-module _ (version : Version) (ignore may : Bool) (limit : ℕ) where
+module _ (version : Version) (ignore : Ignored) (may : Bool) (limit : ℕ) where
   pub rejects_recorded : (recorded replayed : Option (List ℕ)) (side : Side) (error : ReaderError) → side ≡ Recorded
       → MayReject side may version limit recorded error → ComparesKnown version ignore recorded replayed (Err error)
   rejects_recorded None replayed side error is reject = tt

@@ -3,6 +3,7 @@ use Rattle.std.proofs.Common.{◌≡◌, ℕ, ◌+◌, ◌-◌, ◌≤◌, ◌<�
 use Rattle.std.proofs.Common.{◌++◌, length, Option, Some, None, Ok, Err, refl, sym, ap, ◌∙◌, subst, inl, inr, arith}
 use Rattle.std.proofs.Common.{append_assoc, append-nil, zero-add}
 use Rattle.std.specs.Io.KnownBytes.{Keeps}
+use Rattle.replay_bench.specs.declared.journals.Ignored.{Ignored}
 use Rattle.replay_bench.specs.declared.survey.Survey.{Survey}
 use Rattle.std.specs.Prelude.{count_by, is_none, is_some, IfErr, IfSome, Result}
 use Rattle.std.proofs.lemmas.Bool.{both_ways}
@@ -98,7 +99,7 @@ counts_next items item found is =
 
 -- ---- commands that are alike, one by one
 
-module _ (ignore : Bool) where
+module _ (ignore : Ignored) where
   alike_long : (one other : List RawMessage) → AreAllAlike ignore one other → length one ≡ length other
   alike_long [] [] all = refl
   alike_long [] (b ∷ other) all = absurd all
@@ -166,7 +167,7 @@ module _ (version : Version) where
             ∙ append_assoc (commands_among items) (command ∷ []) more) journal,
       )
 
-  module _ (ignore : Bool) where
+  module _ (ignore : Ignored) where
     place_of : (recorded : List ℕ) (given : List Item) (left : List RawMessage)
         → (followed : HasFollowed version ignore recorded (commands_among given) left)
         → length followed.before ≡ count_by is_command given
@@ -596,13 +597,13 @@ module _ {S : Type 0} (version_of : S → Version) (limit_of : S → ℕ) (comin
         by_error (Read side) rejects = refl
         by_error (MessageTooLong side message) rejects = refl
 
-    pub rejects_all : (ignore : Bool) (given : List Item) → Rejects may_fail recording error
+    pub rejects_all : (ignore : Ignored) (given : List Item) → Rejects may_fail recording error
         → IsSaidOf recording.version ignore recording.bytes given (Err error)
     rejects_all ignore given rejects = λ replayed rest then.
         rejects_recorded recording.version ignore may_fail recording.limit recording.bytes (Some replayed) Recorded
         error refl rejects
 
-    pub rejects_end : (ignore : Bool) (given : List Item) → Rejects may_fail recording error
+    pub rejects_end : (ignore : Ignored) (given : List Item) → Rejects may_fail recording error
         → IsSaidAtEnd recording.version ignore recording.bytes given (Err error)
     rejects_end ignore given rejects = λ replayed rest split.
         rejects_recorded recording.version ignore may_fail recording.limit recording.bytes (Some replayed) Recorded
@@ -613,7 +614,7 @@ module _ {S : Type 0} (version_of : S → Version) (limit_of : S → ℕ) (comin
         Recorded error refl rejects
 
   -- the items of a replay are too long
-  pub says_long : (ignore : Bool) (given : List Item) (item : Item) (size : ℕ) → size ≡ items_size given
+  pub says_long : (ignore : Ignored) (given : List Item) (item : Item) (size : ℕ) → size ≡ items_size given
       → 2 ^ 64 ≤ size + item_size item
       → IsSaidOf recording.version ignore recording.bytes (given ++ item ∷ []) (Err (Bench TooLong))
   says_long ignore given item size is long = λ replayed rest then.
@@ -739,7 +740,7 @@ module _ {S : Type 0} (version_of : S → Version) (limit_of : S → ℕ) (comin
 
 -- ---- a replayed journal is taken from a source
 
-module _ (version : Version) (ignore : Bool) where
+module _ (version : Version) (ignore : Ignored) where
   pub said_known : (recorded replayed left : Option (List ℕ)) (items : List Item) (result : Result Verdict ReaderError)
       → IsSaidOf version ignore recorded items result → IsKnownThen version replayed items left
       → ComparesKnown version ignore recorded replayed result

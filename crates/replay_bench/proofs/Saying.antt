@@ -10,6 +10,7 @@ use Rattle.shared_core_compare.specs.Differences.{FieldTexts, differing_fields, 
 use Rattle.shared_core_errors.specs.Mismatch.{command_type_mismatch_text}
 use Rattle.shared_core_stream.specs.declared.encoding.raw_message.RawMessage.{RawMessage}
 use Rattle.shared_core.specs.Errors.{command_mismatch_text}
+use Rattle.replay_bench.specs.declared.journals.Ignored.{Ignored}
 use Rattle.replay_bench.specs.declared.fields.FieldDifference.{FieldDifference}
 use Rattle.replay_bench.specs.declared.mismatches.Found.{Found}
 use Rattle.replay_bench.specs.declared.verdicts.Verdict.{Verdict}
@@ -21,7 +22,7 @@ use Rattle.replay_bench.specs.Outcomes.{outcome_of}
 use Rattle.replay_bench.specs.Verdicts.{HasFields, IsFound, IsSaid, MeanOthers, ReturnsNext}
 use Rattle.replay_bench.proofs.Endings.{is_found}
 
-module _ (ignore : Bool) (index : ℕ) (recorded replayed : RawMessage) where
+module _ (ignore : Ignored) (index : ℕ) (recorded replayed : RawMessage) where
   -- the lines of the fields are the difference in the text
   of_fields : (schema : Option ℕ) (text : List ℕ) (fields : List FieldDifference)
       → IsSomeAnd schema (MeanOthers ignore index recorded.header.ty recorded.payload replayed.payload text)
@@ -56,7 +57,7 @@ module _ (ignore : Bool) (index : ℕ) (recorded replayed : RawMessage) where
   )
 
 -- the same of the next commands, each of which may be missing
-pub said_next : (version : Version) (ignore is_listed : Bool) (index : ℕ) (next other : Option RawMessage)
+pub said_next : (version : Version) (ignore : Ignored) (is_listed : Bool) (index : ℕ) (next other : Option RawMessage)
     (found : Found) → ReturnsNext ignore is_listed index next other (Ok (Some found)) → IsTrue is_listed
     → IsSaid found.verdict (type_of next) (type_of other) found.fields.items
 said_next version ignore is_listed index None None found is listed =

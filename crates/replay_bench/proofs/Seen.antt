@@ -3,6 +3,7 @@ use Rattle.std.proofs.Common.{◌≡◌, ℕ, ◌+◌, Bool, false, Option, Some
 use Rattle.std.specs.Prelude.{is_none, is_some}
 use Rattle.shared_core_base.specs.declared.version.Version.{Version}
 use Rattle.shared_core_stream.specs.declared.encoding.raw_message.RawMessage.{RawMessage}
+use Rattle.replay_bench.specs.declared.journals.Ignored.{Ignored}
 use Rattle.replay_bench.specs.declared.mismatches.Found.{Found}
 use Rattle.replay_bench.specs.declared.verdicts.Verdict.{Verdict}
 use Rattle.replay_bench.specs.declared.verdicts.Verdict.TheVariants.{Same, RecordedEnded, ReplayedEnded, TypeMismatch}
@@ -20,7 +21,7 @@ pub record HasSeen (verdict : Verdict) (index : ℕ) : Type 0 where
   pub replayed : replayed_seen verdict ≡ index + 1
   pub stopped : stopped_index verdict ≡ index
 
-pub found_seen : (ignore : Bool) (index : ℕ) (recorded replayed : RawMessage) (verdict : Verdict)
+pub found_seen : (ignore : Ignored) (index : ℕ) (recorded replayed : RawMessage) (verdict : Verdict)
     → IsFound ignore index recorded replayed (outcome_of verdict) → HasSeen verdict index
 found_seen ignore index recorded replayed (Same count) found = absurd found
 found_seen ignore index recorded replayed (RecordedEnded at) found = absurd found
@@ -77,7 +78,7 @@ seen_replayed verdict index command is = record {
   stopped = ap stopped_index is;
 }
 
-pub seen_next : (version : Version) (ignore is_listed : Bool) (index : ℕ) (next other : Option RawMessage)
+pub seen_next : (version : Version) (ignore : Ignored) (is_listed : Bool) (index : ℕ) (next other : Option RawMessage)
     (found : Found) → ReturnsNext ignore is_listed index next other (Ok (Some found))
     → HasSeenNext found.verdict index next other
 seen_next version ignore is_listed index None None found is = seen_same found.verdict index is.0

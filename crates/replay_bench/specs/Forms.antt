@@ -13,15 +13,17 @@ use Rattle.shared_core_codec.specs.Payloads.{IsAccepted, payload_meaning}
 use Rattle.shared_core_codec.specs.Table.{table}
 use Rattle.shared_core_message.specs.Messages.{message_schema}
 use Rattle.shared_core_compare.specs.Commands.{command_fields}
-use Rattle.shared_core_compare.specs.Erasure.{erased}
 use Rattle.shared_core_stream.specs.declared.encoding.raw_message.RawMessage.{RawMessage}
+use Rattle.replay_bench.specs.declared.journals.Ignored.{Ignored}
 use Rattle.replay_bench.specs.declared.forms.Form.{Form}
 use Rattle.replay_bench.specs.declared.forms.Form.TheVariants.{Known, Malformed, Unknown}
+use Rattle.replay_bench.specs.Ids.{erased_but, id_numbers}
 
 -- Nothing is erased of a command of a schema before it is compared.
-pub record ErasesNothing (ignore : Bool) (s : ℕ) : Type 0 where
+pub record ErasesNothing (ignore : Ignored) (s : ℕ) : Type 0 where
   pub compared : (command_fields s).not_compared ≡ []
-  pub kept : IsTrue ignore → (command_fields s).payloads ≡ []
+  pub kept : IsTrue ignore.payloads → (command_fields s).payloads ≡ []
+  pub without : IsTrue ignore.ids → id_numbers s ≡ []
 
 -- Two tests pass, and two byte strings are the same.
 abbrev pub AllPass : Bool → Bool → List ℕ → List ℕ → Type 0
@@ -29,21 +31,21 @@ AllPass one other a b = (one ≡ true) × ((other ≡ true) × (a ≡ b))
 
 -- These bytes are the canonical payload of what a payload means for a schema, with everything erased that is not
 -- compared: the payload is accepted, the bytes mean that, and are its canonical payload.
-abbrev pub IsForm : Bool → List ℕ → List ℕ → ℕ → Type 0
+abbrev pub IsForm : Ignored → List ℕ → List ℕ → ℕ → Type 0
 IsForm ignore payload form s =
     AllPass (accepts_payload table 100 s payload)
-    (parts_equal (payload_meaning s form) (erased s ignore (payload_meaning s payload)))
+    (parts_equal (payload_meaning s form) (erased_but ignore s (payload_meaning s payload)))
     form (canonical_payload table s (payload_meaning s form))
 
 -- The form of a command: bytes by which it is compared; or its payload is not well-formed, or nothing is known.
-abbrev pub HasForm : Bool → RawMessage → Form → Type 0
+abbrev pub HasForm : Ignored → RawMessage → Form → Type 0
 HasForm ignore command (Known bytes) =
     IsSomeAnd (message_schema command.header.ty) (IsForm ignore command.payload bytes)
 HasForm ignore command Malformed = IfSome (message_schema command.header.ty) (λ s. ¬ (IsAccepted s command.payload))
 HasForm ignore command Unknown = Unit {0}
 
 -- The forms of commands, one for each.
-abbrev pub HaveForms : Bool → List RawMessage → List Form → Type 0
+abbrev pub HaveForms : Ignored → List RawMessage → List Form → Type 0
 HaveForms ignore commands forms = AllZip (HasForm ignore) commands forms
 
 -- That tests pass is a fact with one proof.
@@ -53,11 +55,11 @@ all_pass_prop one other a b =
     (×_prop (Coded-set coded_bool other true) (Coded-set (coded_list coded_ℕ) a b))
 
 -- The same of the form of a command.
-has_form_prop : (ignore : Bool) (command : RawMessage) (form : Form) → IsProp (HasForm ignore command form)
+has_form_prop : (ignore : Ignored) (command : RawMessage) (form : Form) → IsProp (HasForm ignore command form)
 has_form_prop ignore command (Known bytes) =
     IsSomeAnd-prop (message_schema command.header.ty) (IsForm ignore command.payload bytes)
     (λ s. all_pass_prop (accepts_payload table 100 s command.payload)
-    (parts_equal (payload_meaning s bytes) (erased s ignore (payload_meaning s command.payload)))
+    (parts_equal (payload_meaning s bytes) (erased_but ignore s (payload_meaning s command.payload)))
     bytes (canonical_payload table s (payload_meaning s bytes)))
 has_form_prop ignore command Malformed = malformed_prop (message_schema command.header.ty)
   where
@@ -67,7 +69,7 @@ has_form_prop ignore command Malformed = malformed_prop (message_schema command.
 has_form_prop ignore command Unknown = Unit-prop
 
 -- The same of the forms of commands.
-pub forms_prop : (ignore : Bool) (commands : List RawMessage) (forms : List Form)
+pub forms_prop : (ignore : Ignored) (commands : List RawMessage) (forms : List Form)
     → IsProp (HaveForms ignore commands forms)
 forms_prop ignore [] [] = Unit-prop
 forms_prop ignore [] (form ∷ forms) = ⊥_prop

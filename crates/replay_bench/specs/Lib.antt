@@ -2,6 +2,9 @@ pub mod Survey
 pub mod FaultTexts
 pub mod Outcomes
 pub mod Journals
+pub mod IdTable
+pub mod Ids
+pub mod Renamings
 pub mod Reading
 pub mod Sources
 pub mod Taking

@@ -11,6 +11,7 @@ use Rattle.replay_bench.specs.declared.following.Ahead.{Ahead}
 use Rattle.replay_bench.specs.declared.following.Ahead.TheVariants.{Unread, Held, Ended, Failed}
 use Rattle.replay_bench.specs.declared.following.Following.{Following}
 use Rattle.replay_bench.specs.declared.following.Mismatch.{Mismatch}
+use Rattle.replay_bench.specs.declared.journals.Ignored.{Ignored}
 use Rattle.replay_bench.specs.declared.verdicts.BenchError.TheVariants.{OutOfMemory, Malformed}
 use Rattle.replay_bench.specs.declared.verdicts.ReaderError.{ReaderError}
 use Rattle.replay_bench.specs.declared.verdicts.ReaderError.TheVariants.{Bench}
@@ -36,11 +37,11 @@ pub record Recording : Type 0 where
   pub bytes : Option (List ℕ)
 
 -- A recording has commands that are alike those given, one by one, and then those that are left.
-pub record HasFollowed (version : Version) (ignore : Bool) (recorded : List ℕ) (given left : List RawMessage) : Type 0
-  where
-    pub before : List RawMessage
-    pub alike : AreAllAlike ignore before given
-    pub is : IsJournal version recorded (before ++ left)
+pub record HasFollowed (version : Version) (ignore : Ignored) (recorded : List ℕ) (given left : List RawMessage)
+    : Type 0 where
+  pub before : List RawMessage
+  pub alike : AreAllAlike ignore before given
+  pub is : IsJournal version recorded (before ++ left)
 
 -- The bytes that are to come are known, and have these commands.
 abbrev pub HasCommands : Version → Option (List ℕ) → List RawMessage → Type 0
@@ -57,7 +58,7 @@ AreLeft version Ended coming left = left ≡ []
 AreLeft version (Failed error) coming left = Unit {0}
 
 -- A recording has followed the commands given, and what is left of it was read ahead, or is to come.
-abbrev pub Follows : Version → Bool → List RawMessage → Ahead → Option (List ℕ) → List ℕ → Type 0
+abbrev pub Follows : Version → Ignored → List RawMessage → Ahead → Option (List ℕ) → List ℕ → Type 0
 Follows version ignore given ahead coming recorded =
     (left : List RawMessage) × HasFollowed version ignore recorded given left × AreLeft version ahead coming left
 
@@ -131,21 +132,21 @@ ending ahead index = Same index
 
 -- This is what a comparison returns of a recording and of every replay that begins with these items, whatever is after
 -- them.
-abbrev pub IsSaidOf : Version → Bool → Option (List ℕ) → List Item → Result Verdict ReaderError → Type 0
+abbrev pub IsSaidOf : Version → Ignored → Option (List ℕ) → List Item → Result Verdict ReaderError → Type 0
 IsSaidOf version ignore recorded given result =
     (replayed rest : List ℕ) → IsItemsThen version replayed given rest
     → ComparesKnown version ignore recorded (Some replayed) result
 
 -- The same of every replay that has these items, and no more.
-abbrev pub IsSaidAtEnd : Version → Bool → Option (List ℕ) → List Item → Result Verdict ReaderError → Type 0
+abbrev pub IsSaidAtEnd : Version → Ignored → Option (List ℕ) → List Item → Result Verdict ReaderError → Type 0
 IsSaidAtEnd version ignore recorded given result =
     (replayed rest : List ℕ) → SplitsInto version replayed given rest
     → ComparesKnown version ignore recorded (Some replayed) result
 
 -- The last of these items is where a replay leaves its recording: the verdict, the fields in which the commands differ,
 -- the index, which is the number of commands before it, and the offset in both.
-pub record IsMismatch (version : Version) (ignore : Bool) (recorded : Option (List ℕ)) (given : List Item) (item : Item)
-    (mismatch : Mismatch) : Type 0 where
+pub record IsMismatch (version : Version) (ignore : Ignored) (recorded : Option (List ℕ)) (given : List Item)
+    (item : Item) (mismatch : Mismatch) : Type 0 where
   pub verdict : IsSaidOf version ignore recorded (given ++ item ∷ []) (Ok mismatch.verdict)
   pub fields : (replayed rest : List ℕ) → IsItemsThen version replayed (given ++ item ∷ []) rest
       → HasFieldsOn version recorded (Some replayed) mismatch.verdict mismatch.fields.items

@@ -10,10 +10,10 @@ use Rattle.shared_core_wire.specs.declared.error.WireError.TheVariants as wire
 use Rattle.shared_core_codec.specs.Payloads.{IsAccepted, payload_meaning}
 use Rattle.shared_core_message.specs.Messages.{message_schema}
 use Rattle.shared_core_compare.specs.Differences.{difference}
-use Rattle.shared_core_compare.specs.Erasure.{AreSame}
 use Rattle.shared_core_errors.specs.Mismatch.{command_type_mismatch_text}
 use Rattle.shared_core_stream.specs.declared.encoding.raw_message.RawMessage.{RawMessage}
 use Rattle.shared_core.specs.Errors.{command_mismatch_text}
+use Rattle.replay_bench.specs.declared.journals.Ignored.{Ignored}
 use Rattle.replay_bench.specs.declared.verdicts.Side.{Side}
 use Rattle.replay_bench.specs.declared.verdicts.Side.TheVariants.{Recorded, Replayed}
 use Rattle.replay_bench.specs.declared.fields.FieldDifference.{FieldDifference}
@@ -30,6 +30,7 @@ use Rattle.replay_bench.specs.declared.verdicts.ReaderError.TheVariants.{Read, B
 use Rattle.replay_bench.specs.Outcomes.{Outcome, SameCommands, RecordedEnds, ReplayedEnds, OtherType, OtherCommand}
 use Rattle.replay_bench.specs.Outcomes.{NotWellFormed, outcome_of}
 use Rattle.replay_bench.specs.Fields.{AreFieldsAt, AreFieldsOf, IsTypeAt, lines_of}
+use Rattle.replay_bench.specs.Ids.{AreSameBut}
 use Rattle.replay_bench.specs.Journals.{IsCommand, IsJournal}
 use Rattle.replay_bench.specs.Reading.{IsKnownLast, IsKnownSurvey}
 use Rattle.replay_bench.specs.Sources.{HasLonger}
@@ -38,17 +39,17 @@ use Rattle.replay_bench.specs.Sources.{HasLonger}
 
 -- Both payloads are well-formed for the schema, and the commands that they mean are the same except for what is not
 -- compared.
-abbrev pub MeanTheSame : Bool → List ℕ → List ℕ → ℕ → Type 0
+abbrev pub MeanTheSame : Ignored → List ℕ → List ℕ → ℕ → Type 0
 MeanTheSame ignore recorded replayed s =
-    IsAccepted s recorded × IsAccepted s replayed × AreSame s ignore (payload_meaning s recorded)
+    IsAccepted s recorded × IsAccepted s replayed × AreSameBut ignore s (payload_meaning s recorded)
     (payload_meaning s replayed)
 
 -- Both payloads are well-formed for the schema, the commands that they mean are not the same, and the text has their
 -- difference.
-abbrev pub MeanOthers : Bool → ℕ → MessageType → List ℕ → List ℕ → List ℕ → ℕ → Type 0
+abbrev pub MeanOthers : Ignored → ℕ → MessageType → List ℕ → List ℕ → List ℕ → ℕ → Type 0
 MeanOthers ignore index ty recorded replayed text s =
     IsAccepted s recorded × IsAccepted s replayed
-    × ¬ (AreSame s ignore (payload_meaning s recorded) (payload_meaning s replayed))
+    × ¬ (AreSameBut ignore s (payload_meaning s recorded) (payload_meaning s replayed))
     × (text ≡ command_mismatch_text ty (pos index) (difference s (codes "   ") (payload_meaning s recorded)
     (payload_meaning s replayed)))
 
@@ -59,14 +60,14 @@ IsMalformedOn Replayed recorded replayed s = IsAccepted s recorded × ¬ (IsAcce
 
 -- Two commands at the same index are alike: of one type, both well-formed, and the same except for what is not
 -- compared.
-abbrev pub AreAlike : Bool → RawMessage → RawMessage → Type 0
+abbrev pub AreAlike : Ignored → RawMessage → RawMessage → Type 0
 AreAlike ignore recorded replayed =
     (recorded.header.ty ≡ replayed.header.ty) × IsSomeAnd (message_schema recorded.header.ty)
     (MeanTheSame ignore recorded.payload replayed.payload)
 
 -- Two commands at an index are not alike, and this is the outcome: their types differ; or they are of one type, and a
 -- payload is not well-formed, or they do not mean the same. In a text the recorded one is the actual one.
-abbrev pub IsFound : Bool → ℕ → RawMessage → RawMessage → Outcome → Type 0
+abbrev pub IsFound : Ignored → ℕ → RawMessage → RawMessage → Outcome → Type 0
 IsFound ignore index recorded replayed (OtherType found text) =
     (found ≡ index) × (recorded.header.ty ≢ replayed.header.ty)
     × (text ≡ command_type_mismatch_text (pos index) recorded.header.ty replayed.header.ty)
@@ -88,7 +89,7 @@ HasFields is_listed recorded replayed verdict fields = fields ≡ []
 
 -- The result for two commands at an index: nothing if they are the same, otherwise what differs, and in which fields;
 -- or an allocation fails.
-unfoldable pub ReturnsPair : Bool → Bool → ℕ → RawMessage → RawMessage → Result (Option Found) BenchError → Type 0
+unfoldable pub ReturnsPair : Ignored → Bool → ℕ → RawMessage → RawMessage → Result (Option Found) BenchError → Type 0
 ReturnsPair ignore is_listed index recorded replayed (Ok None) = AreAlike ignore recorded replayed
 ReturnsPair ignore is_listed index recorded replayed (Ok (Some found)) =
     IsFound ignore index recorded replayed (outcome_of found.verdict)
@@ -104,7 +105,7 @@ IsEnding verdict (Ok (Some found)) = (found.verdict ≡ verdict) × (found.field
 IsEnding verdict result = ⊥
 
 -- The result for the next commands of two journals: who has ended, or that of both commands.
-abbrev pub ReturnsNext : Bool → Bool → ℕ → Option RawMessage → Option RawMessage → Result (Option Found) BenchError
+abbrev pub ReturnsNext : Ignored → Bool → ℕ → Option RawMessage → Option RawMessage → Result (Option Found) BenchError
     → Type 0
 ReturnsNext ignore is_listed index None None result = IsEnding (Same index) result
 ReturnsNext ignore is_listed index None (Some replayed) result = IsEnding (RecordedEnded index) result
@@ -128,7 +129,7 @@ bench_error_of side index wire.OutOfMemory = OutOfMemory
 
 -- The outcome of commands from this index on: who has ended, or what is found of the first two, or, where they are
 -- alike, the outcome of the others.
-abbrev pub IsOutcome : Bool → ℕ → List RawMessage → List RawMessage → Outcome → Type 0
+abbrev pub IsOutcome : Ignored → ℕ → List RawMessage → List RawMessage → Outcome → Type 0
 IsOutcome ignore index [] [] outcome = outcome ≡ SameCommands index
 IsOutcome ignore index [] (replayed ∷ more_replayed) outcome = outcome ≡ RecordedEnds index
 IsOutcome ignore index (recorded ∷ more_recorded) [] outcome = outcome ≡ ReplayedEnds index
@@ -137,7 +138,7 @@ IsOutcome ignore index (recorded ∷ more_recorded) (replayed ∷ more_replayed)
     ⊎ IsFound ignore index recorded replayed outcome
 
 -- The outcome of two journals is that of their commands, from index 0 on.
-pub record HasOutcome (version : Version) (ignore : Bool) (recorded replayed : List ℕ) (outcome : Outcome) : Type 0
+pub record HasOutcome (version : Version) (ignore : Ignored) (recorded replayed : List ℕ) (outcome : Outcome) : Type 0
   where
     pub recorded_commands : List RawMessage
     pub replayed_commands : List RawMessage
@@ -147,7 +148,7 @@ pub record HasOutcome (version : Version) (ignore : Bool) (recorded replayed : L
 
 -- What a comparison of two journals returns: their verdict; whose command is not well-formed; that one of them is too
 -- long, where it is; or that an allocation fails.
-abbrev pub Compares : Version → Bool → List ℕ → List ℕ → Result Verdict BenchError → Type 0
+abbrev pub Compares : Version → Ignored → List ℕ → List ℕ → Result Verdict BenchError → Type 0
 Compares version ignore recorded replayed (Ok verdict) = HasOutcome version ignore recorded replayed
     (outcome_of verdict)
 Compares version ignore recorded replayed (Err (Malformed side index)) = HasOutcome version ignore recorded replayed
@@ -164,7 +165,7 @@ journal_on Replayed recorded replayed = replayed
 
 -- What a comparison of the journals of two sources returns: the same; that one of them could not be read; or the
 -- message of one of them that is longer than its limit.
-abbrev pub ComparesRead : Version → Bool → List ℕ → List ℕ → Result Verdict ReaderError → Type 0
+abbrev pub ComparesRead : Version → Ignored → List ℕ → List ℕ → Result Verdict ReaderError → Type 0
 ComparesRead version ignore recorded replayed (Ok verdict) = Compares version ignore recorded replayed (Ok verdict)
 ComparesRead version ignore recorded replayed (Err (Bench failure)) = Compares version ignore recorded replayed
     (Err failure)
@@ -173,7 +174,7 @@ ComparesRead version ignore recorded replayed (Err (MessageTooLong side message)
     (journal_on side recorded replayed)
 
 -- The same of the bytes that two sources will give, where both are known.
-abbrev pub ComparesKnown : Version → Bool → Option (List ℕ) → Option (List ℕ) → Result Verdict ReaderError → Type 0
+abbrev pub ComparesKnown : Version → Ignored → Option (List ℕ) → Option (List ℕ) → Result Verdict ReaderError → Type 0
 ComparesKnown version ignore (Some recorded) (Some replayed) result = ComparesRead version ignore recorded replayed
     result
 ComparesKnown version ignore recorded replayed result = Unit {0}
@@ -255,7 +256,7 @@ stopped_index (HeaderMismatch index text) = index
 
 -- Two journals, as far as their bytes are known, have this verdict, these fields in which its commands differ, these
 -- types of the commands at its index, these surveys, and at these offsets the last commands that the verdict has seen.
-pub record IsComparison (version : Version) (ignore is_strict : Bool) (recorded replayed : Option (List ℕ))
+pub record IsComparison (version : Version) (ignore : Ignored) (is_strict : Bool) (recorded replayed : Option (List ℕ))
     (found : Comparison) : Type 0 where
   pub verdict : ComparesKnown version ignore recorded replayed (Ok found.verdict)
   pub fields : HasFieldsOn version recorded replayed found.verdict found.fields.items
@@ -270,7 +271,8 @@ pub record IsComparison (version : Version) (ignore is_strict : Bool) (recorded 
   pub replayed_last : IsKnownLast version replayed (replayed_seen found.verdict) found.replayed_at
 
 -- What a comparison that surveys both journals returns: their comparison, or why there is no verdict or no survey.
-abbrev pub Surveys : Version → Bool → Bool → Option (List ℕ) → Option (List ℕ) → Result Comparison ReaderError → Type 0
+abbrev pub Surveys : Version → Ignored → Bool → Option (List ℕ) → Option (List ℕ) → Result Comparison ReaderError
+    → Type 0
 Surveys version ignore is_strict recorded replayed (Ok found) = IsComparison version ignore is_strict recorded replayed
     found
 Surveys version ignore is_strict recorded replayed (Err error) = ComparesKnown version ignore recorded replayed

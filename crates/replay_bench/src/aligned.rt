@@ -39,7 +39,7 @@ pub fn align_sources<A: Source, B: Source>(
 ) -> Result<AlignedComparison, ReaderError>
     requires recorded { A.version journals.recorded ≡ journals.version }
     requires replayed { B.version journals.replayed ≡ journals.version }
-    ensures aligned { AlignsKnown journals.version options.ignore_payload_equality options.is_strict limit
+    ensures aligned { AlignsKnown journals.version options.ignored options.is_strict limit
         (A.coming journals.recorded) (B.coming journals.replayed) result }
     ensures failed { MayFailOn A.may_fail (A.limit journals.recorded) B.may_fail (B.limit journals.replayed) result }
 {
@@ -54,7 +54,7 @@ pub fn align_sources<A: Source, B: Source>(
         alloc,
         recorded_held.commands.as_slice(),
         replayed_held.commands.as_slice(),
-        options.ignore_payload_equality,
+        options.ignored,
         limit,
     )?;
     Ok(AlignedComparison {

@@ -6,6 +6,7 @@ ghost use Rattle.shared_core_base.specs.Version.{version_number};
 ghost use Rattle.replay_bench.specs.declared.verdicts.Side.TheVariants.{Recorded, Replayed};
 ghost use Rattle.replay_bench.specs.Reading.{IsReading};
 ghost use Rattle.replay_bench.specs.Held.{IsStopped};
+ghost use Rattle.replay_bench.specs.Ids.{only_payloads};
 ghost use Rattle.replay_bench.specs.Journals.{IsCommand, type_of};
 ghost use Rattle.replay_bench.specs.Verdicts.{Compares, ComparesKnown, HasFieldsOn, MayFailOn, Surveys, verdict_alone};
 ghost use Rattle.replay_bench.specs.Verdicts.{recorded_ended, recorded_seen, replayed_ended, replayed_seen};
@@ -13,7 +14,7 @@ ghost use Rattle.replay_bench.specs.Verdicts.{stopped_index, IsSaid, ReturnsNext
 
 use crate::commands::{Commands, reader_error};
 use crate::following::Following;
-use crate::journals::{ComparisonOptions, Journals};
+use crate::journals::{ComparisonOptions, Ignored, Journals};
 use crate::mismatches::{Found, Pair, compare_commands};
 use crate::slice_items::SliceItems;
 use crate::sources::{Next, Source};
@@ -41,14 +42,19 @@ pub fn compare_journals(
     ignore_payload_equality: bool,
 ) -> Result<Verdict, BenchError>
     requires { 5 ≤ version_number version }
-    ensures { Compares version ignore_payload_equality (concat recorded.now) (concat replayed.now) result }
+    ensures { Compares version (only_payloads ignore_payload_equality) (concat recorded.now) (concat replayed.now)
+        result }
 {
     let journals = Journals {
         version,
         recorded: SliceItems::new(alloc, version, recorded),
         replayed: SliceItems::new(alloc, version, replayed),
     };
-    match compare_sources(alloc, journals, ignore_payload_equality) {
+    let ignored = Ignored {
+        payloads: ignore_payload_equality,
+        ids: false,
+    };
+    match compare_sources(alloc, journals, ignored) {
         Ok(verdict) => Ok(verdict),
         Err(ReaderError::Bench(error)) => Err(error),
         // a slice does not fail, and has no limit
@@ -66,17 +72,17 @@ pub fn compare_journals(
 pub fn compare_sources<A: Source, B: Source>(
     alloc: Global,
     journals: Journals<A, B>,
-    ignore_payload_equality: bool,
+    ignore: Ignored,
 ) -> Result<Verdict, ReaderError>
     requires recorded { A.version journals.recorded ≡ journals.version }
     requires replayed { B.version journals.replayed ≡ journals.version }
-    ensures compared { ComparesKnown journals.version ignore_payload_equality
+    ensures compared { ComparesKnown journals.version ignore
         (A.coming journals.recorded) (B.coming journals.replayed) result }
     ensures failed { MayFailOn A.may_fail (A.limit journals.recorded) B.may_fail (B.limit journals.replayed) result }
 {
     let version = journals.version;
     let mut replayed = journals.replayed;
-    let mut following = Following::new(alloc, version, journals.recorded, ignore_payload_equality);
+    let mut following = Following::new(alloc, version, journals.recorded, ignore);
     loop {
         // of both journals the recorded one is read first
         following.read_ahead()?;
@@ -128,7 +134,7 @@ impl NextCommands {
         &self,
         alloc: Global,
         index: u64,
-        ignore: bool,
+        ignore: Ignored,
         is_listed: bool,
     ) -> Result<Option<Found>, BenchError>
         requires index { index < 2 ^ 63 }
@@ -167,7 +173,7 @@ pub(crate) fn find_verdict<A: Source, B: Source>(
 ) -> Result<Stopped<A, B>, ReaderError>
     requires recorded { A.version journals.recorded ≡ journals.version }
     requires replayed { B.version journals.replayed ≡ journals.version }
-    ensures compared { ComparesKnown journals.version options.ignore_payload_equality
+    ensures compared { ComparesKnown journals.version options.ignored
         (A.coming journals.recorded) (B.coming journals.replayed) (verdict_alone result) }
     ensures failed { MayFailOn A.may_fail (A.limit journals.recorded) B.may_fail (B.limit journals.replayed) result }
     ensures limit { IfOk result (λ stopped. A.limit stopped.recorded.source ≡ A.limit journals.recorded) }
@@ -203,7 +209,7 @@ pub(crate) fn find_verdict<A: Source, B: Source>(
             recorded: recorded_next,
             replayed: replayed_next,
         };
-        let found = next.compare(alloc, index, options.ignore_payload_equality, is_listed)?;
+        let found = next.compare(alloc, index, options.ignored, is_listed)?;
         if let Some(found) = found {
             return Ok(Stopped {
                 found,
@@ -232,7 +238,7 @@ pub fn survey_sources<A: Source, B: Source>(
 ) -> Result<Comparison, ReaderError>
     requires recorded { A.version journals.recorded ≡ journals.version }
     requires replayed { B.version journals.replayed ≡ journals.version }
-    ensures compared { Surveys journals.version options.ignore_payload_equality options.is_strict
+    ensures compared { Surveys journals.version options.ignored options.is_strict
         (A.coming journals.recorded) (B.coming journals.replayed) result }
     ensures failed { MayFailOn A.may_fail (A.limit journals.recorded) B.may_fail (B.limit journals.replayed) result }
 {

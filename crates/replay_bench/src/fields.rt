@@ -55,7 +55,7 @@ impl DifferenceForm<Vec<FieldDifference>> for Listed {
 
 /// The printed fields in which two commands differ, in the order of the lines of their difference. They are listed only
 /// where they are wanted.
-pub(crate) fn list_fields<M: CommandMessage>(
+pub fn list_fields<M: CommandMessage>(
     alloc: Global,
     is_listed: bool,
     recorded: &M,

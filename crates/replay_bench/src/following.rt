@@ -12,6 +12,7 @@ ghost use Rattle.stream_lines.specs.Printing.{item_size};
 
 use crate::commands::Commands;
 use crate::fields::FieldDifference;
+use crate::journals::Ignored;
 use crate::mismatches::{Found, Pair, compare_commands};
 use crate::sources::Source;
 use crate::verdicts::{BenchError, ReaderError, Side, Verdict};
@@ -50,7 +51,7 @@ pub enum Ahead {
 #[derive(Drop)]
 pub struct Following<S> {
     alloc: Global,
-    ignore: bool,
+    ignore: Ignored,
     recorded: Commands<S>,
     ahead: Ahead,
     /// The number of replayed commands, each of which is the same as the recorded one at its index.
@@ -63,21 +64,16 @@ pub struct Following<S> {
 
 impl<S: Source> Following<S> {
     /// The recording of a source of this version, before any item of a replay.
-    pub(crate) fn new(
-        alloc: Global,
-        version: Version,
-        recorded: S,
-        ignore_payload_equality: bool,
-    ) -> Following<S>
+    pub(crate) fn new(alloc: Global, version: Version, recorded: S, ignore: Ignored) -> Following<S>
         requires { S.version recorded ≡ version }
         ensures new { IsFollowing S.version S.limit S.coming S.may_fail
             (record { version = version; limit = S.limit recorded; bytes = S.coming recorded }) [] result }
-        ensures ignore { result.ignore ≡ ignore_payload_equality }
+        ensures ignore { result.ignore ≡ ignore }
         ensures said { result.has_said ≡ false }
     {
         Following {
             alloc,
-            ignore: ignore_payload_equality,
+            ignore,
             recorded: Commands::new(version, Side::Recorded, recorded, false),
             ahead: Ahead::Unread,
             index: 0,

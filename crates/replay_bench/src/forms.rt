@@ -11,6 +11,7 @@ ghost use Rattle.shared_core_message.specs.Messages.{message_schema};
 ghost use Rattle.replay_bench.specs.Forms.{HasForm, HaveForms, IsForm};
 
 use crate::erasures::{erased_form, is_compared_whole};
+use crate::journals::Ignored;
 use bytes::Bytes;
 use shared_core::encoding::RawMessage;
 use shared_core::messages::schema_at;
@@ -34,7 +35,7 @@ pub(crate) enum Form {
 pub(crate) fn forms(
     alloc: Global,
     commands: &[RawMessage],
-    ignore: bool,
+    ignore: Ignored,
 ) -> Result<Vec<Form>, AllocError>
     ensures { IfOk result (λ forms. HaveForms ignore commands.now forms.items) }
 {
@@ -46,7 +47,7 @@ pub(crate) fn forms(
 }
 
 /// The form of a command.
-fn form_of(alloc: Global, command: &RawMessage, ignore: bool) -> Result<Form, AllocError>
+fn form_of(alloc: Global, command: &RawMessage, ignore: Ignored) -> Result<Form, AllocError>
     ensures { IfOk result (HasForm ignore command.now) }
 {
     if is_own_form(command, ignore) {
@@ -56,7 +57,7 @@ fn form_of(alloc: Global, command: &RawMessage, ignore: bool) -> Result<Form, Al
 }
 
 /// Whether the payload of a command is its form: it is canonical, and all of it is compared.
-fn is_own_form(command: &RawMessage, ignore: bool) -> bool
+fn is_own_form(command: &RawMessage, ignore: Ignored) -> bool
     ensures { IsTrue result → IsSomeAnd (message_schema command.now.header.ty)
         (IsForm ignore command.now.payload command.now.payload) }
 {

@@ -1,22 +1,26 @@
 //! Two commands compared.
 
-ghost use Rattle.std.specs.Prelude.{◌≡◌, ◌<◌, ◌^◌, IsTrue};
+ghost use Rattle.std.specs.Prelude.{◌≡◌, ◌<◌, ◌^◌, Err, IfErr, IfOk, IsTrue, Some};
 ghost use Rattle.std.specs.Option.{IsSomeAnd};
 ghost use Rattle.shared_core_codec.specs.Payloads.{IsAccepted};
 ghost use Rattle.shared_core_message.specs.Messages.{message_schema};
+ghost use Rattle.shared_core.specs.Typed.{MeansParts};
 ghost use Rattle.replay_bench.specs.Journals.{IsCommand};
 ghost use Rattle.replay_bench.specs.Verdicts.{ReturnsPair, IsPair, bench_error_of};
 
+use crate::erase::{Erase, EraseVisitor, are_same};
+use crate::erasures::visit_erased;
 use crate::fields::{FieldDifference, list_fields};
+use crate::journals::Ignored;
 use crate::verdicts::{BenchError, Side, Verdict};
 use shared_core::encoding::{DecodeMessage, RawMessage};
 use shared_core::errors::{CommandMismatchError, CommandTypeMismatchError};
-use shared_core::messages::{CommandMessage, CommandVisitor, schema_at, visit_command};
+use shared_core::messages::{CommandMessage, schema_at};
 use shared_core::version::Version;
 use shared_core::wire::{WireError, is_well_formed};
 use std::alloc::Global;
 
-/// Two commands at the same index of two journals, whether their payloads are ignored, and whether the fields in which
+/// Two commands at the same index of two journals, what is ignored of them, and whether the fields in which
 /// they differ are listed.
 #[derive(Drop)]
 pub(crate) struct Pair<'a> {
@@ -24,7 +28,7 @@ pub(crate) struct Pair<'a> {
     pub index: u64,
     pub recorded: &'a RawMessage,
     pub replayed: &'a RawMessage,
-    pub ignore: bool,
+    pub ignore: Ignored,
     pub is_listed: bool,
 }
 
@@ -50,7 +54,7 @@ pub(crate) fn compare_commands(pair: Pair<'_>) -> Result<Option<Found>, BenchErr
         if has_same_bytes(pair.recorded, pair.replayed) {
             return Ok(None);
         }
-        return match visit_command(recorded, pair) {
+        return match visit_erased(recorded, pair) {
             Some(found) => found,
             // the type is a command's
             None => unreachable!(),
@@ -86,15 +90,18 @@ fn is_well_formed_command(command: &RawMessage) -> bool
     }
 }
 
-impl<'a> CommandVisitor for Pair<'a> {
-    type Output = Result<Option<Found>, BenchError>;
-
-    ghost may_visit = { λ self ty. IsPair self.index self.recorded.now self.replayed.now ty };
-
-    ghost results = { λ self ty schema output.
-        ReturnsPair self.ignore self.is_listed self.index self.recorded.now self.replayed.now output };
-
-    fn visit<M: CommandMessage>(self) -> Result<Option<Found>, BenchError> {
+impl<'a> Pair<'a> {
+    /// Both commands, the recorded one first, as records of their type.
+    fn decode<M: CommandMessage>(&self) -> Result<(M, M), BenchError>
+        requires allowed { IsPair self.now.index self.now.recorded.now self.now.replayed.now M.message_type }
+        requires own { message_schema M.message_type ≡ Some M.schema }
+        ensures recorded { IfOk result (λ both.
+            MeansParts M.schema self.now.recorded.now.payload (M.parts both.0)) }
+        ensures replayed { IfOk result (λ both.
+            MeansParts M.schema self.now.replayed.now.payload (M.parts both.1)) }
+        ensures rejected { IfErr result (λ error. ReturnsPair self.now.ignore self.now.is_listed self.now.index
+            self.now.recorded.now self.now.replayed.now (Err error)) }
+    {
         let recorded = match self.recorded.decode_as::<M>(self.alloc) {
             Ok(recorded) => recorded,
             Err(error) => return Err(bench_error(Side::Recorded, self.index, error)),
@@ -103,11 +110,27 @@ impl<'a> CommandVisitor for Pair<'a> {
             Ok(replayed) => replayed,
             Err(error) => return Err(bench_error(Side::Replayed, self.index, error)),
         };
-        if recorded.header_eq(&replayed, self.ignore) {
+        Ok((recorded, replayed))
+    }
+}
+
+impl<'a> EraseVisitor for Pair<'a> {
+    type Output = Result<Option<Found>, BenchError>;
+
+    ghost may_visit = { λ self ty. IsPair self.index self.recorded.now self.replayed.now ty };
+
+    ghost results = { λ self ty schema output.
+        ReturnsPair self.ignore self.is_listed self.index self.recorded.now self.replayed.now output };
+
+    fn visit<M: Erase + CommandMessage>(self) -> Result<Option<Found>, BenchError> {
+        let (recorded, replayed) = self.decode::<M>()?;
+        if are_same(recorded, replayed, self.ignore) {
             return Ok(None);
         }
-        let fields = list_fields(self.alloc, self.is_listed, &recorded, &replayed)?;
-        let mismatch = CommandMismatchError::new(self.index as i64, recorded, replayed);
+        // once for all commands that are compared, and with their ids, which the text has too
+        let (actual, expected) = self.decode::<M>()?;
+        let fields = list_fields(self.alloc, self.is_listed, &actual, &expected)?;
+        let mismatch = CommandMismatchError::new(self.index as i64, actual, expected);
         // made at once, so that a verdict holds no payload
         let text = mismatch.to_string(self.alloc)?;
         let verdict = Verdict::HeaderMismatch {

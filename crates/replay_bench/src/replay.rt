@@ -2,10 +2,12 @@
 
 ghost use Rattle.std.specs.Prelude.{◌≡◌, List, [], true, false, is_some, option_map, IfErr, IfOk};
 ghost use Rattle.shared_core_stream.specs.declared.encoding.item.Item.{Item as AnyItem};
+ghost use Rattle.replay_bench.specs.Ids.{only_payloads};
 ghost use Rattle.replay_bench.specs.Replays.{held_in, Checks, ComesNext, EndsReplay, IsAhead, IsFollowing, IsHeldAt};
 ghost use Rattle.replay_bench.specs.Replays.{Recording, Rejects};
 
 use crate::following::{Following, Mismatch};
+use crate::journals::Ignored;
 use crate::sources::Source;
 use crate::verdicts::{ReaderError, Verdict};
 use shared_core::encoding::{Item, RawMessage};
@@ -48,11 +50,26 @@ impl<S: Source> Replay<S> {
         requires { S.version recorded ≡ version }
         ensures new { IsFollowing S.version S.limit S.coming S.may_fail
             (record { version = version; limit = S.limit recorded; bytes = S.coming recorded }) [] result }
-        ensures ignore { result.ignore ≡ ignore_payload_equality }
+        ensures ignore { result.ignore ≡ only_payloads ignore_payload_equality }
+        ensures said { result.has_said ≡ false }
+    {
+        let ignored = Ignored {
+            payloads: ignore_payload_equality,
+            ids: false,
+        };
+        Replay::ignoring(alloc, version, recorded, ignored)
+    }
+
+    /// The same, where commands may differ in what is ignored.
+    pub fn ignoring(alloc: Global, version: Version, recorded: S, ignore: Ignored) -> Replay<S>
+        requires { S.version recorded ≡ version }
+        ensures new { IsFollowing S.version S.limit S.coming S.may_fail
+            (record { version = version; limit = S.limit recorded; bytes = S.coming recorded }) [] result }
+        ensures ignore { result.ignore ≡ ignore }
         ensures said { result.has_said ≡ false }
     {
         Replay {
-            following: Following::new(alloc, version, recorded, ignore_payload_equality),
+            following: Following::new(alloc, version, recorded, ignore),
         }
     }
 

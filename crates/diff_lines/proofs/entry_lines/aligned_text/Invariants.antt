@@ -4,8 +4,8 @@ use Rattle.diff_lines.proofs.entry_lines.aligned_text.Given as goal
 
 abbrev pub invariant-loop-left : goal.invariant-loop-left
 invariant-loop-left l =
-    (new : List ℕ) → GoesOn l.fn.ignore_payloads l.fn.pen.look l.fn.found l.left l.text.items new
-    → IsText l.fn.ignore_payloads l.fn.pen.look l.fn.limit l.fn.found new
+    (new : List ℕ) → GoesOn l.fn.ignore l.fn.pen.look l.fn.found l.left l.text.items new
+    → IsText l.fn.ignore l.fn.pen.look l.fn.limit l.fn.found new
 
 abbrev pub decreases-loop-left : goal.decreases-loop-left
 decreases-loop-left l = length l.left

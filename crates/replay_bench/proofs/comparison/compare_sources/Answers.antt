@@ -63,7 +63,7 @@ returns-in-Err-clause-compared g c =
     let (given, f, then) = inv.followed in
     let next = rw (inv.version, inv.limit) at c.in-Err.ensures.next in
     rw c.reader_error.ensures (rejects_replayed _ _ _ _ _ _ Replayed _ refl
-    (replayed_rejects c.args.journals.version c.args.ignore_payload_equality _ _ _ _ given c.in-Err.error then next))
+    (replayed_rejects c.args.journals.version c.args.ignore _ _ _ _ given c.in-Err.error then next))
 
 pub returns-in_err-mismatch-clause-compared : goal.returns-in_err-mismatch-clause-compared
 returns-in_err-mismatch-clause-compared g c =

@@ -8,7 +8,7 @@ abbrev pub invariant-loop-following : goal.invariant-loop-following
 invariant-loop-following g l = record {
   version : g.B.Source.version l.replayed ≡ l.fn.journals.version;
   limit : g.B.Source.limit l.replayed ≡ g.B.Source.limit l.fn.journals.replayed;
-  ignore : l.following.ignore ≡ l.fn.ignore_payload_equality;
+  ignore : l.following.ignore ≡ l.fn.ignore;
   said : l.following.has_said ≡ false;
   followed : (given : List Item) × IsFollowing g.A.Source.version g.A.Source.limit g.A.Source.coming g.A.Source.may_fail
       (record {

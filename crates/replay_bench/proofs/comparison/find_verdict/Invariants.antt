@@ -28,7 +28,7 @@ invariant-loop-replayed g l = record {
       (g.A.Source.coming l.recorded.source);
   other_after : IsKnownAfter l.fn.journals.version (g.B.Source.coming l.fn.journals.replayed) l.index
       (g.B.Source.coming l.replayed.source);
-  goes_on : GoesOn l.fn.journals.version l.fn.options.ignore_payload_equality (g.A.Source.coming l.fn.journals.recorded)
+  goes_on : GoesOn l.fn.journals.version l.fn.options.ignored (g.A.Source.coming l.fn.journals.recorded)
       (g.B.Source.coming l.fn.journals.replayed) l.index (g.A.Source.coming l.recorded.source)
       (g.B.Source.coming l.replayed.source);
 }

@@ -10,8 +10,8 @@ use Rattle.replay_bench.specs.Verdicts.{ReturnsPair}
 use Rattle.replay_bench.proofs.Pairs.{pair_out_of_memory, pair_same_bytes, pair_types}
 use Rattle.replay_bench.proofs.mismatches.compare_commands.Goals as goal
 
-pub visit_command-requires : goal.visit_command-requires
-visit_command-requires c = record {
+pub visit_erased-requires : goal.visit_erased-requires
+visit_erased-requires c = record {
   below = c.requires.index;
   command = c.requires.command;
   typed = sym c.ty-recorded.ensures ∙ types_equal _ _ (sym c.eq.ensures ∙ c.if-eq.true) ∙ c.ty-replayed.ensures;

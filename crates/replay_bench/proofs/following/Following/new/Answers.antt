@@ -8,6 +8,6 @@ returns-clause-new g c = record {
   size_is = refl;
   fits = omega arith;
   read_to = record { limit_is = ap g.S.Source.limit c.new.ensures.source; reading = c.new.ensures.new };
-  follows = rw c.new.ensures.source (follows_none c.args.version c.args.ignore_payload_equality
+  follows = rw c.new.ensures.source (follows_none c.args.version c.args.ignore
       (g.S.Source.coming c.args.recorded));
 }
