@@ -1,0 +1,4 @@
+pub mod Halves
+pub mod Joins
+pub mod Progress
+pub mod Turns

@@ -1,0 +1,9 @@
+use Rattle.std.proofs.Common.{◌≡◌}
+use Rattle.shared_core_codec.specs.Payloads.{payload_meaning}
+use Rattle.shared_core_fields.specs.Views.{fields_left}
+use Rattle.show_lines.specs.Contents.{number_in, value_fields}
+use Rattle.show_lines.proofs.facts.number_in.Given as goal
+
+abbrev pub invariant-loop-field : goal.invariant-loop-field
+invariant-loop-field l = number_in l.number (fields_left l.field-iterator) ≡ number_in l.number
+    (value_fields l.payload.schema (payload_meaning l.payload.schema l.payload.bytes.now))

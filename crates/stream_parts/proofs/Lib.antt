@@ -1,0 +1,4 @@
+pub mod Copies
+pub mod Counting
+pub mod Kept
+pub mod Locating

@@ -1,0 +1,3 @@
+pub mod Copying
+pub mod Errors
+pub mod Parts
