@@ -1,0 +1,18 @@
+//! A FileDescriptorSet, which `protoc -o` and `buf build -o` write: its messages with their fields, its enums, and the
+//! table of schemas of its messages.
+#![tactic(auto)]
+
+mod error;
+mod fault;
+mod field;
+mod names;
+mod read;
+mod schemas;
+mod set;
+mod table;
+
+pub use error::{DescriptorError, Place};
+pub use field::{FieldDescriptor, FieldKind, Presence};
+pub use read::{MOST_BYTES, MOST_FIELDS, MOST_NAME_BYTES, read_set};
+pub use set::{DescriptorSet, EnumDescriptor, EnumValue, MessageDescriptor};
+pub use table::{NoForm, PassedOver, passed_over, table_of};

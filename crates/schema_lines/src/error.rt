@@ -1,0 +1,53 @@
+//! The errors of writing the table.
+
+use descriptor_set::DescriptorError;
+use std::alloc::{AllocError, AllocFailed};
+use std::error::Error;
+use std::fmt;
+use stream_lines::output::OutputFailed;
+
+/// Why there is no table, or not all of it.
+#[derive(Debug, Drop)]
+pub enum SchemaError {
+    /// No table of schemas comes of the bytes.
+    Descriptor(DescriptorError),
+    /// A write failed.
+    Output,
+    OutOfMemory,
+}
+
+impl fmt::Display for SchemaError {
+    fn fmt<W: fmt::Write>(&self, f: &mut fmt::Formatter<W>) -> fmt::Result {
+        match self {
+            SchemaError::Descriptor(error) => write!(f, "{error}"),
+            SchemaError::Output => write!(f, "output failed"),
+            SchemaError::OutOfMemory => write!(f, "out of memory"),
+        }
+    }
+}
+
+impl Error for SchemaError {}
+
+impl From<DescriptorError> for SchemaError {
+    fn from(error: DescriptorError) -> SchemaError {
+        SchemaError::Descriptor(error)
+    }
+}
+
+impl From<OutputFailed> for SchemaError {
+    fn from(_error: OutputFailed) -> SchemaError {
+        SchemaError::Output
+    }
+}
+
+impl From<AllocError> for SchemaError {
+    fn from(_error: AllocError) -> SchemaError {
+        SchemaError::OutOfMemory
+    }
+}
+
+impl<T: Drop> From<AllocFailed<T>> for SchemaError {
+    fn from(_error: AllocFailed<T>) -> SchemaError {
+        SchemaError::OutOfMemory
+    }
+}
