@@ -12,7 +12,10 @@ PARTS = ("src", "specs", "proofs")
 
 
 # The names under which the program journal is a subcommand.
-LINKS = ("journal_dump", "journal_make", "journal_diff")
+LINKS = ("journal_dump", "journal_make", "journal_diff", "journal_show")
+
+# The man pages of its other subcommands, except list.
+PAGES = ("journal_cut", "journal_cat")
 
 
 def crate_of(program: str) -> str:

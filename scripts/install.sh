@@ -67,7 +67,7 @@ machine=x86_64-unknown-linux-gnu
 libdir=lib
 while [ $# -gt 1 ]; do
   case $1 in
-    --library) programs= scripts= links= ;;
+    --library) programs= scripts= links= pages= ;;
     --target) machine=$2; shift ;;
     --libdir) libdir=$2; shift ;;
     --uninstall) action=uninstall ;;
@@ -108,7 +108,7 @@ program_files() {
   for program in $links; do
     printf '%s\n' "bin/$program" "share/bash-completion/completions/$program.bash"
   done
-  for program in $programs $scripts $links; do
+  for program in $programs $scripts $links $pages; do
     echo "share/man/man1/$program.1"
   done
   [ -z "$programs" ] || echo share/wireshark/pendratsoa.lua

@@ -1,6 +1,8 @@
 #!/bin/sh
 # Runs a program of this repository: the proved one if it is up to date, otherwise one that is built without the proofs.
 #
+#   scripts/run.sh [--proved] journal show [ARGUMENT]..
+#       a stream in readable lines
 #   scripts/run.sh [--proved] journal dump [ARGUMENT]..
 #       a stream as JSON
 #   scripts/run.sh [--proved] journal make [ARGUMENT]..
@@ -12,8 +14,8 @@
 #   scripts/run.sh [--proved] journal_list [ARGUMENT]..
 #       the listing of a stream, of examples/streams/replay without arguments
 #
-# Before dump, make, diff and view, journal may be left out; list is journal_list. docs/PROGRAMS.md says what arguments
-# a program takes, and so does the program with --help.
+# Before show, dump, make, diff and view, journal may be left out; list is journal_list. docs/PROGRAMS.md says what
+# arguments a program takes, and so does the program with --help.
 #
 # The first run without the proofs builds the program, in one to three minutes of processor time, and keeps it; it is
 # hundreds of times slower than the proved one. With --proved every crate below the program is proved first, which takes
@@ -23,7 +25,7 @@ set -eu
 top=$(cd "$(dirname "$0")/.." && pwd)
 
 usage() {
-  sed -n '2,21s/^# \{0,1\}//p' "$top/scripts/run.sh"
+  sed -n '2,23s/^# \{0,1\}//p' "$top/scripts/run.sh"
 }
 
 # Arguments are given to the program as they are: a parser here would have to follow each of its options.
@@ -35,7 +37,7 @@ fi
 crate=journal
 case ${1-} in
   journal) shift ;;
-  dump | make | diff | view) ;;
+  show | dump | make | diff | view) ;;
   journal_list | list)
     crate=journal_list
     shift

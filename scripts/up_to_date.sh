@@ -1,7 +1,10 @@
 # What the scripts that build share. They go to the top of the repository, and say '. scripts/up_to_date.sh'.
 
 # The names under which the program journal is a subcommand.
-links='journal_dump journal_make journal_diff'
+links='journal_dump journal_make journal_diff journal_show'
+
+# The man pages of its other subcommands, except list.
+pages='journal_cut journal_cat'
 
 # crate_of PROGRAM: the crate of a program
 crate_of() {

@@ -62,6 +62,8 @@ alike journal_list --help
 for file in replay cut_short unknown_type three_unknown_types; do
   alike journal dump --strict $file
 done
+alike journal show recorded
+alike journal show --failures cut_short
 alike journal make replay.dump
 alike journal diff recorded replayed_other_handler
 alike journal diff --all --json recorded replayed_other_handler

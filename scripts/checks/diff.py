@@ -22,6 +22,9 @@ def after_first(code: int, payload: bytes) -> bytes:
     return FIRST + code.to_bytes(2, "big") + len(payload).to_bytes(6, "big") + payload
 
 
+# The ids of the call are others, as behind a command that was inserted.
+SHIFTED = RECORDED.replace(b"P\x01X\x02", b"P\x02X\x03")
+
 # Journals beside those of examples/streams.
 JOURNALS = {
     "first": FIRST,
@@ -30,6 +33,8 @@ JOURNALS = {
     "unknown_first": UNKNOWN + RECORDED,
     "unknown_last": RECORDED + UNKNOWN + b"x",
     "rest": RECORDED + b"xyz",
+    "shifted": SHIFTED,
+    "inserted": after_first(0x402, b"\n\x01aX\x01") + SHIFTED[len(FIRST):],
     "bad_start": RECORDED + b"\0\0\0\0\0\0\0\x01\xff",
     # files that are no journals, and what of a journal is no whole item
     "text": b"a text of 34 bytes, and no journal",
@@ -52,6 +57,10 @@ FOUND = (
 OTHER_HANDLER = (
     f"{FOUND}- The mismatch happened while executing 'call' (index '2')\n"
     "- Difference:\n   handler_name: greet != greet_all"
+)
+OTHER_IDS = (
+    f"{FOUND}- The mismatch happened while executing 'call' (index '2')\n"
+    "- Difference:\n   invocation_id_notification_idx: 1 != 2\n   result_completion_id: 2 != 3"
 )
 
 
@@ -96,6 +105,10 @@ CASES: tuple[tuple[str, int, str, *tuple[str, ...]], ...] = (
     ("--ignore-payloads - replayed_other_handler", 1, f"command 2: {OTHER_HANDLER}"),
     ("recorded replayed_other_payload", 1, f"command 1: {OTHER_PAYLOAD}"),
     ("recorded --ignore-payloads replayed_other_payload", 0, "same, 4 commands"),
+    ("recorded shifted", 1, f"command 2: {OTHER_IDS}"),
+    ("--ignore-ids recorded shifted", 0, "same, 4 commands"),
+    ("--ignore-ids recorded replayed_other_payload", 1, f"command 1: {OTHER_PAYLOAD}"),
+    ("--ignore-ids --ignore-payloads recorded replayed_other_payload", 0, "same, 4 commands"),
     ("recorded /dev/null", 1, "replayed ends at command 0", EMPTY.format("replayed")),
     ("/dev/null first", 1, "recorded ends at command 0", EMPTY.format("recorded")),
     ("/dev/null /dev/null", 0, "same, 0 commands", EMPTY.format("recorded"), EMPTY.format("replayed")),
@@ -210,7 +223,7 @@ def aligned(check: checks.Check, diff: Program) -> None:
     """What moved between journals, by test vectors and as a text, and where it is too much."""
     lines = [line for line in ALIGNMENTS.read_text().splitlines() if not line.startswith("#")]
     cases = [case.splitlines() for case in "\n".join(lines).split("\n\n") if case.strip()]
-    check.case("test vectors of alignments", len(cases) == 18, f"{len(cases)} cases")
+    check.case("test vectors of alignments", len(cases) == 21, f"{len(cases)} cases")
     for number, case in enumerate(cases, 1):
         given = {name: rest for name, _, rest in (line.partition(" ") for line in case if not line.startswith("{"))}
         for side in ("recorded", "replayed"):

@@ -15,12 +15,13 @@ from programs import Program, Words, go_to_streams, text_of
 
 # The status of each program where an input, its output or an allocation fails, the words and the standard input with
 # which it writes something, and what it writes.
-FAILURE = {"journal_list": 1, "journal_diff": 2, "journal_dump": 1, "journal_make": 2}
+FAILURE = {"journal_list": 1, "journal_diff": 2, "journal_dump": 1, "journal_make": 2, "journal_show": 1}
 WORKS = {
     "journal_list": ("", "replay"),
     "journal_diff": ("recorded recorded", "recorded"),
     "journal_dump": ("", "replay"),
     "journal_make": ("", "replay.dump"),
+    "journal_show": ("", "replay"),
 }
 
 NOTHING = "No such file or directory (os error 2)"
@@ -43,6 +44,9 @@ NAMED: tuple[tuple[str, Words, str], ...] = (
     ("journal_make", "nothing", f"journal_make: nothing: {NOTHING}"),
     ("journal_make", ".", "journal_make: .: is a directory"),
     ("journal_make", (NO_TEXT,), "journal_make: an argument is not UTF-8"),
+    ("journal_show", "nothing", f"journal_show: nothing: {NOTHING}"),
+    ("journal_show", ".", "journal_show: .: is a directory"),
+    ("journal_show", (NO_TEXT,), "journal_show: an argument is not UTF-8"),
 )
 
 # Arguments that are rejected, and a part of the error, which begins with 'error: '; a line of it ends with its newline.
@@ -106,6 +110,7 @@ READS = (
     ("journal_diff", "recorded -", "reading the replayed journal failed"),
     ("journal_dump", "", "input failed"),
     ("journal_make", "", "input failed"),
+    ("journal_show", "", "input failed"),
 )
 
 # How often a stream is there where its output is more than 100 KiB.
@@ -128,7 +133,10 @@ def long_outputs() -> dict[str, tuple[str, bytes]]:
     pathlib.Path("long").write_bytes(stream * LIST_TIMES)
     pathlib.Path("many").write_bytes(stream * DUMP_TIMES)
     pathlib.Path("lines").write_text(text_of("replay.dump") * MAKE_TIMES)
+    ends = 8 * FILE_SIZE // len("#0 End\n")
+    pathlib.Path("ends").write_bytes(b"\0\x03\0\0\0\0\0\0" * ends)
     return {
+        "journal_show": ("ends", "".join(f"#{index} End\n" for index in range(ends)).encode()),
         "journal_list": ("long", "".join([*listed * LIST_TIMES, "rest 0\n"]).encode()),
         "journal_dump": ("many", "".join(dump).encode()),
         "journal_make": ("lines", stream * MAKE_TIMES),
@@ -214,6 +222,7 @@ def memory(programs: dict[str, Program]) -> None:
         ("journal_list", "65536", b"", ""),
         ("journal_diff", "- recorded", b"", ""),
         ("journal_dump", "", pathlib.Path("replay").read_bytes(), "".join(lines)),
+        ("journal_show", "", b"\0\x03\0\0\0\0\0\0", "#0 End\n"),
     ):
         how = {"err": f"{name}: out of memory\n", "status": FAILURE[name], "what": "with little memory"}
         programs[name].ends(words, out, **how, given=before + promise, kibibytes=128 << 10)

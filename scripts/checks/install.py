@@ -33,6 +33,7 @@ PRINTS = (
     (("journal", "make", STREAMS / "replay.dump"), STREAMS / "replay"),
     (("journal", "diff", STREAMS / "recorded", STREAMS / "recorded"), "same, 4 commands\n"),
     (("journal", "list"), STREAMS / "replay.stdout"),
+    (("journal", "show", "--to", "0", STREAMS / "recorded"), '#0 InputCommand "input"\n'),
     (("journal_view", "-o", "page.html", STREAMS / "recorded", STREAMS / "replayed_other_handler"), "page.html\n"),
     (("journal_view", "--version"), f"journal_view {checks.library_version()}\n"),
     *(((name, "--version"), f"{name} {checks.library_version()}\n") for name in checks.PROGRAMS),
@@ -50,6 +51,7 @@ ERRORS = (
     (("journal_diff", ".", "-"), "journal_diff: .: is a directory"),
     (("journal", "dump", "./nothing"), f"journal dump: {NO_FILE}"),
     (("journal", "list", "./nothing"), f"journal list: {NO_FILE}"),
+    (("journal_show", "./nothing"), f"journal_show: {NO_FILE}"),
 )
 
 # What bash makes of the last word, with the completion of a program: the folder of the files, then the words.
@@ -70,7 +72,7 @@ class Installation:
         self.check = check
         self.prefix = check.work / "a prefix"
         self.calls = re.findall(r"^int64_t (journal_[a-z_]*)\(", pathlib.Path("include/pendratsoa.h").read_text(), re.M)
-        self.pages = (*INSTALLED, "pendratsoa", *self.calls)
+        self.pages = (*INSTALLED, *crates.PAGES, "pendratsoa", *self.calls)
 
     def install(self, name: str, *words: str | pathlib.Path, **env: str) -> None:
         """Counts a run of scripts/install.sh."""
@@ -101,7 +103,7 @@ class Installation:
                 ended = checks.run(["man", "--warnings", name], env=env)
                 is_right = ended.status == 0 and not ended.err and name.encode() in ended.out
                 self.check.case(f"man {name}", is_right, ended)
-            for name in crates.LINKS:
+            for name in (*crates.LINKS, *crates.PAGES):
                 words = name.split("_")
                 pages_of = [checks.run(["man", *each], env=env) for each in ([name], words)]
                 self.check.case(f"man {' '.join(words)}", pages_of[0] == pages_of[1], pages_of[1])
@@ -118,7 +120,7 @@ class Installation:
         """Completion in bash: the options are those that the program's help lists."""
         if not self.check.has("bash", "completion in bash"):
             return
-        by_word = [name.split("_") for name in crates.LINKS]
+        by_word = [name.split("_") for name in (*crates.LINKS, *crates.PAGES)]
         for words in (*([name] for name in INSTALLED), ["journal", "list"], *by_word):
             name = " ".join(words)
             text = checks.run([self.prefix / "bin" / words[0], *words[1:], "--help"]).out.decode()

@@ -31,6 +31,21 @@ RUNS = {
         (("--help",), 0, ""),
         (("--version",), 0, ""),
     ),
+    "show": (
+        ((), 0, ""),
+        (("--commands", "--from=1", "recorded"), 0, ""),
+        (("--open", "--failures", "--protocol", "9", "-"), 0, ""),
+        (("cut_short",), 0, ": offset 21: 8 bytes after the last whole item"),
+        (("replay.dump",), 0, ": no message in it; is it a journal of version 8?"),
+        (("--max-message=8", "recorded"), 1, ": InputCommand at offset 0: 9 bytes of payload, more than the limit"),
+        (("nothing",), 2, ": nothing: No such file or directory"),
+        (("--from", "-1"), 2, "unexpected argument '-1' found"),
+        (("--to", "last"), 2, "--from and --to take the index of an item, from 0"),
+        (("replay", "3"), 2, "unexpected argument '3'"),
+        ((b"\xff",), 2, ": an argument is not UTF-8"),
+        (("--help",), 0, ""),
+        (("--version",), 0, ""),
+    ),
     "dump": (
         ((), 0, ""),
         (("--text", "--no-payload", "--type", "Start,end"), 0, ""),
@@ -75,6 +90,52 @@ RUNS = {
         (("--help",), 0, ""),
         (("--version",), 0, ""),
     ),
+    "cut": (
+        (("recorded",), 0, ""),
+        (("--to=1", "--protocol", "9", "./recorded"), 0, ""),
+        (("--to", "3", "--", "recorded"), 0, ""),
+        (("--to", "4", "recorded"), 1, ": recorded: no command 4: it has 4 commands, 0 to 3"),
+        (("--from", "4", "recorded"), 1, ": recorded: no command 4: it has 4 commands, 0 to 3"),
+        (("--from", "18446744073709551615", "recorded"), 1, ": recorded: no command 18446744073709551615: it has 4"),
+        (("--protocol", "9", "--to", "0", "unknown_type"), 1, ": unknown_type: no command 0: it has no commands"),
+        (("--from", "2", "--to", "1", "recorded"), 2, "--from comes after --to"),
+        (("--from", "-1", "recorded"), 2, "error: "),
+        (("--to", "18446744073709551616", "recorded"), 2, "--from and --to take the index of a command"),
+        (("--max-message", "8", "recorded"), 2, ": recorded: InputCommand at offset 0: 9 bytes of payload"),
+        (("cut_short",), 0, ": cut_short: offset 21: 8 bytes after the last whole item, left out"),
+        (("replay.dump",), 1, ": no message in it; is it a journal of version 8?"),
+        (("-",), 2, ": -: no file, and it is read twice"),
+        (("/dev/null",), 2, ": /dev/null: no file, and it is read twice"),
+        (("nothing",), 2, ": nothing: No such file or directory"),
+        ((".",), 2, ": .: is a directory"),
+        ((), 2, "the following required arguments were not provided:\n  <FILE>"),
+        (("recorded", "replay"), 2, "unexpected argument 'replay'"),
+        (("--help",), 0, ""),
+        (("--version",), 0, ""),
+    ),
+    "cat": (
+        (("recorded",), 0, ""),
+        (("--protocol", "9", "replay", "recorded", "replay"), 0, ""),
+        (("recorded", "cut_short"), 0, ": cut_short: offset 21: 8 bytes after the last whole item, left out"),
+        (("recorded", "nothing"), 2, ": nothing: No such file or directory"),
+        (("recorded", "-"), 2, ": -: no file, and it is read twice"),
+        (("recorded", "replay.dump"), 1, ": no message in it; is it a journal of version 8?"),
+        ((), 2, "the following required arguments were not provided:\n  <FILE>"),
+        (("--to", "1", "recorded"), 2, "unexpected argument '--to'"),
+        (("--help",), 0, ""),
+        (("--version",), 0, ""),
+    ),
+    "schema": (
+        (("/dev/null",), 0, ""),
+        (("nothing",), 2, ": nothing: No such file or directory"),
+        (("replay",), 2, ": replay: not a descriptor set"),
+        (("replay.dump",), 2, ": replay.dump: a text, and not a descriptor set, which this makes of a .proto file: "),
+        (("replay", "other"), 2, "unexpected argument 'other'"),
+        (("--protocol", "8"), 2, "unexpected argument '--protocol'"),
+        ((b"\xff",), 2, ": an argument is not UTF-8"),
+        (("--help",), 0, ""),
+        (("--version",), 0, ""),
+    ),
 }
 
 # What is no subcommand, and what the error says of it.
@@ -100,6 +161,16 @@ PATHS = {
     "journal_list": None,
     "": None,
 }
+
+
+def items_of(stream: bytes) -> list[bytes]:
+    """The items of a stream of messages, each with its header."""
+    items = []
+    while stream:
+        end = 8 + int.from_bytes(stream[4:8], "big")
+        items.append(stream[:end])
+        stream = stream[end:]
+    return items
 
 
 class Journal:
@@ -145,9 +216,12 @@ class Journal:
         self.check.case("journal --help in 80 columns", checks.is_narrow(ended.out), ended)
         named = re.findall(r"^  (\w+)  ", ended.out.decode(), re.M)
         linked = [name.removeprefix("journal_") for name in crates.LINKS]
-        self.check.same("the subcommands, and the links to all but the first", ["list", *linked, "help"], named)
+        unlinked = ["cut", "cat", "schema", "help"]
+        self.check.same("the subcommands, and the links to some", ["list", *linked, *unlinked], named)
         installed = checks.run(["sh", "-c", ". scripts/up_to_date.sh && echo $links"], cwd=checks.ROOT)
         self.check.same("the links that are installed", list(crates.LINKS), installed.out.decode().split())
+        installed = checks.run(["sh", "-c", ". scripts/up_to_date.sh && echo $pages"], cwd=checks.ROOT)
+        self.check.same("the pages that are installed", list(crates.PAGES), installed.out.decode().split())
         nothing = self.run(self.path)
         self.check.case("journal without arguments", nothing == checks.Run(2, b"", ended.out), nothing)
         version = f"journal {checks.library_version()}\n".encode()
@@ -190,6 +264,48 @@ class Journal:
                 own, other = self.run(self.path, "list", *words), self.run(self.check.program("journal_list"), *words)
                 self.check.same(f"journal list {' '.join(words)}", other.out, own.out)
 
+    def parts(self) -> None:
+        """A part has the items that it says, as they are, and a start message with their number."""
+        stream = (STREAMS / "recorded").read_bytes()
+        items = items_of(stream)
+        start = items_of(self.given)[0]
+        lines = [{"type": "Start", "message": {"debugId": "key", "knownEntries": count}} for count in (9, 2)]
+        starts = [checks.run([self.path, "make"], json.dumps(line).encode()).out for line in lines]
+        file = self.check.work / "with_start"
+        file.write_bytes(starts[0] + stream)
+        commands = [place for place, item in enumerate(items) if item[0] < 0x80]
+        for first in range(len(commands)):
+            for last in range(first, len(commands)):
+                begin, end = commands[first], [*commands, len(items)][last + 1]
+                words = ("cut", "--from", str(first), "--to", str(last))
+                ended = self.run(self.path, *words, "recorded")
+                expected = checks.Run(0, b"".join(items[begin:end]), b"")
+                self.check.case(f"journal {' '.join(words)} recorded", ended == expected, ended)
+                if end - begin == 2:
+                    ended = self.run(self.path, *words, file)
+                    expected = checks.Run(0, starts[1] + expected.out, b"")
+                    self.check.case(f"journal {' '.join(words)}, with a start message", ended == expected, ended)
+                if first == 0 and last + 1 < len(commands):
+                    part = self.check.work / "part"
+                    part.write_bytes(b"".join(items[:end]))
+                    ended = self.run(self.path, "diff", "--json", "recorded", part)
+                    verdict = json.loads(ended.out)
+                    is_right = (verdict["verdict"], verdict["index"]) == ("replayedEnded", last + 1)
+                    self.check.case(f"a part up to command {last} replays", is_right, ended)
+        ended = self.run(self.path, "cut", "--max-message", "4294967295", "replay")
+        dumped = checks.run([self.path, "dump"], ended.out)
+        known = json.loads(dumped.out.splitlines()[0])["message"]["knownEntries"]
+        self.check.same("the start message of journal cut replay", len(items_of(self.given)) - 1, known)
+        ended = self.run(self.path, "cat", "recorded", "replay", "recorded")
+        expected = checks.Run(0, stream + self.given.removeprefix(start) + stream, b"")
+        self.check.case("journal cat recorded replay recorded", ended == expected, ended)
+        ended = self.run(self.path, "cat", file, file)
+        joined = items_of(ended.out)
+        dumped = checks.run([self.path, "dump"], ended.out)
+        known = json.loads(dumped.out.splitlines()[0])["message"]["knownEntries"]
+        self.check.case("journal cat of two with a start message", joined[1:] == [*items, *items], ended)
+        self.check.same("the entries that it announces", 2 * len(items), known)
+
     def verdict(self) -> None:
         """A subcommand's output is whole by the first name too."""
         ended = self.run(self.path, "diff", "--json", "recorded", "recorded")
@@ -206,6 +322,7 @@ def main(check: checks.Check) -> None:
     journal.no_subcommand()
     journal.paths()
     journal.lists()
+    journal.parts()
     journal.verdict()
 
 

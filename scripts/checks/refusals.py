@@ -1,9 +1,10 @@
 #!/usr/bin/env python3
 """Each allocation of the programs fails in turn; that of the tests is in tests.sh.
 
-The programs run once for each allocation that they make, with that one failing, and at last with none. journal_list and
-journal_dump have to write their lines, or whole lines at the beginning of them and that they are out of memory,
-journal_diff and journal_make all, or nothing and that they are out of memory; all succeed if no allocation fails.
+The programs run once for each allocation that they make, with that one failing, and at last with none. journal_list,
+journal_show and journal_dump have to write their lines, or whole lines at the beginning of them and that they are out
+of memory, journal_diff and journal_make all, or nothing and that they are out of memory; all succeed if no allocation
+fails.
 
 It takes the proved programs, and tests/c/refuse.c, which counts their allocations and makes one of them fail. Each
 failed allocation counts as one.
@@ -95,6 +96,12 @@ def main(check: checks.Check) -> None:
 
     refusals.dump("")
     refusals.dump("--pretty")
+    lines = (
+        b'#0 InputCommand "input"\n', b'#1 SetStateCommand "counter" "1"\n', b'#2 CallCommand Greeter greet "hello"\n',
+        b'#3 CallCompletionNotification "hi" completes #2 CallCommand Greeter greet "hello"\n',
+        b'#4 OutputCommand "done"\n', b'open the invocation id of #2 CallCommand Greeter greet "hello"\n',
+    )
+    refusals.each_fails("journal_show", "", "recorded", checks.Run(0, b"".join(lines), b""), 1, begins=True)
     made = checks.Run(0, (STREAMS / "replay").read_bytes(), b"")
     refusals.each_fails("journal_make", "", "replay.dump", made, 2, begins=False)
 

@@ -1,5 +1,5 @@
 #!/usr/bin/env python3
-"""When journal_list, journal_dump and journal_make write: an item's output is there before they read again.
+"""When journal_list and the like write: an item's output is there before they read again.
 
 The input is a fifo into which one whole item and a part of the next one are written. What the program writes of that
 item has to be there before the fifo gets more.
@@ -18,8 +18,8 @@ STREAMS = checks.ROOT / "examples" / "streams"
 # A program that has not written by then is one that waits: a bound for failures, and no measure of speed.
 SECONDS = 30
 
-PROGRAMS = ("journal_list", "journal_dump", "journal_make")
-LIST, DUMP, MAKE = map(checks.program_path, PROGRAMS)
+PROGRAMS = ("journal_list", "journal_dump", "journal_make", "journal_show")
+LIST, DUMP, MAKE, SHOW = map(checks.program_path, PROGRAMS)
 
 HEADER = 8
 
@@ -120,6 +120,14 @@ class Waiting(unittest.TestCase):
         words = [DUMP, "--pretty", "--no-payload", "--type", "InputCommand"]
         item = b'{\n  "offset": 27,\n  "type": "InputCommand",\n  "code": 1024,\n  "length": 9\n}\n'
         self.wait(words, self.items, [b"", item, b"", b""])
+
+    def test_show(self):
+        lines = [
+            b'#0 Start "key" key knownEntries=1 key\n',
+            b'#1 InputCommand "input"\n',
+            b"#2 GetLazyStateCompletionNotification completes id 1\n",
+        ]
+        self.wait_by_both([SHOW], self.items, lines)
 
     def test_make(self):
         self.wait_by_both([MAKE], self.dump, [*self.items, b""])

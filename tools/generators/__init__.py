@@ -42,6 +42,7 @@ NAMES = (
     "commands",
     "erasures",
     "json_names",
+    "message_names",
     "enum_names",
     "comparisons",
     "record_vectors",

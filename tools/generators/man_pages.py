@@ -137,7 +137,7 @@ def paged():
 
 def see_also(name):
     """The other pages."""
-    others = [f".BR {other.name} (1)" for other in paged() if other.name != name]
+    others = [f".BR {other.page_name} (1)" for other in paged() if other.page_name != name]
     return " ,\n".join([*others, ".BR pendratsoa (3)"]) + "\n"
 
 
@@ -176,13 +176,13 @@ def program_page(program):
     is_whole = program.name != programs.JOURNAL
     terminal = prose(section(read("docs/PROGRAMS.md"), "On a terminal")[0]) if is_whole else ""
     return page(
-        program.name,
+        program.page_name,
         1,
-        ("NAME", title(program.name, heading.removeprefix(": "))),
+        ("NAME", title(program.page_name, heading.removeprefix(": "))),
         ("SYNOPSIS", as_it_is(synopsis(program))),
         *parts.items(),
         ("ON A TERMINAL", terminal),
-        ("SEE ALSO", see_also(program.name)),
+        ("SEE ALSO", see_also(program.page_name)),
     )
 
 
@@ -248,11 +248,11 @@ def library_page():
         *((name, prose(section(text, heading)[0])) for heading, name in LIBRARY_SECTIONS),
         ("CALLS", calls()),
         ("EXAMPLES", prose(build)),
-        ("SEE ALSO", " ,\n".join(f".BR {program.name} (1)" for program in paged()) + "\n"),
+        ("SEE ALSO", " ,\n".join(f".BR {program.page_name} (1)" for program in paged()) + "\n"),
     )
 
 
 def files():
-    found = {f"share/man/man1/{program.name}.1": program_page(program) for program in paged()}
+    found = {f"share/man/man1/{program.page_name}.1": program_page(program) for program in paged()}
     found["share/man/man3/pendratsoa.3"] = library_page()
     return found

@@ -142,6 +142,11 @@ class Program:
         return self.name.startswith(JOURNAL)
 
     @property
+    def page_name(self):
+        """What its man page is called, so that `man journal COMMAND` finds that of a subcommand."""
+        return self.name if self.is_installed else f"{JOURNAL}_{self.name}"
+
+    @property
     def function(self):
         """What a shell's functions for it are called."""
         return self.name if self.is_installed else f"{JOURNAL}_command_{self.name}"

@@ -1,7 +1,8 @@
 -- The names of the subcommands.
 use Rattle.std.specs.Prelude.{List, ℕ, codes}
 use Rattle.journal.specs.declared.subcommand.Subcommand.{Subcommand}
-use Rattle.journal.specs.declared.subcommand.Subcommand.TheVariants.{List as Listing, Dump, Make, Diff}
+use Rattle.journal.specs.declared.subcommand.Subcommand.TheVariants.{List as Listing, Dump, Make, Diff, Show}
+use Rattle.journal.specs.declared.subcommand.Subcommand.TheVariants.{Cut, Cat, Schema}
 
 -- The name of a subcommand.
 abbrev pub subcommand_name : Subcommand → List ℕ
@@ -9,3 +10,7 @@ subcommand_name Listing = codes "list"
 subcommand_name Dump = codes "dump"
 subcommand_name Make = codes "make"
 subcommand_name Diff = codes "diff"
+subcommand_name Show = codes "show"
+subcommand_name Cut = codes "cut"
+subcommand_name Cat = codes "cat"
+subcommand_name Schema = codes "schema"

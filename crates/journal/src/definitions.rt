@@ -145,13 +145,14 @@ pub fn diff<'a>(alloc: Global, name: &'a str) -> Result<Command<'a>, AllocError>
         .version(VERSION)
         .about("Compares two journals, command by command.")
         .after_help(
-            "The status is 0 if they are the same, 1 if they differ, and 2 if there is no\nverdict.\n\nExamples:\n  journal diff --all RECORDED REPLAYED\n  journal diff --ignore-payloads RECORDED REPLAYED",
+            "The status is 0 if they are the same, 1 if they differ, and 2 if there is no\nverdict.\n\nExamples:\n  journal diff --all RECORDED REPLAYED\n  journal diff --ignore-ids --ignore-payloads RECORDED REPLAYED",
         )
         .arg(flag(
             alloc,
             "all",
             "Shows what moved: commands inserted, removed or\nchanged",
         ))?
+        .arg(flag(alloc, "ignore-ids", "Ignores completion ids"))?
         .arg(flag(alloc, "ignore-payloads", "Ignores payloads"))?
         .arg(option(
             alloc,
@@ -209,18 +210,184 @@ pub fn diff<'a>(alloc: Global, name: &'a str) -> Result<Command<'a>, AllocError>
         .required(true))
 }
 
+/// The definition of `journal show`, which help and errors show by this name.
+pub fn show<'a>(alloc: Global, name: &'a str) -> Result<Command<'a>, AllocError> {
+    Command::new(alloc, name)
+        .version(VERSION)
+        .about("Shows a stream in readable lines, one per item.")
+        .after_help(
+            "Examples:\n  journal show FILE\n  journal show --commands --from 100 --to 120 FILE\n  journal show --open FILE      what nothing completes\n  journal show --failures FILE  what failed, and of which command",
+        )
+        .arg(flag(alloc, "commands", "Shows only commands"))?
+        .arg(flag(alloc, "failures", "Shows only failures"))?
+        .arg(flag(
+            alloc,
+            "open",
+            "Shows only the commands that nothing completes",
+        ))?
+        .arg(option(
+            alloc,
+            "from",
+            "N",
+            "Shows no item before the one of this index, from 0",
+        ))?
+        .arg(option(
+            alloc,
+            "to",
+            "N",
+            "Shows no item after the one of this index",
+        ))?
+        .arg(option(
+            alloc,
+            "max-message",
+            "SIZE",
+            "Ends with an error at a message whose payload has\nmore than this number of bytes, as 4096 or 1MB",
+        ))?
+        .arg(
+            option(
+                alloc,
+                "protocol",
+                "VERSION",
+                "The version of the protocol of the stream\n[default: 8] [possible values: 5, 6, 7, 8, 9]",
+            )
+            .value_parser(Version::supported_numbers())
+            .hide_possible_values(true)
+            .default_value("8")
+            .hide_default_value(true),
+        )?
+        .arg(
+            operand(
+                alloc,
+                "file",
+                "FILE",
+                "The stream: a file, or - for the standard input [default: -]",
+            )
+            .default_value("-")
+            .hide_default_value(true),
+        )
+}
+
+/// The definition of `journal cut`, which help and errors show by this name.
+pub fn cut<'a>(alloc: Global, name: &'a str) -> Result<Command<'a>, AllocError> {
+    Command::new(alloc, name)
+        .version(VERSION)
+        .about("Cuts a range of commands out of a journal.")
+        .after_help(
+            "The part is a stream: what comes before the first command, and the commands of\nthe range with all that is between them. Its start message announces as many\nentries as follow.\n\nExamples:\n  journal cut --to 40 FILE > part\n  journal cut --from 10 --to 20 FILE | journal list",
+        )
+        .arg(option(
+            alloc,
+            "from",
+            "N",
+            "The index of the first command, counted from 0\n[default: 0]",
+        ))?
+        .arg(option(
+            alloc,
+            "max-message",
+            "SIZE",
+            "Ends with an error at a message whose payload has\nmore than this number of bytes, as 4096 or 1MB",
+        ))?
+        .arg(
+            option(
+                alloc,
+                "protocol",
+                "VERSION",
+                "The version of the protocol of the stream\n[default: 8] [possible values: 5, 6, 7, 8, 9]",
+            )
+            .value_parser(Version::supported_numbers())
+            .hide_possible_values(true)
+            .default_value("8")
+            .hide_default_value(true),
+        )?
+        .arg(option(
+            alloc,
+            "to",
+            "N",
+            "The index of the last command; the default is the\nlast one of the journal",
+        ))?
+        .arg(operand(
+            alloc,
+            "file",
+            "FILE",
+            "The stream: a file, which is read twice",
+        )
+        .required(true))
+}
+
+/// The definition of `journal cat`, which help and errors show by this name.
+pub fn cat<'a>(alloc: Global, name: &'a str) -> Result<Command<'a>, AllocError> {
+    Command::new(alloc, name)
+        .version(VERSION)
+        .about("Joins journals to one stream.")
+        .after_help(
+            "The start message is that of the first file, and announces the entries of all.\nStart messages and trailing bytes of the other files are left out.\n\nExamples:\n  journal cat FIRST SECOND > joined",
+        )
+        .arg(option(
+            alloc,
+            "max-message",
+            "SIZE",
+            "Ends with an error at a message whose payload has\nmore than this number of bytes, as 4096 or 1MB",
+        ))?
+        .arg(
+            option(
+                alloc,
+                "protocol",
+                "VERSION",
+                "The version of the protocol of the streams\n[default: 8] [possible values: 5, 6, 7, 8, 9]",
+            )
+            .value_parser(Version::supported_numbers())
+            .hide_possible_values(true)
+            .default_value("8")
+            .hide_default_value(true),
+        )?
+        .arg(
+            operand(
+                alloc,
+                "file",
+                "FILE",
+                "The streams: files, each of which is read twice",
+            )
+            .action(ArgAction::Append)
+            .required(true),
+        )
+}
+
+/// The definition of `journal schema`, which help and errors show by this name.
+pub fn schema<'a>(alloc: Global, name: &'a str) -> Result<Command<'a>, AllocError> {
+    Command::new(alloc, name)
+        .version(VERSION)
+        .about("Shows which messages and fields of a .proto file are the protocol's.")
+        .after_help(
+            "protoc --include_imports -o schema.binpb FILE.proto writes the descriptor set of\na .proto file.\n\nExamples:\n  journal schema schema.binpb\n  protoc --include_imports -o /dev/stdout FILE.proto | journal schema",
+        )
+        .arg(
+            operand(
+                alloc,
+                "file",
+                "FILE",
+                "The descriptor set: a file, or - for the standard input [default: -]",
+            )
+            .default_value("-")
+            .hide_default_value(true),
+        )
+}
+
 /// The definition of `journal`, with its subcommands.
 pub fn journal<'a>(alloc: Global) -> Result<Command<'a>, AllocError> {
     Command::new(alloc, "journal")
         .version(VERSION)
-        .about("Lists, prints, makes and compares journals of the protocol.")
+        .about("Lists, shows, prints, makes, compares, cuts and joins journals.")
         .after_help(
-            "A journal as a page, or two side by side: the program journal_view, which needs\nPython 3.\n\nExamples:\n  journal list FILE                        one line per item\n  journal dump --text FILE                 one line of JSON per item\n  journal diff --all RECORDED REPLAYED     what moved between two journals",
+            "A journal as a page, or two side by side: the program journal_view, which needs\nPython 3.\n\nExamples:\n  journal list FILE                        one line per item\n  journal show FILE                        what each item says, and what completes it\n  journal dump --text FILE                 one line of JSON per item\n  journal diff --all RECORDED REPLAYED     what moved between two journals\n  journal cut --to N FILE > part           the journal up to command N",
         )
         .subcommand_required(true)
         .arg_required_else_help(true)
         .subcommand(list(alloc, "list")?)?
         .subcommand(dump(alloc, "dump")?)?
         .subcommand(make(alloc, "make")?)?
-        .subcommand(diff(alloc, "diff")?)
+        .subcommand(diff(alloc, "diff")?)?
+        .subcommand(show(alloc, "show")?)?
+        .subcommand(cut(alloc, "cut")?)?
+        .subcommand(cat(alloc, "cat")?)?
+        .subcommand(schema(alloc, "schema")?)
 }

@@ -15,7 +15,7 @@ use diff_lines::{
     DiffError, DiffOptions, Findings, Form, Look, Trouble, diff, empty_note, no_item_note,
     rest_note, unknown_note,
 };
-use replay_bench::{ComparisonOptions, Journals, ReaderError, Side};
+use replay_bench::{ComparisonOptions, Ignored, Journals, ReaderError, Side};
 use shared_core::encoding::ItemReader;
 use shared_core_base::version::Version;
 use std::io::IsTerminal;
@@ -82,7 +82,10 @@ fn options_of(call: &Call<'_>, parsed: &Arguments<'_>, is_terminal: bool) -> Dif
     };
     DiffOptions {
         comparison: ComparisonOptions {
-            ignore_payload_equality: parsed.ignore_payloads,
+            ignored: Ignored {
+                payloads: parsed.ignore_payloads,
+                ids: parsed.ignore_ids,
+            },
             is_strict: parsed.is_strict,
         },
         form: if parsed.is_json {

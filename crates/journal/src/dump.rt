@@ -10,7 +10,7 @@ mod suggestions;
 use crate::beginning::{Beginning, Begun};
 use crate::call::Call;
 use crate::dump::arguments::{Arguments, parse_arguments};
-use crate::dump::canonical::Records;
+pub use crate::dump::canonical::Records;
 use command_line::{Input, Pipe, Progress, Watched, input_size, note};
 use dump_lines::{MOST_SHOWN, Options, dump, dump_on_terminal};
 use std::io::IsTerminal;

@@ -1,14 +1,19 @@
-//! Lists, prints, makes and compares journals: a program with a subcommand for each. If it is called by a subcommand's
-//! name, as `journal_dump`, it is only that subcommand.
+//! Lists, shows, prints, makes, compares, cuts and joins journals: a program with a subcommand for each. If it is
+//! called by a subcommand's name, as `journal_dump`, it is only that subcommand.
 #![tactic(auto)]
 
 mod beginning;
 mod call;
+mod cat;
+mod cut;
 mod definitions;
 mod diff;
 mod dump;
 mod list;
 mod make;
+mod parts;
+mod schema;
+mod show;
 mod subcommand;
 
 use crate::call::Call;
@@ -42,6 +47,10 @@ fn run(call: &Call<'_>, subcommand: Subcommand) -> ExitCode {
         Subcommand::Dump => dump::run(call),
         Subcommand::Make => make::run(call),
         Subcommand::Diff => diff::run(call),
+        Subcommand::Show => show::run(call),
+        Subcommand::Cut => cut::run(call),
+        Subcommand::Cat => cat::run(call),
+        Subcommand::Schema => schema::run(call),
     }
 }
 

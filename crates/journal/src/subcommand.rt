@@ -11,6 +11,14 @@ pub enum Subcommand {
     Make,
     /// Compares two journals.
     Diff,
+    /// Shows a stream in readable lines.
+    Show,
+    /// Cuts a range of commands out of a journal.
+    Cut,
+    /// Joins journals.
+    Cat,
+    /// Compares a descriptor set with the protocol.
+    Schema,
 }
 
 impl Subcommand {
@@ -28,19 +36,23 @@ impl Subcommand {
             "dump" => Some(Subcommand::Dump),
             "make" => Some(Subcommand::Make),
             "diff" => Some(Subcommand::Diff),
+            "show" => Some(Subcommand::Show),
+            "cut" => Some(Subcommand::Cut),
+            "cat" => Some(Subcommand::Cat),
+            "schema" => Some(Subcommand::Schema),
             _ => None,
         }
     }
 
     /// The subcommand that the program of this path is: that whose name is after `journal_` in the last component.
-    /// `journal_list` is another program.
+    /// `journal_list` is another program, and the newer ones have no such name.
     fn of_program(path: &str) -> Option<Subcommand> {
         let name = match path.rsplit_once('/') {
             Some((_, name)) => name,
             None => path,
         };
         match Subcommand::named(name.strip_prefix("journal_")?)? {
-            Subcommand::List => None,
+            Subcommand::List | Subcommand::Cut | Subcommand::Cat | Subcommand::Schema => None,
             subcommand => Some(subcommand),
         }
     }
@@ -48,8 +60,8 @@ impl Subcommand {
     /// The status if an allocation, the input or the output fails.
     pub fn failure(self) -> u8 {
         match self {
-            Subcommand::List | Subcommand::Dump => 1,
-            Subcommand::Make | Subcommand::Diff => 2,
+            Subcommand::List | Subcommand::Dump | Subcommand::Show | Subcommand::Schema => 1,
+            Subcommand::Make | Subcommand::Diff | Subcommand::Cut | Subcommand::Cat => 2,
         }
     }
 }
@@ -88,6 +100,11 @@ impl Asked {
             (Subcommand::Make, false) => "journal make",
             (Subcommand::Diff, true) => "journal_diff",
             (Subcommand::Diff, false) => "journal diff",
+            (Subcommand::Show, true) => "journal_show",
+            (Subcommand::Show, false) => "journal show",
+            (Subcommand::Cut, _) => "journal cut",
+            (Subcommand::Cat, _) => "journal cat",
+            (Subcommand::Schema, _) => "journal schema",
         }
     }
 

@@ -2,7 +2,7 @@
 _journal() {
     local word=${COMP_WORDS[COMP_CWORD]}
     if [ "$COMP_CWORD" -eq 1 ]; then
-        mapfile -t COMPREPLY < <(compgen -W 'list dump make diff help --help --version' -- "$word")
+        mapfile -t COMPREPLY < <(compgen -W 'list dump make diff show cut cat schema help --help --version' -- "$word")
         return
     fi
     case ${COMP_WORDS[1]} in
@@ -10,7 +10,11 @@ _journal() {
         dump) _journal_dump ;;
         make) _journal_make ;;
         diff) _journal_diff ;;
-        help) mapfile -t COMPREPLY < <(compgen -W 'list dump make diff' -- "$word") ;;
+        show) _journal_show ;;
+        cut) _journal_command_cut ;;
+        cat) _journal_command_cat ;;
+        schema) _journal_command_schema ;;
+        help) mapfile -t COMPREPLY < <(compgen -W 'list dump make diff show cut cat schema' -- "$word") ;;
     esac
 }
 _journal_command_list() {
@@ -43,10 +47,45 @@ _journal_diff() {
         --max-message) mapfile -t COMPREPLY < <(compgen -W '' -- "$word") ;;
         --color) mapfile -t COMPREPLY < <(compgen -W 'auto always never' -- "$word") ;;
         --protocol) mapfile -t COMPREPLY < <(compgen -W '5 6 7 8 9' -- "$word") ;;
-        *) [[ $word != -* ]] || mapfile -t COMPREPLY < <(compgen -W '--all --ignore-payloads --max-message --strict --json --color --protocol --help --version' -- "$word") ;;
+        *) [[ $word != -* ]] || mapfile -t COMPREPLY < <(compgen -W '--all --ignore-ids --ignore-payloads --max-message --strict --json --color --protocol --help --version' -- "$word") ;;
+    esac
+}
+_journal_show() {
+    local word=${COMP_WORDS[COMP_CWORD]}
+    case ${COMP_WORDS[COMP_CWORD - 1]} in
+        --from) mapfile -t COMPREPLY < <(compgen -W '' -- "$word") ;;
+        --to) mapfile -t COMPREPLY < <(compgen -W '' -- "$word") ;;
+        --max-message) mapfile -t COMPREPLY < <(compgen -W '' -- "$word") ;;
+        --protocol) mapfile -t COMPREPLY < <(compgen -W '5 6 7 8 9' -- "$word") ;;
+        *) [[ $word != -* ]] || mapfile -t COMPREPLY < <(compgen -W '--commands --failures --open --from --to --max-message --protocol --help --version' -- "$word") ;;
+    esac
+}
+_journal_command_cut() {
+    local word=${COMP_WORDS[COMP_CWORD]}
+    case ${COMP_WORDS[COMP_CWORD - 1]} in
+        --from) mapfile -t COMPREPLY < <(compgen -W '' -- "$word") ;;
+        --max-message) mapfile -t COMPREPLY < <(compgen -W '' -- "$word") ;;
+        --protocol) mapfile -t COMPREPLY < <(compgen -W '5 6 7 8 9' -- "$word") ;;
+        --to) mapfile -t COMPREPLY < <(compgen -W '' -- "$word") ;;
+        *) [[ $word != -* ]] || mapfile -t COMPREPLY < <(compgen -W '--from --max-message --protocol --to --help --version' -- "$word") ;;
+    esac
+}
+_journal_command_cat() {
+    local word=${COMP_WORDS[COMP_CWORD]}
+    case ${COMP_WORDS[COMP_CWORD - 1]} in
+        --max-message) mapfile -t COMPREPLY < <(compgen -W '' -- "$word") ;;
+        --protocol) mapfile -t COMPREPLY < <(compgen -W '5 6 7 8 9' -- "$word") ;;
+        *) [[ $word != -* ]] || mapfile -t COMPREPLY < <(compgen -W '--max-message --protocol --help --version' -- "$word") ;;
+    esac
+}
+_journal_command_schema() {
+    local word=${COMP_WORDS[COMP_CWORD]}
+    case ${COMP_WORDS[COMP_CWORD - 1]} in
+        *) [[ $word != -* ]] || mapfile -t COMPREPLY < <(compgen -W '--help --version' -- "$word") ;;
     esac
 }
 complete -o default -F _journal journal
 complete -o default -F _journal_dump journal_dump
 complete -o default -F _journal_make journal_make
 complete -o default -F _journal_diff journal_diff
+complete -o default -F _journal_show journal_show

@@ -6,7 +6,7 @@ _journal_view() {
         --items) mapfile -t COMPREPLY < <(compgen -W '' -- "$word") ;;
         --output) mapfile -t COMPREPLY < <(compgen -W '' -- "$word") ;;
         --protocol) mapfile -t COMPREPLY < <(compgen -W '5 6 7 8 9' -- "$word") ;;
-        *) [[ $word != -* ]] || mapfile -t COMPREPLY < <(compgen -W '--from --ignore-payloads --items --output --protocol --help --version' -- "$word") ;;
+        *) [[ $word != -* ]] || mapfile -t COMPREPLY < <(compgen -W '--from --ignore-ids --ignore-payloads --items --output --protocol --help --version' -- "$word") ;;
     esac
 }
 complete -o default -F _journal_view journal_view

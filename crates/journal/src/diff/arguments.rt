@@ -25,6 +25,8 @@ pub struct Arguments<'a> {
     pub is_all: bool,
     /// Whether payloads are left out of the comparison.
     pub ignore_payloads: bool,
+    /// Whether completion ids are.
+    pub ignore_ids: bool,
     /// Whether what is passed over may be an error.
     pub is_strict: bool,
     /// Whether the verdict is a line of JSON.
@@ -76,6 +78,7 @@ fn arguments_of<'a>(
         limit,
         is_all: matches.get_flag("all"),
         ignore_payloads: matches.get_flag("ignore-payloads"),
+        ignore_ids: matches.get_flag("ignore-ids"),
         is_strict: matches.get_flag("strict"),
         is_json: matches.get_flag("json"),
         color: color_of(matches),

@@ -1,0 +1,150 @@
+//! Writes a part of a journal as a stream: what comes before its first command, and the commands of a range with all
+//! that is between them.
+
+ghost use Rattle.std.specs.Prelude.{◌≤◌, IfOk};
+ghost use Rattle.shared_core_base.specs.Version.{version_number};
+
+use crate::call::Call;
+use crate::definitions;
+use crate::parts::{File, LACKING};
+use clap::error::ErrorKind;
+use clap::{ArgMatches, Command, Error};
+use command_line::{Pipe, fail, max_message_of, protocol_of};
+use std::alloc::Global;
+use std::io::IsTerminal;
+use std::process::ExitCode;
+use stream_parts::{Located, Range};
+
+/// The parsed arguments.
+#[derive(Drop)]
+struct Arguments<'a> {
+    file: File<'a>,
+    range: Range,
+}
+
+/// The index of a command that an option has, if it is given.
+fn index_of(
+    command: &mut Command<'_>,
+    matches: &ArgMatches<'_>,
+    option: &str,
+) -> Result<Option<u64>, Error> {
+    let Some(text) = matches.get_str(option) else {
+        return Ok(None);
+    };
+    match text.parse() {
+        Ok(index) => Ok(Some(index)),
+        Err(_) => Err(command.error(
+            ErrorKind::InvalidValue,
+            "--from and --to take the index of a command, counted from 0",
+        )?),
+    }
+}
+
+/// The range from the first command to the last one, both of them in it.
+fn range_of(command: &mut Command<'_>, matches: &ArgMatches<'_>) -> Result<Range, Error> {
+    let from = index_of(command, matches, "from")?.unwrap_or(0);
+    let Some(to) = index_of(command, matches, "to")? else {
+        return Ok(Range {
+            from,
+            until: u64::MAX,
+        });
+    };
+    if from > to {
+        return Err(command.error(ErrorKind::InvalidValue, "--from comes after --to")?);
+    }
+    Ok(Range {
+        from,
+        until: to.saturating_add(1),
+    })
+}
+
+/// Parses the arguments. The error is an invalid argument, or a request for the help or the version.
+fn parse_arguments<'a>(
+    alloc: Global,
+    name: &'static str,
+    words: &'a [String],
+) -> Result<Arguments<'a>, Error>
+    ensures { IfOk result (λ parsed. 5 ≤ version_number parsed.file.version) }
+{
+    let mut command = definitions::cut(alloc, name)?.no_binary_name(true);
+    let matches = command.try_get_matches_from_mut(words)?;
+    let limit = max_message_of(&mut command, &matches)?;
+    let range = range_of(&mut command, &matches)?;
+    Ok(Arguments {
+        file: File {
+            path: matches.get_str("file").unwrap_or("-"),
+            version: protocol_of(&matches),
+            limit,
+        },
+        range,
+    })
+}
+
+/// Reports that the journal lacks a command of the range, and returns the status.
+fn fail_lacking(call: &Call<'_>, path: &str, range: Range, commands: u64) -> ExitCode {
+    let wanted = if range.until == u64::MAX {
+        range.from
+    } else {
+        range.until.saturating_sub(1)
+    };
+    match commands {
+        0 => fail(
+            call.rt,
+            call.name,
+            format_args!("{path}: no command {wanted}: it has no commands"),
+            LACKING,
+        ),
+        1 => fail(
+            call.rt,
+            call.name,
+            format_args!("{path}: no command {wanted}: it has one command, 0"),
+            LACKING,
+        ),
+        _ => {
+            let last = commands - 1;
+            fail(
+                call.rt,
+                call.name,
+                format_args!(
+                    "{path}: no command {wanted}: it has {commands} commands, 0 to {last}"
+                ),
+                LACKING,
+            )
+        }
+    }
+}
+
+/// Writes the part. The error is the status, after what is wrong was reported.
+fn write(call: &Call<'_>, file: &File<'_>, located: &Located) -> Result<(), ExitCode>
+    requires { 5 ≤ version_number file.now.version }
+{
+    let mut output = Pipe::new(call.rt.stdout());
+    let mut part = located.part();
+    if let Some(start) = &located.start
+        && !file.write_start(call, start, located.entries(), &mut output)?
+    {
+        part.after = 0;
+    }
+    file.copy(call, &part, &mut output)
+}
+
+/// Parses the arguments, writes the part, and returns the status.
+pub fn run(call: &Call<'_>) -> ExitCode {
+    let parsed = match parse_arguments(call.rt.alloc(), call.name, call.words) {
+        Ok(parsed) => parsed,
+        Err(error) => return call.report(&error),
+    };
+    if call.rt.stdout().is_terminal() {
+        return call.fail("the stream is not written to a terminal: redirect it", 2);
+    }
+    match parsed.file.locate(call, parsed.range) {
+        Ok(located) if parsed.range.is_lacking(located.all.commands) => {
+            fail_lacking(call, parsed.file.path, parsed.range, located.all.commands)
+        }
+        Ok(located) => match write(call, &parsed.file, &located) {
+            Ok(()) => ExitCode::SUCCESS,
+            Err(status) => status,
+        },
+        Err(status) => status,
+    }
+}

@@ -1,0 +1,160 @@
+//! What `cut` and `cat` have in common: files whose items are read first, and then parts of their bytes.
+
+ghost use Rattle.std.specs.Prelude.{◌≤◌};
+ghost use Rattle.shared_core_base.specs.Version.{version_number};
+
+mod announcing;
+
+use crate::beginning::{Beginning, Begun};
+use crate::call::Call;
+use crate::parts::announcing::announcing;
+use command_line::{Input, Pipe, Progress, Watched, fail, input_size, note};
+use shared_core::encoding::RawMessage;
+use shared_core_base::version::Version;
+use std::io::Stdout;
+use std::process::ExitCode;
+use stream_lines::output::write_whole;
+use stream_parts::{CopyError, LocateError, Located, Options, Part, Range, copy_part, locate};
+
+/// The number of bytes that are read at a time.
+const CHUNK: usize = 65536;
+
+/// The status if a stream has no message, or lacks a command.
+pub const LACKING: u8 = 1;
+
+/// A file that is read twice.
+#[derive(Clone, Copy, Drop)]
+pub struct File<'a> {
+    /// Its path.
+    pub path: &'a str,
+    /// The version of the protocol.
+    pub version: Version,
+    /// The greatest length of a payload that is taken.
+    pub limit: u32,
+}
+
+impl<'a> File<'a> {
+    /// Opens the file. A pipe is none, since it can be read only once.
+    fn open(&self, call: &Call<'_>) -> Result<Input, ExitCode> {
+        let path = self.path;
+        match call.open(path) {
+            Ok(input) if input_size(&input).is_some() => Ok(input),
+            Ok(_) => Err(fail(
+                call.rt,
+                call.name,
+                format_args!("{path}: no file, and it is read twice"),
+                2,
+            )),
+            Err(error) => Err(call.fail(error, 2)),
+        }
+    }
+
+    /// Reads the items of the file, and returns where the commands of a range are. The error is the status, after what
+    /// is wrong was reported.
+    pub fn locate(&self, call: &Call<'_>, range: Range) -> Result<Located, ExitCode>
+        requires { 5 ≤ version_number self.now.version }
+    {
+        let input = self.open(call)?;
+        let options = Options {
+            version: self.version,
+            limit: self.limit,
+            chunk_size: CHUNK,
+        };
+        let progress = Progress::beside_output(call.rt, call.name, input_size(&input));
+        let beginning = Beginning::new();
+        let mut input = Begun::new(Watched::new(input, &progress), &beginning);
+        let located = locate(call.rt.alloc(), &options, range, &mut input);
+        progress.clear();
+        self.check(call, &beginning, located)
+    }
+
+    /// Reports what is wrong with the items, and the trailing bytes, which are never written.
+    fn check(
+        &self,
+        call: &Call<'_>,
+        beginning: &Beginning,
+        located: Result<Located, LocateError>,
+    ) -> Result<Located, ExitCode> {
+        let path = self.path;
+        let located = match located {
+            Ok(located) => located,
+            Err(error) => return Err(fail(
+                call.rt,
+                call.name,
+                format_args!("{path}: {error}"),
+                call.failure,
+            )),
+        };
+        let (offset, count) = (located.all.size, located.rest);
+        if count > 0 {
+            let bytes = if count == 1 { "byte" } else { "bytes" };
+            note(
+                call.rt,
+                call.name,
+                format_args!(
+                    "{path}: offset {offset}: {count} {bytes} after the last whole item, left out"
+                ),
+            );
+        }
+        if count > 0 && offset == 0 {
+            beginning.report_no_message(call, self.version);
+            return Err(ExitCode::from(LACKING));
+        }
+        Ok(located)
+    }
+
+    /// Writes the start message, announcing this many entries. Returns whether it has written one: where it stays as it
+    /// is, it is copied. The error is the status, after what is wrong was reported.
+    pub fn write_start(
+        &self,
+        call: &Call<'_>,
+        start: &RawMessage,
+        entries: u128,
+        output: &mut Pipe<Stdout>,
+    ) -> Result<bool, ExitCode>
+        requires { 5 ≤ version_number self.now.version }
+    {
+        let frame = match announcing(call.rt.alloc(), self.version, start, entries) {
+            Ok(Some(frame)) => frame,
+            Ok(None) => return Ok(false),
+            Err(error) => return Err(call.fail(error, call.failure)),
+        };
+        match write_whole(output, frame.as_slice()) {
+            Ok(()) => Ok(true),
+            Err(_) => Err(fail_output(call, output)),
+        }
+    }
+
+    /// Copies a part of the file. The error is the status, after what is wrong was reported.
+    pub fn copy(
+        &self,
+        call: &Call<'_>,
+        part: &Part,
+        output: &mut Pipe<Stdout>,
+    ) -> Result<(), ExitCode> {
+        let input = self.open(call)?;
+        let progress = Progress::beside_output(call.rt, call.name, input_size(&input));
+        let mut input = Watched::new(input, &progress);
+        let copied = copy_part(call.rt.alloc(), part, &mut input, output);
+        progress.clear();
+        let path = self.path;
+        match copied {
+            Ok(()) => Ok(()),
+            Err(CopyError::Output) => Err(fail_output(call, output)),
+            Err(error) => Err(fail(
+                call.rt,
+                call.name,
+                format_args!("{path}: {error}"),
+                call.failure,
+            )),
+        }
+    }
+}
+
+/// The status after the output failed, which is reported unless its reader has closed it.
+fn fail_output(call: &Call<'_>, output: &Pipe<Stdout>) -> ExitCode {
+    if output.is_broken() {
+        return ExitCode::from(call.failure);
+    }
+    call.fail("output failed", call.failure)
+}

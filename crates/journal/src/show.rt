@@ -1,0 +1,118 @@
+//! Shows a stream, a file or the standard input: a readable line for each of its items.
+
+ghost use Rattle.std.specs.Prelude.{◌≤◌, IfOk};
+ghost use Rattle.shared_core_base.specs.Version.{version_number};
+
+use crate::beginning::{Beginning, Begun};
+use crate::call::Call;
+use crate::definitions;
+use crate::dump::Records;
+use clap::error::ErrorKind;
+use clap::{ArgMatches, Command, Error};
+use command_line::{Input, Pipe, Progress, Watched, input_size, max_message_of, note, protocol_of};
+use shared_core_base::version::Version;
+use show_lines::{Options, show};
+use std::alloc::Global;
+use std::process::ExitCode;
+use stream_lines::{PrintError, Report};
+
+/// The parsed arguments.
+#[derive(Drop)]
+struct Arguments<'a> {
+    /// The path of the stream, or `-` for the standard input.
+    path: &'a str,
+    options: Options,
+}
+
+/// Parses the arguments. The error is an invalid argument, or a request for the help or the version.
+fn parse_arguments<'a>(
+    alloc: Global,
+    name: &'static str,
+    words: &'a [String],
+) -> Result<Arguments<'a>, Error>
+    ensures { IfOk result (λ parsed. 5 ≤ version_number parsed.options.version) }
+{
+    let mut command = definitions::show(alloc, name)?.no_binary_name(true);
+    let matches = command.try_get_matches_from_mut(words)?;
+    let limit = max_message_of(&mut command, &matches)?;
+    let from = index_of(&mut command, &matches, "from", 0)?;
+    let to = index_of(&mut command, &matches, "to", u64::MAX)?;
+    Ok(Arguments {
+        path: matches.get_str("file").unwrap_or("-"),
+        options: Options {
+            version: protocol_of(&matches),
+            limit,
+            from,
+            to,
+            commands: matches.get_flag("commands"),
+            failures: matches.get_flag("failures"),
+            open: matches.get_flag("open"),
+        },
+    })
+}
+
+/// The index of an item that an option has, or this one without the option.
+fn index_of(
+    command: &mut Command<'_>,
+    matches: &ArgMatches<'_>,
+    name: &str,
+    default: u64,
+) -> Result<u64, Error> {
+    let Some(text) = matches.get_str(name) else {
+        return Ok(default);
+    };
+    match text.parse() {
+        Ok(index) => Ok(index),
+        Err(_) => Err(command.error(
+            ErrorKind::InvalidValue,
+            "--from and --to take the index of an item, from 0",
+        )?),
+    }
+}
+
+/// Reports the trailing bytes, and returns the status.
+fn end(call: &Call<'_>, version: Version, beginning: &Beginning, found: &Report) -> ExitCode {
+    let (offset, count) = (found.end, found.rest);
+    if count > 0 {
+        let bytes = if count == 1 { "byte" } else { "bytes" };
+        note(
+            call.rt,
+            call.name,
+            format_args!("offset {offset}: {count} {bytes} after the last whole item"),
+        );
+        if offset == 0 {
+            beginning.report_no_message(call, version);
+        }
+    }
+    ExitCode::SUCCESS
+}
+
+/// Shows the input, and returns the status.
+fn run_parsed(call: &Call<'_>, options: &Options, input: Input) -> ExitCode
+    requires { 5 ≤ version_number options.now.version }
+{
+    let progress = Progress::beside_output(call.rt, call.name, input_size(&input));
+    let beginning = Beginning::new();
+    let mut input = Begun::new(Watched::new(input, &progress), &beginning);
+    let mut output = Pipe::new(call.rt.stdout());
+    let shown = show(call.rt.alloc(), options, &Records, &mut input, &mut output);
+    progress.clear();
+    match shown {
+        Ok(found) => end(call, options.version, &beginning, &found),
+        // the reader has closed the output, so nothing is reported
+        Err(PrintError::Output) if output.is_broken() => ExitCode::from(call.failure),
+        Err(error) => call.fail(error, call.failure),
+    }
+}
+
+/// Parses the arguments, shows the stream, and returns the status.
+pub fn run(call: &Call<'_>) -> ExitCode {
+    let parsed = match parse_arguments(call.rt.alloc(), call.name, call.words) {
+        Ok(parsed) => parsed,
+        Err(error) => return call.report(&error),
+    };
+    match call.open(parsed.path) {
+        Ok(input) => run_parsed(call, &parsed.options, input),
+        Err(error) => call.fail(error, 2),
+    }
+}
