@@ -49,3 +49,7 @@ def main(check: checks.Check) -> None:
     # a file whose message has a number for its name
     wrong = b"\x0a\x0d\x0a\x01f\x22\x08\x0a\x01m\x12\x03\x0a\x01\xff"
     schema.ends("schema", "", "journal schema: -: f: m: malformed\n", 2, given=wrong, what="no UTF-8")
+
+
+if __name__ == "__main__":
+    checks.perform(main)

@@ -378,7 +378,7 @@ pub fn journal<'a>(alloc: Global) -> Result<Command<'a>, AllocError> {
         .version(VERSION)
         .about("Lists, shows, prints, makes, compares, cuts and joins journals.")
         .after_help(
-            "A journal as a page, or two side by side: the program journal_view, which needs\nPython 3.\n\nExamples:\n  journal list FILE                        one line per item\n  journal show FILE                        what each item says, and what completes it\n  journal dump --text FILE                 one line of JSON per item\n  journal diff --all RECORDED REPLAYED     what moved between two journals\n  journal cut --to N FILE > part           the journal up to command N",
+            "A journal as a page, or two side by side: the program journal_view, which needs\nPython 3.\n\nExamples:\n  journal list FILE                        one line per item\n  journal show FILE                        one readable line per item\n  journal dump --text FILE                 one line of JSON per item\n  journal diff --all RECORDED REPLAYED     what moved between two journals\n  journal cut --to N FILE > part           the journal up to command N",
         )
         .subcommand_required(true)
         .arg_required_else_help(true)
