@@ -295,7 +295,8 @@ class Journal:
         ended = self.run(self.path, "cut", "--max-message", "4294967295", "replay")
         dumped = checks.run([self.path, "dump"], ended.out)
         known = json.loads(dumped.out.splitlines()[0])["message"]["knownEntries"]
-        self.check.same("the start message of journal cut replay", len(items_of(self.given)) - 1, known)
+        is_right = known == len(items_of(self.given)) - 1
+        self.check.case("the start message of journal cut replay", is_right, known)
         ended = self.run(self.path, "cat", "recorded", "replay", "recorded")
         expected = checks.Run(0, stream + self.given.removeprefix(start) + stream, b"")
         self.check.case("journal cat recorded replay recorded", ended == expected, ended)
@@ -304,7 +305,7 @@ class Journal:
         dumped = checks.run([self.path, "dump"], ended.out)
         known = json.loads(dumped.out.splitlines()[0])["message"]["knownEntries"]
         self.check.case("journal cat of two with a start message", joined[1:] == [*items, *items], ended)
-        self.check.same("the entries that it announces", 2 * len(items), known)
+        self.check.case("the entries that it announces", known == 2 * len(items), known)
 
     def verdict(self) -> None:
         """A subcommand's output is whole by the first name too."""
