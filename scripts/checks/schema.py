@@ -22,9 +22,11 @@ IMPORTING = "whole.proto", f'{HEAD}import "part.proto";\nmessage Whole {{ Part p
 
 def set_of(folder: pathlib.Path, name: str, *words: str) -> bytes:
     """The descriptor set that protoc makes of a file."""
-    target = pathlib.Path("made.binpb")
-    subprocess.run(["protoc", f"--proto_path={folder}", *words, "-o", target, folder / name], check=True)
-    return target.read_bytes()
+    made = subprocess.run(
+        ["protoc", f"--proto_path={folder}", *words, "-o", "/dev/stdout", folder / name],
+        check=True, stdout=subprocess.PIPE,
+    )
+    return made.stdout
 
 
 def main(check: checks.Check) -> None:
@@ -42,10 +44,10 @@ def main(check: checks.Check) -> None:
     is_same = own.out.endswith(b" the same, 0 renumbered, 0 only there, 0 only here, 0 of another kind\n")
     check.case("journal schema of the protocol's own description", own.status == 0 and is_same, own)
     for name, text in (MISSING, IMPORTING):
-        pathlib.Path(name).write_text(text)
+        (check.work / name).write_text(text)
     said = "-: whole.proto: a.Whole.part: the set has no message a.Part; --include_imports adds what a file imports"
-    here = pathlib.Path(".")
-    schema.ends("schema", "", f"journal schema: {said}\n", 2, given=set_of(here, "whole.proto"), what="no import")
+    given = set_of(check.work, "whole.proto")
+    schema.ends("schema", "", f"journal schema: {said}\n", 2, given=given, what="no import")
     # a file whose message has a number for its name
     wrong = b"\x0a\x0d\x0a\x01f\x22\x08\x0a\x01m\x12\x03\x0a\x01\xff"
     schema.ends("schema", "", "journal schema: -: f: m: malformed\n", 2, given=wrong, what="no UTF-8")
