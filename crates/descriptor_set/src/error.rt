@@ -8,6 +8,7 @@ use std::fmt;
 /// Where something of a set is. A name is empty where the set does not say it.
 #[derive(Debug, Drop)]
 pub struct Place {
+    /// The name of a file of the set.
     pub file: String,
     /// The full name of a message.
     pub message: String,

@@ -3,9 +3,10 @@
 use crate::field::FieldDescriptor;
 use crate::names::find_message;
 
-/// A message: its full name, without a dot before it, and its fields, by their numbers.
+/// A message of a set.
 #[derive(Debug, Drop)]
 pub struct MessageDescriptor {
+    /// Its full name, without a dot before it.
     pub name: String,
     /// The index of its file.
     pub file: usize,
