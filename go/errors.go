@@ -178,7 +178,7 @@ func errorOf(number int64) error {
 		return ErrNoRoom
 	case tooLong:
 		return ErrTooLong
-	case unknownVersion, unknownSchema, unknownType:
+	case unknownVersion, unknownSchema, unknownType, unknownOption:
 		return ErrUnknown
 	case noID:
 		return ErrNoID

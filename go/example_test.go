@@ -154,3 +154,42 @@ func ExampleCompareJournals() {
 	// VerdictHeaderMismatch at command 1
 	// same, 4 commands
 }
+
+// A replay is checked item by item: here the value of a state is another one.
+func ExampleReplay() {
+	recorded, err := os.ReadFile("../examples/streams/recorded")
+	if err != nil {
+		log.Fatal(err)
+	}
+	replayed, err := os.Open("../examples/streams/replayed_other_payload")
+	if err != nil {
+		log.Fatal(err)
+	}
+	defer replayed.Close()
+	replay, err := pendratsoa.NewReplay(8, recorded, false)
+	if err != nil {
+		log.Fatal(err)
+	}
+	decoder := pendratsoa.NewDecoder(replayed, 8)
+	for {
+		item, err := decoder.Next()
+		if err == io.EOF {
+			break
+		} else if err != nil {
+			log.Fatal(err)
+		}
+		mismatch, err := replay.Check(item)
+		if err != nil {
+			log.Fatal(err)
+		}
+		if mismatch != nil {
+			fmt.Println(mismatch.Kind, "at command", mismatch.Index, "offset", mismatch.ReplayedOffset)
+			for _, field := range mismatch.Fields {
+				fmt.Println(field.Name, "is", field.Replayed, "and was", field.Recorded)
+			}
+		}
+	}
+	// Output:
+	// VerdictHeaderMismatch at command 1 offset 17
+	// value is '2' and was '1'
+}

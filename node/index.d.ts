@@ -503,6 +503,80 @@ export function compareJournals(
   options?: CompareOptions,
 ): Verdict;
 
+/** A field in which two commands differ, as the text of their mismatch prints it. */
+export interface ChangedField {
+  /** The name of the field. */
+  readonly name: string;
+
+  /** What the recorded command has. */
+  readonly recorded: string;
+
+  /** What the replayed command has. */
+  readonly replayed: string;
+}
+
+/** Where a replay leaves its recording: all commands before this one are the same. */
+export interface Mismatch {
+  /** Which verdict it is. */
+  readonly kind: Exclude<Verdict['kind'], 'same'>;
+
+  /** The index of the command, from 0. */
+  readonly index: number;
+
+  /**
+   * Where the recorded command begins in the recording, in bytes. If the recording has ended, where its last command
+   * begins, or undefined if it has none.
+   */
+  readonly recordedOffset: number | undefined;
+
+  /** Where the replayed command begins in the replay, in bytes, or where the replay ends. */
+  readonly replayedOffset: number;
+
+  /** The text of a mismatch of two commands, as the SDKs report it; otherwise empty. */
+  readonly text: string;
+
+  /** The printed fields in which two commands of one type differ. */
+  readonly fields: readonly ChangedField[];
+}
+
+/** A replay that is checked by its recording, item by item as it comes. It keeps nothing of the replay. */
+export class Replay {
+  /**
+   * @param version the protocol version of both
+   * @param recorded the recording, a whole journal, which is not copied and must not change meanwhile
+   * @param options what is not compared, by default nothing
+   * @throws {Unknown} the version is none
+   */
+  constructor(version: number, recorded: Uint8Array, options?: CompareOptions);
+
+  /** The protocol version. */
+  get version(): number;
+
+  /**
+   * Checks the next item of the replay by the command that comes next in the recording. A mismatch is reported once:
+   * afterwards nothing is compared. `compareJournals` of the recording and of all items so far has the same `kind`,
+   * `index` and `text`.
+   * @returns undefined if there is nothing to report: the commands are the same, or the item is no command
+   * @throws {OutOfMemory} an allocation failed; nothing is changed, and the call can be repeated
+   */
+  check(item: Item | Message): Mismatch | undefined;
+
+  /**
+   * The command that comes next in the recording, which is not taken: its `offset` is that in the recording, and its
+   * `message` has the name or the key of a command that has one. After a mismatch it is the command at the index of
+   * that.
+   * @returns undefined if there is none
+   */
+  expected(): Message | undefined;
+
+  /**
+   * Says that the replay ended. It changes nothing.
+   * @returns undefined if nothing is left of the recording, or a mismatch was reported; otherwise the mismatch of the
+   *   command that comes next, whose kind is `'replayedEnded'`
+   */
+  finish(): Mismatch | undefined;
+}
+
 // Errors.
 
 /**

@@ -40,5 +40,6 @@ export {
 export { Message, Skipped, UnknownCode } from './lib/items.js';
 export { CombinatorType, ErrorBehavior } from './lib/records.js';
 export { readRecord, writeRecord } from './lib/fields.js';
+export { Replay } from './lib/replay.js';
 export { schemaNames } from './lib/schemas.js';
 export { Stream, decode, items } from './lib/stream.js';

@@ -201,6 +201,12 @@ function itemOf(version, offset, found, at, bytes) {
   }
 }
 
+/** The item that bytes are, which begins at an offset of its stream. */
+export function itemAt(version, bytes, offset) {
+  checked(addon.next(version, bytes, numbers), { call: 'expected', version });
+  return itemOf(version, offset, halves, 0, bytes);
+}
+
 /** Decodes chunks into items. */
 export function decode(version = 8, options = {}) {
   const stream = new Stream(version, options);

@@ -13,7 +13,9 @@ import {
   Malformed,
   Message,
   MessageTooLong,
+  Mismatch,
   Notification,
+  Replay,
   SchemaName,
   SetStateCommandMessage,
   Stream,
@@ -212,6 +214,19 @@ export function calls(): void {
   schemaNames[0] = name;
   // @ts-expect-error an option that there is not
   headerEq(0x0400, bytes, bytes, { ignorePayload: true });
+}
+
+export function checkedReplay(bytes: Uint8Array, item: Item): string {
+  const replay = new Replay(8, bytes, { ignorePayloads: true });
+  const mismatch: Mismatch | undefined = replay.check(item) ?? replay.finish();
+  const offset: Same<Mismatch['recordedOffset'], number | undefined> = true;
+  const key = replay.expected()?.record('SetStateCommandMessage')?.key.length;
+  // @ts-expect-error a mismatch is not the same
+  const isSame = mismatch?.kind === 'same';
+  // @ts-expect-error an item, and not its bytes
+  replay.check(bytes);
+  const names = mismatch?.fields.map((field) => `${field.name}: ${field.recorded} and ${field.replayed}`);
+  return `${mismatch?.index} ${mismatch?.replayedOffset} ${offset} ${key} ${isSame} ${names?.join()}`;
 }
 
 export function caught(error: unknown): string {

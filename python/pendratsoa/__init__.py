@@ -53,6 +53,7 @@ from ._fast import COMPILED
 from ._items import Item, Message, Skipped, UnknownCode
 from ._kinds import BytesLike, Schema
 from ._protocol import SCHEMA_NAMES, TypeCode
+from ._replay import ChangedField, Mismatch, Replay
 from ._request import SCHEMAS
 from ._stream import Stream
 
@@ -63,6 +64,7 @@ __all__ = [
     "SCHEMAS",
     "SCHEMA_NAMES",
     "BytesLike",
+    "ChangedField",
     "FieldError",
     "FieldReason",
     "IdKind",
@@ -73,12 +75,14 @@ __all__ = [
     "JsonReason",
     "Malformed",
     "Message",
+    "Mismatch",
     "NoId",
     "NoResult",
     "NoRoom",
     "NotCanonical",
     "Notification",
     "OutOfMemory",
+    "Replay",
     "ResultKind",
     "Schema",
     "Skipped",

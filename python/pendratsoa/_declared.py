@@ -30,7 +30,12 @@ CALLS: Dict[str, Tuple[str, ...]] = {
     "journal_notification": ("u16", "slice", "slice", "slice"),
     "journal_header_eq": ("u16", "slice", "slice", "u32"),
     "journal_difference": ("u16", "slice", "slice", "slice"),
+    "journal_changed_field": ("u16", "u32", "slice", "slice", "slice", "slice"),
     "journal_verdict": ("u32", "slice", "slice", "u32", "slice", "slice"),
+    "journal_replay_check": ("u16", "slice", "slice", "slice", "slice"),
+    "journal_replay_text": ("u16", "slice", "slice", "slice", "slice"),
+    "journal_replay_expected": ("slice", "slice", "slice"),
+    "journal_replay_finish": ("slice", "slice", "slice"),
 }
 
 
@@ -75,6 +80,16 @@ NAMED_CALLS: Tuple[NamedCall, ...] = (
     ),
     NamedCall("journal_difference", "difference", ("code", "first", "second"), "a command", 0, True, 0, 256),
     NamedCall(
+        "journal_changed_field",
+        "changed_field",
+        ("code", "index", "first", "second"),
+        "a command",
+        3,
+        True,
+        0,
+        256,
+    ),
+    NamedCall(
         "journal_verdict",
         "compare_journals",
         ("version", "recorded", "replayed", "ignore_payloads"),
@@ -118,6 +133,10 @@ class NamedCalls(Protocol):
 
     def difference(self, code: int, first: BytesLike, second: BytesLike, /) -> bytes: ...
 
+    def changed_field(
+        self, code: int, index: int, first: BytesLike, second: BytesLike, /
+    ) -> Tuple[bytes, Tuple[int, ...]]: ...
+
     def compare_journals(
         self, version: int, recorded: BytesLike, replayed: BytesLike, ignore_payloads: bool, /
     ) -> Tuple[bytes, Tuple[int, ...]]: ...
@@ -129,7 +148,11 @@ READ_NUMBERS = 2
 FIELD_NUMBERS = 6
 WRITING_NUMBERS = 2
 NOTIFICATION_NUMBERS = 4
+CHANGED_FIELD_NUMBERS = 3
 VERDICT_NUMBERS = 2
+REPLAY_NUMBERS = 6
+MISMATCH_NUMBERS = 6
+COMMAND_NUMBERS = 3
 
 # the kinds of fields
 FIELD_UINT32 = 1
@@ -153,6 +176,7 @@ ERRORS: Dict[int, Tuple[str, Tuple[str, ...]]] = {
     -21: ("Unknown", ("version",)),
     -37: ("Unknown", ("schema",)),
     -53: ("Unknown", ("code", "name")),
+    -69: ("Unknown", ("options",)),
 }
 
 

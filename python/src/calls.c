@@ -74,6 +74,10 @@ static enum outcome read_argument(const struct native *native, enum parameter pa
         outcome = read_number(value, UINT64_C(1) << 32, &number);
         arguments->payload_length = (uint32_t)number;
         return outcome;
+    case INDEX:
+        outcome = read_number(value, UINT64_C(1) << 32, &number);
+        arguments->index = (uint32_t)number;
+        return outcome;
     case NAME:
         return read_slice(value, true, is_checked, &arguments->first, held);
     case JSON:

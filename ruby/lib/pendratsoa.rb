@@ -17,6 +17,7 @@ require_relative "pendratsoa/compiled"
 require_relative "pendratsoa/items"
 require_relative "pendratsoa/pending"
 require_relative "pendratsoa/stream"
+require_relative "pendratsoa/replay"
 
 # The journal protocol of the Restate SDKs, by the calls of Pendratsoa's shared library.
 #

@@ -294,7 +294,7 @@ pub(crate) fn of_payload(refusal: Refusal, schema: u32, payload: &[u8]) -> Error
 }
 
 /// The error of a call that takes a code and two commands.
-fn of_commands(refusal: Refusal, code: u16, first: &[u8], second: &[u8]) -> Error {
+pub(crate) fn of_commands(refusal: Refusal, code: u16, first: &[u8], second: &[u8]) -> Error {
     Error::of(refusal, |about| match about {
         About::Type => Argument::Code(code),
         About::Second => Argument::Second(second.len()),

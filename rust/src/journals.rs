@@ -76,14 +76,19 @@ pub fn compare_journals(
 /// The verdict of these numbers, and of the bytes of its text.
 fn verdict_of(numbers: [u64; 2], bytes: Vec<u8>) -> Result<Verdict, Error> {
     let [kind, index] = numbers;
-    let place = narrowed::<usize>("the kind of verdict", kind)?;
     Ok(Verdict {
-        kind: *KINDS
-            .get(place)
-            .ok_or_else(|| Error::unexpected("the kind of verdict", kind))?,
+        kind: kind_of(kind)?,
         index: narrowed("the index of a command", index)?,
         text: text(bytes)?,
     })
+}
+
+/// The kind of verdict of a number.
+pub(crate) fn kind_of(number: u64) -> Result<VerdictKind, Error> {
+    KINDS
+        .get(narrowed::<usize>("the kind of verdict", number)?)
+        .copied()
+        .ok_or_else(|| Error::unexpected("the kind of verdict", number))
 }
 
 #[cfg(test)]

@@ -61,6 +61,7 @@ mod message_type;
 pub mod messages;
 mod notification;
 mod reading;
+mod replay;
 mod schema;
 
 pub use calls::{
@@ -76,6 +77,7 @@ pub use kinds::{FieldReason, Version};
 pub use message_type::MessageType;
 pub use notification::{notification, Notification, NotificationId, NotificationResult};
 pub use reading::{from_json, JsonError, JsonReason};
+pub use replay::{ChangedField, Mismatch, Replay};
 pub use schema::Schema;
 
 /// The first protocol version.

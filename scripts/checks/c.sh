@@ -93,7 +93,7 @@ sed -n 's/^| \(-[0-9]*\) | `\(JOURNAL_[A-Z_]*\)` .*/\1 \2/p' docs/C.md > "$work/
 same 'the refusals of docs/C.md' "$work/wanted" "$work/out"
 
 constants
-test_vectors conformance/*.txt conformance/json/*.txt
+test_vectors conformance/*.txt conformance/json/*.txt conformance/replays/*.txt
 
 # The structs of messages: with sanitizers, where the compiler has them
 echo 'int main(void) { return 0; }' > "$work/nothing.c"
@@ -115,6 +115,7 @@ fi
 later_library
 stream_reader
 message_example "$prefix/lib/libpendratsoa.a" "$library"
+replay_example "$prefix/lib/libpendratsoa.a" "$library"
 
 # The examples in C, without a warning of any compiler that is there, and the listing with each library.
 example=examples/c/listing.c
@@ -124,7 +125,7 @@ for compiler in 'cc -std=c99' 'cc -std=c17' 'c++ -x c++ -std=c++11' 'clang -std=
     without "$compiler $example" "${compiler%% *}"
     continue
   fi
-  for file in $example examples/c/messages.c tests/c/test_messages.c tests/c/test_reader.c; do
+  for file in $example examples/c/messages.c examples/c/replay.c tests/c/test_messages.c tests/c/test_reader.c; do
     # shellcheck disable=SC2086 # the flags are split
     case_of "$compiler $file" $compiler $strict -I "$prefix/include" -c $file -o "$work/example.o"
   done

@@ -115,3 +115,29 @@ message_example() {
     outcome "what examples/c/messages.c says with ${library##*/}" $?
   done
 }
+
+# replay_example LIBRARY..: the example that checks a replay, with each library
+replay_example() {
+  streams=examples/streams
+  head -c 3000 /dev/zero | tr '\0' '\377' > "$work/malformed"
+  for library in "$@"; do
+    with="examples/c/replay.c with ${library##*/}"
+    compiled "$with" -std=c99 -Wpedantic -Wconversion examples/c/replay.c "$library" -o "$work/replay"
+    # REPLAY STATUS LINE: the last but one line that begins so, if any
+    while read -r replay wanted line; do
+      # shellcheck disable=SC2086 # the words are split
+      LD_LIBRARY_PATH=$prefix/lib $emulator "$work/replay" $streams/recorded < "$replay" > "$out" 2> "$err"
+      status=$?
+      [ $status -eq "$wanted" ] && grep -q "^$line" "$out"
+      outcome "$with: ${replay##*/}" $?
+    done << END
+$streams/recorded 0 same InputCommand at offset
+$streams/replayed_other_handler 1 other command, command 2
+$streams/replayed_other_handler 1 field handler_name: recorded
+$streams/replayed_other_payload 1 other command
+$streams/cut_short 1 recorded
+$work/malformed 1 replayed ended, command 0
+/dev/null 1 replayed ended, command 0
+END
+  done
+}

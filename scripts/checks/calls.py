@@ -64,15 +64,16 @@ def calls(check: checks.Check) -> None:
     names = [call.call for call in calls_data.calls()]
     in_go = {call.symbol(): calls_data.camel(call.symbol(), False) for call in calls_data.calls()}
     in_python = {call.name_in("Python"): call.symbol() for call in calls_data.calls()}
-    by_name = re.findall(r"\bnamed\.(\w+)\(", read("python/pendratsoa/_calls.py"))
-    by_place = re.findall(r"\bNamed::([A-Z_]+)\b", read("ruby/lib/pendratsoa/functions.rb"))
+    by_name = re.findall(r"\bnamed\.(\w+)\(", together("python/pendratsoa/_calls.py", "python/pendratsoa/_replay.py"))
+    in_ruby = together(*(f"ruby/lib/pendratsoa/{name}.rb" for name in ("fields", "pending", "replay")))
+    by_place = re.findall(r"\bNamed::([A-Z_]+)\b", read("ruby/lib/pendratsoa/functions.rb") + in_ruby)
     uses = {
         "python/pendratsoa": [
             *re.findall(r"\blibrary\.(journal_\w+)", together("python/pendratsoa/*.py")),
             *(in_python.get(name, name) for name in by_name),
         ],
         "ruby/lib": [
-            *re.findall(r":(journal_\w+)", together("ruby/lib/pendratsoa/fields.rb", "ruby/lib/pendratsoa/pending.rb")),
+            *re.findall(r":(journal_\w+)", in_ruby),
             *(f"journal_{name.lower()}" for name in by_place),
         ],
         "tests/ffi": re.findall(r"\b(journal_\w+)\(", together("tests/ffi/*.rt.in")),

@@ -138,10 +138,10 @@ else
   left_out 'the types and the example' 'there is no tsc; the Debian package node-typescript has it'
 fi
 
-# The page's programs, which are JavaScript too; the second one is under Compare.
-awk -v page="$user/page.mjs" -v compare="$user/compare.mjs" '
+# The page's programs, which are JavaScript too; the others are under Compare.
+awk -v page="$user/page.mjs" -v compare="$user/compare.mjs" -v replay="$user/replay.mjs" '
   /^## / { section = $2 }
-  /^```ts$/ { file = section == "Compare" ? compare : page; next }
+  /^```ts$/ { file = section == "Compare" ? compared++ ? replay : compare : page; next }
   /^```$/ { file = "" }
   file != "" { print > file }' node/README.md
 ln -s "$PWD/examples" "$user/examples"
@@ -152,6 +152,9 @@ same 'the program of node/README.md' "$work/wanted" "$out"
 (cd "$user" && node compare.mjs) > "$out" 2> "$err"
 sed -n 's/^It prints `\(.*\)`\.$/\1/p' node/README.md > "$work/wanted"
 same 'the program of node/README.md that compares' "$work/wanted" "$out"
+(cd "$user" && node replay.mjs) > "$out" 2> "$err"
+sed -n 's/^Its line is `\(.*\)`\.$/\1/p' node/README.md > "$work/wanted"
+same 'the program of node/README.md that checks a replay' "$work/wanted" "$out"
 
 cp examples/typescript/proxy.mjs "$user/"
 counted 'the proxy' python3 -B scripts/checks/proxied.py node "$user/proxy.mjs"

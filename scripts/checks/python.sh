@@ -111,7 +111,7 @@ awk -v folder="$work/page" '
 ' python/README.md
 cp examples/streams/* "$work/page"
 cp examples/streams/replay "$work/page/journal"
-for part in 1 3 4; do
+for part in 1 3 4 5; do
   if [ $part -eq 3 ] && python3 -c 'import sys; sys.exit(sys.version_info >= (3, 10))'; then
     left_out 'the match of python/README.md' 'this python3 is older than 3.10'
     continue

@@ -47,6 +47,9 @@ def c_parameters(call):
         found += [f"const uint8_t *{name}", f"size_t {'length' if name == 'bytes' else name + '_length'}"]
     if call.flag:
         found.append(f"uint32_t {call.flag}")
+    if call.given:
+        const = "" if call.changes else "const "
+        found += [f"{const}struct journal_{call.given} *{call.given}", f"size_t {call.given}_room"]
     if call.numbers:
         found += [f"struct journal_{call.numbers} *{call.numbers}", f"size_t {call.numbers}_room"]
     if call.table:
@@ -231,6 +234,7 @@ FFI_MODULES = {
     "names": "The calls on names and numbers.",
     "notifications": "The call that reads notifications.",
     "payloads": "The calls on payloads, given by the numbers of their schemas.",
+    "replays": "The calls that check a replay by its recording, as it comes.",
 }
 
 FFI_ROOT = """\
@@ -272,6 +276,7 @@ def ffi_parameters(call):
     found += [f"{call.entries}s: &[{rattle_struct(call.entries).rpartition('::')[2]}]"] if call.entries else []
     found += [f"{name}: &[u8]" for name in call.reads]
     found += [f"{call.flag}: u32"] if call.flag else []
+    found += [f"{call.given}: &{'mut ' if call.changes else ''}[u64]"] if call.given else []
     found += [f"{call.numbers}: &mut [u64]"] if call.numbers else []
     found += [f"{call.table}s: &mut [{rattle_struct(call.table).rpartition('::')[2]}]"] if call.table else []
     return found + (["out: &mut [u8]"] if call.writes else [])
@@ -317,7 +322,8 @@ def ffi_module(module, found):
 
 
 def ffi():
-    texts = {f"{FFI}/lib.rt": FFI_ROOT + "".join(f"pub mod {module};\n" for module in (*FFI_MODULES, "records"))}
+    modules = sorted((*FFI_MODULES, "records"))
+    texts = {f"{FFI}/lib.rt": FFI_ROOT + "".join(f"pub mod {module};\n" for module in modules)}
     for module in FFI_MODULES:
         texts[f"{FFI}/{module}.rt"] = ffi_module(module, [call for call in calls() if call.module == module])
     return laid_out(texts)
@@ -438,7 +444,7 @@ def shapes(call):
     found = [f"u{BITS[name]}" for name in call.takes]
     found += ["slice" for _ in call.reads] + (["slice"] if call.entries else [])
     found += ["u32"] if call.flag else []
-    return found + ["slice" for is_there in (call.numbers, call.table, call.writes) if is_there]
+    return found + ["slice" for is_there in (call.given, call.numbers, call.table, call.writes) if is_there]
 
 
 # Ruby.
@@ -565,6 +571,9 @@ def node_calls():
         if call.flag:
             given.append("arguments->ignore_payloads")
             parameters.append(call.flag.upper())
+        if call.given:
+            given += [f"(void *)arguments->{call.given}", f"arguments->{call.given}_room"]
+            parameters.append(call.given.upper())
         if call.numbers:
             given += ["(void *)arguments->numbers", "arguments->numbers_room"]
             parameters.append("NUMBERS")
@@ -677,6 +686,16 @@ def go_entries(name):
     return [f"{go_pointer(name)}({name}s)", f"C.size_t(len({name}s))"]
 
 
+def go_struct(name):
+    """The type of the numbers of a struct."""
+    return f"*[{camel(structs()[name]['constant'], False)}]uint64"
+
+
+def go_numbers(name, variable):
+    """The numbers of a struct as C takes them."""
+    return [f"(*C.struct_journal_{name})(unsafe.Pointer({variable}))", f"C.size_t(len({variable}))"]
+
+
 def go_pointer(name):
     """The function that gives a table of these structs as C takes it."""
     return f"pointerTo{camel(name, True)}s"
@@ -706,13 +725,13 @@ def go_call(call):
     if call.flag:
         parameters.append((camel(call.flag, False), "bool"))
         given.append(f"flag({camel(call.flag, False)})")
+    if call.given:
+        parameters.append((call.given, go_struct(call.given)))
+        given += go_numbers(call.given, call.given)
     if call.numbers:
-        constant = camel(structs()[call.numbers]["constant"], False)
-        parameters.append((call.numbers, f"*[{constant}]uint64"))
-        given += [
-            f"(*C.struct_journal_{call.numbers})(unsafe.Pointer({call.numbers}))",
-            f"C.size_t(len({call.numbers}))",
-        ]
+        name = camel(call.numbers, False)
+        parameters.append((name, go_struct(call.numbers)))
+        given += go_numbers(call.numbers, name)
     if call.table:
         parameters.append((f"{call.table}s", go_table(call.table)))
         given += go_entries(call.table)
@@ -791,7 +810,8 @@ def rust():
 
 # The kinds of errors of which several arguments can be the reason, and how an argument is named in Rust.
 WITH_ABOUT = ("Malformed", "Unknown")
-ABOUTS = {"version": "Version", "schema": "Schema", "code": "Type", "payload": "Payload", "second": "Second"}
+ABOUTS = {"version": "Version", "schema": "Schema", "code": "Type", "payload": "Payload", "second": "Second",
+          "options": "Options"}
 
 
 def rust_about(error):
@@ -804,6 +824,8 @@ def rust_raw(call):
     for name in call.reads:
         found += [f"{name}: *const u8", f"{'length' if name == 'bytes' else name + '_length'}: usize"]
     found += [f"{call.flag}: u32"] if call.flag else []
+    pointer = "*mut" if call.changes else "*const"
+    found += [f"{call.given}: {pointer} u64", f"{call.given}_room: usize"] if call.given else []
     found += [f"{call.numbers}: *mut u64", f"{call.numbers}_room: usize"] if call.numbers else []
     found += [f"{call.table}s: *mut [u64; {numbers_of(call.table)}]", "room: usize"] if call.table else []
     return found + (["out: *mut u8", "room: usize"] if call.writes else [])
@@ -830,6 +852,10 @@ def rust_call(call):
     if call.flag:
         parameters.append(f"{call.flag}: bool")
         given.append(f"u32::from({call.flag})")
+    if call.given:
+        mutable = "mut " if call.changes else ""
+        parameters.append(f"{call.given}: &{mutable}[u64; {numbers_of(call.given)}]")
+        given += [f"{call.given}.as_{'mut_' if call.changes else ''}ptr()", f"{call.given}.len()"]
     if call.numbers:
         parameters.append(f"{call.numbers}: &mut [u64; {numbers_of(call.numbers)}]")
         given += [f"{call.numbers}.as_mut_ptr()", f"{call.numbers}.len()"]
@@ -882,7 +908,7 @@ def listed():
     )
     text += (
         "static const struct {\n    const char *name;\n    int inputs;\n    size_t numbers;\n    size_t entry;\n"
-        "    int writes;\n"
+        "    int writes;\n    size_t given;\n    int changes;\n"
         "    unsigned errors;\n    int kinds;\n} listed[CALLS] = {\n"
     )
     for call in calls():
@@ -890,16 +916,18 @@ def listed():
         numbers = f"JOURNAL_{structs()[call.numbers]['constant']}" if call.numbers else 0
         entry = f"JOURNAL_{structs()[call.table]['constant']}" if call.table else 0
         inputs = len(call.reads) + (1 if call.entries else 0)
+        given = f"JOURNAL_{structs()[call.given]['constant']}" if call.given else 0
         row = (
             f'[{call.call.upper()}] = {{"{call.symbol()}", {inputs}, {numbers}, {entry}, '
-            f'{int(bool(call.writes))}, {bits}, {kinds_of(call)}}},'
+            f'{int(bool(call.writes))}, {given}, {int(call.changes)}, {bits}, {kinds_of(call)}}},'
         )
         text += filled(row, "    ", "        ") + "\n"
     text += "};\n\nstatic int64_t make(const struct request *r, const struct slice *slices) {\n"
     text += "    const struct slice *first = &slices[FIRST], *second = &slices[SECOND], *out = &slices[OUT];\n"
     text += (
         "    const void *table = second->at;\n    void *numbers = slices[NUMBERS].at;\n"
-        "    size_t count = slices[NUMBERS].length / 8;\n\n    switch (r->call) {\n"
+        "    size_t count = slices[NUMBERS].length / 8;\n    void *given = slices[GIVEN].at;\n"
+        "    size_t given_count = slices[GIVEN].length / 8;\n\n    switch (r->call) {\n"
     )
     for call in calls():
         given = [f"r->{name}" for name in call.takes]
@@ -908,6 +936,7 @@ def listed():
         for place, _ in zip(("first", "second"), call.reads):
             given += [f"{place}->at", f"{place}->length"]
         given += [f"r->{call.flag}"] if call.flag else []
+        given += ["given", "given_count"] if call.given else []
         given += ["numbers", "count"] if call.numbers else []
         given += ["numbers", f"count / JOURNAL_{structs()[call.table]['constant']}"] if call.table else []
         given += ["out->at", "out->length"] if call.writes else []
@@ -922,11 +951,11 @@ KINDS_OF = {"item": 1, "notification": 0}
 
 def kinds_of(call):
     """How many kinds of results it has that are no errors."""
-    if call.numbers is None:
-        return call.kinds_of_results
     lengths = {entry["kinds"]: len(entry["values"]) for entry in kinds()}
     if call.numbers == "notification":
         return lengths["id"] * lengths["result"]
+    if call.numbers not in lengths:
+        return call.kinds_of_results
     # of an item that bytes are missing, too
     return lengths[call.numbers] + KINDS_OF.get(call.numbers, 0)
 

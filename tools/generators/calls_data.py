@@ -11,7 +11,7 @@ from .versions import library_version
 PATH = "proto/calls.json"
 
 # The numbers that calls take, with their bits in C; the flag comes after the slices.
-BITS = {"version": 32, "code": 16, "schema": 32, "payload_length": 32, "limit": 32}
+BITS = {"version": 32, "code": 16, "schema": 32, "payload_length": 32, "limit": 32, "index": 32}
 
 LANGUAGES = ("Python", "Rust", "Go", "Ruby", "TypeScript")
 
@@ -31,6 +31,9 @@ class Call:
     entries: Optional[str] = None
     reads: List[str] = dataclasses.field(default_factory=list)
     flag: Optional[str] = None
+    # the struct of numbers that it reads, and whether it changes it
+    given: Optional[str] = None
+    changes: bool = False
     numbers: Optional[str] = None
     # the struct of which it writes a table, whose room is a count of these
     table: Optional[str] = None

@@ -16,7 +16,7 @@ TEMPLATE = pathlib.Path(__file__).with_name("compiled.h.in")
 
 def is_by_name(call):
     """Whether the modules make a call by its name, and not within what reads streams and records."""
-    return not (call.entries or call.table or (call.numbers and not call.writes))
+    return not (call.entries or call.given or call.table or (call.numbers and not call.writes))
 
 
 def by_name():

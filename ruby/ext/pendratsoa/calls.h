@@ -25,6 +25,7 @@ enum parameter {
     SECOND,
     JSON,
     IGNORE_PAYLOADS,
+    INDEX,
     RECORDED,
     REPLAYED
 };
@@ -44,6 +45,7 @@ struct arguments {
     uint32_t version;
     uint32_t schema;
     uint32_t payload_length;
+    uint32_t index;
     uint32_t limit;
     uint32_t ignore_payloads;
     uint16_t code;
@@ -74,11 +76,16 @@ struct library {
     __typeof__(journal_notification) *notification;
     __typeof__(journal_header_eq) *header_eq;
     __typeof__(journal_difference) *difference;
+    __typeof__(journal_changed_field) *changed_field;
     __typeof__(journal_verdict) *verdict;
+    __typeof__(journal_replay_check) *replay_check;
+    __typeof__(journal_replay_text) *replay_text;
+    __typeof__(journal_replay_expected) *replay_expected;
+    __typeof__(journal_replay_finish) *replay_finish;
 };
 
 /* How many they are; their addresses are given in this order. */
-#define FUNCTIONS 19
+#define FUNCTIONS 24
 
 /* Takes the address of a function, at its place among them. */
 static inline void point(struct library *library, int place, uintptr_t address)
@@ -139,7 +146,22 @@ static inline void point(struct library *library, int place, uintptr_t address)
         library->difference = (__typeof__(library->difference))address;
         break;
     case 18:
+        library->changed_field = (__typeof__(library->changed_field))address;
+        break;
+    case 19:
         library->verdict = (__typeof__(library->verdict))address;
+        break;
+    case 20:
+        library->replay_check = (__typeof__(library->replay_check))address;
+        break;
+    case 21:
+        library->replay_text = (__typeof__(library->replay_text))address;
+        break;
+    case 22:
+        library->replay_expected = (__typeof__(library->replay_expected))address;
+        break;
+    case 23:
+        library->replay_finish = (__typeof__(library->replay_finish))address;
         break;
     default:
         break;
@@ -237,6 +259,13 @@ static int64_t make_difference(const struct library *library, struct arguments *
                                arguments->second.bytes, arguments->second.length, arguments->out, arguments->room);
 }
 
+static int64_t make_changed_field(const struct library *library, struct arguments *arguments)
+{
+    return library->changed_field(arguments->code, arguments->index, arguments->first.bytes, arguments->first.length,
+                                  arguments->second.bytes, arguments->second.length, (void *)arguments->numbers,
+                                  JOURNAL_CHANGED_FIELD_NUMBERS, arguments->out, arguments->room);
+}
+
 static int64_t make_verdict(const struct library *library, struct arguments *arguments)
 {
     return library->verdict(arguments->version, arguments->first.bytes, arguments->first.length,
@@ -260,6 +289,7 @@ static const struct call CALLS[] = {
     {make_notification, {CODE, PAYLOAD}, JOURNAL_NOTIFICATION_NUMBERS, true, 1, 16},
     {make_header_eq, {CODE, FIRST, SECOND, IGNORE_PAYLOADS}, 0, false, 0, 0},
     {make_difference, {CODE, FIRST, SECOND}, 0, true, 0, 256},
+    {make_changed_field, {CODE, INDEX, FIRST, SECOND}, JOURNAL_CHANGED_FIELD_NUMBERS, true, 0, 256},
     {make_verdict, {VERSION, RECORDED, REPLAYED, IGNORE_PAYLOADS}, JOURNAL_VERDICT_NUMBERS, true, 0, 1024},
 };
 

@@ -69,6 +69,10 @@ static bool read_argument(struct made *made, enum parameter parameter, VALUE val
         is_read = read_number(value, UINT64_C(1) << 32, &number);
         arguments->payload_length = (uint32_t)number;
         return is_read;
+    case INDEX:
+        is_read = read_number(value, UINT64_C(1) << 32, &number);
+        arguments->index = (uint32_t)number;
+        return is_read;
     case NAME:
     case JSON:
     case PAYLOAD:

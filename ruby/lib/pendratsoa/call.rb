@@ -34,7 +34,8 @@ module Pendratsoa
     }.freeze
 
     # What checks each argument that is no String.
-    CHECKS = { version: :version, code: :code, schema: :schema, payload_length: :length, ignore_payloads: :flag }.freeze
+    CHECKS = { version: :version, code: :code, schema: :schema, payload_length: :length, index: :length,
+               ignore_payloads: :flag }.freeze
 
     # The code has to be that of this kind, as "a command".
     def initialize(name, kind = "a type", **arguments)

@@ -32,8 +32,12 @@ module Pendratsoa
 
   # How two journals compare.
   VERDICT_KINDS = %i[same recorded_ended replayed_ended type_mismatch header_mismatch bad_recorded bad_replayed].freeze
+
+  # The options of a replay. Any of them may be set.
+  REPLAY_OPTIONS = [nil, *%i[ignore_payloads]].freeze
   private_constant :ITEM_KINDS
   private_constant :FIELD_KINDS
+  private_constant :REPLAY_OPTIONS
 
   # How many numbers each struct has, and of which words each call has a parameter: the bits of a number, or a slice.
   ITEM_NUMBERS = 6
@@ -41,7 +45,11 @@ module Pendratsoa
   FIELD_NUMBERS = 6
   WRITING_NUMBERS = 2
   NOTIFICATION_NUMBERS = 4
+  CHANGED_FIELD_NUMBERS = 3
   VERDICT_NUMBERS = 2
+  REPLAY_NUMBERS = 6
+  MISMATCH_NUMBERS = 6
+  COMMAND_NUMBERS = 3
   CALLS = {
     journal_library_version: %i[slice],
     journal_schema: %i[u32 u16],
@@ -61,7 +69,12 @@ module Pendratsoa
     journal_notification: %i[u16 slice slice slice],
     journal_header_eq: %i[u16 slice slice u32],
     journal_difference: %i[u16 slice slice slice],
-    journal_verdict: %i[u32 slice slice u32 slice slice]
+    journal_changed_field: %i[u16 u32 slice slice slice slice],
+    journal_verdict: %i[u32 slice slice u32 slice slice],
+    journal_replay_check: %i[u16 slice slice slice slice],
+    journal_replay_text: %i[u16 slice slice slice slice],
+    journal_replay_expected: %i[slice slice slice],
+    journal_replay_finish: %i[slice slice slice]
   }.freeze
 
   # A call that is made by its name: its function, its name in this gem, what it takes of its caller, what its code has
@@ -85,6 +98,7 @@ module Pendratsoa
     NamedCall.new(:journal_notification, "notification", %i[code payload], "a notification", 4, true, 1, 16),
     NamedCall.new(:journal_header_eq, "header_eq?", %i[code first second ignore_payloads], "a command", 0, false, 0, 0),
     NamedCall.new(:journal_difference, "difference", %i[code first second], "a command", 0, true, 0, 256),
+    NamedCall.new(:journal_changed_field, "changed_field", %i[code index first second], "a command", 3, true, 0, 256),
     NamedCall.new(:journal_verdict, "compare_journals", %i[version recorded replayed ignore_payloads], "a type", 2,
       true, 0, 1024)
   ].freeze
@@ -101,8 +115,10 @@ module Pendratsoa
     -17 => [:Malformed, %i[second]],
     -21 => [:Unknown, %i[version]],
     -37 => [:Unknown, %i[schema]],
-    -53 => [:Unknown, %i[code name]]
+    -53 => [:Unknown, %i[code name]],
+    -69 => [:Unknown, %i[options]]
   }.freeze
   private_constant :ITEM_NUMBERS, :READ_NUMBERS, :FIELD_NUMBERS, :WRITING_NUMBERS, :NOTIFICATION_NUMBERS,
-    :VERDICT_NUMBERS, :CALLS, :NamedCall, :NAMED_CALLS, :ERRORS
+    :CHANGED_FIELD_NUMBERS, :VERDICT_NUMBERS, :REPLAY_NUMBERS, :MISMATCH_NUMBERS, :COMMAND_NUMBERS, :CALLS, :NamedCall,
+    :NAMED_CALLS, :ERRORS
 end
