@@ -87,11 +87,16 @@ def zsh_lines(program):
             yield f"':{operand.name}:'"
 
 
+def zsh_text(about):
+    """A sentence without its full stop, within single quotes of zsh."""
+    return about.removesuffix(".").replace("'", "'\\''")
+
+
 def zsh_of_subcommands(program):
     """The completion of the program that has subcommands, and of these by their own names: a function for each."""
     own = programs.subcommands()
     functions = "".join(f"_{each.function}() {{\n  {arguments(zsh_lines(each))}}}\n\n" for each in own)
-    names = " ".join(f'{each.command}\\:"{each.about.removesuffix(".")}"' for each in own)
+    names = " ".join(f'{each.command}\\:"{zsh_text(each.about)}"' for each in own)
     lines = [*zsh_common(), f"'1:command:(({names} help\\:\"Prints a help\"))'", "'*::argument:->argument'"]
     calls = "".join(f"    {each.command}) _{each.function} ;;\n" for each in own)
     return (
