@@ -49,7 +49,7 @@ def done(number: int, result: bytes) -> bytes:
     return frame(RUN_DONE, field(1, number), result)
 
 
-# Streams beside those of examples/streams, with the lines of all their items and at their ends.
+# Streams that examples/streams lacks, each with its lines.
 MADE: dict[str, tuple[bytes, tuple[str, ...], str]] = {
     "empty": (b"", (), ""),
     # two runs of which one fails, a sleep that goes on, and a run that is completed twice
@@ -148,7 +148,7 @@ CASES: tuple[tuple[str, str, *tuple[str, ...]], ...] = (
     ("--from 3 --to 2 failed", ""),
     ("--to 0 recorded", RECORDED[0]),
     ("--from 18446744073709551615 failed", ""),
-    # unknown codes, and bytes in no item
+    # unassigned codes, and trailing bytes
     ("unknown_type", "#0 unknown 0x8\n#1 End\n"),
     ("--protocol 9 unknown_type", "#0 skipped 0x8 8\n"),
     ("cut_short", '#0 ProposeRunCompletion resultCompletionId=1 "x"\n#1 CustomEntry(64513) ""\n', CUT),
