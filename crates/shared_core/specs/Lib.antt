@@ -5,7 +5,6 @@ pub mod Written
 pub mod TemplateParts
 pub mod View
 pub mod Decoded
-pub mod Forms
 pub mod Visiting
 -- Re-exported, since clauses of this crate cite them: a caller cites them by this crate's name, and lists no other
 -- crate.
@@ -29,7 +28,6 @@ pub use Rattle.shared_core_wire.specs.Reader
 pub use Rattle.shared_core_wire.specs.Schema
 pub use Rattle.shared_core_wire.specs.Template
 pub use Rattle.shared_core_wire.specs.Value
-pub use Rattle.shared_core_codec.specs.Canonicity
 pub use Rattle.shared_core_codec.specs.Equality
 pub use Rattle.shared_core_codec.specs.Kept
 pub use Rattle.shared_core_codec.specs.Payloads

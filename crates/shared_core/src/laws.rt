@@ -1,5 +1,5 @@
-//! Laws of frames, and of what they decode to; and those of streams and of equality, which hold below. Each law is the
-//! contract of a function that does nothing, or that only compares its arguments.
+//! Laws of frames, and of what they decode to. Each law is the contract of a function that does nothing. Those of
+//! streams are in `shared_core_stream::laws`.
 
 ghost use Rattle.std.specs.Prelude.{◌≡◌, ◌≢◌, ◌≤◌, ◌<◌, ◌^◌, ℕ, ◌++◌, List, None, Some, true};
 ghost use Rattle.shared_core_base.specs.declared.version.Version.{Version};
@@ -20,12 +20,6 @@ ghost use Rattle.shared_core_message.specs.Frames.{WireForm, wire_size};
 ghost use Rattle.shared_core_runtime.specs.Flattening.{flattened};
 ghost use Rattle.shared_core_base.specs.Version.{has_flat_suspensions, requests_acknowledgement};
 ghost use Rattle.shared_core_runtime.specs.Versions.{proposal_form, suspension_form};
-
-pub use shared_core_stream::laws::{
-    equal_items, equal_messages, greatest_limit_is_none, items_are_prefix_free,
-    limited_split_is_unique, next_item_is_stable, split_exists, split_is_unique,
-    stream_without_items_is_rest, taken_item_is_the_first, version_decides_untyped_items,
-};
 
 /// Frames written one after the other are items in this order, whatever follows them: each is a message of its type
 /// with the payload that was written. So `decode_pieces` returns them first, however the stream is split.

@@ -1,9 +1,5 @@
-//! Payloads of messages: an iterator over their records, the trait of records, and checks of payloads that decode
-//! nothing.
+//! Payloads of messages: an iterator over their records, the trait of records, and a check that decodes nothing.
 
-mod payload_form;
-
-pub use crate::wire::payload_form::{PayloadForm, check_payload};
 pub use shared_core_codec::check::is_well_formed;
 pub use shared_core_codec::record::{WireRecord, decode_parts, merge_payload};
 pub use shared_core_wire::error::WireError;
