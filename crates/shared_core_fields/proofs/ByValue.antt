@@ -8,7 +8,8 @@ use Rattle.std.specs.List.{list_all}
 use Rattle.std.specs.Option.{option_or}
 use Rattle.shared_core_wire.specs.Grammar.{RecordValue, Varint, Length, FieldRecord}
 use Rattle.shared_core_wire.specs.Encoding.{shortest_varint}
-use Rattle.shared_core_wire.specs.Schema.{Kind, Row, U32, U64, Boolean, Enumeration, Text, ByteString, Message, Plain}
+use Rattle.shared_core_wire.specs.Schema.{Table, Kind, Row, U32, U64, Boolean, Enumeration, Text, ByteString, Message}
+use Rattle.shared_core_wire.specs.Schema.{Plain}
 use Rattle.shared_core_wire.specs.Schema.{Optional, Repeated, OneOf, numbers, includes, member_kind}
 use Rattle.shared_core_wire.specs.Value.{Part, Parts, Absent, Number, Bytes, Nested, Elements, Member, nil, cons}
 use Rattle.shared_core_wire.specs.Canonical.{is_default, number_bytes, written_number, kind_of, row_records}
@@ -19,23 +20,24 @@ use Rattle.shared_core_wire.specs.Overlay.{low_numbers}
 use Rattle.shared_core_wire.proofs.Runs.{and_split, and_join}
 use Rattle.shared_core_wire.proofs.ReadBackLevels.{canonical_back}
 use Rattle.shared_core_wire.proofs.EncodingLaws.{encodable, encodable_value, varints_encoded}
-use Rattle.shared_core_codec.specs.Table.{table}
+use Rattle.shared_core_codec.specs.Tables.{IsTable}
 use Rattle.shared_core_codec.specs.ProgramRows.{member_numbered, field_in_row, field_numbered}
-use Rattle.shared_core_codec.proofs.Tables.{are_schemas}
+use Rattle.shared_core_wire.specs.Schema.{is_schema}
 use Rattle.shared_core_codec.proofs.NextFields.{AreLeft, later_left}
 use Rattle.shared_core_fields.specs.Runs.{numbers_or_none, run_numbers}
-use Rattle.shared_core_fields.specs.Fields.{FieldPart, each_field, row_fields, message_fields, record_part}
+use Rattle.shared_core_fields.specs.Fields.{FieldPart, each_field, row_fields, message_fields, record_part_in}
 
 -- ---- the field of a record
 
--- A field of the number that a record is of, if one is found.
-abbrev pub found_field : ℕ → RecordValue → Option (Kind × Bool) → FieldPart
-found_field n w None = (n, (ByteString, false), Absent)
-found_field n w (Some f) = (n, f, record_part f w)
+module _ (table : Table) where
+  -- A field of the number that a record is of, if one is found.
+  abbrev pub found_field : ℕ → RecordValue → Option (Kind × Bool) → FieldPart
+  found_field n w None = (n, (ByteString, false), Absent)
+  found_field n w (Some f) = (n, f, record_part_in table f w)
 
--- The field of a record, by the rows of its schema.
-abbrev pub record_field : List Row → FieldRecord → FieldPart
-record_field rows r = found_field r.number r.value (field_numbered rows r.number)
+  -- The field of a record, by the rows of its schema.
+  abbrev pub record_field : List Row → FieldRecord → FieldPart
+  record_field rows r = found_field r.number r.value (field_numbered rows r.number)
 
 -- ---- the field of a number of a row
 
@@ -75,222 +77,233 @@ finds_own all row rows a n h = a.finds n (own_kind row n) (ap (λ o. option_or o
 pub own_number : (n : ℕ) → includes (n ∷ []) n ≡ true
 own_number n = rw (eq-eqb n n refl) refl
 
+-- The rows of each entry of a table are those of a schema.
+pub schemas : (table : Table) → IsTable table → (s : ℕ) → is_schema (table s) ≡ true
+schemas table valid s = (and_split _ _ (valid s)).0
+
 -- ---- single parts
 
-record Single (p : Part) (k : Kind) : Type 0 where
-  w : RecordValue
-  is : part_values table p k ≡ w ∷ []
-  back : (repeated : Bool) → encodable_value w ≡ true → record_part (k, repeated) w ≡ p
+module _ (table : Table) (valid : IsTable table) where
+  record Single (p : Part) (k : Kind) : Type 0 where
+    w : RecordValue
+    is : part_values table p k ≡ w ∷ []
+    back : (repeated : Bool) → encodable_value w ≡ true → record_part_in table (k, repeated) w ≡ p
 
-enum_back : (n : ℕ) → n < 2 ^ 32 → written_number Enumeration n % 2 ^ 32 ≡ n
-enum_back n h = by_sign (ltb n (2 ^ 31))
-  where
-    by_sign : (b : Bool) → cond b n (n + (2 ^ 64 - 2 ^ 32)) % 2 ^ 32 ≡ n
-    by_sign true = omega arith
-    by_sign false = omega arith
+  enum_back : (n : ℕ) → n < 2 ^ 32 → written_number Enumeration n % 2 ^ 32 ≡ n
+  enum_back n h = by_sign (ltb n (2 ^ 31))
+    where
+      by_sign : (b : Bool) → cond b n (n + (2 ^ 64 - 2 ^ 32)) % 2 ^ 32 ≡ n
+      by_sign true = omega arith
+      by_sign false = omega arith
 
-boolean_back : (n : ℕ) → n < 2 → cond (eqb n 0) 0 1 ≡ n
-boolean_back zero h = refl
-boolean_back (suc zero) h = refl
-boolean_back (suc (suc n)) h = absurd (omega arith)
+  boolean_back : (n : ℕ) → n < 2 → cond (eqb n 0) 0 1 ≡ n
+  boolean_back zero h = refl
+  boolean_back (suc zero) h = refl
+  boolean_back (suc (suc n)) h = absurd (omega arith)
 
-single_number : (n : ℕ) (k : Kind) → NumberFits k n → Single (Number n) k
-unfolding part_values
-single_number n U32 h = record { w = Varint n; is = refl; back = λ b z. ap Number (omega (arith, h)) }
-single_number n U64 h = record { w = Varint n; is = refl; back = λ b z. refl }
-single_number n Boolean h = record { w = Varint n; is = refl; back = λ b z. ap Number (boolean_back n h) }
-single_number n Enumeration h = record {
-  w = Varint (written_number Enumeration n);
-  is = refl;
-  back = λ b z. ap Number
-      (enum_back n h);
-}
-single_number n Text h = absurd h
-single_number n ByteString h = absurd h
-single_number n (Message s) h = absurd h
+  single_number : (n : ℕ) (k : Kind) → NumberFits k n → Single (Number n) k
+  unfolding part_values
+  single_number n U32 h = record { w = Varint n; is = refl; back = λ b z. ap Number (omega (arith, h)) }
+  single_number n U64 h = record { w = Varint n; is = refl; back = λ b z. refl }
+  single_number n Boolean h = record { w = Varint n; is = refl; back = λ b z. ap Number (boolean_back n h) }
+  single_number n Enumeration h = record {
+    w = Varint (written_number Enumeration n);
+    is = refl;
+    back = λ b z. ap Number
+        (enum_back n h);
+  }
+  single_number n Text h = absurd h
+  single_number n ByteString h = absurd h
+  single_number n (Message s) h = absurd h
 
-single_bytes : (bytes : List ℕ) (k : Kind) → BytesFit k bytes → Single (Bytes bytes) k
-unfolding part_values
-single_bytes bytes Text h = record { w = Length bytes; is = refl; back = λ b z. refl }
-single_bytes bytes ByteString h = record { w = Length bytes; is = refl; back = λ b z. refl }
-single_bytes bytes U32 h = absurd h
-single_bytes bytes U64 h = absurd h
-single_bytes bytes Boolean h = absurd h
-single_bytes bytes Enumeration h = absurd h
-single_bytes bytes (Message s) h = absurd h
+  single_bytes : (bytes : List ℕ) (k : Kind) → BytesFit k bytes → Single (Bytes bytes) k
+  unfolding part_values
+  single_bytes bytes Text h = record { w = Length bytes; is = refl; back = λ b z. refl }
+  single_bytes bytes ByteString h = record { w = Length bytes; is = refl; back = λ b z. refl }
+  single_bytes bytes U32 h = absurd h
+  single_bytes bytes U64 h = absurd h
+  single_bytes bytes Boolean h = absurd h
+  single_bytes bytes Enumeration h = absurd h
+  single_bytes bytes (Message s) h = absurd h
 
-single_message : (ps : Parts) (k : Kind) → PartFits table (Nested ps) k → levels ps ≤ 100 → Single (Nested ps) k
-unfolding part_values PartFits
-single_message ps (Message s) h l = record {
-  w = Length (canonical_payload table s ps);
-  is = refl;
-  back = λ b z. ap
-      Nested (canonical_back table are_schemas 100 s ps h l (ltb-true _ _ z)).1;
-}
-single_message ps U32 h l = absurd h
-single_message ps U64 h l = absurd h
-single_message ps Boolean h l = absurd h
-single_message ps Enumeration h l = absurd h
-single_message ps Text h l = absurd h
-single_message ps ByteString h l = absurd h
+  single_message : (ps : Parts) (k : Kind) → PartFits table (Nested ps) k → levels ps ≤ 100 → Single (Nested ps) k
+  unfolding part_values PartFits
+  single_message ps (Message s) h l = record {
+    w = Length (canonical_payload table s ps);
+    is = refl;
+    back = λ b z. ap
+        Nested (canonical_back table (schemas table valid) 100 s ps h l (ltb-true _ _ z)).1;
+  }
+  single_message ps U32 h l = absurd h
+  single_message ps U64 h l = absurd h
+  single_message ps Boolean h l = absurd h
+  single_message ps Enumeration h l = absurd h
+  single_message ps Text h l = absurd h
+  single_message ps ByteString h l = absurd h
 
-single : (p : Part) (k : Kind) → is_single p ≡ true → PartFits table p k → part_levels p ≤ 100 → Single p k
-unfolding PartFits levels
-single Absent k i h l = absurd cc
-single (Number n) k i h l = single_number n k h
-single (Bytes bytes) k i h l = single_bytes bytes k h
-single (Nested ps) k i h l = single_message ps k h (omega (arith, l))
-single (Elements ps) k i h l = absurd cc
-single (Member n p) k i h l = absurd cc
+  single : (p : Part) (k : Kind) → is_single p ≡ true → PartFits table p k → part_levels p ≤ 100 → Single p k
+  unfolding PartFits levels
+  single Absent k i h l = absurd cc
+  single (Number n) k i h l = single_number n k h
+  single (Bytes bytes) k i h l = single_bytes bytes k h
+  single (Nested ps) k i h l = single_message ps k h (omega (arith, l))
+  single (Elements ps) k i h l = absurd cc
+  single (Member n p) k i h l = absurd cc
 
--- ---- packed runs
+  -- ---- packed runs
 
-numbers_in : Parts → List ℕ
-numbers_in nil = []
-numbers_in (cons (Number n) ps) = n ∷ numbers_in ps
-numbers_in (cons p ps) = numbers_in ps
+  numbers_in : Parts → List ℕ
+  numbers_in nil = []
+  numbers_in (cons (Number n) ps) = n ∷ numbers_in ps
+  numbers_in (cons p ps) = numbers_in ps
 
-record Run (ps : Parts) : Type 0 where
-  bytes : flat_map number_bytes (element_values table ps U32) ≡ flat_map shortest_varint (numbers_in ps)
-  fit : list_all (λ n. ltb n (2 ^ 64)) (numbers_in ps) ≡ true
-  elements : low_numbers (numbers_in ps) ≡ ps
+  record Run (ps : Parts) : Type 0 where
+    bytes : flat_map number_bytes (element_values table ps U32) ≡ flat_map shortest_varint (numbers_in ps)
+    fit : list_all (λ n. ltb n (2 ^ 64)) (numbers_in ps) ≡ true
+    elements : low_numbers (numbers_in ps) ≡ ps
 
-run : (ps : Parts) → ElementsFit table ps U32 → Run ps
-unfolding part_values PartFits numbers_in
-run nil h = record { bytes = refl; fit = refl; elements = refl }
-run (cons (Number n) ps) h =
-    let r = run ps h.2 in
-    let low : n % 2 ^ 32 ≡ n = omega (arith, h.1) in
-    record {
-      bytes = ap (λ (bs : List ℕ). shortest_varint n ++ bs) r.bytes;
-      fit = and_join _ _ (lt-ltb n (2 ^ 64) (omega (arith, h.1))) r.fit;
-      elements = ap (λ (m : ℕ). cons (Number m) (low_numbers (numbers_in ps))) low ∙ ap
-          (λ (qs : Parts). cons (Number n) qs) r.elements;
-    }
-run (cons Absent ps) h = absurd (cc h.0)
-run (cons (Elements qs) ps) h = absurd (cc h.0)
-run (cons (Member m p) ps) h = absurd (cc h.0)
-run (cons (Bytes bytes) ps) h = absurd h.1
-run (cons (Nested qs) ps) h = absurd h.1
+  run : (ps : Parts) → ElementsFit table ps U32 → Run ps
+  unfolding part_values PartFits numbers_in
+  run nil h = record { bytes = refl; fit = refl; elements = refl }
+  run (cons (Number n) ps) h =
+      let r = run ps h.2 in
+      let low : n % 2 ^ 32 ≡ n = omega (arith, h.1) in
+      record {
+        bytes = ap (λ (bs : List ℕ). shortest_varint n ++ bs) r.bytes;
+        fit = and_join _ _ (lt-ltb n (2 ^ 64) (omega (arith, h.1))) r.fit;
+        elements = ap (λ (m : ℕ). cons (Number m) (low_numbers (numbers_in ps))) low ∙ ap
+            (λ (qs : Parts). cons (Number n) qs) r.elements;
+      }
+  run (cons Absent ps) h = absurd (cc h.0)
+  run (cons (Elements qs) ps) h = absurd (cc h.0)
+  run (cons (Member m p) ps) h = absurd (cc h.0)
+  run (cons (Bytes bytes) ps) h = absurd h.1
+  run (cons (Nested qs) ps) h = absurd h.1
 
-packed : (ps : Parts) → ElementsFit table ps U32 → low_numbers
-    (run_numbers (flat_map number_bytes (element_values table ps U32))) ≡ ps
-packed ps h =
-    let r = run ps h in
-    ap (λ (bs : List ℕ). low_numbers (run_numbers bs)) r.bytes ∙ ap (λ o. low_numbers (numbers_or_none o))
-    (varints_encoded (numbers_in ps) r.fit) ∙ r.elements
+  packed : (ps : Parts) → ElementsFit table ps U32 → low_numbers
+      (run_numbers (flat_map number_bytes (element_values table ps U32))) ≡ ps
+  packed ps h =
+      let r = run ps h in
+      ap (λ (bs : List ℕ). low_numbers (run_numbers bs)) r.bytes ∙ ap (λ o. low_numbers (numbers_or_none o))
+      (varints_encoded (numbers_in ps) r.fit) ∙ r.elements
 
--- ---- rows
+  -- ---- rows
 
-module _ (all : List Row) where
-  one_field : (n : ℕ) (k : Kind) (repeated : Bool) (p : Part) → field_numbered all n ≡ Some (k, repeated) → Single p k →
-      list_all encodable (map (λ w. record { number = n; value = w }) (part_values table p k)) ≡ true
-      → map (record_field all) (map (λ w. record { number = n; value = w }) (part_values table p k)) ≡
-      (n, (k, repeated), p) ∷ []
-  one_field n k repeated p f x s =
-      let e = ap (λ (ws : List RecordValue). list_all encodable (map (λ w. record { number = n; value = w }) ws))
-      (sym x.is) ∙ s in
-      ap (λ (ws : List RecordValue). map (record_field all) (map (λ w. record { number = n; value = w }) ws)) x.is
-      ∙ ap (λ o. found_field n x.w o ∷ []) f
-      ∙ ap (λ (q : Part). (n, (k, repeated), q) ∷ []) (x.back repeated (and_split _ _ (and_split _ _ e).0).1)
+  module _ (all : List Row) where
+    one_field : (n : ℕ) (k : Kind) (repeated : Bool) (p : Part) → field_numbered all n ≡ Some (k, repeated)
+        → Single p k →
+        list_all encodable (map (λ w. record { number = n; value = w }) (part_values table p k)) ≡ true
+        → map (record_field table all) (map (λ w. record { number = n; value = w }) (part_values table p k)) ≡
+        (n, (k, repeated), p) ∷ []
+    one_field n k repeated p f x s =
+        let e = ap (λ (ws : List RecordValue). list_all encodable (map (λ w. record { number = n; value = w }) ws))
+        (sym x.is) ∙ s in
+        ap (λ (ws : List RecordValue). map (record_field table all) (map (λ w. record { number = n; value = w }) ws))
+        x.is
+        ∙ ap (λ o. found_field table n x.w o ∷ []) f
+        ∙ ap (λ (q : Part). (n, (k, repeated), q) ∷ []) (x.back repeated (and_split _ _ (and_split _ _ e).0).1)
 
-  plain_fields : (n : ℕ) (k : Kind) (p : Part) (default : Bool) → field_numbered all n ≡ Some (k, false) → Single p k
-      → list_all encodable (map (λ w. record { number = n; value = w }) (cond default [] (part_values table p k))) ≡
-      true
-      → map (record_field all) (map (λ w. record { number = n; value = w }) (cond default [] (part_values table p k))) ≡
-      cond default [] ((n, (k, false), p) ∷ [])
-  plain_fields n k p true f x s = refl
-  plain_fields n k p false f x s = one_field n k false p f x s
+    plain_fields : (n : ℕ) (k : Kind) (p : Part) (default : Bool) → field_numbered all n ≡ Some (k, false) → Single p k
+        → list_all encodable (map (λ w. record { number = n; value = w }) (cond default [] (part_values table p k))) ≡
+        true
+        → map (record_field table all) (map (λ w. record { number = n; value = w }) (cond default [] (part_values table
+        p k))) ≡
+        cond default [] ((n, (k, false), p) ∷ [])
+    plain_fields n k p true f x s = refl
+    plain_fields n k p false f x s = one_field n k false p f x s
 
-  each_fields : (n : ℕ) (k : Kind) (ps : Parts) → field_numbered all n ≡ Some (k, true) → ElementsFit table ps k →
-      levels ps ≤ 100
-      → list_all encodable (map (λ w. record { number = n; value = w }) (element_values table ps k)) ≡ true
-      → map (record_field all) (map (λ w. record { number = n; value = w }) (element_values table ps k)) ≡ each_field n
-      k ps
-  unfolding part_values PartFits levels
-  each_fields n k nil f h l s = refl
-  each_fields n k (cons p ps) f h l s =
-      let x = single p k h.0 h.1 (omega arith) in
-      let low_rest : levels ps ≤ 100 = omega arith in
-      let e = and_split _ _ (ap (λ (ws : List RecordValue). list_all encodable
-      (map (λ w. record { number = n; value = w }) (ws ++ element_values table ps k))) (sym x.is) ∙ s) in
-      ap (λ (ws : List RecordValue). map (record_field all) (map (λ w. record { number = n; value = w })
-      (ws ++ element_values table ps k))) x.is
-      ∙ ap (λ o. found_field n x.w o ∷ map (record_field all)
-      (map (λ w. record { number = n; value = w }) (element_values table ps k))) f
-      ∙ ap (λ (q : Part). (n, (k, true), q) ∷ map (record_field all)
-      (map (λ w. record { number = n; value = w }) (element_values table ps k))) (x.back true (and_split _ _ e.0).1)
-      ∙ ap (λ (fs : List FieldPart). (n, (k, true), p) ∷ fs) (each_fields n k ps f h.2 low_rest e.1)
+    each_fields : (n : ℕ) (k : Kind) (ps : Parts) → field_numbered all n ≡ Some (k, true) → ElementsFit table ps k →
+        levels ps ≤ 100
+        → list_all encodable (map (λ w. record { number = n; value = w }) (element_values table ps k)) ≡ true
+        → map (record_field table all) (map (λ w. record { number = n; value = w }) (element_values table ps k)) ≡
+        each_field n
+        k ps
+    unfolding part_values PartFits levels
+    each_fields n k nil f h l s = refl
+    each_fields n k (cons p ps) f h l s =
+        let x = single p k h.0 h.1 (omega arith) in
+        let low_rest : levels ps ≤ 100 = omega arith in
+        let e = and_split _ _ (ap (λ (ws : List RecordValue). list_all encodable
+        (map (λ w. record { number = n; value = w }) (ws ++ element_values table ps k))) (sym x.is) ∙ s) in
+        ap (λ (ws : List RecordValue). map (record_field table all) (map (λ w. record { number = n; value = w })
+        (ws ++ element_values table ps k))) x.is
+        ∙ ap (λ o. found_field table n x.w o ∷ map (record_field table all)
+        (map (λ w. record { number = n; value = w }) (element_values table ps k))) f
+        ∙ ap (λ (q : Part). (n, (k, true), q) ∷ map (record_field table all)
+        (map (λ w. record { number = n; value = w }) (element_values table ps k))) (x.back true (and_split _ _ e.0).1)
+        ∙ ap (λ (fs : List FieldPart). (n, (k, true), p) ∷ fs) (each_fields n k ps f h.2 low_rest e.1)
 
-  run_fields : (n : ℕ) (ps : Parts) → field_numbered all n ≡ Some (U32, true) → ElementsFit table ps U32
-      → map (record_field all) (record {
-        number = n;
-        value = Length
-            (flat_map number_bytes (element_values table ps U32));
-      } ∷ []) ≡ (n, (U32, true), Elements ps) ∷ []
-  run_fields n ps f h =
-      ap (λ o. found_field n (Length (flat_map number_bytes (element_values table ps U32))) o ∷ []) f
-      ∙ ap (λ (qs : Parts). (n, (U32, true), Elements qs) ∷ []) (packed ps h)
+    run_fields : (n : ℕ) (ps : Parts) → field_numbered all n ≡ Some (U32, true) → ElementsFit table ps U32
+        → map (record_field table all) (record {
+          number = n;
+          value = Length
+              (flat_map number_bytes (element_values table ps U32));
+        } ∷ []) ≡ (n, (U32, true), Elements ps) ∷ []
+    run_fields n ps f h =
+        ap (λ o. found_field table n (Length (flat_map number_bytes (element_values table ps U32))) o ∷ []) f
+        ∙ ap (λ (qs : Parts). (n, (U32, true), Elements qs) ∷ []) (packed ps h)
 
-  row_back : (row : Row) (p : Part) → ((n : ℕ) → includes (numbers row) n ≡ true → field_numbered all n ≡ Some
-      (own_kind row n))
-      → has_shape row p ≡ true → PartFits table p (kind_of row p) → part_levels p ≤ 100 → list_all encodable
-      (row_records row p (part_values table p (kind_of row p))) ≡ true
-      → map (record_field all) (row_records row p (part_values table p (kind_of row p))) ≡ row_fields row p
-  unfolding part_values PartFits levels
-  row_back (Plain n k) Absent f i h l s = absurd cc
-  row_back (Plain n k) (Elements ps) f i h l s = absurd cc
-  row_back (Plain n k) (Member m p) f i h l s = absurd cc
-  row_back (Plain n k) (Number m) f i h l s = plain_fields n k (Number m) (is_default (Number m)) (f n (own_number n))
-      (single (Number m) k i h l) s
-  row_back (Plain n k) (Bytes bytes) f i h l s = plain_fields n k (Bytes bytes) (is_default (Bytes bytes))
-      (f n (own_number n)) (single (Bytes bytes) k i h l) s
-  row_back (Plain n k) (Nested ps) f i h l s = plain_fields n k (Nested ps) false (f n (own_number n))
-      (single (Nested ps) k i h l) s
-  row_back (Optional n k) Absent f i h l s = refl
-  row_back (Optional n k) (Elements ps) f i h l s = absurd cc
-  row_back (Optional n k) (Member m p) f i h l s = absurd cc
-  row_back (Optional n k) (Number m) f i h l s = one_field n k false (Number m) (f n (own_number n))
-      (single (Number m) k i h l) s
-  row_back (Optional n k) (Bytes bytes) f i h l s = one_field n k false (Bytes bytes) (f n (own_number n))
-      (single (Bytes bytes) k i h l) s
-  row_back (Optional n k) (Nested ps) f i h l s = one_field n k false (Nested ps) (f n (own_number n))
-      (single (Nested ps) k i h l) s
-  row_back (Repeated n U32) (Elements nil) f i h l s = refl
-  row_back (Repeated n U32) (Elements (cons (Number m) ps)) f i h l s = run_fields n (cons (Number m) ps)
-      (f n (own_number n)) h
-  row_back (Repeated n U32) (Elements (cons Absent ps)) f i h l s = absurd (cc h.0)
-  row_back (Repeated n U32) (Elements (cons (Elements qs) ps)) f i h l s = absurd (cc h.0)
-  row_back (Repeated n U32) (Elements (cons (Member m p) ps)) f i h l s = absurd (cc h.0)
-  row_back (Repeated n U32) (Elements (cons (Bytes bytes) ps)) f i h l s = absurd h.1
-  row_back (Repeated n U32) (Elements (cons (Nested qs) ps)) f i h l s = absurd h.1
-  row_back (Repeated n k) (Elements ps) f i h l s = each_fields n k ps (f n (own_number n)) h l s
-  row_back (Repeated n k) p f i h l s = absurd cc
-  row_back (OneOf members) Absent f i h l s = refl
-  row_back (OneOf members) (Member m p) f i h l s =
-      let e = and_split _ _ i in
-      one_field m (member_kind members m) false p (f m e.0) (single p (member_kind members m) e.1 h l) s
-  row_back (OneOf members) p f i h l s = absurd cc
+    row_back : (row : Row) (p : Part) → ((n : ℕ) → includes (numbers row) n ≡ true → field_numbered all n ≡ Some
+        (own_kind row n))
+        → has_shape row p ≡ true → PartFits table p (kind_of row p) → part_levels p ≤ 100 → list_all encodable
+        (row_records row p (part_values table p (kind_of row p))) ≡ true
+        → map (record_field table all) (row_records row p (part_values table p (kind_of row p))) ≡ row_fields row p
+    unfolding part_values PartFits levels
+    row_back (Plain n k) Absent f i h l s = absurd cc
+    row_back (Plain n k) (Elements ps) f i h l s = absurd cc
+    row_back (Plain n k) (Member m p) f i h l s = absurd cc
+    row_back (Plain n k) (Number m) f i h l s = plain_fields n k (Number m) (is_default (Number m)) (f n (own_number n))
+        (single (Number m) k i h l) s
+    row_back (Plain n k) (Bytes bytes) f i h l s = plain_fields n k (Bytes bytes) (is_default (Bytes bytes))
+        (f n (own_number n)) (single (Bytes bytes) k i h l) s
+    row_back (Plain n k) (Nested ps) f i h l s = plain_fields n k (Nested ps) false (f n (own_number n))
+        (single (Nested ps) k i h l) s
+    row_back (Optional n k) Absent f i h l s = refl
+    row_back (Optional n k) (Elements ps) f i h l s = absurd cc
+    row_back (Optional n k) (Member m p) f i h l s = absurd cc
+    row_back (Optional n k) (Number m) f i h l s = one_field n k false (Number m) (f n (own_number n))
+        (single (Number m) k i h l) s
+    row_back (Optional n k) (Bytes bytes) f i h l s = one_field n k false (Bytes bytes) (f n (own_number n))
+        (single (Bytes bytes) k i h l) s
+    row_back (Optional n k) (Nested ps) f i h l s = one_field n k false (Nested ps) (f n (own_number n))
+        (single (Nested ps) k i h l) s
+    row_back (Repeated n U32) (Elements nil) f i h l s = refl
+    row_back (Repeated n U32) (Elements (cons (Number m) ps)) f i h l s = run_fields n (cons (Number m) ps)
+        (f n (own_number n)) h
+    row_back (Repeated n U32) (Elements (cons Absent ps)) f i h l s = absurd (cc h.0)
+    row_back (Repeated n U32) (Elements (cons (Elements qs) ps)) f i h l s = absurd (cc h.0)
+    row_back (Repeated n U32) (Elements (cons (Member m p) ps)) f i h l s = absurd (cc h.0)
+    row_back (Repeated n U32) (Elements (cons (Bytes bytes) ps)) f i h l s = absurd h.1
+    row_back (Repeated n U32) (Elements (cons (Nested qs) ps)) f i h l s = absurd h.1
+    row_back (Repeated n k) (Elements ps) f i h l s = each_fields n k ps (f n (own_number n)) h l s
+    row_back (Repeated n k) p f i h l s = absurd cc
+    row_back (OneOf members) Absent f i h l s = refl
+    row_back (OneOf members) (Member m p) f i h l s =
+        let e = and_split _ _ i in
+        one_field m (member_kind members m) false p (f m e.0) (single p (member_kind members m) e.1 h l) s
+    row_back (OneOf members) p f i h l s = absurd cc
 
-  map_append : (xs ys : List FieldRecord) → map (record_field all) (xs ++ ys) ≡ map (record_field all) xs ++ map
-      (record_field all) ys
-  map_append [] ys = refl
-  map_append (x ∷ xs) ys = ap (λ (fs : List FieldPart). record_field all x ∷ fs) (map_append xs ys)
+    map_append : (xs ys : List FieldRecord) → map (record_field table all) (xs ++ ys) ≡ map (record_field table all) xs
+        ++ map
+        (record_field table all) ys
+    map_append [] ys = refl
+    map_append (x ∷ xs) ys = ap (λ (fs : List FieldPart). record_field table all x ∷ fs) (map_append xs ys)
 
-  pub fields_by_value : (v : Parts) (rows : List Row) → AreLeft all rows → Fits table v rows → levels v ≤ 100 → list_all
-      encodable (message_records table v rows) ≡ true
-      → map (record_field all) (message_records table v rows) ≡ message_fields rows v
-  unfolding part_values PartFits levels
-  fields_by_value nil [] a h l s = refl
-  fields_by_value nil (row ∷ rows) a h l s = absurd h
-  fields_by_value (cons p ps) [] a h l s = absurd h
-  fields_by_value (cons p ps) (row ∷ rows) a h l s =
-      let low_row : part_levels p ≤ 100 = omega arith in
-      let low_rest : levels ps ≤ 100 = omega arith in
-      let own = row_records row p (part_values table p (kind_of row p)) in
-      let e = and_split _ _ (sym (list_all-append encodable own (message_records table ps rows)) ∙ s) in
-      map_append own (message_records table ps rows)
-      ∙ ap (λ (fs : List FieldPart). fs ++ map (record_field all) (message_records table ps rows))
-      (row_back row p (finds_own all row rows a) h.0 h.1 low_row e.0)
-      ∙ ap (λ (fs : List FieldPart). row_fields row p ++ fs)
-      (fields_by_value ps rows (later_left all row rows a) h.2 low_rest e.1)
+    pub fields_by_value : (v : Parts) (rows : List Row) → AreLeft all rows → Fits table v rows → levels v ≤ 100
+        → list_all
+        encodable (message_records table v rows) ≡ true
+        → map (record_field table all) (message_records table v rows) ≡ message_fields rows v
+    unfolding part_values PartFits levels
+    fields_by_value nil [] a h l s = refl
+    fields_by_value nil (row ∷ rows) a h l s = absurd h
+    fields_by_value (cons p ps) [] a h l s = absurd h
+    fields_by_value (cons p ps) (row ∷ rows) a h l s =
+        let low_row : part_levels p ≤ 100 = omega arith in
+        let low_rest : levels ps ≤ 100 = omega arith in
+        let own = row_records row p (part_values table p (kind_of row p)) in
+        let e = and_split _ _ (sym (list_all-append encodable own (message_records table ps rows)) ∙ s) in
+        map_append own (message_records table ps rows)
+        ∙ ap (λ (fs : List FieldPart). fs ++ map (record_field table all) (message_records table ps rows))
+        (row_back row p (finds_own all row rows a) h.0 h.1 low_row e.0)
+        ∙ ap (λ (fs : List FieldPart). row_fields row p ++ fs)
+        (fields_by_value ps rows (later_left all row rows a) h.2 low_rest e.1)

@@ -9,7 +9,7 @@ use Rattle.shared_core_wire.specs.Grammar.{RecordValue, Varint, Fixed64, Length,
 use Rattle.shared_core_wire.specs.Grammar.{IsRecordWithin}
 use Rattle.shared_core_wire.specs.Reader.{◌>>=◌, varint_at, varint_within, bytes_at, key_at, record_at}
 use Rattle.shared_core_wire.specs.ReadRecords.{records_past}
-use Rattle.shared_core_wire.specs.Schema.{Kind, Row, U32, U64, Boolean, Enumeration, Text, ByteString, Message}
+use Rattle.shared_core_wire.specs.Schema.{Table, Kind, Row, U32, U64, Boolean, Enumeration, Text, ByteString, Message}
 use Rattle.shared_core_wire.proofs.Readers.{BeginsWith, some_is, varint_again, bytes_again, key_again, key_reads}
 use Rattle.shared_core_wire.proofs.Readers.{key_pos}
 use Rattle.shared_core_wire.proofs.VarintLoop.{varint_one}
@@ -17,9 +17,9 @@ use Rattle.shared_core_wire.specs.Value.{Part}
 use Rattle.shared_core_wire.proofs.ReadRecords.{cases_option, place, step, read_stop, read_encoded}
 use Rattle.shared_core_wire.proofs.Runs.{and_split}
 use Rattle.shared_core_codec.specs.Canonicity.{Next, next_field, is_written_value, is_written_element}
-use Rattle.shared_core_fields.specs.Coming.{is_nested, is_short, is_typed, are_coming}
-use Rattle.shared_core_fields.specs.KnownValues.{front_at, is_known, typed_parts, value_after}
-use Rattle.shared_core_fields.specs.Fields.{record_part}
+use Rattle.shared_core_fields.specs.Coming.{is_nested_in, is_short, is_typed_in, are_coming_in}
+use Rattle.shared_core_fields.specs.KnownValues.{front_at, is_known_in, typed_parts_in, value_after}
+use Rattle.shared_core_fields.specs.Fields.{record_part_in}
 use Rattle.shared_core_fields.specs.Views.{content_offset}
 
 -- ---- varints
@@ -122,51 +122,59 @@ front_bytes (x ∷ y ∷ bs) rest b m n v h first second low small number is las
 
 -- ---- values
 
--- A value that is length-delimited: what a field of a kind says of it.
-pub record Delimited (f : Kind × Bool) (wire n : ℕ) (bytes : List ℕ) : Type 0 where
-  pub enough : n ≤ length bytes
-  pub value : value_after wire (n, bytes) ≡ Some (Length (take n bytes), drop n bytes)
-  pub short : is_short (Length (take n bytes)) ≡ true
-  pub typed : is_typed f (Length (take n bytes)) ≡ true
-
 -- Length-delimited bytes, as a value.
 abbrev as_length : List ℕ × List ℕ → Option (RecordValue × List ℕ)
 as_length x = Some (Length x.0, x.1)
 
-of_length : (f : Kind × Bool) (wire n : ℕ) (bytes : List ℕ) → (wire == 2) ≡ true → is_known f
-    (value_after wire (n, bytes)) ≡ true → Delimited f wire n bytes
-unfolding bytes_at
-of_length f wire n bytes two h = by_size (ltb (length bytes) n) refl
-    (sym (ap (λ (b : Bool). is_known f (cond b (bytes_at n bytes >>= as_length) (Some (Varint n, bytes)))) two) ∙ h)
-  where
-    by_size : (b : Bool) → ltb (length bytes) n ≡ b → is_known f (cond b None (Some (take n bytes, drop n bytes)) >>=
-        as_length) ≡ true → Delimited f wire n bytes
-    by_size true e g = absurd cc
-    by_size false e g =
-        let t = and_split _ _ g in
-        record {
-          enough = ltb-false _ _ e;
-          value = ap (λ (b : Bool). cond b (bytes_at n bytes >>= as_length) (Some (Varint n, bytes))) two
-              ∙ ap (λ (b : Bool). cond b None (Some (take n bytes, drop n bytes)) >>= as_length) e;
-          short = t.0;
-          typed = t.1;
-        }
+module _ (table : Table) where
+  -- A value that is length-delimited: what a field of a kind says of it.
+  pub record Delimited (f : Kind × Bool) (wire n : ℕ) (bytes : List ℕ) : Type 0 where
+    pub enough : n ≤ length bytes
+    pub value : value_after wire (n, bytes) ≡ Some (Length (take n bytes), drop n bytes)
+    pub short : is_short (Length (take n bytes)) ≡ true
+    pub typed : is_typed_in table f (Length (take n bytes)) ≡ true
 
-pub delimited : (f : Kind × Bool) (wire n : ℕ) (bytes : List ℕ) → wire ≡ 2 → is_known f (value_after wire (n, bytes)) ≡
-    true → Delimited f wire n bytes
-delimited f wire n bytes w h = of_length f wire n bytes (eq-eqb wire 2 w) h
+  of_length : (f : Kind × Bool) (wire n : ℕ) (bytes : List ℕ) → (wire == 2) ≡ true → is_known_in table f
+      (value_after wire (n, bytes)) ≡ true → Delimited f wire n bytes
+  unfolding bytes_at
+  of_length f wire n bytes two h = by_size (ltb (length bytes) n) refl
+      (sym (ap (λ (b : Bool). is_known_in table f (cond b (bytes_at n bytes >>= as_length) (Some (Varint n, bytes))))
+      two) ∙ h)
+    where
+      by_size : (b : Bool) → ltb (length bytes) n ≡ b → is_known_in table f (cond b None (Some (
+        take n bytes,
+        drop n
+            bytes,
+      )) >>=
+          as_length) ≡ true → Delimited f wire n bytes
+      by_size true e g = absurd cc
+      by_size false e g =
+          let t = and_split _ _ g in
+          record {
+            enough = ltb-false _ _ e;
+            value = ap (λ (b : Bool). cond b (bytes_at n bytes >>= as_length) (Some (Varint n, bytes))) two
+                ∙ ap (λ (b : Bool). cond b None (Some (take n bytes, drop n bytes)) >>= as_length) e;
+            short = t.0;
+            typed = t.1;
+          }
 
-pub delimited_by_kind : (f : Kind × Bool) (wire n : ℕ) (bytes : List ℕ) → is_typed f (Varint n) ≡ false → is_known f
-    (value_after wire (n, bytes)) ≡ true → Delimited f wire n bytes
-delimited_by_kind f wire n bytes none h = by_wire (wire == 2) refl
-  where
-    by_wire : (b : Bool) → (wire == 2) ≡ b → Delimited f wire n bytes
-    by_wire true e = of_length f wire n bytes e h
-    by_wire false e =
-        let number : is_known f (Some (Varint n, bytes)) ≡ true = sym (ap (λ (b : Bool). is_known f
-        (cond b (bytes_at n bytes >>= as_length) (Some (Varint n, bytes)))) e) ∙ h in
-        let t = and_split (is_short (Varint n)) (is_typed f (Varint n)) number in
-        absurd (let typed = t.1 in cc)
+  pub delimited : (f : Kind × Bool) (wire n : ℕ) (bytes : List ℕ) → wire ≡ 2
+      → is_known_in table f (value_after wire (n, bytes)) ≡
+      true → Delimited f wire n bytes
+  delimited f wire n bytes w h = of_length f wire n bytes (eq-eqb wire 2 w) h
+
+  pub delimited_by_kind : (f : Kind × Bool) (wire n : ℕ) (bytes : List ℕ) → is_typed_in table f (Varint n) ≡ false
+      → is_known_in table f
+      (value_after wire (n, bytes)) ≡ true → Delimited f wire n bytes
+  delimited_by_kind f wire n bytes none h = by_wire (wire == 2) refl
+    where
+      by_wire : (b : Bool) → (wire == 2) ≡ b → Delimited f wire n bytes
+      by_wire true e = of_length f wire n bytes e h
+      by_wire false e =
+          let number : is_known_in table f (Some (Varint n, bytes)) ≡ true = sym (ap (λ (b : Bool). is_known_in table f
+          (cond b (bytes_at n bytes >>= as_length) (Some (Varint n, bytes)))) e) ∙ h in
+          let t = and_split (is_short (Varint n)) (is_typed_in table f (Varint n)) number in
+          absurd (let typed = t.1 in cc)
 
 pub offset_is : (wire n end : ℕ) (bytes rest : List ℕ) (w : RecordValue) → value_after wire (n, bytes) ≡ Some (w, rest)
     → cond (wire == 2) (end - length bytes) 0 ≡ content_offset w (end - length rest)
@@ -212,174 +220,189 @@ record Known (bytes : List ℕ) (r : FieldRecord) (rest : List ℕ) : Type 0 whe
 front_parts : (bytes key body rest : List ℕ) → bytes ≡ (key ++ body) ++ rest → bytes ≡ key ++ (body ++ rest)
 front_parts bytes key body rest e = e ∙ append_assoc key body rest
 
-untyped : (w : RecordValue) → ((k : Kind) → is_written_value is_nested k w ≡ false) → is_written_element is_nested U32 w
-    ≡ false → (k : Kind) (repeated : Bool) → is_typed (k, repeated) w ≡ false
-untyped w v u k false = v k
-untyped w v u U32 true = u
-untyped w v u U64 true = v U64
-untyped w v u Boolean true = v Boolean
-untyped w v u Enumeration true = v Enumeration
-untyped w v u Text true = v Text
-untyped w v u ByteString true = v ByteString
-untyped w v u (Message s) true = v (Message s)
+module _ (table : Table) where
+  untyped : (w : RecordValue) → ((k : Kind) → is_written_value (is_nested_in table) k w ≡ false)
+      → is_written_element (is_nested_in table) U32 w
+      ≡ false → (k : Kind) (repeated : Bool) → is_typed_in table (k, repeated) w ≡ false
+  untyped w v u k false = v k
+  untyped w v u U32 true = u
+  untyped w v u U64 true = v U64
+  untyped w v u Boolean true = v Boolean
+  untyped w v u Enumeration true = v Enumeration
+  untyped w v u Text true = v Text
+  untyped w v u ByteString true = v ByteString
+  untyped w v u (Message s) true = v (Message s)
 
-known_of : (f : Kind × Bool) (n : ℕ) (w : RecordValue) (bytes rest : List ℕ) → is_typed f w ≡ true → BeginsWith
-    (IsRecordWithin 0) bytes (record_of n w, rest) → Known bytes (record_of n w) rest
-known_of f n (Varint m) bytes rest h b =
-    let parts = front_parts bytes b.is.key b.is.body rest (b.parts ∙ ap (λ (t : List ℕ). t ++ rest) b.is.parts) in
-    record {
-      body = b.is.body ++ rest;
-      wire = 0;
-      first = m;
-      after = rest;
-      key = ap key_at parts ∙ key_again b.is.key (b.is.body ++ rest) n 0 b.is.keyed;
-      varint = varint_again b.is.body rest m b.is.valued;
-      value = refl;
-    }
-known_of f n (Length bs) bytes rest h b =
-    let parts = front_parts bytes b.is.key b.is.body rest (b.parts ∙ ap (λ (t : List ℕ). t ++ rest) b.is.parts) in
-    let len = b.is.valued in
-    let same : b.is.body ++ rest ≡ len.0 ++ (bs ++ rest) = ap (λ (t : List ℕ). t ++ rest) len.2 ∙ append_assoc len.0 bs
-    rest in
-    record {
-      body = b.is.body ++ rest;
-      wire = 2;
-      first = length bs;
-      after = bs ++ rest;
-      key = ap key_at parts ∙ key_again b.is.key (b.is.body ++ rest) n 2 b.is.keyed;
-      varint = ap varint_at same ∙ varint_again len.0 (bs ++ rest) (length bs) len.1;
-      value = ap (λ (o : Option (List ℕ × List ℕ)). o >>= as_length) (bytes_again bs rest (length bs) refl);
-    }
-known_of (k, b) n (Fixed64 bs) bytes rest h t =
-    absurd (let none = untyped (Fixed64 bs) (λ j. refl) refl k b in cc)
-known_of (k, b) n (Group bs) bytes rest h t =
-    absurd (let none = untyped (Group bs) (λ j. refl) refl k b in cc)
-known_of (k, b) n (Fixed32 bs) bytes rest h t =
-    absurd (let none = untyped (Fixed32 bs) (λ j. refl) refl k b in cc)
-
--- What a payload begins with if the records of these rows are left: a record of one of them.
-pub record Front (rows : List Row) (end : ℕ) (bytes : List ℕ) : Type 0 where
-  pub number : ℕ
-  pub wire : ℕ
-  pub first : ℕ
-  pub body : List ℕ
-  pub value : RecordValue
-  pub rest : List ℕ
-  pub next : Next
-  pub front_is : front_at bytes ≡ Some (number, wire, first, body)
-  pub value_is : value_after wire (first, body) ≡ Some (value, rest)
-  pub next_is : next_field rows number ≡ Some next
-  pub short : is_short value ≡ true
-  pub typed : is_typed next.field value ≡ true
-  pub shorter : length rest < length bytes
-  pub items : records_past (record_at 0) end 0 bytes
-      ≡ Ok (place end bytes (record_of number value) rest) ∷ records_past (record_at 0) end 0 rest
-  pub coming : are_coming next.rows (records_past (record_at 0) end 0 rest) ≡ true
-
-pub front : (rows : List Row) (end : ℕ) (bytes : List ℕ) → 0 < length bytes
-    → are_coming rows (records_past (record_at 0) end 0 bytes) ≡ true → Front rows end bytes
-front rows end bytes some h = by_record (record_at 0 bytes) refl
-  where
-    by_next : (x : FieldRecord × List ℕ) → record_at 0 bytes ≡ Some x → (o : Option Next)
-        → next_field rows x.0.number ≡ o → (elim o [
-          | None ↦ false
-          | Some next ↦ (is_short x.0.value && is_typed next.field x.0.value)
-              && are_coming next.rows (records_past (record_at 0) end 0 x.1)
-        ]) ≡ true → Front rows end bytes
-    by_next x e None is g = absurd cc
-    by_next x e (Some next) is g =
-        let s = step 0 end bytes x.0 x.1 e in
-        let t = and_split _ _ g in
-        let u = and_split _ _ t.0 in
-        let k = known_of next.field x.0.number x.0.value bytes x.1 u.1 (read_encoded 0 bytes x e) in
-        record {
-          number = x.0.number;
-          wire = k.wire;
-          first = k.first;
-          body = k.after;
-          value = x.0.value;
-          rest = x.1;
-          next = next;
-          front_is = front_from bytes k.body k.after x.0.number k.wire k.first k.key k.varint;
-          value_is = k.value;
-          next_is = is;
-          short = u.0;
-          typed = u.1;
-          shorter = s.shorter;
-          items = s.more;
-          coming = t.1;
-        }
-
-    by_record : (o : Option (FieldRecord × List ℕ)) → record_at 0 bytes ≡ o → Front rows end bytes
-    by_record None e = absurd (let stop = ap (are_coming rows) (read_stop (record_at 0) end bytes some e) in cc)
-    by_record (Some x) e =
-        let s = step 0 end bytes x.0 x.1 e in
-        by_next x e (next_field rows x.0.number) refl (sym (ap (are_coming rows) s.more) ∙ h)
-
--- The same by what the program has read: a value of a kind, its part and its bytes, and the bytes after it.
-pub record Turn (rows : List Row) (end : ℕ) (bytes : List ℕ) (n : ℕ) (next : Next) (k : Kind) (p : Part)
-    (bs rest : List ℕ) (wire first : ℕ) (body : List ℕ) : Type 0 where
-  pub value : RecordValue
-  pub value_is : value_after wire (first, body) ≡ Some (value, rest)
-  pub kind : next.field.0 ≡ k
-  pub part : record_part next.field value ≡ p
-  pub content_is : content value ≡ bs
-  pub shorter : length rest < length bytes
-  pub items : records_past (record_at 0) end 0 bytes
-      ≡ Ok (place end bytes (record_of n value) rest) ∷ records_past (record_at 0) end 0 rest
-  pub coming : are_coming next.rows (records_past (record_at 0) end 0 rest) ≡ true
-
-module _ (rows : List Row) (end : ℕ) (bytes : List ℕ) (f : Front rows end bytes) (n wire first : ℕ) (body : List ℕ)
-    (k : front_at bytes ≡ Some (n, wire, first, body)) where
-  abbrev front_read : ℕ × ℕ × ℕ × List ℕ
-  front_read = (f.number, f.wire, f.first, f.body)
-
-  abbrev program_read : ℕ × ℕ × ℕ × List ℕ
-  program_read = (n, wire, first, body)
-
-  same_front : front_read ≡ program_read
-  same_front = some_is front_read program_read (sym f.front_is ∙ k)
-
-  next_there : next_field rows n ≡ Some f.next
-  next_there = ap (λ (p : ℕ × ℕ × ℕ × List ℕ). next_field rows p.0) (sym same_front) ∙ f.next_is
-
-  value_there : value_after wire (first, body) ≡ Some (f.value, f.rest)
-  value_there = ap (λ (p : ℕ × ℕ × ℕ × List ℕ). value_after p.1 (p.2, p.3)) (sym same_front) ∙ f.value_is
-
-  pub front_next : is_some (next_field rows n) ≡ true
-  front_next = ap is_some next_there
-
-  pub front_known : (next : Next) → Some next ≡ next_field rows n → is_known next.field (value_after wire (first, body))
-      ≡ true
-  front_known next x =
-      let is : f.next ≡ next = some_is f.next next (sym next_there ∙ sym x) in
-      ap (is_known next.field) value_there
-      ∙ ap (λ (b : Bool). b && is_typed next.field f.value) f.short
-      ∙ ap (λ (m : Next). is_typed m.field f.value) (sym is) ∙ f.typed
-
-  pub turn : (next : Next) (kind : Kind) (p : Part) (bs rest : List ℕ) → Some next ≡ next_field rows n → option_map
-      (typed_parts next.field) (value_after wire (first, body)) ≡ Some (kind, p, bs, rest) → Turn rows end bytes n next
-      kind p bs rest wire first body
-  turn next kind p bs rest x v =
-      let number : f.number ≡ n = ap (λ (p : ℕ × ℕ × ℕ × List ℕ). p.0) same_front in
-      let is : f.next ≡ next = some_is f.next next (sym next_there ∙ sym x) in
-      let read : Kind × Part × List ℕ × List ℕ = (next.field.0, record_part next.field f.value, content f.value, f.rest)
-      in
-      let given : Kind × Part × List ℕ × List ℕ = (kind, p, bs, rest) in
-      let same : read ≡ given = some_is read given (sym (ap (option_map (typed_parts next.field)) value_there) ∙ v) in
-      let last : f.rest ≡ rest = ap (λ (q : Kind × Part × List ℕ × List ℕ). q.3) same in
+  known_of : (f : Kind × Bool) (n : ℕ) (w : RecordValue) (bytes rest : List ℕ) → is_typed_in table f w ≡ true
+      → BeginsWith
+      (IsRecordWithin 0) bytes (record_of n w, rest) → Known bytes (record_of n w) rest
+  known_of f n (Varint m) bytes rest h b =
+      let parts = front_parts bytes b.is.key b.is.body rest (b.parts ∙ ap (λ (t : List ℕ). t ++ rest) b.is.parts) in
       record {
-        value = f.value;
-        value_is = value_there ∙ ap (λ (r : List ℕ). Some (f.value, r)) last;
-        kind = ap (λ (q : Kind × Part × List ℕ × List ℕ). q.0) same;
-        part = ap (λ (q : Kind × Part × List ℕ × List ℕ). q.1) same;
-        content_is = ap (λ (q : Kind × Part × List ℕ × List ℕ). q.2) same;
-        shorter = subst (λ (r : List ℕ). length r < length bytes) last f.shorter;
-        items = f.items
-            ∙ ap (λ (m : ℕ). Ok (place end bytes (record_of m f.value) f.rest) ∷ records_past (record_at 0) end 0
-            f.rest) number
-            ∙ ap (λ (r : List ℕ). Ok (place end bytes (record_of n f.value) r) ∷ records_past (record_at 0) end 0 r)
-            last;
-        coming = ap (λ (m : Next). are_coming m.rows (records_past (record_at 0) end 0 rest)) (sym is)
-            ∙ ap (λ (r : List ℕ). are_coming f.next.rows (records_past (record_at 0) end 0 r)) (sym last) ∙ f.coming;
+        body = b.is.body ++ rest;
+        wire = 0;
+        first = m;
+        after = rest;
+        key = ap key_at parts ∙ key_again b.is.key (b.is.body ++ rest) n 0 b.is.keyed;
+        varint = varint_again b.is.body rest m b.is.valued;
+        value = refl;
       }
+  known_of f n (Length bs) bytes rest h b =
+      let parts = front_parts bytes b.is.key b.is.body rest (b.parts ∙ ap (λ (t : List ℕ). t ++ rest) b.is.parts) in
+      let len = b.is.valued in
+      let same : b.is.body ++ rest ≡ len.0 ++ (bs ++ rest) = ap (λ (t : List ℕ). t ++ rest) len.2
+      ∙ append_assoc len.0 bs
+      rest in
+      record {
+        body = b.is.body ++ rest;
+        wire = 2;
+        first = length bs;
+        after = bs ++ rest;
+        key = ap key_at parts ∙ key_again b.is.key (b.is.body ++ rest) n 2 b.is.keyed;
+        varint = ap varint_at same ∙ varint_again len.0 (bs ++ rest) (length bs) len.1;
+        value = ap (λ (o : Option (List ℕ × List ℕ)). o >>= as_length) (bytes_again bs rest (length bs) refl);
+      }
+  known_of (k, b) n (Fixed64 bs) bytes rest h t =
+      absurd (let none = untyped (Fixed64 bs) (λ j. refl) refl k b in cc)
+  known_of (k, b) n (Group bs) bytes rest h t =
+      absurd (let none = untyped (Group bs) (λ j. refl) refl k b in cc)
+  known_of (k, b) n (Fixed32 bs) bytes rest h t =
+      absurd (let none = untyped (Fixed32 bs) (λ j. refl) refl k b in cc)
+
+  -- What a payload begins with if the records of these rows are left: a record of one of them.
+  pub record Front (rows : List Row) (end : ℕ) (bytes : List ℕ) : Type 0 where
+    pub number : ℕ
+    pub wire : ℕ
+    pub first : ℕ
+    pub body : List ℕ
+    pub value : RecordValue
+    pub rest : List ℕ
+    pub next : Next
+    pub front_is : front_at bytes ≡ Some (number, wire, first, body)
+    pub value_is : value_after wire (first, body) ≡ Some (value, rest)
+    pub next_is : next_field rows number ≡ Some next
+    pub short : is_short value ≡ true
+    pub typed : is_typed_in table next.field value ≡ true
+    pub shorter : length rest < length bytes
+    pub items : records_past (record_at 0) end 0 bytes
+        ≡ Ok (place end bytes (record_of number value) rest) ∷ records_past (record_at 0) end 0 rest
+    pub coming : are_coming_in table next.rows (records_past (record_at 0) end 0 rest) ≡ true
+
+  pub front : (rows : List Row) (end : ℕ) (bytes : List ℕ) → 0 < length bytes
+      → are_coming_in table rows (records_past (record_at 0) end 0 bytes) ≡ true → Front rows end bytes
+  front rows end bytes some h = by_record (record_at 0 bytes) refl
+    where
+      by_next : (x : FieldRecord × List ℕ) → record_at 0 bytes ≡ Some x → (o : Option Next)
+          → next_field rows x.0.number ≡ o → (elim o [
+            | None ↦ false
+            | Some next ↦ (is_short x.0.value && is_typed_in table next.field x.0.value)
+                && are_coming_in table next.rows (records_past (record_at 0) end 0 x.1)
+          ]) ≡ true → Front rows end bytes
+      by_next x e None is g = absurd cc
+      by_next x e (Some next) is g =
+          let s = step 0 end bytes x.0 x.1 e in
+          let t = and_split _ _ g in
+          let u = and_split _ _ t.0 in
+          let k = known_of next.field x.0.number x.0.value bytes x.1 u.1 (read_encoded 0 bytes x e) in
+          record {
+            number = x.0.number;
+            wire = k.wire;
+            first = k.first;
+            body = k.after;
+            value = x.0.value;
+            rest = x.1;
+            next = next;
+            front_is = front_from bytes k.body k.after x.0.number k.wire k.first k.key k.varint;
+            value_is = k.value;
+            next_is = is;
+            short = u.0;
+            typed = u.1;
+            shorter = s.shorter;
+            items = s.more;
+            coming = t.1;
+          }
+
+      by_record : (o : Option (FieldRecord × List ℕ)) → record_at 0 bytes ≡ o → Front rows end bytes
+      by_record None e =
+          absurd (let stop = ap (are_coming_in table rows) (read_stop (record_at 0) end bytes some e) in cc)
+      by_record (Some x) e =
+          let s = step 0 end bytes x.0 x.1 e in
+          by_next x e (next_field rows x.0.number) refl (sym (ap (are_coming_in table rows) s.more) ∙ h)
+
+  -- The same by what the program has read: a value of a kind, its part and its bytes, and the bytes after it.
+  pub record Turn (rows : List Row) (end : ℕ) (bytes : List ℕ) (n : ℕ) (next : Next) (k : Kind) (p : Part)
+      (bs rest : List ℕ) (wire first : ℕ) (body : List ℕ) : Type 0 where
+    pub value : RecordValue
+    pub value_is : value_after wire (first, body) ≡ Some (value, rest)
+    pub kind : next.field.0 ≡ k
+    pub part : record_part_in table next.field value ≡ p
+    pub content_is : content value ≡ bs
+    pub shorter : length rest < length bytes
+    pub items : records_past (record_at 0) end 0 bytes
+        ≡ Ok (place end bytes (record_of n value) rest) ∷ records_past (record_at 0) end 0 rest
+    pub coming : are_coming_in table next.rows (records_past (record_at 0) end 0 rest) ≡ true
+
+  module _ (rows : List Row) (end : ℕ) (bytes : List ℕ) (f : Front rows end bytes) (n wire first : ℕ) (body : List ℕ)
+      (k : front_at bytes ≡ Some (n, wire, first, body)) where
+    abbrev front_read : ℕ × ℕ × ℕ × List ℕ
+    front_read = (f.number, f.wire, f.first, f.body)
+
+    abbrev program_read : ℕ × ℕ × ℕ × List ℕ
+    program_read = (n, wire, first, body)
+
+    same_front : front_read ≡ program_read
+    same_front = some_is front_read program_read (sym f.front_is ∙ k)
+
+    next_there : next_field rows n ≡ Some f.next
+    next_there = ap (λ (p : ℕ × ℕ × ℕ × List ℕ). next_field rows p.0) (sym same_front) ∙ f.next_is
+
+    value_there : value_after wire (first, body) ≡ Some (f.value, f.rest)
+    value_there = ap (λ (p : ℕ × ℕ × ℕ × List ℕ). value_after p.1 (p.2, p.3)) (sym same_front) ∙ f.value_is
+
+    pub front_next : is_some (next_field rows n) ≡ true
+    front_next = ap is_some next_there
+
+    pub front_known : (next : Next) → Some next ≡ next_field rows n
+        → is_known_in table next.field (value_after wire (first, body))
+        ≡ true
+    front_known next x =
+        let is : f.next ≡ next = some_is f.next next (sym next_there ∙ sym x) in
+        ap (is_known_in table next.field) value_there
+        ∙ ap (λ (b : Bool). b && is_typed_in table next.field f.value) f.short
+        ∙ ap (λ (m : Next). is_typed_in table m.field f.value) (sym is) ∙ f.typed
+
+    pub turn : (next : Next) (kind : Kind) (p : Part) (bs rest : List ℕ) → Some next ≡ next_field rows n → option_map
+        (typed_parts_in table next.field) (value_after wire (first, body)) ≡ Some (kind, p, bs, rest)
+        → Turn rows end bytes n next
+        kind p bs rest wire first body
+    turn next kind p bs rest x v =
+        let number : f.number ≡ n = ap (λ (p : ℕ × ℕ × ℕ × List ℕ). p.0) same_front in
+        let is : f.next ≡ next = some_is f.next next (sym next_there ∙ sym x) in
+        let read : Kind × Part × List ℕ × List ℕ = (
+          next.field.0,
+          record_part_in table next.field f.value,
+          content
+              f.value,
+          f.rest,
+        )
+        in
+        let given : Kind × Part × List ℕ × List ℕ = (kind, p, bs, rest) in
+        let same : read ≡ given = some_is read given (sym (ap (option_map (typed_parts_in table next.field))
+        value_there) ∙ v) in
+        let last : f.rest ≡ rest = ap (λ (q : Kind × Part × List ℕ × List ℕ). q.3) same in
+        record {
+          value = f.value;
+          value_is = value_there ∙ ap (λ (r : List ℕ). Some (f.value, r)) last;
+          kind = ap (λ (q : Kind × Part × List ℕ × List ℕ). q.0) same;
+          part = ap (λ (q : Kind × Part × List ℕ × List ℕ). q.1) same;
+          content_is = ap (λ (q : Kind × Part × List ℕ × List ℕ). q.2) same;
+          shorter = subst (λ (r : List ℕ). length r < length bytes) last f.shorter;
+          items = f.items
+              ∙ ap (λ (m : ℕ). Ok (place end bytes (record_of m f.value) f.rest) ∷ records_past (record_at 0) end 0
+              f.rest) number
+              ∙ ap (λ (r : List ℕ). Ok (place end bytes (record_of n f.value) r) ∷ records_past (record_at 0) end 0 r)
+              last;
+          coming = ap (λ (m : Next). are_coming_in table m.rows (records_past (record_at 0) end 0 rest)) (sym is)
+              ∙ ap (λ (r : List ℕ). are_coming_in table f.next.rows (records_past (record_at 0) end 0 r)) (sym last)
+              ∙ f.coming;
+        }

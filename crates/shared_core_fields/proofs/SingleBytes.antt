@@ -17,6 +17,7 @@ use Rattle.shared_core_codec.specs.Canonicity.{IsCanonical, Next, found_or, next
 use Rattle.shared_core_codec.specs.Canonicity.{is_canonical_message_in, is_canonical_payload_in, all_come_read}
 use Rattle.shared_core_codec.specs.Payloads.{payload_meaning}
 use Rattle.shared_core_codec.specs.Table.{table}
+use Rattle.shared_core_codec.proofs.Tables.{is_table}
 use Rattle.shared_core_codec.proofs.CanonicityIn.{all_come_is}
 use Rattle.shared_core_fields.specs.Checked.{IsSingle, IsSingleOf, WritesTo}
 use Rattle.shared_core_fields.specs.Fields.{FieldPart, message_fields, record_part}
@@ -161,7 +162,7 @@ single_fields n s bytes h canonical c read =
     let items = records_past (record_at 0) (length bytes) 0 bytes in
     let p = place (length bytes) bytes r [] in
     let rows = Plain n ByteString ∷ [] in
-    let all = reads s bytes canonical (read_lie 0 (length bytes) bytes [] bytes (omega arith) refl) in
+    let all = reads table is_table s bytes canonical (read_lie 0 (length bytes) bytes [] bytes (omega arith) refl) in
     sym (ap (λ (rs : List Row). map unplaced (item_fields rs items)) h.rows
     ∙ ap (λ (xs : List (Result PlacedRecord WireError)). map unplaced (item_fields rows xs)) one.more
     ∙ ap (λ (o : Option Next). map unplaced (elim o [

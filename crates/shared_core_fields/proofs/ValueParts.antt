@@ -2,66 +2,69 @@
 use Rattle.std.proofs.Common.{◌≡◌, ℕ, List, take, drop, Bool, true, false, Option, Some, refl, sym, ap, ◌∙◌}
 use Rattle.std.specs.Prelude.{option_map}
 use Rattle.shared_core_wire.specs.Grammar.{Varint, Length}
-use Rattle.shared_core_wire.specs.Schema.{Kind, U32, Text, ByteString, Message}
+use Rattle.shared_core_wire.specs.Schema.{Table, Kind, U32, Text, ByteString, Message}
 use Rattle.shared_core_wire.specs.Value.{Part}
-use Rattle.shared_core_codec.specs.Canonicity.{is_canonical_payload, is_written_run}
-use Rattle.shared_core_fields.specs.Coming.{is_typed}
-use Rattle.shared_core_fields.specs.Fields.{record_part}
-use Rattle.shared_core_fields.specs.KnownValues.{is_known, typed_parts, value_after}
+use Rattle.shared_core_codec.specs.Canonicity.{is_canonical_payload_in, is_written_run}
+use Rattle.shared_core_fields.specs.Coming.{is_typed_in}
+use Rattle.shared_core_fields.specs.Fields.{record_part_in}
+use Rattle.shared_core_fields.specs.KnownValues.{is_known_in, typed_parts_in, value_after}
 use Rattle.shared_core_fields.proofs.Fronts.{Delimited, delimited_by_kind}
 
 -- ---- no number is of such a kind
 
-no_text : (r : Bool) (n : ℕ) → is_typed (Text, r) (Varint n) ≡ false
-no_text true n = refl
-no_text false n = refl
+module _ (table : Table) where
+  no_text : (r : Bool) (n : ℕ) → is_typed_in table (Text, r) (Varint n) ≡ false
+  no_text true n = refl
+  no_text false n = refl
 
-no_bytes : (r : Bool) (n : ℕ) → is_typed (ByteString, r) (Varint n) ≡ false
-no_bytes true n = refl
-no_bytes false n = refl
+  no_bytes : (r : Bool) (n : ℕ) → is_typed_in table (ByteString, r) (Varint n) ≡ false
+  no_bytes true n = refl
+  no_bytes false n = refl
 
-no_message : (s : ℕ) (r : Bool) (n : ℕ) → is_typed (Message s, r) (Varint n) ≡ false
-no_message s true n = refl
-no_message s false n = refl
+  no_message : (s : ℕ) (r : Bool) (n : ℕ) → is_typed_in table (Message s, r) (Varint n) ≡ false
+  no_message s true n = refl
+  no_message s false n = refl
 
-module _ (k : Kind) (r : Bool) (wire n : ℕ) (bytes : List ℕ)
-    (h : is_known (k, r) (value_after wire (n, bytes)) ≡ true) where
-  by_kind : (j : Kind) → k ≡ j → is_typed (j, r) (Varint n) ≡ false → Delimited (k, r) wire n bytes
-  by_kind j e none =
-      delimited_by_kind (k, r) wire n bytes (ap (λ (i : Kind). is_typed (i, r) (Varint n)) e ∙ none) h
+  module _ (k : Kind) (r : Bool) (wire n : ℕ) (bytes : List ℕ)
+      (h : is_known_in table (k, r) (value_after wire (n, bytes)) ≡ true) where
+    by_kind : (j : Kind) → k ≡ j → is_typed_in table (j, r) (Varint n) ≡ false → Delimited table (k, r) wire n bytes
+    by_kind j e none =
+        delimited_by_kind table (k, r) wire n bytes (ap (λ (i : Kind). is_typed_in table (i, r) (Varint n)) e ∙ none) h
 
-  pub of_text : k ≡ Text → Delimited (k, r) wire n bytes
-  of_text e = by_kind Text e (no_text r n)
+    pub of_text : k ≡ Text → Delimited table (k, r) wire n bytes
+    of_text e = by_kind Text e (no_text r n)
 
-  pub of_bytes : k ≡ ByteString → Delimited (k, r) wire n bytes
-  of_bytes e = by_kind ByteString e (no_bytes r n)
+    pub of_bytes : k ≡ ByteString → Delimited table (k, r) wire n bytes
+    of_bytes e = by_kind ByteString e (no_bytes r n)
 
-  pub of_message : (s : ℕ) → k ≡ Message s → Delimited (k, r) wire n bytes
-  of_message s e = by_kind (Message s) e (no_message s r n)
+    pub of_message : (s : ℕ) → k ≡ Message s → Delimited table (k, r) wire n bytes
+    of_message s e = by_kind (Message s) e (no_message s r n)
 
--- ---- what is said of the bytes
+  -- ---- what is said of the bytes
 
-pub typed_run : (k : Kind) (r : Bool) (bytes : List ℕ) → k ≡ U32 → is_typed (k, r) (Length bytes) ≡ true →
-    is_written_run bytes ≡ true
-typed_run k true bytes e h = sym (ap (λ (j : Kind). is_typed (j, true) (Length bytes)) e) ∙ h
-typed_run k false bytes e h = absurd (let no = ap (λ (j : Kind). is_typed (j, false) (Length bytes)) e in cc)
+  pub typed_run : (k : Kind) (r : Bool) (bytes : List ℕ) → k ≡ U32 → is_typed_in table (k, r) (Length bytes) ≡ true →
+      is_written_run bytes ≡ true
+  typed_run k true bytes e h = sym (ap (λ (j : Kind). is_typed_in table (j, true) (Length bytes)) e) ∙ h
+  typed_run k false bytes e h = absurd (let no = ap (λ (j : Kind). is_typed_in table (j, false) (Length bytes)) e in cc)
 
-pub typed_message : (k : Kind) (r : Bool) (s : ℕ) (bytes : List ℕ) → k ≡ Message s → is_typed (k, r) (Length bytes) ≡
-    true → is_canonical_payload 100 s bytes ≡ true
-typed_message k true s bytes e h = sym (ap (λ (j : Kind). is_typed (j, true) (Length bytes)) e) ∙ h
-typed_message k false s bytes e h = sym (ap (λ (j : Kind). is_typed (j, false) (Length bytes)) e) ∙ h
+  pub typed_message : (k : Kind) (r : Bool) (s : ℕ) (bytes : List ℕ) → k ≡ Message s
+      → is_typed_in table (k, r) (Length bytes) ≡
+      true → is_canonical_payload_in table 100 s bytes ≡ true
+  typed_message k true s bytes e h = sym (ap (λ (j : Kind). is_typed_in table (j, true) (Length bytes)) e) ∙ h
+  typed_message k false s bytes e h = sym (ap (λ (j : Kind). is_typed_in table (j, false) (Length bytes)) e) ∙ h
 
--- ---- what they give
+  -- ---- what they give
 
-abbrev four : Kind → Part → List ℕ → List ℕ → Option (Kind × Part × List ℕ × List ℕ)
-four k p content rest = Some (k, p, content, rest)
+  abbrev four : Kind → Part → List ℕ → List ℕ → Option (Kind × Part × List ℕ × List ℕ)
+  four k p content rest = Some (k, p, content, rest)
 
-pub parts_are : (k j : Kind) (r : Bool) (wire n : ℕ) (bytes content rest : List ℕ) → Delimited (k, r) wire n bytes → k ≡
-    j → content ≡ take n bytes → rest ≡ drop n bytes
-    → option_map (typed_parts (k, r)) (value_after wire (n, bytes)) ≡ Some
-    (j, record_part (j, r) (Length content), content, rest)
-parts_are k j r wire n bytes content rest d e front back =
-    ap (option_map (typed_parts (k, r))) d.value
-    ∙ ap (λ (z : List ℕ). four k (record_part (k, r) (Length z)) z (drop n bytes)) (sym front)
-    ∙ ap (λ (z : List ℕ). four k (record_part (k, r) (Length content)) content z) (sym back)
-    ∙ ap (λ (z : Kind). four z (record_part (z, r) (Length content)) content rest) e
+  pub parts_are : (k j : Kind) (r : Bool) (wire n : ℕ) (bytes content rest : List ℕ)
+      → Delimited table (k, r) wire n bytes → k ≡
+      j → content ≡ take n bytes → rest ≡ drop n bytes
+      → option_map (typed_parts_in table (k, r)) (value_after wire (n, bytes)) ≡ Some
+      (j, record_part_in table (j, r) (Length content), content, rest)
+  parts_are k j r wire n bytes content rest d e front back =
+      ap (option_map (typed_parts_in table (k, r))) d.value
+      ∙ ap (λ (z : List ℕ). four k (record_part_in table (k, r) (Length z)) z (drop n bytes)) (sym front)
+      ∙ ap (λ (z : List ℕ). four k (record_part_in table (k, r) (Length content)) content z) (sym back)
+      ∙ ap (λ (z : Kind). four z (record_part_in table (z, r) (Length content)) content rest) e

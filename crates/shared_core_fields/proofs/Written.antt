@@ -7,10 +7,9 @@ use Rattle.std.specs.Prelude.{flat_map}
 use Rattle.shared_core_wire.specs.Schema.{U32, Text, ByteString, Message}
 use Rattle.shared_core_wire.specs.Overlay.{low_numbers}
 use Rattle.shared_core_codec.specs.Table.{table}
-use Rattle.shared_core_codec.specs.Payloads.{payload_meaning}
 use Rattle.shared_core_fields.specs.Fields.{FieldPart, message_fields}
 use Rattle.shared_core_fields.specs.Runs.{run_numbers}
-use Rattle.shared_core_fields.specs.Views.{IsAt, value_kind, value_part, value_bytes}
+use Rattle.shared_core_fields.specs.Views.{IsAt, message_meaning, value_kind, value_part, value_bytes}
 use Rattle.shared_core_fields.specs.Entries.{LevelField, within_field, field_entries}
 use Rattle.shared_core_fields.specs.Rows.{TableRow, number_row, bytes_row, run_rows, field_rows, level_rows}
 use Rattle.shared_core_fields.specs.Rows.{fields_rows, entry_row, IsPlaced, ArePlaced, written_at, WritesRows}
@@ -95,15 +94,17 @@ pub run_length : (level n : ℕ) (ns : List ℕ) → length (run_rows level n U3
 run_length level n [] = refl
 run_length level n (m ∷ ns) = ap suc (run_length level n ns)
 
-pub run_field : (level n : ℕ) (repeated : Bool) (value : FieldValue) (run : Run) → value ≡ v.Numbers run → field_rows
+pub run_field : {T S : _} (level n : ℕ) (repeated : Bool) (value : FieldValue (CanonicalPayload T S)) (run : Run)
+    → value ≡ v.Numbers run → field_rows
     level (n, (value_kind value, repeated), value_part value) ≡ run_rows level n U32
     (low_numbers (run_numbers run.bytes.now))
-run_field level n repeated value run e = ap
-    (λ (x : FieldValue). field_rows level (n, (value_kind x, repeated), value_part x)) e
+run_field {T} {S} level n repeated value run e = ap
+    (λ (x : FieldValue (CanonicalPayload T S)). field_rows level (n, (value_kind x, repeated), value_part x)) e
 
 -- ---- a field with a row of its own
 
-pub own_entry : (payload : List ℕ) (value : FieldValue) (n offset level : ℕ) (repeated : Bool) →
+pub own_entry : {T S : _} (payload : List ℕ) (value : FieldValue (CanonicalPayload T S)) (n offset level : ℕ) (repeated
+    : Bool) →
     ((run : Run) → value ≡ v.Numbers run → ⊥) → IsExact value → IsAt payload offset (value_bytes value)
     → (field_rows level (n, (value_kind value, repeated), value_part value) ≡ entry_row payload
     (value_entry value n offset level) ∷ []) × IsPlaced payload (value_entry value n offset level)
@@ -194,9 +195,10 @@ field_step whole left level at count own_count new_count start old own mid all i
           (joined whole (field_rows level f) inner both count own_count old own mid is c a b) w),
     )
 
-pub message_rows : (left level n : ℕ) (repeated : Bool) (value : FieldValue) (m : CanonicalPayload) → 0 < left → value ≡
+pub message_rows : {T S : _} (left level n : ℕ) (repeated : Bool) (value : FieldValue (CanonicalPayload T S))
+    (m : CanonicalPayload T S) → 0 < left → value ≡
     v.Message m
     → level_rows (field_entries left level (n, (value_kind value, repeated), value_part value)) ≡ field_rows level
     (n, (value_kind value, repeated), value_part value) ++ fields_rows (left - 1) (level + 1)
-    (message_fields (table m.schema) (payload_meaning m.schema m.bytes.now))
+    (message_fields (table m.schema) (message_meaning m))
 message_rows left level n repeated value m l e = ap level_rows (of_message left level n repeated value m l e)

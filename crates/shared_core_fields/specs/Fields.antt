@@ -2,12 +2,11 @@
 use Rattle.std.specs.Prelude.{ℕ, Bool, true, false, List, [], ◌∷◌, ◌++◌, if◌then◌else◌, map, flat_map}
 use Rattle.shared_core_wire.specs.Grammar.{RecordValue, Length, FieldRecord}
 use Rattle.shared_core_wire.specs.Encoding.{record_list_bytes}
-use Rattle.shared_core_wire.specs.Schema.{Kind, Row, U32, Message, member_kind, Plain, Optional, Repeated, OneOf}
+use Rattle.shared_core_wire.specs.Schema.{Table, Kind, Row, U32, Message, member_kind, Plain, Optional, Repeated, OneOf}
 use Rattle.shared_core_wire.specs.Value.{Part, Parts, Absent, Nested, Elements, Member, nil, cons}
 use Rattle.shared_core_wire.specs.Canonical.{is_default, packed_values, part_values}
-use Rattle.shared_core_wire.specs.Overlay.{scalar_part, low_numbers}
-use Rattle.shared_core_codec.specs.Table.{table}
-use Rattle.shared_core_codec.specs.Payloads.{payload_meaning}
+use Rattle.shared_core_wire.specs.Overlay.{scalar_part, low_numbers, meaning}
+use Rattle.shared_core_codec.specs.Table.{table as protocol}
 use Rattle.shared_core_fields.specs.Runs.{run_numbers}
 
 -- A field: its number, its kind and whether it is repeated, and the part that it holds; of a repeated field one
@@ -45,18 +44,22 @@ message_fields rows ps = []
 
 -- ---- by a record
 
--- The part that a record of a canonical payload gives to a field of a kind, repeated or not.
+-- The part that a record of a canonical payload of a table gives to a field of a kind, repeated or not.
+abbrev pub record_part_in : Table → Kind × Bool → RecordValue → Part
+record_part_in table (U32, repeated) (Length run) = Elements (low_numbers (run_numbers run))
+record_part_in table (Message s, repeated) (Length bytes) = Nested (meaning table 100 s bytes)
+record_part_in table (k, repeated) w = scalar_part k w
+
+-- The same for the schemas of the protocol.
 abbrev pub record_part : Kind × Bool → RecordValue → Part
-record_part (U32, repeated) (Length run) = Elements (low_numbers (run_numbers run))
-record_part (Message s, repeated) (Length bytes) = Nested (payload_meaning s bytes)
-record_part (k, repeated) w = scalar_part k w
+record_part = record_part_in protocol
 
 -- ---- back to the payload
 
 -- The record values of a field of a kind, repeated or not, that holds a part.
 abbrev pub field_values : Kind × Bool → Part → List RecordValue
-field_values (U32, true) p = packed_values U32 (part_values table p U32)
-field_values (k, repeated) p = part_values table p k
+field_values (U32, true) p = packed_values U32 (part_values protocol p U32)
+field_values (k, repeated) p = part_values protocol p k
 
 -- The records of a field.
 abbrev pub field_records : FieldPart → List FieldRecord

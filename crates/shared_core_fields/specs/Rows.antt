@@ -6,10 +6,11 @@ use Rattle.shared_core_wire.specs.Schema.{Kind, U32, U64, Boolean, Enumeration, 
 use Rattle.shared_core_wire.specs.Value.{Part, Parts, Number, Bytes, Nested, Elements, nil, cons}
 use Rattle.shared_core_wire.specs.Canonical.{written_number, canonical_payload}
 use Rattle.shared_core_codec.specs.FieldParts.{enum_number}
-use Rattle.shared_core_codec.specs.Payloads.{payload_meaning}
 use Rattle.shared_core_codec.specs.Table.{table}
 use Rattle.shared_core_fields.specs.Fields.{FieldPart}
+use Rattle.shared_core_fields.specs.Views.{message_meaning}
 use Rattle.shared_core_fields.specs.Entries.{LevelField, field_entries, message_entries}
+use Rattle.shared_core_fields.specs.declared.fields.CanonicalPayload.{CanonicalPayload}
 use Rattle.shared_core_fields.specs.declared.fields.FieldValue.{FieldValue}
 use Rattle.shared_core_fields.specs.declared.fields.FieldValue.TheVariants as v
 use Rattle.shared_core_fields.specs.declared.table.FieldEntry.{FieldEntry}
@@ -140,7 +141,7 @@ bytes_entry k m size n offset level = record {
 }
 
 -- The entry of a value of a field at an offset.
-abbrev pub value_entry : FieldValue → ℕ → ℕ → ℕ → FieldEntry
+abbrev pub value_entry : {T S : _} → FieldValue (CanonicalPayload T S) → ℕ → ℕ → ℕ → FieldEntry
 value_entry (v.U32 m) n offset level = number_entry U32 m n level
 value_entry (v.U64 m) n offset level = number_entry U64 m n level
 value_entry (v.Boolean b) n offset level = number_entry Boolean (from_bool b) n level
@@ -152,6 +153,6 @@ value_entry (v.Message m) n offset level = bytes_entry (Message m.schema) m.sche
 value_entry (v.Numbers run) n offset level = bytes_entry U32 0 (length run.bytes.now) n offset level
 
 -- The bytes of a message are the canonical payload of what it means.
-abbrev pub IsExact : FieldValue → Type 0
-IsExact (v.Message m) = m.bytes.now ≡ canonical_payload table m.schema (payload_meaning m.schema m.bytes.now)
+abbrev pub IsExact : {T S : _} → FieldValue (CanonicalPayload T S) → Type 0
+IsExact (v.Message m) = m.bytes.now ≡ canonical_payload table m.schema (message_meaning m)
 IsExact value = Unit {0}

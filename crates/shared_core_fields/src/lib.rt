@@ -7,6 +7,7 @@ pub mod fields;
 mod known;
 pub mod laws;
 mod next;
+pub mod payload_table;
 pub mod runs;
 mod shortest;
 pub mod table;

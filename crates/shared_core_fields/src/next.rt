@@ -4,25 +4,21 @@ ghost use Rattle.std.specs.Prelude.{◌≡◌, map, option_map, is_some, true, f
 ghost use Rattle.std.specs.Borrow.{Bor};
 ghost use Rattle.shared_core_codec.specs.Canonicity.{is_plain, next_field, next_view};
 ghost use Rattle.shared_core_codec.specs.ProgramRows.{field_in_row, field_view, found_view, kind_view};
-ghost use Rattle.shared_core_codec.specs.ProgramRows.{member_numbered, row_view, rows_view};
+ghost use Rattle.shared_core_codec.specs.ProgramRows.{member_numbered, row_view};
 ghost use Rattle.shared_core_codec.specs.declared.rows.Field.{Field};
-ghost use Rattle.shared_core_fields.specs.Coming.{IsRowField, found_next, is_repeated, of_row, IsSingleRow};
+ghost use Rattle.shared_core_fields.specs.Coming.{IsRowField, found_next, is_repeated, next_parts, of_row, IsSingleRow};
 
 use shared_core_codec::any_table::{RowShape, SchemaRow};
 use shared_core_codec::canonical::NextField;
 use shared_core_codec::rows::{Field, Found, Row};
 
-/// A field of a row of which a record may come next, as `next_field` returns it, with the rows of which records may
-/// come after that record.
+/// A field of a row of which a record may come next, as `next_field` returns it: the field, whether it is plain, and
+/// the rows of which records may come after that record.
 #[inline(always)]
-fn as_next<'a>(row: &Row, field: &Field, rows: &'a [Row]) -> NextField<'a>
-    ensures { next_view result ≡ found_next (row_view row.now) field.now (rows_view rows.entry) }
+fn as_next<'a, R: SchemaRow>(row: &R, field: &Field, rows: &'a [R]) -> (Found, bool, &'a [R])
+    ensures { next_parts R.view result ≡ found_next (R.view row.now) field.now (map R.view rows.now) }
 {
-    NextField {
-        field: found_in(row, field),
-        is_plain: is_plain(row),
-        rows,
-    }
+    (found_in(row, field), is_plain(row), rows)
 }
 
 /// The first row and its field, if that is one field which is not repeated and has the number, as most often, and the
@@ -156,8 +152,8 @@ pub(crate) fn is_repeated<R: SchemaRow>(row: &R) -> bool
 
 /// The field of which a record may come next, as `next_field` has it: most often that of the first row.
 #[inline(always)]
-pub(crate) fn find_next<'a>(rows: &'a [Row], number: u32) -> Option<NextField<'a>>
-    ensures { option_map next_view result ≡ next_field (map row_view rows.now) number }
+fn next_in<'a, R: SchemaRow>(rows: &'a [R], number: u32) -> Option<(Found, bool, &'a [R])>
+    ensures { option_map (next_parts R.view) result ≡ next_field (map R.view rows.now) number }
 {
     if let Some((row, field, after)) = first_field(rows, number) {
         return Some(as_next(row, field, after));
@@ -166,13 +162,26 @@ pub(crate) fn find_next<'a>(rows: &'a [Row], number: u32) -> Option<NextField<'a
     Some(as_next(row, field, after))
 }
 
-/// The same where there is such a field.
+/// The same of the protocol's rows.
 #[inline(always)]
-pub(crate) fn known_next<'a>(rows: &'a [Row], number: u32) -> NextField<'a>
-    requires { is_some (next_field (map row_view rows.now) number) ≡ true }
-    ensures { Some (next_view result) ≡ next_field (map row_view rows.now) number }
+pub(crate) fn find_next<'a>(rows: &'a [Row], number: u32) -> Option<NextField<'a>>
+    ensures { option_map next_view result ≡ next_field (map row_view rows.now) number }
 {
-    let Some(next) = find_next(rows, number) else {
+    let (field, is_plain, rows) = next_in(rows, number)?;
+    Some(NextField {
+        field,
+        is_plain,
+        rows,
+    })
+}
+
+/// The same of any rows, where there is such a field.
+#[inline(always)]
+pub(crate) fn known_next<'a, R: SchemaRow>(rows: &'a [R], number: u32) -> (Found, bool, &'a [R])
+    requires { is_some (next_field (map R.view rows.now) number) ≡ true }
+    ensures { Some (next_parts R.view result) ≡ next_field (map R.view rows.now) number }
+{
+    let Some(next) = next_in(rows, number) else {
         unreachable!();
     };
     next

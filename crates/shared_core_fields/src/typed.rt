@@ -2,26 +2,30 @@
 
 ghost use Rattle.std.specs.Prelude.{◌≡◌, ◌-◌, ◌==◌, if◌then◌else◌, true, length, option_map, Some};
 ghost use Rattle.shared_core_codec.specs.ProgramRows.{found_view};
-ghost use Rattle.shared_core_fields.specs.KnownValues.{is_known, typed_parts, value_after};
-ghost use Rattle.shared_core_fields.specs.Views.{value_kind, value_part, value_bytes};
+ghost use Rattle.shared_core_fields.specs.KnownValues.{is_known_in, typed_parts_in, value_after};
+ghost use Rattle.shared_core_fields.specs.Views.{message_schemas, value_bytes, value_kind, value_part, value_schemas};
 
 use crate::fields::{CanonicalPayload, FieldValue};
+use crate::payload_table::Tabled;
 use crate::runs::Run;
 use shared_core_codec::rows::{Found, Kind};
 use shared_core_wire::varint::low_32;
 
-/// The value of a record of a canonical payload, for the field that it is of, by its wire type, the varint after its
-/// key and the bytes after that. Returns it and the bytes after it.
+/// The value of a record of a canonical payload of a table, for the field that it is of, by its wire type, the varint
+/// after its key and the bytes after that. Returns it and the bytes after it.
 #[inline(always)]
-pub(crate) fn known_value<'a>(
+pub(crate) fn known_value<'a, T: Tabled + Copy>(
+    schemas: T,
     found: Found,
     wire: u8,
     number: u64,
     bytes: &'a [u8],
-) -> (FieldValue<'a>, &'a [u8])
-    requires { is_known (found_view found) (value_after wire (number, bytes.now)) ≡ true }
-    ensures { option_map (typed_parts (found_view found)) (value_after wire (number, bytes.now))
+) -> (FieldValue<'a, CanonicalPayload<'a, T>>, &'a [u8])
+    requires { is_known_in (T.table_of schemas) (found_view found) (value_after wire (number, bytes.now)) ≡ true }
+    ensures parts { option_map (typed_parts_in (T.table_of schemas) (found_view found))
+        (value_after wire (number, bytes.now))
         ≡ Some (value_kind result.0, value_part result.0, value_bytes result.0, result.1.now) }
+    ensures schemas { value_schemas result.0 ≡ message_schemas schemas (value_kind result.0) }
 {
     // a kind has one wire type, except for a uint32
     match found.kind {
@@ -49,7 +53,11 @@ pub(crate) fn known_value<'a>(
         Kind::Message(schema) => {
             let (bytes, rest) = bytes.split_at(number as usize);
             (
-                FieldValue::Message(CanonicalPayload { schema, bytes }),
+                FieldValue::Message(CanonicalPayload {
+                    schemas,
+                    schema,
+                    bytes,
+                }),
                 rest,
             )
         }

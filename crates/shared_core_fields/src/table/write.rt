@@ -17,6 +17,7 @@ ghost use Rattle.shared_core_wire.specs.Overlay.{low_numbers};
 use super::FieldEntry;
 use crate::fields::{CanonicalPayload, Field, FieldValue};
 use crate::runs::Run;
+use shared_core_codec::any_table::ProtocolSchemas;
 use shared_core_wire::records::LEVELS;
 
 /// Writes the entries of the fields of all levels of a canonical payload, in order, at the front of a slice: as many as
@@ -34,7 +35,12 @@ pub(super) fn write_payload(out: &mut [FieldEntry], schema: u32, bytes: &[u8]) -
         offset: 0,
         level: 0,
     };
-    write_within(out, 0, CanonicalPayload { schema, bytes }, place, LEVELS)
+    let payload = CanonicalPayload {
+        schemas: ProtocolSchemas,
+        schema,
+        bytes,
+    };
+    write_within(out, 0, payload, place, LEVELS)
 }
 
 /// Where a message is: the payload that it is in, the offset of its bytes there, and its level.

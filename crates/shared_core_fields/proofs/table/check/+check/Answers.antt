@@ -14,6 +14,7 @@ use Rattle.shared_core_wire.specs.Reader.{record_at}
 use Rattle.shared_core_wire.specs.declared.error.WireError.{WireError}
 use Rattle.shared_core_codec.specs.Payloads.{payload_meaning}
 use Rattle.shared_core_codec.specs.Table.{table}
+use Rattle.shared_core_codec.proofs.Tables.{is_table}
 use Rattle.shared_core_codec.specs.Canonicity.{is_canonical_message, is_canonical_payload, all_come_read, next_view}
 use Rattle.shared_core_codec.specs.Canonicity.{coming_after}
 use Rattle.shared_core_codec.specs.ProgramRows.{kind_view, row_view}
@@ -354,7 +355,7 @@ check_message-returns-clause-rows t c =
     ∙ ends_canonical (is_canonical_message levels) end rows left none in
     let canonical = nested_canonical levels c.args.schema bytes (λ i. omega (arith, c.type_inv.bytes i))
     c.requires.short c.requires.levels full in
-    let read = reads c.args.schema bytes canonical (read_lie 0 end bytes [] bytes (omega arith) refl) in
+    let read = reads table is_table c.args.schema bytes canonical (read_lie 0 end bytes [] bytes (omega arith) refl) in
     let last : WritesTo whole (fields_rows levels (100 - levels) (map unplaced (item_fields rows []))) count
     c.loop-rows.out c.loop-rows.out count = (omega arith, nothing whole count c.loop-rows.out) in
     subst (λ (fs : List FieldPart). WritesTo whole (fields_rows levels (100 - levels) fs) c.args.at c.args.out.now
