@@ -28,7 +28,7 @@ use Rattle.shared_core_codec.specs.Payloads.{payload_meaning}
 use Rattle.shared_core_codec.specs.ProgramRows.{field_in_row, field_numbered}
 use Rattle.shared_core_codec.specs.Canonicity.{Next, next_field, is_written_number}
 use Rattle.shared_core_codec.specs.Canonicity.{found_or, is_plain, is_packed}
-use Rattle.shared_core_codec.proofs.Tables.{are_schemas}
+use Rattle.shared_core_codec.proofs.Tables.{are_schemas, is_table}
 use Rattle.shared_core_codec.proofs.Canonicity.{are_bytes, are_bytes_of, IsLow, payload_sound, canonical_below}
 use Rattle.shared_core_codec.proofs.CanonicityExact.{records_encoded, records_encode}
 use Rattle.shared_core_codec.proofs.NextFields.{AreLeft, all_left, next_left}
@@ -311,7 +311,7 @@ run_given_one depth level n ns h =
 
 -- The fields of records, by the rows of a schema.
 abbrev fields_of : ℕ → List FieldRecord → List FieldPart
-fields_of s rs = map (record_field (table s)) rs
+fields_of s rs = map (record_field table (table s)) rs
 
 known_fields : (depth s : ℕ) (content : List ℕ) (rs : List FieldRecord) (v : Parts) → depth ≤ 100 → content ≡
     record_list_bytes rs → list_all encodable rs ≡ true → Fits table v (table s) → levels v ≤ depth → content ≡
@@ -322,7 +322,7 @@ known_fields depth s content rs v d i c f l k z =
     let encodes = records_encode 100 s v f low short in
     let same : rs ≡ message_records table v (table s) = some_is _ _ (sym (records_encoded 0 rs c) ∙ ap (record_list 0)
     (sym i ∙ k) ∙ records_encoded 0 (message_records table v (table s)) encodes) in
-    ap (fields_of s) same ∙ fields_by_value (table s) v (table s) (all_left s) f low encodes
+    ap (fields_of s) same ∙ fields_by_value table is_table (table s) v (table s) (all_left s) f low encodes
 
 bytes_split : (a b : List ℕ) → are_bytes (a ++ b) ≡ true → (are_bytes a ≡ true) × (are_bytes b ≡ true)
 bytes_split a b h = and_split _ _ (sym (list_all-append (λ (x : ℕ). ltb x 256) a b) ∙ h)
@@ -462,8 +462,8 @@ module _ (bytes : List ℕ) (s : ℕ) (left : List Row) (last : Option ℕ) (mor
   one_more w front rest rs o i c v k r =
       let own = step left e.number next g.good found in
       let first : FieldRecord = record { number = e.number; value = w } in
-      let field : record_field (table s) first ≡ (e.number, next.field, record_part next.field w) = ap
-      (found_field e.number w) numbered in
+      let field : record_field table (table s) first ≡ (e.number, next.field, record_part next.field w) = ap
+      (found_field table e.number w) numbered in
       record {
         rs = first ∷ rs;
         is = o ∙ ap (λ (bs : List ℕ). record_bytes first ++ bs) i;
@@ -471,7 +471,7 @@ module _ (bytes : List ℕ) (s : ℕ) (left : List Row) (last : Option ℕ) (mor
         rows =
             r ∙ ap (λ (xs : List TableRow). xs ++ given_of depth level (fields_of s rs))
             (sym (ap (given_one depth level) field ∙ k))
-            ∙ sym (given_more depth level (record_field (table s) first) (fields_of s rs))
+            ∙ sym (given_more depth level (record_field table (table s) first) (fields_of s rs))
             ∙ ap (λ (xs : List TableRow). xs ++ given_of depth level (fields_of s (first ∷ rs))) (sym other);
       }
 

@@ -9,9 +9,9 @@ use std::fmt;
 pub enum Reason {
     /// The schema of its message has no field of its number.
     UnknownField,
-    /// Its field comes before that of the last entry of its message, or is there already and not repeated.
+    /// Its field is before the last one of its message, or is that one, not repeated and in no oneof.
     OutOfOrder,
-    /// Another member of its oneof is there.
+    /// The last field of its message is in the same oneof, also if it is its own field.
     SeveralMembers,
     /// Its kind is not that of its field, or it is a message of another schema.
     WrongKind,

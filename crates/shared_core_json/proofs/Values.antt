@@ -16,11 +16,10 @@ use Rattle.shared_core_wire.specs.Overlay.{low_numbers}
 use Rattle.shared_core_wire.specs.Schema.{Table, U32, Boolean, Enumeration}
 use Rattle.shared_core_wire.specs.Value.{Elements, Number}
 use Rattle.shared_core_codec.specs.FieldParts.{enum_number}
-use Rattle.shared_core_fields.specs.Views.{value_kind, value_part}
+use Rattle.shared_core_fields.specs.Views.{IsOf, message_meaning, value_kind, value_part, value_schemas}
 use Rattle.shared_core_fields.specs.declared.fields.FieldValue.{FieldValue}
 use Rattle.shared_core_fields.specs.declared.fields.FieldValue.TheVariants as v
 use Rattle.shared_core_fields.specs.declared.fields.CanonicalPayload.{CanonicalPayload}
-use Rattle.shared_core_codec.specs.Payloads.{payload_meaning}
 use Rattle.shared_core_wire.specs.Canonical.{part_levels, levels}
 use Rattle.shared_core_json.specs.Fields.{Names}
 use Rattle.shared_core_json.specs.Form.{byte_string_json, enum_digits, items_json_in, part_json_in}
@@ -61,14 +60,14 @@ enum_shown (negsuc n) h =
     rw (lt-ltb n (2 ^ 31) h.sfits) (rw (le-ltb (2 ^ 32 - 1 - n) (2 ^ 31) k) (ap (λ (x : ℕ). 45 ∷ decimal x) m))
 
 -- what is written for a value whose variant is known
-pub shown : (table : Table) (all_names : Names) {E : Type 0} (r : Result (Unit {0}) E) (old new ts : List Token)
-    (texts : Bool) (value known : FieldValue)
+pub shown : {T S : _} (table : Table) (all_names : Names) {E : Type 0} (r : Result (Unit {0}) E)
+    (old new ts : List Token) (texts : Bool) (value known : FieldValue (CanonicalPayload T S))
     → value ≡ known → OnOk r (new ≡ old ++ ts)
     → ts ≡ json_tokens (part_json_in table all_names texts (value_part known) (value_kind known))
     → OnOk r (new ≡ old ++ json_tokens (part_json_in table all_names texts (value_part value) (value_kind value)))
 shown table all_names (Err x) old new ts texts value known is w e = tt
-shown table all_names (Ok x) old new ts texts value known is w e =
-    w ∙ ap (λ (us : List Token). old ++ us) (e ∙ sym (ap (λ (v : FieldValue). json_tokens
+shown {T} {S} table all_names (Ok x) old new ts texts value known is w e =
+    w ∙ ap (λ (us : List Token). old ++ us) (e ∙ sym (ap (λ (v : FieldValue (CanonicalPayload T S)). json_tokens
     (part_json_in table all_names texts (value_part v) (value_kind v))) is))
 
 pub flag_shown : (table : Table) (all_names : Names) (texts b : Bool) → boolean b ∷ [] ≡ json_tokens
@@ -78,10 +77,17 @@ flag_shown table all_names texts true = refl
 flag_shown table all_names texts false = refl
 
 -- a message in a value is less deep than the value
-pub deeper : (value : FieldValue) (m : CanonicalPayload) (left : ℕ) → value ≡ v.Message m → part_levels
-    (value_part value) ≤ left → suc (levels (payload_meaning m.schema m.bytes.now)) ≤ left
+pub deeper : {T S : _} (value : FieldValue (CanonicalPayload T S)) (m : CanonicalPayload T S) (left : ℕ)
+    → value ≡ v.Message m → part_levels (value_part value) ≤ left → suc (levels (message_meaning m)) ≤ left
 unfolding levels
-deeper value m left is h = subst (λ (x : FieldValue). part_levels (value_part x) ≤ left) is h
+deeper {T} {S} value m left is h =
+    subst (λ (x : FieldValue (CanonicalPayload T S)). part_levels (value_part x) ≤ left) is h
+
+-- a message in a value of a table is of that table
+pub same_table : {T : Type 0} {S : _} (schemas : T) (value : FieldValue (CanonicalPayload T S))
+    (m : CanonicalPayload T S) → value ≡ v.Message m → IsOf schemas (value_schemas value) → m.schemas ≡ schemas
+same_table {T} {S} schemas value m is h =
+    subst (λ (x : FieldValue (CanonicalPayload T S)). IsOf schemas (value_schemas x)) is h
 
 pub enum_json : (table : Table) (all_names : Names) (texts : Bool) (n : ℕ)
     → json_tokens (part_json_in table all_names texts (Number n) Enumeration) ≡ number (enum_digits n) ∷ []

@@ -5,6 +5,7 @@ ghost use Rattle.shared_core_json.specs.Fields.{Names, names_of, name_of};
 
 use crate::names;
 use shared_core_codec::any_table::{ProtocolSchemas, Schemas};
+use shared_core_fields::payload_table::TableRef;
 
 /// A table of schemas, with the names that fields have in JSON.
 pub trait NamedSchemas: Schemas {
@@ -23,5 +24,15 @@ impl NamedSchemas for ProtocolSchemas {
     #[inline(always)]
     fn name_of(&self, schema: u32, number: u32) -> &str {
         names::name_of(schema, number)
+    }
+}
+
+/// A table by reference has the names of the table.
+impl<'t, T: NamedSchemas> NamedSchemas for TableRef<'t, T> {
+    ghost names = { λ borrowed. T.names borrowed.table.now };
+
+    #[inline(always)]
+    fn name_of(&self, schema: u32, number: u32) -> &str {
+        self.table.name_of(schema, number)
     }
 }

@@ -9,91 +9,110 @@ ghost use Rattle.base64.specs.GeneralPurpose.{encode_of};
 ghost use Rattle.base64.specs.Engines.{standard};
 ghost use Rattle.shared_core_codec.specs.FieldParts.{enum_number};
 ghost use Rattle.shared_core_wire.specs.Canonical.{levels, part_levels};
-ghost use Rattle.shared_core_wire.specs.Overlay.{low_numbers};
+ghost use Rattle.shared_core_wire.specs.Overlay.{low_numbers, meaning};
 ghost use Rattle.shared_core_wire.specs.Schema.{Table, U32};
 ghost use Rattle.shared_core_wire.specs.Value.{Elements};
-ghost use Rattle.shared_core_codec.specs.Canonicity.{is_canonical_payload, may_recur};
-ghost use Rattle.shared_core_codec.specs.Payloads.{payload_meaning};
+ghost use Rattle.shared_core_codec.specs.Canonicity.{is_canonical_payload_in, may_recur};
 ghost use Rattle.shared_core_fields.specs.Runs.{run_numbers};
-ghost use Rattle.shared_core_fields.specs.Views.{value_kind, value_part};
+ghost use Rattle.shared_core_fields.specs.Views.{IsOf, value_kind, value_part, value_schemas};
 ghost use Rattle.shared_core_json.specs.Fields.{Names, named};
-ghost use Rattle.shared_core_json.specs.Form.{byte_string_json, enum_digits, json_with, part_json, part_json_in};
+ghost use Rattle.shared_core_json.specs.Form.{byte_string_json, enum_digits, json_with_in, part_json_in};
 ghost use Rattle.shared_core_json.specs.Written.{end_tokens, lead_tokens, open_list_after};
 
 use crate::named_schemas::NamedSchemas;
 use base64::encoded_len;
 use base64::engine::general_purpose::STANDARD;
 use json::Writer;
-use shared_core_codec::any_table::ProtocolSchemas;
 use shared_core_codec::utf8::as_text;
 use shared_core_fields::fields::{CanonicalPayload, Field, FieldValue};
+use shared_core_fields::payload_table::{PayloadTable, Tabled};
 use shared_core_fields::runs::Run;
 use shared_core_wire::records::LEVELS;
 use std::alloc::AllocError;
 
-/// Writes the JSON of what a canonical payload means. If an allocation fails, some tokens may be written. If `texts` is
-/// given, bytes that are UTF-8 are not written in base64, but as the object `{"text":".."}`, which proto3's JSON form
-/// does not have. `base64` is a buffer that is overwritten.
-pub fn write_payload(
+/// Writes the JSON of what a canonical payload means, by the names of its table. If an allocation fails, some tokens
+/// may be written. If `texts` is given, bytes that are UTF-8 are not written in base64, but as the object
+/// `{"text":".."}`, which proto3's JSON form does not have. `base64` is a buffer that is overwritten.
+pub fn write_payload<T: NamedSchemas + PayloadTable>(
     out: &mut Writer,
     base64: &mut Vec<u8>,
     texts: bool,
-    payload: CanonicalPayload<'_>,
+    payload: CanonicalPayload<'_, T>,
 ) -> Result<(), AllocError>
     ensures tokens { OnOk result (out.new.tokens ≡ out.old.tokens ++ json_tokens
-        (json_with texts payload.entry.schema (payload_meaning payload.entry.schema payload.entry.bytes.now))) }
+        (json_with_in (T.table_of payload.entry.schemas) (T.names payload.entry.schemas) texts payload.entry.schema
+        (meaning (T.table_of payload.entry.schemas) 100 payload.entry.schema payload.entry.bytes.now))) }
     ensures before { out.new.before ≡ out.old.before }
 {
-    write_checked(out, base64, texts, payload.schema, payload.bytes)
+    let form = Form {
+        schemas: payload.schemas,
+        texts,
+    };
+    write_checked(form, out, base64, payload.schema, payload.bytes)
+}
+
+/// The table whose names are written, and whether bytes that are UTF-8 are written as texts.
+#[derive(Clone, Copy)]
+struct Form<T> {
+    schemas: T,
+    texts: bool,
 }
 
 /// The same of the bytes of a canonical payload.
-fn write_checked(
+fn write_checked<T: NamedSchemas + PayloadTable>(
+    form: Form<T>,
     out: &mut Writer,
     base64: &mut Vec<u8>,
-    texts: bool,
     schema: u32,
     bytes: &[u8],
 ) -> Result<(), AllocError>
     requires short { length bytes.now < 4294967296 }
-    requires canonical { is_canonical_payload 100 schema bytes.now ≡ true }
+    requires canonical { is_canonical_payload_in (T.table_of form.schemas) 100 schema bytes.now ≡ true }
     ensures tokens { OnOk result (out.new.tokens ≡ out.old.tokens ++ json_tokens
-        (json_with texts schema (payload_meaning schema bytes.now))) }
+        (json_with_in (T.table_of form.schemas) (T.names form.schemas) form.texts schema
+        (meaning (T.table_of form.schemas) 100 schema bytes.now))) }
     ensures before { out.new.before ≡ out.old.before }
 {
-    write_within(out, base64, texts, schema, bytes, LEVELS)
+    write_within(form, out, base64, schema, bytes, LEVELS)
 }
 
 /// The same of a payload in which messages are nested at most `left` deep.
 #[cycle(message)]
-fn write_within(
+fn write_within<T: NamedSchemas + PayloadTable>(
+    form: Form<T>,
     out: &mut Writer,
     base64: &mut Vec<u8>,
-    texts: bool,
     schema: u32,
     bytes: &[u8],
     left: u32,
 ) -> Result<(), AllocError>
     requires short { length bytes.now < 4294967296 }
-    requires canonical { is_canonical_payload 100 schema bytes.now ≡ true }
-    requires deep { levels (payload_meaning schema bytes.now) ≤ left }
+    requires canonical { is_canonical_payload_in (T.table_of form.schemas) 100 schema bytes.now ≡ true }
+    requires deep { levels (meaning (T.table_of form.schemas) 100 schema bytes.now) ≤ left }
     ensures tokens { OnOk result (out.new.tokens ≡ out.old.tokens ++ json_tokens
-        (json_with texts schema (payload_meaning schema bytes.now))) }
+        (json_with_in (T.table_of form.schemas) (T.names form.schemas) form.texts schema
+        (meaning (T.table_of form.schemas) 100 schema bytes.now))) }
     ensures before { out.new.before ≡ out.old.before }
 {
+    let Form { schemas, texts } = form;
     out.begin_object()?;
+    let payload = CanonicalPayload {
+        schemas,
+        schema,
+        bytes,
+    };
     let mut open_list = 0;
-    for field in (CanonicalPayload { schema, bytes }).fields() {
-        begin_member(&ProtocolSchemas, out, schema, &field, open_list)?;
-        write_value(out, base64, texts, field.value, left)?;
+    for field in payload.fields_in() {
+        begin_member(&schemas, out, schema, &field, open_list)?;
         open_list = open_list_after(&field);
+        write_value(Form { schemas, texts }, out, base64, field.value, left)?;
     }
     end_list(out, open_list)?;
     out.end_object()
 }
 
 /// Whether a field is an element of a list. The numbers of a packed run are one field.
-fn is_element(field: &Field<'_>) -> bool
+fn is_element<T: Tabled + Copy>(field: &Field<'_, CanonicalPayload<'_, T>>) -> bool
     ensures { result ≡ may_recur (value_kind field.now.value, field.now.is_repeated) }
 {
     match field.value {
@@ -103,7 +122,7 @@ fn is_element(field: &Field<'_>) -> bool
 }
 
 /// The number of the field whose list is open after a field, or 0.
-fn open_list_after(field: &Field<'_>) -> u32
+fn open_list_after<T: Tabled + Copy>(field: &Field<'_, CanonicalPayload<'_, T>>) -> u32
     ensures { (names : List (ℕ × List ℕ)) → result ≡ open_list_after
         (named names field.now.number (value_kind field.now.value, field.now.is_repeated)) }
 {
@@ -112,11 +131,11 @@ fn open_list_after(field: &Field<'_>) -> u32
 
 /// Writes the name of a field of a schema, and the beginning of its list, after closing the open list; nothing, if its
 /// own list is open.
-fn begin_member<T: NamedSchemas>(
+fn begin_member<T: NamedSchemas + PayloadTable>(
     schemas: &T,
     out: &mut Writer,
     schema: u32,
-    field: &Field<'_>,
+    field: &Field<'_, CanonicalPayload<'_, T>>,
     open_list: u32,
 ) -> Result<(), AllocError>
     ensures tokens { OnOk result (out.new.tokens ≡ out.old.tokens ++ lead_tokens open_list
@@ -145,19 +164,21 @@ fn end_list(out: &mut Writer, open_list: u32) -> Result<(), AllocError>
     out.end_array()
 }
 
-/// Writes what a field holds, in which messages are nested at most `left` deep.
+/// Writes what a field holds, in which messages are nested at most `left` deep. A message is of the table.
 #[cycle(message)]
 #[tactic(auto, using(crate::proofs::Values::enum_json))]
-fn write_value(
+fn write_value<T: NamedSchemas + PayloadTable>(
+    form: Form<T>,
     out: &mut Writer,
     base64: &mut Vec<u8>,
-    texts: bool,
-    value: FieldValue<'_>,
+    value: FieldValue<'_, CanonicalPayload<'_, T>>,
     left: u32,
 ) -> Result<(), AllocError>
+    requires same { IsOf form.schemas (value_schemas value) }
     requires deep { part_levels (value_part value) ≤ left }
     ensures tokens { OnOk result (out.new.tokens ≡ out.old.tokens
-        ++ json_tokens (part_json texts (value_part value.entry) (value_kind value.entry))) }
+        ++ json_tokens (part_json_in (T.table_of form.schemas) (T.names form.schemas) form.texts
+        (value_part value.entry) (value_kind value.entry))) }
     ensures before { out.new.before ≡ out.old.before }
 {
     match value {
@@ -166,9 +187,9 @@ fn write_value(
         FieldValue::Boolean(flag) => out.boolean(flag),
         FieldValue::Enumeration(number) => write_enumeration(out, number),
         FieldValue::Text(text) => out.string(text),
-        FieldValue::ByteString(bytes) => write_byte_string(out, base64, texts, bytes),
+        FieldValue::ByteString(bytes) => write_byte_string(out, base64, form.texts, bytes),
         FieldValue::Message(message) => {
-            write_within(out, base64, texts, message.schema, message.bytes, left - 1)
+            write_within(form, out, base64, message.schema, message.bytes, left - 1)
         }
         FieldValue::Numbers(run) => write_run(out, run),
     }
