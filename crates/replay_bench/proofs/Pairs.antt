@@ -1,6 +1,6 @@
 -- What is returned for two commands.
-use Rattle.std.proofs.Common.{Global, ◌≡◌, ◌≢◌, ℕ, pos, Bool, List, Option, Some, None, Ok, Err, refl, sym, ap, ◌∙◌}
-use Rattle.std.proofs.Common.{subst}
+use Rattle.std.proofs.Common.{Global, ◌≡◌, ◌≢◌, ℕ, pos, Bool, List, Option, Some, None, Result, Ok, Err}
+use Rattle.std.proofs.Common.{refl, sym, ap, subst, ◌∙◌}
 use Rattle.std.specs.Prelude.{[], codes, IsTrue, String, Vec}
 use Rattle.std.specs.Option.{IsSomeAnd}
 use Rattle.std.specs.String.{string_bytes}
@@ -18,13 +18,47 @@ use Rattle.shared_core.specs.Typed.{MeansParts}
 use Rattle.replay_bench.specs.declared.journals.Ignored.{Ignored}
 use Rattle.replay_bench.specs.declared.fields.FieldDifference.{FieldDifference}
 use Rattle.replay_bench.specs.declared.verdicts.Side.TheVariants.{Recorded, Replayed}
+use Rattle.replay_bench.specs.declared.mismatches.CommandPayload.{CommandPayload}
+use Rattle.replay_bench.specs.declared.mismatches.Found.{Found}
+use Rattle.replay_bench.specs.declared.verdicts.Verdict.{Verdict}
 use Rattle.replay_bench.specs.declared.verdicts.Verdict.TheVariants.{TypeMismatch, HeaderMismatch}
-use Rattle.replay_bench.specs.declared.verdicts.BenchError.TheVariants.{OutOfMemory}
+use Rattle.replay_bench.specs.declared.verdicts.BenchError.{BenchError}
+use Rattle.replay_bench.specs.declared.verdicts.BenchError.TheVariants.{Malformed, OutOfMemory, TooLong}
 use Rattle.replay_bench.specs.Ids.{erased_but}
 use Rattle.replay_bench.specs.Fields.{AreFieldsOf, listed_texts}
-use Rattle.replay_bench.specs.Outcomes.{OtherCommand}
-use Rattle.replay_bench.specs.Verdicts.{IsFound, ReturnsPair, IsMalformedOn, IsPair, MeanOthers, MeanTheSame}
-use Rattle.replay_bench.specs.Verdicts.{bench_error_of}
+use Rattle.replay_bench.specs.Outcomes.{OtherCommand, outcome_of}
+use Rattle.replay_bench.specs.Verdicts.{HasFields, IsFound, ReturnsPair, IsMalformedOn, IsPair, MeanOthers, MeanTheSame}
+use Rattle.replay_bench.specs.Verdicts.{bench_error_of, command_message, plain_message}
+
+-- What is returned for two commands by their types and payloads is what is returned for the messages that have these.
+module _ (ignore : Ignored) (is_listed : Bool) (index : ℕ) (recorded replayed : RawMessage) where
+  by_parts : (result : Result (Option Found) BenchError) → ReturnsPair ignore is_listed index
+      (plain_message recorded.header.ty recorded.payload) (plain_message replayed.header.ty replayed.payload) result
+      → ReturnsPair ignore is_listed index recorded replayed result
+  unfolding ReturnsPair
+  by_parts (Ok None) is = is
+  by_parts (Ok (Some found)) is = of_verdict found.verdict is
+    where
+      of_verdict : (verdict : Verdict) → IsFound ignore index (plain_message recorded.header.ty recorded.payload)
+          (plain_message replayed.header.ty replayed.payload) (outcome_of verdict)
+          × HasFields is_listed (plain_message recorded.header.ty recorded.payload)
+          (plain_message replayed.header.ty replayed.payload) verdict found.fields.items
+          → IsFound ignore index recorded replayed (outcome_of verdict)
+          × HasFields is_listed recorded replayed verdict found.fields.items
+      of_verdict (TypeMismatch found text) is = is
+      of_verdict (HeaderMismatch found text) is = is
+      of_verdict verdict is = absurd is.0
+  by_parts (Err (Malformed side found)) is = is
+  by_parts (Err OutOfMemory) is = is
+  by_parts (Err TooLong) is = is
+
+  pub pair_of_messages : (one other : CommandPayload) (result : Result (Option Found) BenchError)
+      → one.ty ≡ recorded.header.ty → one.payload.now ≡ recorded.payload
+      → other.ty ≡ replayed.header.ty → other.payload.now ≡ replayed.payload
+      → ReturnsPair ignore is_listed index (command_message one) (command_message other) result
+      → ReturnsPair ignore is_listed index recorded replayed result
+  pair_of_messages one other result ty payload other_ty other_payload is =
+      by_parts result (rw (← ty, ← payload, ← other_ty, ← other_payload) is)
 
 -- Two commands of the type of a record with this schema, at an index.
 pub record AreTyped (recorded replayed : RawMessage) (s : ℕ) : Type 0 where

@@ -17,6 +17,7 @@ use Rattle.replay_bench.specs.declared.journals.Ignored.{Ignored}
 use Rattle.replay_bench.specs.declared.verdicts.Side.{Side}
 use Rattle.replay_bench.specs.declared.verdicts.Side.TheVariants.{Recorded, Replayed}
 use Rattle.replay_bench.specs.declared.fields.FieldDifference.{FieldDifference}
+use Rattle.replay_bench.specs.declared.mismatches.CommandPayload.{CommandPayload}
 use Rattle.replay_bench.specs.declared.mismatches.Found.{Found}
 use Rattle.replay_bench.specs.declared.comparison.Stopped.{Stopped}
 use Rattle.replay_bench.specs.declared.verdicts.Comparison.{Comparison}
@@ -112,6 +113,15 @@ ReturnsNext ignore is_listed index None (Some replayed) result = IsEnding (Recor
 ReturnsNext ignore is_listed index (Some recorded) None result = IsEnding (ReplayedEnded index) result
 ReturnsNext ignore is_listed index (Some recorded) (Some replayed) result = ReturnsPair ignore is_listed index recorded
     replayed result
+
+-- The message of a type that has this payload, without a flag in its header.
+abbrev pub plain_message : MessageType → List ℕ → RawMessage
+plain_message ty payload =
+    record { header = record { ty = ty; length = length payload; requested_ack = None }; payload = payload }
+
+-- The message of a command that is compared, as far as it is: its type and its payload.
+abbrev pub command_message : CommandPayload → RawMessage
+command_message command = plain_message command.ty command.payload.now
 
 -- Two commands of this type are at an index.
 pub record IsPair (index : ℕ) (recorded replayed : RawMessage) (ty : MessageType) : Type 0 where

@@ -15,7 +15,7 @@ ghost use Rattle.replay_bench.specs.Verdicts.{stopped_index, IsSaid, ReturnsNext
 use crate::commands::{Commands, reader_error};
 use crate::following::Following;
 use crate::journals::{ComparisonOptions, Ignored, Journals};
-use crate::mismatches::{Found, Pair, compare_commands};
+use crate::mismatches::{CommandPayload, Found, Pair, compare_commands};
 use crate::slice_items::SliceItems;
 use crate::sources::{Next, Source};
 use crate::verdicts::{BenchError, Comparison, ReaderError, Side, Verdict};
@@ -146,8 +146,8 @@ impl NextCommands {
                 return compare_commands(Pair {
                     alloc,
                     index,
-                    recorded,
-                    replayed,
+                    recorded: CommandPayload::of(recorded),
+                    replayed: CommandPayload::of(replayed),
                     ignore,
                     is_listed,
                 });

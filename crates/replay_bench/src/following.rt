@@ -13,7 +13,7 @@ ghost use Rattle.stream_lines.specs.Printing.{item_size};
 use crate::commands::Commands;
 use crate::fields::FieldDifference;
 use crate::journals::Ignored;
-use crate::mismatches::{Found, Pair, compare_commands};
+use crate::mismatches::{CommandPayload, Found, Pair, compare_commands};
 use crate::sources::Source;
 use crate::verdicts::{BenchError, ReaderError, Side, Verdict};
 use shared_core::CommandType;
@@ -198,8 +198,8 @@ impl<S: Source> Following<S> {
         compare_commands(Pair {
             alloc: self.alloc,
             index: self.index,
-            recorded,
-            replayed,
+            recorded: CommandPayload::of(recorded),
+            replayed: CommandPayload::of(replayed),
             ignore: self.ignore,
             is_listed: true,
         })

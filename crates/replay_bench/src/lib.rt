@@ -33,6 +33,7 @@ pub use crate::fields::{FieldDifference, list_fields};
 pub use crate::following::{Ahead, Following, Mismatch};
 pub use crate::journals::{ComparisonOptions, Ignored, Journals};
 pub use crate::keys::command_key;
+pub use crate::mismatches::{CommandPayload, Found, Pair, compare_commands, has_same_bytes};
 pub use crate::replay::Replay;
 pub use crate::slice_items::SliceItems;
 pub use crate::sources::{Next, Source, SourceError};
