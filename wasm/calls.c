@@ -45,9 +45,39 @@ struct journal_notification {
     uint64_t result;
 };
 
+struct journal_changed_field {
+    uint64_t name_length;
+    uint64_t first_length;
+    uint64_t second_length;
+};
+
 struct journal_verdict {
     uint64_t kind;
     uint64_t index;
+};
+
+struct journal_replay {
+    uint64_t version;
+    uint64_t options;
+    uint64_t index;
+    uint64_t recorded_offset;
+    uint64_t replayed_offset;
+    uint64_t has_said;
+};
+
+struct journal_mismatch {
+    uint64_t kind;
+    uint64_t index;
+    uint64_t replayed_offset;
+    uint64_t recorded_offset;
+    uint64_t recorded_code;
+    uint64_t recorded_size;
+};
+
+struct journal_command {
+    uint64_t offset;
+    uint64_t code;
+    uint64_t size;
 };
 
 int64_t journal_library_version(uint8_t *out, size_t room);
@@ -193,6 +223,20 @@ double js_difference(uint32_t code, uint32_t first, uint32_t first_length, uint3
                                       (const uint8_t *)(size_t)second, second_length, (uint8_t *)(size_t)out, room);
 }
 
+int64_t journal_changed_field(uint16_t code, uint32_t index, const uint8_t *first, size_t first_length,
+                              const uint8_t *second, size_t second_length,
+                              struct journal_changed_field *changed_field, size_t changed_field_room, uint8_t *out,
+                              size_t room);
+EXPORT(js_changed_field)
+double js_changed_field(uint32_t code, uint32_t index, uint32_t first, uint32_t first_length, uint32_t second,
+                        uint32_t second_length, uint32_t changed_field, uint32_t changed_field_room, uint32_t out,
+                        uint32_t room) {
+    return (double)journal_changed_field((uint16_t)code, index, (const uint8_t *)(size_t)first, first_length,
+                                         (const uint8_t *)(size_t)second, second_length,
+                                         (struct journal_changed_field *)(size_t)changed_field, changed_field_room,
+                                         (uint8_t *)(size_t)out, room);
+}
+
 int64_t journal_verdict(uint32_t version, const uint8_t *recorded, size_t recorded_length, const uint8_t *replayed,
                         size_t replayed_length, uint32_t ignore_payloads, struct journal_verdict *verdict,
                         size_t verdict_room, uint8_t *out, size_t room);
@@ -204,6 +248,51 @@ double js_verdict(uint32_t version, uint32_t recorded, uint32_t recorded_length,
                                    (const uint8_t *)(size_t)replayed, replayed_length, ignore_payloads,
                                    (struct journal_verdict *)(size_t)verdict, verdict_room, (uint8_t *)(size_t)out,
                                    room);
+}
+
+int64_t journal_replay_check(uint16_t code, const uint8_t *recorded, size_t recorded_length, const uint8_t *replayed,
+                             size_t replayed_length, struct journal_replay *replay, size_t replay_room,
+                             struct journal_mismatch *mismatch, size_t mismatch_room);
+EXPORT(js_replay_check)
+double js_replay_check(uint32_t code, uint32_t recorded, uint32_t recorded_length, uint32_t replayed,
+                       uint32_t replayed_length, uint32_t replay, uint32_t replay_room, uint32_t mismatch,
+                       uint32_t mismatch_room) {
+    return (double)journal_replay_check((uint16_t)code, (const uint8_t *)(size_t)recorded, recorded_length,
+                                        (const uint8_t *)(size_t)replayed, replayed_length,
+                                        (struct journal_replay *)(size_t)replay, replay_room,
+                                        (struct journal_mismatch *)(size_t)mismatch, mismatch_room);
+}
+
+int64_t journal_replay_text(uint16_t code, const uint8_t *recorded, size_t recorded_length, const uint8_t *replayed,
+                            size_t replayed_length, const struct journal_replay *replay, size_t replay_room,
+                            uint8_t *out, size_t room);
+EXPORT(js_replay_text)
+double js_replay_text(uint32_t code, uint32_t recorded, uint32_t recorded_length, uint32_t replayed,
+                      uint32_t replayed_length, uint32_t replay, uint32_t replay_room, uint32_t out, uint32_t room) {
+    return (double)journal_replay_text((uint16_t)code, (const uint8_t *)(size_t)recorded, recorded_length,
+                                       (const uint8_t *)(size_t)replayed, replayed_length,
+                                       (const struct journal_replay *)(size_t)replay, replay_room,
+                                       (uint8_t *)(size_t)out, room);
+}
+
+int64_t journal_replay_expected(const uint8_t *recorded, size_t recorded_length, const struct journal_replay *replay,
+                                size_t replay_room, struct journal_command *command, size_t command_room);
+EXPORT(js_replay_expected)
+double js_replay_expected(uint32_t recorded, uint32_t recorded_length, uint32_t replay, uint32_t replay_room,
+                          uint32_t command, uint32_t command_room) {
+    return (double)journal_replay_expected((const uint8_t *)(size_t)recorded, recorded_length,
+                                           (const struct journal_replay *)(size_t)replay, replay_room,
+                                           (struct journal_command *)(size_t)command, command_room);
+}
+
+int64_t journal_replay_finish(const uint8_t *recorded, size_t recorded_length, const struct journal_replay *replay,
+                              size_t replay_room, struct journal_mismatch *mismatch, size_t mismatch_room);
+EXPORT(js_replay_finish)
+double js_replay_finish(uint32_t recorded, uint32_t recorded_length, uint32_t replay, uint32_t replay_room,
+                        uint32_t mismatch, uint32_t mismatch_room) {
+    return (double)journal_replay_finish((const uint8_t *)(size_t)recorded, recorded_length,
+                                         (const struct journal_replay *)(size_t)replay, replay_room,
+                                         (struct journal_mismatch *)(size_t)mismatch, mismatch_room);
 }
 
 #include "../node/src/items.h"

@@ -6,7 +6,7 @@ itself makes for wasm64 has two things more, which are added here: at the entry 
 is not used up, and around each call from the host a guard, which traps in every call after a trap. same_module.py
 compares both for what needs no heap.
 
-It stops at whatever the module says that is not plain: inline assembly, but for the empty one, which orders memory; an
+It stops at whatever the module says that is not plain: inline assembly, except the empty one, which orders memory; an
 intrinsic that is not in the list below, as those of a processor; a declaration that is not of the heap.
 """
 from __future__ import annotations

@@ -1,9 +1,9 @@
 #!/usr/bin/env python3
-"""Whether two LLVM modules are the same but for the names of values and labels: same_module.py ONE.ll OTHER.ll
+"""Whether two LLVM modules are the same except for the names of values and labels: same_module.py ONE.ll OTHER.ll
 
-Functions, constants and declarations are compared by their names, attributes where they are used. Of an intrinsic LLVM
-has the declaration itself. The check of the stack may be anywhere in the first block of a function; that both have it
-is compared. It prints how many there are of each kind and how many differ; the status is 1 where any does.
+Functions, constants and declarations are compared by their names, attributes where they are used. The declaration of
+an intrinsic is that of LLVM itself. The check of the stack may be anywhere in the first block of a function; that both
+have it is compared. It prints how many there are of each kind and how many differ; the status is 1 where any does.
 """
 from __future__ import annotations
 

@@ -3,13 +3,13 @@
 
 enum call {
     LIBRARY_VERSION, SCHEMA, TYPE_NAME, TYPE_CODE, NEXT, NEXT_WITHIN, HEADER, FRAME, IS_WELL_FORMED,
-    CANONICAL, MERGE, JSON, PAYLOAD_OF_JSON, FIELDS, PAYLOAD_OF_FIELDS, NOTIFICATION, HEADER_EQ, DIFFERENCE, VERDICT,
-    CALLS
+    CANONICAL, MERGE, JSON, PAYLOAD_OF_JSON, FIELDS, PAYLOAD_OF_FIELDS, NOTIFICATION, HEADER_EQ, DIFFERENCE,
+    CHANGED_FIELD, VERDICT, REPLAY_CHECK, REPLAY_TEXT, REPLAY_EXPECTED, REPLAY_FINISH, CALLS
 };
 
 enum error {
     NO_ERROR, MALFORMED, OUT_OF_MEMORY, NO_ROOM, TOO_LONG, NO_ID, NO_RESULT, NOT_CANONICAL,
-    MALFORMED_SECOND, UNKNOWN_VERSION, UNKNOWN_SCHEMA, UNKNOWN_TYPE, ERRORS
+    MALFORMED_SECOND, UNKNOWN_VERSION, UNKNOWN_SCHEMA, UNKNOWN_TYPE, UNKNOWN_OPTION, ERRORS
 };
 
 static const int64_t error_numbers[ERRORS] = {
@@ -25,6 +25,7 @@ static const int64_t error_numbers[ERRORS] = {
     JOURNAL_UNKNOWN_VERSION,
     JOURNAL_UNKNOWN_SCHEMA,
     JOURNAL_UNKNOWN_TYPE,
+    JOURNAL_UNKNOWN_OPTION,
 };
 
 static const struct {
@@ -33,40 +34,52 @@ static const struct {
     size_t numbers;
     size_t entry;
     int writes;
+    size_t given;
+    int changes;
     unsigned errors;
     int kinds;
 } listed[CALLS] = {
-    [LIBRARY_VERSION] = {"journal_library_version", 0, 0, 0, 1, 0, 1},
-    [SCHEMA] = {"journal_schema", 0, 0, 0, 0, 1u << UNKNOWN_VERSION | 1u << UNKNOWN_TYPE, 1},
-    [TYPE_NAME] = {"journal_type_name", 0, 0, 0, 1, 1u << UNKNOWN_TYPE, 1},
-    [TYPE_CODE] = {"journal_type_code", 1, 0, 0, 0, 1u << UNKNOWN_TYPE, 1},
-    [NEXT] = {"journal_next", 1, JOURNAL_ITEM_NUMBERS, 0, 0, 1u << UNKNOWN_VERSION | 1u << NO_ROOM, 4},
-    [NEXT_WITHIN] = {"journal_next_within", 1, JOURNAL_ITEM_NUMBERS, 0, 0, 1u << UNKNOWN_VERSION | 1u << NO_ROOM | 1u <<
-        TOO_LONG, 4},
-    [HEADER] = {"journal_header", 0, 0, 0, 1, 1u << UNKNOWN_VERSION | 1u << UNKNOWN_TYPE, 1},
-    [FRAME] = {"journal_frame", 1, 0, 0, 1, 1u << UNKNOWN_VERSION | 1u << UNKNOWN_TYPE | 1u << OUT_OF_MEMORY | 1u <<
-        MALFORMED | 1u << TOO_LONG, 1},
-    [IS_WELL_FORMED] = {"journal_is_well_formed", 1, 0, 0, 0, 1u << UNKNOWN_SCHEMA, 2},
-    [CANONICAL] = {"journal_canonical", 1, 0, 0, 1, 1u << UNKNOWN_SCHEMA | 1u << OUT_OF_MEMORY | 1u << MALFORMED | 1u <<
-        TOO_LONG, 1},
-    [MERGE] = {"journal_merge", 2, 0, 0, 1, 1u << UNKNOWN_SCHEMA | 1u << OUT_OF_MEMORY | 1u << MALFORMED | 1u <<
+    [LIBRARY_VERSION] = {"journal_library_version", 0, 0, 0, 1, 0, 0, 0, 1},
+    [SCHEMA] = {"journal_schema", 0, 0, 0, 0, 0, 0, 1u << UNKNOWN_VERSION | 1u << UNKNOWN_TYPE, 1},
+    [TYPE_NAME] = {"journal_type_name", 0, 0, 0, 1, 0, 0, 1u << UNKNOWN_TYPE, 1},
+    [TYPE_CODE] = {"journal_type_code", 1, 0, 0, 0, 0, 0, 1u << UNKNOWN_TYPE, 1},
+    [NEXT] = {"journal_next", 1, JOURNAL_ITEM_NUMBERS, 0, 0, 0, 0, 1u << UNKNOWN_VERSION | 1u << NO_ROOM, 4},
+    [NEXT_WITHIN] = {"journal_next_within", 1, JOURNAL_ITEM_NUMBERS, 0, 0, 0, 0, 1u << UNKNOWN_VERSION | 1u << NO_ROOM |
+        1u << TOO_LONG, 4},
+    [HEADER] = {"journal_header", 0, 0, 0, 1, 0, 0, 1u << UNKNOWN_VERSION | 1u << UNKNOWN_TYPE, 1},
+    [FRAME] = {"journal_frame", 1, 0, 0, 1, 0, 0, 1u << UNKNOWN_VERSION | 1u << UNKNOWN_TYPE | 1u << OUT_OF_MEMORY | 1u
+        << MALFORMED | 1u << TOO_LONG, 1},
+    [IS_WELL_FORMED] = {"journal_is_well_formed", 1, 0, 0, 0, 0, 0, 1u << UNKNOWN_SCHEMA, 2},
+    [CANONICAL] = {"journal_canonical", 1, 0, 0, 1, 0, 0, 1u << UNKNOWN_SCHEMA | 1u << OUT_OF_MEMORY | 1u << MALFORMED |
+        1u << TOO_LONG, 1},
+    [MERGE] = {"journal_merge", 2, 0, 0, 1, 0, 0, 1u << UNKNOWN_SCHEMA | 1u << OUT_OF_MEMORY | 1u << MALFORMED | 1u <<
         MALFORMED_SECOND | 1u << TOO_LONG, 1},
-    [JSON] = {"journal_json", 1, 0, 0, 1, 1u << UNKNOWN_SCHEMA | 1u << OUT_OF_MEMORY | 1u << MALFORMED | 1u << TOO_LONG,
-        1},
-    [PAYLOAD_OF_JSON] = {"journal_payload_of_json", 1, JOURNAL_READ_NUMBERS, 0, 1, 1u << UNKNOWN_SCHEMA | 1u << NO_ROOM
-        | 1u << OUT_OF_MEMORY | 1u << TOO_LONG, 9},
-    [FIELDS] = {"journal_fields", 1, 0, JOURNAL_FIELD_NUMBERS, 0, 1u << UNKNOWN_SCHEMA | 1u << MALFORMED | 1u <<
+    [JSON] = {"journal_json", 1, 0, 0, 1, 0, 0, 1u << UNKNOWN_SCHEMA | 1u << OUT_OF_MEMORY | 1u << MALFORMED | 1u <<
+        TOO_LONG, 1},
+    [PAYLOAD_OF_JSON] = {"journal_payload_of_json", 1, JOURNAL_READ_NUMBERS, 0, 1, 0, 0, 1u << UNKNOWN_SCHEMA | 1u <<
+        NO_ROOM | 1u << OUT_OF_MEMORY | 1u << TOO_LONG, 9},
+    [FIELDS] = {"journal_fields", 1, 0, JOURNAL_FIELD_NUMBERS, 0, 0, 0, 1u << UNKNOWN_SCHEMA | 1u << MALFORMED | 1u <<
         NOT_CANONICAL, 1},
-    [PAYLOAD_OF_FIELDS] = {"journal_payload_of_fields", 2, JOURNAL_WRITING_NUMBERS, 0, 1, 1u << UNKNOWN_SCHEMA | 1u <<
-        NO_ROOM | 1u << OUT_OF_MEMORY | 1u << TOO_LONG, 10},
-    [NOTIFICATION] = {"journal_notification", 1, JOURNAL_NOTIFICATION_NUMBERS, 0, 1, 1u << UNKNOWN_TYPE | 1u << NO_ROOM
-        | 1u << OUT_OF_MEMORY | 1u << MALFORMED | 1u << NO_ID | 1u << NO_RESULT | 1u << TOO_LONG, 15},
-    [HEADER_EQ] = {"journal_header_eq", 2, 0, 0, 0, 1u << UNKNOWN_TYPE | 1u << OUT_OF_MEMORY | 1u << MALFORMED | 1u <<
-        MALFORMED_SECOND, 2},
-    [DIFFERENCE] = {"journal_difference", 2, 0, 0, 1, 1u << UNKNOWN_TYPE | 1u << OUT_OF_MEMORY | 1u << MALFORMED | 1u <<
-        MALFORMED_SECOND, 1},
-    [VERDICT] = {"journal_verdict", 2, JOURNAL_VERDICT_NUMBERS, 0, 1, 1u << UNKNOWN_VERSION | 1u << NO_ROOM | 1u <<
-        OUT_OF_MEMORY, 7},
+    [PAYLOAD_OF_FIELDS] = {"journal_payload_of_fields", 2, JOURNAL_WRITING_NUMBERS, 0, 1, 0, 0, 1u << UNKNOWN_SCHEMA |
+        1u << NO_ROOM | 1u << OUT_OF_MEMORY | 1u << TOO_LONG, 10},
+    [NOTIFICATION] = {"journal_notification", 1, JOURNAL_NOTIFICATION_NUMBERS, 0, 1, 0, 0, 1u << UNKNOWN_TYPE | 1u <<
+        NO_ROOM | 1u << OUT_OF_MEMORY | 1u << MALFORMED | 1u << NO_ID | 1u << NO_RESULT | 1u << TOO_LONG, 15},
+    [HEADER_EQ] = {"journal_header_eq", 2, 0, 0, 0, 0, 0, 1u << UNKNOWN_TYPE | 1u << OUT_OF_MEMORY | 1u << MALFORMED |
+        1u << MALFORMED_SECOND, 2},
+    [DIFFERENCE] = {"journal_difference", 2, 0, 0, 1, 0, 0, 1u << UNKNOWN_TYPE | 1u << OUT_OF_MEMORY | 1u << MALFORMED |
+        1u << MALFORMED_SECOND, 1},
+    [CHANGED_FIELD] = {"journal_changed_field", 2, JOURNAL_CHANGED_FIELD_NUMBERS, 0, 1, 0, 0, 1u << NO_ROOM | 1u <<
+        UNKNOWN_TYPE | 1u << OUT_OF_MEMORY | 1u << MALFORMED | 1u << MALFORMED_SECOND, 2},
+    [VERDICT] = {"journal_verdict", 2, JOURNAL_VERDICT_NUMBERS, 0, 1, 0, 0, 1u << UNKNOWN_VERSION | 1u << NO_ROOM | 1u
+        << OUT_OF_MEMORY, 7},
+    [REPLAY_CHECK] = {"journal_replay_check", 2, JOURNAL_MISMATCH_NUMBERS, 0, 0, JOURNAL_REPLAY_NUMBERS, 1, 1u <<
+        NO_ROOM | 1u << UNKNOWN_VERSION | 1u << UNKNOWN_OPTION | 1u << TOO_LONG | 1u << OUT_OF_MEMORY, 2},
+    [REPLAY_TEXT] = {"journal_replay_text", 2, 0, 0, 1, JOURNAL_REPLAY_NUMBERS, 0, 1u << NO_ROOM | 1u << UNKNOWN_VERSION
+        | 1u << UNKNOWN_OPTION | 1u << TOO_LONG | 1u << OUT_OF_MEMORY | 1u << MALFORMED | 1u << MALFORMED_SECOND, 1},
+    [REPLAY_EXPECTED] = {"journal_replay_expected", 1, JOURNAL_COMMAND_NUMBERS, 0, 0, JOURNAL_REPLAY_NUMBERS, 0, 1u <<
+        NO_ROOM | 1u << UNKNOWN_VERSION | 1u << UNKNOWN_OPTION, 2},
+    [REPLAY_FINISH] = {"journal_replay_finish", 1, JOURNAL_MISMATCH_NUMBERS, 0, 0, JOURNAL_REPLAY_NUMBERS, 0, 1u <<
+        NO_ROOM | 1u << UNKNOWN_VERSION | 1u << UNKNOWN_OPTION, 2},
 };
 
 static int64_t make(const struct request *r, const struct slice *slices) {
@@ -74,6 +87,8 @@ static int64_t make(const struct request *r, const struct slice *slices) {
     const void *table = second->at;
     void *numbers = slices[NUMBERS].at;
     size_t count = slices[NUMBERS].length / 8;
+    void *given = slices[GIVEN].at;
+    size_t given_count = slices[GIVEN].length / 8;
 
     switch (r->call) {
     case LIBRARY_VERSION:
@@ -113,9 +128,22 @@ static int64_t make(const struct request *r, const struct slice *slices) {
         return journal_header_eq(r->code, first->at, first->length, second->at, second->length, r->ignore_payloads);
     case DIFFERENCE:
         return journal_difference(r->code, first->at, first->length, second->at, second->length, out->at, out->length);
+    case CHANGED_FIELD:
+        return journal_changed_field(r->code, r->index, first->at, first->length, second->at, second->length, numbers,
+                                     count, out->at, out->length);
     case VERDICT:
         return journal_verdict(r->version, first->at, first->length, second->at, second->length, r->ignore_payloads,
                                numbers, count, out->at, out->length);
+    case REPLAY_CHECK:
+        return journal_replay_check(r->code, first->at, first->length, second->at, second->length, given, given_count,
+                                    numbers, count);
+    case REPLAY_TEXT:
+        return journal_replay_text(r->code, first->at, first->length, second->at, second->length, given, given_count,
+                                   out->at, out->length);
+    case REPLAY_EXPECTED:
+        return journal_replay_expected(first->at, first->length, given, given_count, numbers, count);
+    case REPLAY_FINISH:
+        return journal_replay_finish(first->at, first->length, given, given_count, numbers, count);
     default: abort();
     }
 }

@@ -69,6 +69,8 @@ static void refusals(void) {
     const uint8_t no_id[] = {0x22, 0}, no_result[] = {0x08, 1}, default_name[] = {0x0A, 0};
     struct journal_item item;
     struct journal_notification found;
+    const struct journal_replay replay = {8, 4, 0, 0, 0, 0};
+    struct journal_mismatch mismatch;
     int64_t unknown = journal_schema(4, 0x0400);
 
     IS(JOURNAL_MALFORMED, journal_canonical(13, cut, sizeof cut, NULL, 0));
@@ -82,6 +84,7 @@ static void refusals(void) {
     IS(JOURNAL_UNKNOWN_VERSION, unknown);
     IS(JOURNAL_UNKNOWN_SCHEMA, journal_is_well_formed(0xFFFFFFFF, NULL, 0));
     IS(JOURNAL_UNKNOWN_TYPE, journal_type_code(NULL, 0));
+    IS(JOURNAL_UNKNOWN_OPTION, journal_replay_finish(NULL, 0, &replay, 6, &mismatch, 6));
     IS(JOURNAL_UNKNOWN, JOURNAL_KIND_OF_ERROR(unknown));
     is("JOURNAL_KIND_OF_ERROR", JOURNAL_KIND_OF_ERROR(JOURNAL_UNKNOWN_TYPE) == JOURNAL_UNKNOWN &&
        JOURNAL_KIND_OF_ERROR(JOURNAL_UNKNOWN_SCHEMA) == JOURNAL_UNKNOWN &&
@@ -203,6 +206,60 @@ static void verdicts(void) {
         FIELD(found.verdict.index, 9);
     }
     FIELD(found.after, 99);
+}
+
+static void replays(void) {
+    const uint8_t recorded[] = {NINE, SET_A}, other[] = {0x0A, 1, 'b'};
+    struct { struct journal_replay replay; uint64_t after; } place = {
+        {8, JOURNAL_REPLAY_IGNORE_PAYLOADS, 9, 88, 72, 0}, 77
+    };
+    struct { struct journal_mismatch mismatch; uint64_t after; } found = {{0, 0, 0, 0, 0, 0}, 77};
+    struct { struct journal_command command; uint64_t after; } next = {{0, 0, 0}, 77};
+    struct { struct journal_changed_field field; uint64_t after; } changed = {{0, 0, 0}, 77};
+    size_t room = 0;
+
+    IS(JOURNAL_REPLAY_IGNORE_PAYLOADS, 1);
+    IS(JOURNAL_REPLAY_IGNORE_IDS, 2);
+    while (journal_replay_expected(recorded, sizeof recorded, &place.replay, room, &next.command, 4) < 0) {
+        room++;
+    }
+    IS(JOURNAL_REPLAY_NUMBERS, room);
+    room = 0;
+    while (journal_replay_expected(recorded, sizeof recorded, &place.replay, 7, &next.command, room) < 0) {
+        room++;
+    }
+    IS(JOURNAL_COMMAND_NUMBERS, room);
+    FIELD(next.command.offset, 99);
+    FIELD(next.command.code, JOURNAL_TYPE_SET_STATE_COMMAND);
+    FIELD(next.command.size, 11);
+    room = 0;
+    while (journal_replay_finish(recorded, sizeof recorded, &place.replay, 7, &found.mismatch, room) < 0) {
+        room++;
+    }
+    IS(JOURNAL_MISMATCH_NUMBERS, room);
+    journal_replay_check(JOURNAL_TYPE_SET_STATE_COMMAND, recorded, sizeof recorded, other, sizeof other, &place.replay,
+                         7, &found.mismatch, 7);
+    FIELD(place.replay.version, 8);
+    FIELD(place.replay.options, 1);
+    FIELD(place.replay.index, 9);
+    FIELD(place.replay.recorded_offset, 88);
+    FIELD(place.replay.replayed_offset, 72);
+    FIELD(place.replay.has_said, 1);
+    FIELD(found.mismatch.kind, JOURNAL_VERDICT_HEADER_MISMATCH);
+    FIELD(found.mismatch.index, 9);
+    FIELD(found.mismatch.replayed_offset, 72);
+    FIELD(found.mismatch.recorded_offset, 99);
+    FIELD(found.mismatch.recorded_code, JOURNAL_TYPE_SET_STATE_COMMAND);
+    FIELD(found.mismatch.recorded_size, 11);
+    room = 0;
+    while (journal_changed_field(0x0402, 0, NULL, 0, other, sizeof other, &changed.field, room, NULL, 0) < 0) {
+        room++;
+    }
+    IS(JOURNAL_CHANGED_FIELD_NUMBERS, room);
+    FIELD(changed.field.name_length, 3);
+    FIELD(changed.field.first_length, 2);
+    FIELD(changed.field.second_length, 3);
+    FIELD(place.after + found.after + next.after + changed.after, 4 * 77);
 }
 
 static void readings(void) {
@@ -347,6 +404,7 @@ int main(void) {
     items();
     notifications();
     verdicts();
+    replays();
     readings();
     fields();
     writings();

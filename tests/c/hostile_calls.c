@@ -95,7 +95,7 @@ struct slice {
     uint8_t *block;
 };
 
-enum place { FIRST, SECOND, NUMBERS, OUT, PLACES };
+enum place { FIRST, SECOND, GIVEN, NUMBERS, OUT, PLACES };
 
 struct request {
     int call;
@@ -104,7 +104,10 @@ struct request {
     uint32_t schema;
     uint32_t payload_length;
     uint32_t limit;
+    uint32_t index;
     uint32_t ignore_payloads;
+    uint64_t given[JOURNAL_REPLAY_NUMBERS];
+    size_t given_room;
     struct source source[2];
 };
 
@@ -138,6 +141,7 @@ struct work {
     uint8_t *regions[PLACES];
     struct slice slices[PLACES];
     uint64_t numbers[JOURNAL_ITEM_NUMBERS];
+    uint64_t given[JOURNAL_REPLAY_NUMBERS];
     uint8_t written[REGION];
     uint8_t table[REGION];
     uint16_t codes[MOST_NAMED];
@@ -467,7 +471,19 @@ static int kind_of(int call, int64_t result, const uint64_t *numbers) {
     /* the first number is the kind of its id, and the last that of its result */
     case NOTIFICATION: return (int)(5 * numbers[0] + numbers[3]);
     case VERDICT: case PAYLOAD_OF_JSON: case PAYLOAD_OF_FIELDS: return (int)numbers[0];
+    case CHANGED_FIELD: return result > 0;
+    case REPLAY_CHECK: case REPLAY_EXPECTED: case REPLAY_FINISH: return (int)result;
     default: return 0;
+    }
+}
+
+/* How many numbers a call writes that returns this: none where it says that there is nothing. */
+static size_t numbers_written(int call, int64_t result) {
+    switch (call) {
+    case NEXT: case NEXT_WITHIN: return result > 0 ? 0 : listed[call].numbers;
+    case CHANGED_FIELD: case REPLAY_CHECK: case REPLAY_EXPECTED: case REPLAY_FINISH:
+        return result == 0 ? 0 : listed[call].numbers;
+    default: return listed[call].numbers;
     }
 }
 
@@ -484,6 +500,10 @@ static int64_t called(struct work *work, const struct request *request, size_t r
             memcpy(work->slices[FIRST + i].at, request->source[i].bytes, request->source[i].length);
         }
     }
+    place(work, GIVEN, listed[call].given > 0 ? 8 * request->given_room : 0);
+    if (work->slices[GIVEN].length > 0) {
+        memcpy(work->slices[GIVEN].at, request->given, work->slices[GIVEN].length);
+    }
     place(work, NUMBERS, 8 * numbers_room);
     place(work, OUT, room);
     heap.allocations = 0;
@@ -498,7 +518,7 @@ static int64_t called(struct work *work, const struct request *request, size_t r
 
     if (result >= 0) {
         written = listed[call].writes && (uint64_t)result <= room ? (size_t)result : 0;
-        numbers = (call == NEXT || call == NEXT_WITHIN) && result > 0 ? 0 : listed[call].numbers;
+        numbers = numbers_written(call, result);
         if (listed[call].entry > 0) {
             size_t fit = numbers_room / listed[call].entry;
             numbers = listed[call].entry * ((uint64_t)result < fit ? (size_t)result : fit);
@@ -530,11 +550,20 @@ static int64_t called(struct work *work, const struct request *request, size_t r
             wrong(work, request, "what is only read was written", result);
         }
     }
+    if (!stands(&work->slices[GIVEN], work->slices[GIVEN].length) ||
+        (work->slices[GIVEN].length > 0 && (result < 0 || !listed[call].changes) &&
+         memcmp(work->slices[GIVEN].at, request->given, work->slices[GIVEN].length) != 0)) {
+        wrong(work, request, "what was given was written", result);
+    }
     if (8 * numbers > work->slices[NUMBERS].length || !stands(&work->slices[NUMBERS], 8 * numbers)) {
         wrong(work, request, "numbers that are not the result's were written", result);
     }
     if (!stands(&work->slices[OUT], written)) {
         wrong(work, request, "bytes that are not the result's were written", result);
+    }
+    if (listed[call].changes && result >= 0) {
+        memcpy(work->given, work->slices[GIVEN].at, sizeof work->given);
+        digest(work, work->given, sizeof work->given);
     }
     if (numbers > 0) {
         memcpy(listed[call].entry > 0 ? (void *)work->table : work->numbers, work->slices[NUMBERS].at, 8 * numbers);
@@ -564,15 +593,17 @@ static int64_t called(struct work *work, const struct request *request, size_t r
    is room for them. */
 static void again(struct work *work, const struct request *request, int64_t result, size_t room, size_t numbers_room) {
     static __thread uint8_t bytes[REGION];
-    uint64_t numbers[JOURNAL_ITEM_NUMBERS];
+    uint64_t numbers[JOURNAL_ITEM_NUMBERS], given[JOURNAL_REPLAY_NUMBERS];
     size_t length = listed[request->call].writes && result > 0 && result <= REGION ? (size_t)result : 0;
 
     memcpy(numbers, work->numbers, sizeof numbers);
+    memcpy(given, work->given, sizeof given);
     memcpy(bytes, work->written, length);
     if (called(work, request, room, numbers_room, 0) != result) {
         wrong(work, request, "another result than before", result);
     }
-    if (memcmp(numbers, work->numbers, sizeof numbers) != 0 || memcmp(bytes, work->written, length) != 0) {
+    if (memcmp(numbers, work->numbers, sizeof numbers) != 0 || memcmp(given, work->given, sizeof given) != 0 ||
+        memcmp(bytes, work->written, length) != 0) {
         wrong(work, request, "the same result with other numbers or bytes", result);
     }
 }
@@ -598,6 +629,32 @@ static void again_with_tables(struct work *work, const struct request *request, 
     }
 }
 
+/* Any numbers of a replay, most of which a replay of its recording may have. */
+static void give_replay(struct work *work, struct request *request) {
+    struct journal_item item;
+    uint64_t offset = 0;
+
+    request->given_room = one_of(work, 16) ? below(work, 2 * JOURNAL_REPLAY_NUMBERS) : JOURNAL_REPLAY_NUMBERS;
+    if (request->given_room > JOURNAL_REPLAY_NUMBERS) {
+        request->given_room = JOURNAL_REPLAY_NUMBERS;
+    }
+    for (uint32_t items = below(work, 3); items > 0; items--) {
+        const size_t length = request->source[0].length - (size_t)offset;
+
+        if (journal_next(request->version, request->source[0].bytes + offset, length, &item,
+                         JOURNAL_ITEM_NUMBERS) != 0) {
+            break;
+        }
+        offset += item.size;
+    }
+    request->given[0] = request->version;
+    request->given[1] = one_of(work, 16) ? any_number(work) : below(work, 4);
+    request->given[2] = any_number(work);
+    request->given[3] = one_of(work, 8) ? any_number(work) : offset;
+    request->given[4] = any_number(work);
+    request->given[5] = one_of(work, 8) ? any_number(work) : 0;
+}
+
 static void make_request(struct work *work, struct request *request) {
     request->call = (int)below(work, CALLS);
     request->version = any_version(work);
@@ -608,6 +665,7 @@ static void make_request(struct work *work, struct request *request) {
     }
     request->payload_length = (uint32_t)any(work);
     request->limit = one_of(work, 2) ? UINT32_MAX : below(work, 40);
+    request->index = one_of(work, 8) ? (uint32_t)any(work) : below(work, 3);
     request->ignore_payloads = one_of(work, 2) ? 0 : (uint32_t)any(work) % 3;
     request->source[0].length = request->source[1].length = 0;
     switch (request->call) {
@@ -631,8 +689,16 @@ static void make_request(struct work *work, struct request *request) {
             put_stream(work, &request->source[1], 1);
         }
         break;
+    case REPLAY_CHECK:
+    case REPLAY_TEXT:
+    case REPLAY_EXPECTED:
+    case REPLAY_FINISH:
+        put_stream(work, &request->source[0], 1);
+        give_replay(work, request);
+        break;
     case HEADER_EQ:
     case DIFFERENCE:
+    case CHANGED_FIELD:
     case NOTIFICATION:
         /* most codes are of no notification */
         while (request->call == NOTIFICATION && request->code < 0x8000 && !one_of(work, 8)) {
@@ -656,7 +722,11 @@ static void make_request(struct work *work, struct request *request) {
         }
         break;
     }
-    if (request->call == MERGE || request->call == HEADER_EQ || request->call == DIFFERENCE) {
+    if (request->call == REPLAY_CHECK || request->call == REPLAY_TEXT) {
+        request->schema = schema_of(request->code);
+    }
+    if (listed[request->call].inputs > 1 && request->source[1].length == 0 && request->call != VERDICT &&
+        request->call != PAYLOAD_OF_FIELDS) {
         put_payload(work, &request->source[1], request->schema);
     }
 }
@@ -705,6 +775,35 @@ static void put_journals(struct work *work, struct source *sources, int kind) {
     case JOURNAL_VERDICT_HEADER_MISMATCH: PUT_MESSAGE(replayed, SET_STATE_COMMAND, "\x0A\x01l"); break;
     case JOURNAL_VERDICT_BAD_REPLAYED: PUT_MESSAGE(replayed, SET_STATE_COMMAND, NO_PAYLOAD); break;
     default: PUT_MESSAGE(replayed, SET_STATE_COMMAND, "\x0A\x01k"); break;
+    }
+}
+
+/* A recording and the numbers of a replay, of whose next item this is said. */
+static void put_replay(struct work *work, struct request *request, int kind) {
+    struct source *recorded = &request->source[0], *payload = &request->source[1];
+    const int is_malformed = kind == JOURNAL_VERDICT_BAD_RECORDED;
+    const uint64_t before = below(work, 3);
+
+    recorded->length = 0;
+    for (uint64_t count = before; count > 0; count--) {
+        PUT_MESSAGE(recorded, CALL_COMMAND, A_CALL);
+    }
+    request->given_room = JOURNAL_REPLAY_NUMBERS;
+    request->given[0] = request->version;
+    request->given[1] = below(work, 4);
+    request->given[2] = before;
+    request->given[3] = request->given[4] = recorded->length;
+    request->given[5] = 0;
+    if (is_malformed) {
+        PUT_MESSAGE(recorded, SET_STATE_COMMAND, NO_PAYLOAD);
+    } else if (kind != JOURNAL_VERDICT_RECORDED_ENDED) {
+        PUT_MESSAGE(recorded, SET_STATE_COMMAND, "\x0A\x01k");
+    }
+    request->code = kind == JOURNAL_VERDICT_TYPE_MISMATCH ? CALL_COMMAND : SET_STATE_COMMAND;
+    switch (kind) {
+    case JOURNAL_VERDICT_HEADER_MISMATCH: PUT(payload, "\x0A\x01l"); break;
+    case JOURNAL_VERDICT_BAD_REPLAYED: PUT(payload, NO_PAYLOAD); break;
+    default: PUT(payload, "\x0A\x01k"); break;
     }
 }
 
@@ -856,7 +955,22 @@ static void make_wanted(struct work *work, struct request *request, int kind, en
     case VERDICT:
         put_journals(work, request->source, error == OUT_OF_MEMORY ? JOURNAL_VERDICT_HEADER_MISMATCH : kind);
         break;
-    case MERGE: case HEADER_EQ: case DIFFERENCE:
+    case REPLAY_CHECK: case REPLAY_TEXT: {
+        static const int kinds[] = {JOURNAL_VERDICT_RECORDED_ENDED, JOURNAL_VERDICT_TYPE_MISMATCH,
+                                    JOURNAL_VERDICT_HEADER_MISMATCH, JOURNAL_VERDICT_BAD_RECORDED,
+                                    JOURNAL_VERDICT_BAD_REPLAYED};
+        put_replay(work, request, error == OUT_OF_MEMORY      ? JOURNAL_VERDICT_HEADER_MISMATCH
+                                  : error == MALFORMED        ? JOURNAL_VERDICT_BAD_RECORDED
+                                  : error == MALFORMED_SECOND ? JOURNAL_VERDICT_BAD_REPLAYED
+                                  : kind == 0                 ? JOURNAL_VERDICT_SAME
+                                                              : kinds[below(work, 5)]);
+        break;
+    }
+    case REPLAY_EXPECTED: case REPLAY_FINISH:
+        put_replay(work, request, kind == 0 ? JOURNAL_VERDICT_RECORDED_ENDED : JOURNAL_VERDICT_SAME);
+        second->length = 0;
+        break;
+    case MERGE: case HEADER_EQ: case DIFFERENCE: case CHANGED_FIELD:
         PUT(second, A_CALL);
         break;
     case PAYLOAD_OF_JSON:
@@ -872,6 +986,13 @@ static void make_wanted(struct work *work, struct request *request, int kind, en
     default:
         break;
     }
+    if (listed[call].given > 0) {
+        request->given[0] = error == UNKNOWN_VERSION ? JOURNAL_LAST_VERSION + 1 + (any(work) >> below(work, 64) << 3)
+                                                     : request->version;
+        request->given[1] = error == UNKNOWN_OPTION ? 4 + any_number(work) % (UINT64_MAX - 4) : request->given[1];
+        request->given_room = error == NO_ROOM ? below(work, JOURNAL_REPLAY_NUMBERS) : request->given_room;
+        return;
+    }
     if (error == MALFORMED || (call == IS_WELL_FORMED && !error && kind == 0)) {
         put_byte(first, 0x07);
     }
@@ -881,8 +1002,11 @@ static void make_wanted(struct work *work, struct request *request, int kind, en
     if (error == MALFORMED_SECOND || (error == MALFORMED && listed[call].inputs > 1 && one_of(work, 2))) {
         put_byte(second, 0x07);
     }
-    if (call == HEADER_EQ && !error && kind == 0) {
+    if ((call == HEADER_EQ && !error && kind == 0) || (call == CHANGED_FIELD && (error == OUT_OF_MEMORY || kind > 0))) {
         PUT(first, "\x0A\x01s");
+    }
+    if (call == CHANGED_FIELD) {
+        request->index = 0;
     }
     if (error == UNKNOWN_VERSION) {
         request->version = one_of(work, 2) ? below(work, JOURNAL_FIRST_VERSION)
@@ -893,8 +1017,9 @@ static void make_wanted(struct work *work, struct request *request, int kind, en
     }
     if (error == UNKNOWN_TYPE || (error == UNKNOWN_VERSION && one_of(work, 2))) {
         request->code = call == NOTIFICATION ? CALL_COMMAND
-                      : call == HEADER_EQ || call == DIFFERENCE ? JOURNAL_TYPE_SIGNAL_NOTIFICATION
-                                                                : 0x0004;
+                      : call == HEADER_EQ || call == DIFFERENCE || call == CHANGED_FIELD
+                          ? JOURNAL_TYPE_SIGNAL_NOTIFICATION
+                          : 0x0004;
         if (call == TYPE_CODE) {
             PUT(first, "callCommand");
         }

@@ -145,7 +145,7 @@ static void check_texts(void) {
     static const int64_t errors[] = {
         JOURNAL_MALFORMED, JOURNAL_OUT_OF_MEMORY, JOURNAL_NO_ROOM, JOURNAL_TOO_LONG, JOURNAL_UNKNOWN, JOURNAL_NO_ID,
         JOURNAL_NO_RESULT, JOURNAL_NOT_CANONICAL, JOURNAL_MALFORMED_SECOND, JOURNAL_UNKNOWN_VERSION,
-        JOURNAL_UNKNOWN_SCHEMA, JOURNAL_UNKNOWN_TYPE,
+        JOURNAL_UNKNOWN_SCHEMA, JOURNAL_UNKNOWN_TYPE, JOURNAL_UNKNOWN_OPTION,
     };
     const size_t count = sizeof errors / sizeof errors[0];
     int is_right = strcmp(journal_error_text(JOURNAL_MALFORMED), "malformed payload") == 0;
@@ -156,7 +156,7 @@ static void check_texts(void) {
         }
     }
     outcome("texts of errors", "-", 0, is_right);
-    outcome("a later error of a kind", "-", 0, strcmp(journal_error_text(-68 - 1), "unknown") == 0);
+    outcome("a later error of a kind", "-", 0, strcmp(journal_error_text(-84 - 1), "unknown") == 0);
     outcome("no kind", "-", 0, strcmp(journal_error_text(-16), "unknown error") == 0);
     outcome("no error", "-", 0, strcmp(journal_error_text(0), "no error") == 0);
 }

@@ -6,7 +6,7 @@
  * as the canonical payload, and fields are written as the payload again. The last line is 'N passed, M failed'.
  */
 #define _POSIX_C_SOURCE 200809L
-#include <pendratsoa.h>
+#include <pendratsoa_reader.h>
 
 #include <inttypes.h>
 
@@ -336,11 +336,69 @@ static void read_json(void) {
     free(text.bytes);
 }
 
+/* What is said of an item, the one at this index of the replay, after the item. */
+static void say_mismatch(const struct journal_mismatch *mismatch, size_t at) {
+    static const char *const kinds[] = {"same", "recorded_ended", "replayed_ended", "other_type", "other_command",
+                                        "malformed recorded", "malformed replayed"};
+    const int is_malformed = mismatch->kind >= JOURNAL_VERDICT_BAD_RECORDED;
+    char text[128];
+
+    snprintf(text, sizeof text, "%s %" PRIu64 " %zu", kinds[mismatch->kind], mismatch->index, at);
+    append_text(&found, text);
+    if (!is_malformed && mismatch->recorded_size == 0) {
+        snprintf(text, sizeof text, " - %" PRIu64, mismatch->replayed_offset);
+        append_text(&found, text);
+    } else if (!is_malformed) {
+        snprintf(text, sizeof text, " %" PRIu64 " %" PRIu64, mismatch->recorded_offset, mismatch->replayed_offset);
+        append_text(&found, text);
+    }
+}
+
+/* A replay in chunks, whose items are checked as they come. */
+static void replay_lines(void) {
+    const uint32_t version = next_version();
+    const int are_ignored = strcmp(next_word(), "ignored") == 0;
+    struct buffer recorded = next_bytes(), chunk = {NULL, 0, 0};
+    struct journal_replay replay = {version, are_ignored ? JOURNAL_REPLAY_IGNORE_PAYLOADS : 0, 0, 0, 0, 0};
+    struct journal_reader reader = journal_reader_of(version, UINT32_MAX);
+    struct journal_reader_item item;
+    struct journal_mismatch mismatch;
+    char text[64];
+    size_t at = 0;
+
+    for (const char *word; (word = strtok(NULL, " ")) != NULL;) {
+        chunk.length = 0;
+        append_word(&chunk, word);
+        if (journal_reader_feed(&reader, chunk.bytes, chunk.length) < 0) {
+            fail("malloc");
+        }
+        for (; journal_reader_next(&reader, &item) == 1; at++) {
+            if (journal_replay_check((uint16_t)item.item.code, recorded.bytes, recorded.length, item.payload,
+                                     item.payload_length, &replay, JOURNAL_REPLAY_NUMBERS, &mismatch,
+                                     JOURNAL_MISMATCH_NUMBERS) != 0) {
+                say_mismatch(&mismatch, at);
+            }
+        }
+    }
+    if (journal_replay_finish(recorded.bytes, recorded.length, &replay, JOURNAL_REPLAY_NUMBERS, &mismatch,
+                              JOURNAL_MISMATCH_NUMBERS) != 0) {
+        snprintf(text, sizeof text, "replayed_ended %" PRIu64, mismatch.index);
+        append_text(&found, mismatch.kind == JOURNAL_VERDICT_REPLAYED_ENDED ? text : "another verdict");
+    } else if (replay.has_said == 0) {
+        snprintf(text, sizeof text, "same %" PRIu64, replay.index);
+        append_text(&found, text);
+    }
+    journal_reader_free(&reader);
+    free(chunk.bytes);
+    free(recorded.bytes);
+}
+
 static const struct {
     const char *kind;
     void (*check)(void);
 } checks[] = {{"payload", payload}, {"merge", merge}, {"frame", frame},    {"stream", stream},
-              {"compare", compare}, {"json", json},   {"read", read_json}, {"fields", fields}};
+              {"compare", compare}, {"json", json},   {"read", read_json}, {"fields", fields},
+              {"replay", replay_lines}};
 
 /* Checks a line: 1 if it passed, 0 if it failed, and -1 if it is not checked. */
 static int check_line(char *line) {

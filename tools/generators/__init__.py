@@ -1,7 +1,7 @@
 """What the generators share.
 
 A generator is a module of this package with a line on what it makes (ABOUT), where that comes from (SOURCE), and two
-functions: missing(), which says what has to be there and is not, or None, and files(), the text or the bytes of each
+functions: missing(), which tells what has to be there and is not, or None, and files(), the text or the bytes of each
 file by its path from the root, without the first line that says who made it. What cannot be known of the paths without
 the tools is said by paths().
 """
@@ -16,7 +16,7 @@ ROOT = pathlib.Path(__file__).resolve().parents[2]
 
 
 class Refused(SystemExit):
-    """What is wrong with what is read, a line each. A program that does not catch it ends, and shows these lines."""
+    """What is wrong with what is read, one per line. A program that does not catch it ends, and shows these lines."""
 
     def __init__(self, problems):
         super().__init__("\n".join(f"generate.py: {problem}" for problem in problems))
@@ -160,7 +160,7 @@ def bracketed(elements):
 
 
 def laid_out(texts):
-    """Files in the layout of `rt fmt`, by their paths. It takes files whose names end with `.rt` alone, and one at
+    """Files in the layout of `rt fmt`, by their paths. It takes only files whose names end with `.rt`, and one at
     least."""
     if not texts:
         return {}

@@ -7,10 +7,10 @@ from . import NAMES, ROOT, missing  # noqa: F401
 ABOUT = "What git knows of files."
 SOURCE = "the lists of generated files"
 
-# Streams are bytes, and their listings are beside them.
+# Streams are bytes, and their listings are next to them.
 AS_THEY_ARE = ("examples/streams/*", "crates/*/stdin")
 
-# The generators whose files are hand-written but for some numbers or rows, and this one.
+# The generators whose files are hand-written except some numbers or rows, and this one.
 LEFT_OUT = ("pages", "call_pages", "numbered", "versions", "attributes")
 
 
@@ -29,13 +29,13 @@ def generated():
 
 
 def is_generated(folder, made):
-    """Whether all files of a folder are generated, but for what a build has left in it."""
+    """Whether all files of a folder are generated, except what a build has left in it."""
     files = (path.relative_to(ROOT) for path in (ROOT / folder).rglob("*") if path.is_file())
     return all(path.as_posix() in made or "out" in path.parts for path in files)
 
 
 def pattern(path, made):
-    """The widest pattern that names a generated file and generated ones alone: a folder of them, or the file."""
+    """The widest pattern that names a generated file, and only generated ones: a folder of them, or the file."""
     widest = path
     for folder in PurePosixPath(path).parents:
         if not is_generated(folder, made):

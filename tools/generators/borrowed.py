@@ -106,7 +106,7 @@ class Source:
         return KINDS[field.kind]
 
 
-# What is in a record without fields, since a struct of C has a member at least.
+# What is in a record without fields, since a C struct has a member at least.
 NOTHING = "    /// Not looked at.\n    pub nothing: u8,\n"
 
 
@@ -256,7 +256,7 @@ def record_file(record):
 
 
 def call(record):
-    """The call for C that writes the payload of a record."""
+    """The C call that writes the payload of a record."""
     generics, held = ("<'a>", f"{record.name}<'a>") if has_slices(record) else ("", record.name)
     return (
         f"/// Writes the canonical payload of a {record.name}.\n"

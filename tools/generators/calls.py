@@ -1,4 +1,4 @@
-"""All that repeats the calls for C, from proto/calls.json: the header, the functions of journal_ffi, what each binding
+"""All that repeats the C calls, from proto/calls.json: the header, the functions of journal_ffi, what each binding
 declares of the library, and the list of calls for tests/c/hostile_calls.c. Each language has a function here.
 """
 import re
@@ -13,7 +13,7 @@ from .bindings import snake
 from .proto import schemas, typed
 from .versions import library_version
 
-ABOUT = "The calls for C, in each language that has them."
+ABOUT = "The C calls, in each language that has them."
 SOURCE = PATH
 
 WIDTH = 120
@@ -47,6 +47,9 @@ def c_parameters(call):
         found += [f"const uint8_t *{name}", f"size_t {'length' if name == 'bytes' else name + '_length'}"]
     if call.flag:
         found.append(f"uint32_t {call.flag}")
+    if call.given:
+        const = "" if call.changes else "const "
+        found += [f"{const}struct journal_{call.given} *{call.given}", f"size_t {call.given}_room"]
     if call.numbers:
         found += [f"struct journal_{call.numbers} *{call.numbers}", f"size_t {call.numbers}_room"]
     if call.table:
@@ -194,7 +197,7 @@ def header():
 
 
 def c_error_text():
-    """The function that says what an error is, with a case for each."""
+    """The function that tells what an error is, with a case for each."""
     cases = "".join(f'    case JOURNAL_{error["name"]}:\n        return "{error["text"]}";\n' for error in errors())
     return ERROR_TEXT.replace("CASES", cases)
 
@@ -231,6 +234,7 @@ FFI_MODULES = {
     "names": "The calls on names and numbers.",
     "notifications": "The call that reads notifications.",
     "payloads": "The calls on payloads, given by the numbers of their schemas.",
+    "replays": "The calls that check a replay by its recording, as it comes.",
 }
 
 FFI_ROOT = """\
@@ -272,6 +276,7 @@ def ffi_parameters(call):
     found += [f"{call.entries}s: &[{rattle_struct(call.entries).rpartition('::')[2]}]"] if call.entries else []
     found += [f"{name}: &[u8]" for name in call.reads]
     found += [f"{call.flag}: u32"] if call.flag else []
+    found += [f"{call.given}: &{'mut ' if call.changes else ''}[u64]"] if call.given else []
     found += [f"{call.numbers}: &mut [u64]"] if call.numbers else []
     found += [f"{call.table}s: &mut [{rattle_struct(call.table).rpartition('::')[2]}]"] if call.table else []
     return found + (["out: &mut [u8]"] if call.writes else [])
@@ -317,7 +322,8 @@ def ffi_module(module, found):
 
 
 def ffi():
-    texts = {f"{FFI}/lib.rt": FFI_ROOT + "".join(f"pub mod {module};\n" for module in (*FFI_MODULES, "records"))}
+    modules = sorted((*FFI_MODULES, "records"))
+    texts = {f"{FFI}/lib.rt": FFI_ROOT + "".join(f"pub mod {module};\n" for module in modules)}
     for module in FFI_MODULES:
         texts[f"{FFI}/{module}.rt"] = ffi_module(module, [call for call in calls() if call.module == module])
     return laid_out(texts)
@@ -335,19 +341,28 @@ def python_tuple(values):
     return f'({", ".join(values)}{"," if len(values) == 1 else ""})'
 
 
-# What an argument may be in Python, where it is no number.
-PYTHON_TYPES = {"schema": "Schema", "name": "str", "json": "Union[str, BytesLike]", "ignore_payloads": "bool"}
+# What an argument may be in Python, where it is not a number.
+PYTHON_TYPES = {
+    "schema": "Schema",
+    "name": "str",
+    "json": "Union[str, BytesLike]",
+    "ignore_payloads": "bool",
+    "replay": "bytes",
+}
 
 PYTHON_NAMED = '''\
 class NamedCall(NamedTuple):
     """A call that is made by its name: its function, its name in this package, what it takes of its caller, what its
-    code has to be that of, how many numbers it writes, whether it writes bytes, and the room for them that is tried
-    first: a multiple of the bytes that it reads, and more."""
+    code has to be that of, how many numbers it is given, as bytes, and whether it changes them, how many numbers it
+    writes, whether it writes bytes, and the room for them that is tried first: a multiple of the bytes that it reads,
+    and more."""
 
     function: str
     name: str
     takes: Tuple[str, ...]
     kind: str
+    given: int
+    changes: bool
     numbers: int
     writes: bool
     times: int
@@ -355,13 +370,18 @@ class NamedCall(NamedTuple):
 '''
 
 
+def counts(call):
+    """How many numbers a call is given, and how many it writes."""
+    return [str(len(structs()[name]["fields"]) if name else 0) for name in (call.given, call.numbers)]
+
+
 def python_named(call):
     """A call that is made by its name."""
-    numbers = len(structs()[call.numbers]["fields"]) if call.numbers else 0
+    given, numbers = counts(call)
     times, more = compiled.first_room(call)
     takes = python_tuple([quoted(name) for name in compiled.parameters(call)])
-    words = [quoted(call.symbol()), quoted(call.name_in("Python")), takes, quoted(call.kind_of_code()), str(numbers),
-             str(bool(call.writes)), str(times), str(more)]
+    words = [quoted(call.symbol()), quoted(call.name_in("Python")), takes, quoted(call.kind_of_code()), given,
+             str(call.changes), numbers, str(bool(call.writes)), str(times), str(more)]
     line = f"    NamedCall({', '.join(words)}),\n"
     if len(line) > WIDTH + 1:
         line = "    NamedCall(\n" + "".join(f"        {word},\n" for word in words) + "    ),\n"
@@ -375,7 +395,8 @@ def python_method(call):
         compiled.parameters(call)
     ]
     result = "bytes" if call.writes else "int"
-    result = f"Tuple[{result}, Tuple[int, ...]]" if call.numbers else result
+    if call.numbers:
+        result = f"Tuple[{result}, Tuple[int, ...]{', bytes' if call.changes else ''}]"
     start = f"    def {call.name_in('Python')}("
     line = f"{start}{', '.join(['self', *taken, '/'] if taken else ['self'])}) -> {result}: ...\n"
     if len(line) > WIDTH + 1:
@@ -438,16 +459,16 @@ def shapes(call):
     found = [f"u{BITS[name]}" for name in call.takes]
     found += ["slice" for _ in call.reads] + (["slice"] if call.entries else [])
     found += ["u32"] if call.flag else []
-    return found + ["slice" for is_there in (call.numbers, call.table, call.writes) if is_there]
+    return found + ["slice" for is_there in (call.given, call.numbers, call.table, call.writes) if is_there]
 
 
 # Ruby.
 
 RUBY_NAMED = '''
   # A call that is made by its name: its function, its name in this gem, what it takes of its caller, what its code has
-  # to be that of, how many numbers it writes, whether it writes bytes, and the room for them that is tried first: a
-  # multiple of the bytes that it reads, and more.
-  NamedCall = Struct.new(:function, :name, :takes, :kind, :numbers, :writes, :times, :more)
+  # to be that of, how many numbers it is given, as a String, and whether it changes them, how many numbers it writes,
+  # whether it writes bytes, and the room for them that is tried first: a multiple of the bytes that it reads, and more.
+  NamedCall = Struct.new(:function, :name, :takes, :kind, :given, :changes, :numbers, :writes, :times, :more)
 
   # In the order in which the compiled module has them.
   NAMED_CALLS = [
@@ -456,10 +477,11 @@ RUBY_NAMED = '''
 
 def ruby_named(call):
     """A call that is made by its name."""
-    numbers = len(structs()[call.numbers]["fields"]) if call.numbers else 0
+    given, numbers = counts(call)
     times, more = compiled.first_room(call)
     words = [f":{call.symbol()}", quoted(call.name_in("Ruby")), f"%i[{' '.join(compiled.parameters(call))}]",
-             quoted(call.kind_of_code()), str(numbers), str(bool(call.writes)).lower(), str(times), str(more)]
+             quoted(call.kind_of_code()), given, str(call.changes).lower(), numbers, str(bool(call.writes)).lower(),
+             str(times), str(more)]
     return filled(f"NamedCall.new({', '.join(words)})", "    ", "      ")
 
 
@@ -565,6 +587,9 @@ def node_calls():
         if call.flag:
             given.append("arguments->ignore_payloads")
             parameters.append(call.flag.upper())
+        if call.given:
+            given += [f"(void *)arguments->{call.given}", f"arguments->{call.given}_room"]
+            parameters.append(call.given.upper())
         if call.numbers:
             given += ["(void *)arguments->numbers", "arguments->numbers_room"]
             parameters.append("NUMBERS")
@@ -616,7 +641,7 @@ const Schemas = C.JOURNAL_SCHEMAS
 '''
 
 GO_REST = '''\
-// What follows are the calls for C in the types of Go, a slice for a pointer and its count. The library keeps no
+// What follows are the C calls in the types of Go, a slice for a pointer and its count. The library keeps no
 // pointer, and what the pointers lead to holds none, as the rules of cgo want it.
 
 func pointer(slice []byte) *C.uint8_t {
@@ -677,6 +702,16 @@ def go_entries(name):
     return [f"{go_pointer(name)}({name}s)", f"C.size_t(len({name}s))"]
 
 
+def go_struct(name):
+    """The type of the numbers of a struct."""
+    return f"*[{camel(structs()[name]['constant'], False)}]uint64"
+
+
+def go_numbers(name, variable):
+    """The numbers of a struct as C takes them."""
+    return [f"(*C.struct_journal_{name})(unsafe.Pointer({variable}))", f"C.size_t(len({variable}))"]
+
+
 def go_pointer(name):
     """The function that gives a table of these structs as C takes it."""
     return f"pointerTo{camel(name, True)}s"
@@ -706,13 +741,13 @@ def go_call(call):
     if call.flag:
         parameters.append((camel(call.flag, False), "bool"))
         given.append(f"flag({camel(call.flag, False)})")
+    if call.given:
+        parameters.append((call.given, go_struct(call.given)))
+        given += go_numbers(call.given, call.given)
     if call.numbers:
-        constant = camel(structs()[call.numbers]["constant"], False)
-        parameters.append((call.numbers, f"*[{constant}]uint64"))
-        given += [
-            f"(*C.struct_journal_{call.numbers})(unsafe.Pointer({call.numbers}))",
-            f"C.size_t(len({call.numbers}))",
-        ]
+        name = camel(call.numbers, False)
+        parameters.append((name, go_struct(call.numbers)))
+        given += go_numbers(call.numbers, name)
     if call.table:
         parameters.append((f"{call.table}s", go_table(call.table)))
         given += go_entries(call.table)
@@ -733,12 +768,12 @@ def go_call(call):
 
 def go():
     text = GO_HEAD.replace('import "C"\n', 'import "C"\n\nimport "unsafe"\n')
-    text += "// The errors of the calls for C.\n"
+    text += "// The errors of the C calls.\n"
     text += (
         go_constants([(camel(error["name"], False), f"C.JOURNAL_{error['name']}") for error in returned_errors()])
         + "\n"
     )
-    text += "// The indices of the numbers that the calls for C write, and how many there are.\n"
+    text += "// The indices of the numbers that the C calls write, and how many there are.\n"
     for entry in structs().values():
         name, constant = entry["struct"], camel(entry["constant"], False)
         values = [(camel(f"{name}_{field}", False), str(index)) for index, (field, _) in enumerate(entry["fields"])]
@@ -791,7 +826,8 @@ def rust():
 
 # The kinds of errors of which several arguments can be the reason, and how an argument is named in Rust.
 WITH_ABOUT = ("Malformed", "Unknown")
-ABOUTS = {"version": "Version", "schema": "Schema", "code": "Type", "payload": "Payload", "second": "Second"}
+ABOUTS = {"version": "Version", "schema": "Schema", "code": "Type", "payload": "Payload", "second": "Second",
+          "options": "Options"}
 
 
 def rust_about(error):
@@ -804,12 +840,14 @@ def rust_raw(call):
     for name in call.reads:
         found += [f"{name}: *const u8", f"{'length' if name == 'bytes' else name + '_length'}: usize"]
     found += [f"{call.flag}: u32"] if call.flag else []
+    pointer = "*mut" if call.changes else "*const"
+    found += [f"{call.given}: {pointer} u64", f"{call.given}_room: usize"] if call.given else []
     found += [f"{call.numbers}: *mut u64", f"{call.numbers}_room: usize"] if call.numbers else []
     found += [f"{call.table}s: *mut [u64; {numbers_of(call.table)}]", "room: usize"] if call.table else []
     return found + (["out: *mut u8", "room: usize"] if call.writes else [])
 
 
-# The calls of Rust whose bytes are appended to a vector of the caller's.
+# The calls of Rust whose bytes are appended to the caller's vector.
 RUST_APPENDED = ("frame", "payload_of_fields")
 
 
@@ -830,6 +868,10 @@ def rust_call(call):
     if call.flag:
         parameters.append(f"{call.flag}: bool")
         given.append(f"u32::from({call.flag})")
+    if call.given:
+        mutable = "mut " if call.changes else ""
+        parameters.append(f"{call.given}: &{mutable}[u64; {numbers_of(call.given)}]")
+        given += [f"{call.given}.as_{'mut_' if call.changes else ''}ptr()", f"{call.given}.len()"]
     if call.numbers:
         parameters.append(f"{call.numbers}: &mut [u64; {numbers_of(call.numbers)}]")
         given += [f"{call.numbers}.as_mut_ptr()", f"{call.numbers}.len()"]
@@ -882,7 +924,7 @@ def listed():
     )
     text += (
         "static const struct {\n    const char *name;\n    int inputs;\n    size_t numbers;\n    size_t entry;\n"
-        "    int writes;\n"
+        "    int writes;\n    size_t given;\n    int changes;\n"
         "    unsigned errors;\n    int kinds;\n} listed[CALLS] = {\n"
     )
     for call in calls():
@@ -890,16 +932,18 @@ def listed():
         numbers = f"JOURNAL_{structs()[call.numbers]['constant']}" if call.numbers else 0
         entry = f"JOURNAL_{structs()[call.table]['constant']}" if call.table else 0
         inputs = len(call.reads) + (1 if call.entries else 0)
+        given = f"JOURNAL_{structs()[call.given]['constant']}" if call.given else 0
         row = (
             f'[{call.call.upper()}] = {{"{call.symbol()}", {inputs}, {numbers}, {entry}, '
-            f'{int(bool(call.writes))}, {bits}, {kinds_of(call)}}},'
+            f'{int(bool(call.writes))}, {given}, {int(call.changes)}, {bits}, {kinds_of(call)}}},'
         )
         text += filled(row, "    ", "        ") + "\n"
     text += "};\n\nstatic int64_t make(const struct request *r, const struct slice *slices) {\n"
     text += "    const struct slice *first = &slices[FIRST], *second = &slices[SECOND], *out = &slices[OUT];\n"
     text += (
         "    const void *table = second->at;\n    void *numbers = slices[NUMBERS].at;\n"
-        "    size_t count = slices[NUMBERS].length / 8;\n\n    switch (r->call) {\n"
+        "    size_t count = slices[NUMBERS].length / 8;\n    void *given = slices[GIVEN].at;\n"
+        "    size_t given_count = slices[GIVEN].length / 8;\n\n    switch (r->call) {\n"
     )
     for call in calls():
         given = [f"r->{name}" for name in call.takes]
@@ -908,6 +952,7 @@ def listed():
         for place, _ in zip(("first", "second"), call.reads):
             given += [f"{place}->at", f"{place}->length"]
         given += [f"r->{call.flag}"] if call.flag else []
+        given += ["given", "given_count"] if call.given else []
         given += ["numbers", "count"] if call.numbers else []
         given += ["numbers", f"count / JOURNAL_{structs()[call.table]['constant']}"] if call.table else []
         given += ["out->at", "out->length"] if call.writes else []
@@ -921,12 +966,12 @@ KINDS_OF = {"item": 1, "notification": 0}
 
 
 def kinds_of(call):
-    """How many kinds of results it has that are no errors."""
-    if call.numbers is None:
-        return call.kinds_of_results
+    """How many kinds of results it has that are not errors."""
     lengths = {entry["kinds"]: len(entry["values"]) for entry in kinds()}
     if call.numbers == "notification":
         return lengths["id"] * lengths["result"]
+    if call.numbers not in lengths:
+        return call.kinds_of_results
     # of an item that bytes are missing, too
     return lengths[call.numbers] + KINDS_OF.get(call.numbers, 0)
 

@@ -1,4 +1,4 @@
-"""The description of the calls for C, proto/calls.json, as objects: what `calls` and `call_pages` write from it."""
+"""The description of the C calls, proto/calls.json, as objects: what `calls` and `call_pages` write from it."""
 import dataclasses
 import functools
 import json
@@ -11,7 +11,7 @@ from .versions import library_version
 PATH = "proto/calls.json"
 
 # The numbers that calls take, with their bits in C; the flag comes after the slices.
-BITS = {"version": 32, "code": 16, "schema": 32, "payload_length": 32, "limit": 32}
+BITS = {"version": 32, "code": 16, "schema": 32, "payload_length": 32, "limit": 32, "index": 32}
 
 LANGUAGES = ("Python", "Rust", "Go", "Ruby", "TypeScript")
 
@@ -31,6 +31,9 @@ class Call:
     entries: Optional[str] = None
     reads: List[str] = dataclasses.field(default_factory=list)
     flag: Optional[str] = None
+    # the struct of numbers that it reads, and whether it changes it
+    given: Optional[str] = None
+    changes: bool = False
     numbers: Optional[str] = None
     # the struct of which it writes a table, whose room is a count of these
     table: Optional[str] = None
@@ -39,7 +42,7 @@ class Call:
     # the room for them that is tried first: a multiple of the bytes that it reads, and more
     room: List[int] = dataclasses.field(default_factory=lambda: [1, 64])
     allocates: bool = False
-    # how many results it has that are no errors, where they are told apart
+    # how many results it has that are not errors, where they are told apart
     kinds_of_results: int = 1
     row: Optional[str] = None
     names: Dict[str, str] = dataclasses.field(default_factory=dict)

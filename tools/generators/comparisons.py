@@ -1,9 +1,9 @@
 """Commands compared, conformance/comparisons.txt.
 
 Each line compares two commands, the one that was recorded and the one that the code makes now. Which fields count,
-which are printed and how is said here once more, from the protocol's description alone: neither the library nor the
+which are printed and how is said here once more, only from the protocol's description: neither the library nor the
 tables that its contracts cite take part. The payloads are put together from the fields of proto/journal.proto. Where a
-text is beside a case, it was written by hand, and has to be the one that the tables give. A field that these tables do
+text is next to a case, it was written by hand, and has to be the one that the tables give. A field that these tables do
 not have yet is taken as the description says; the check 'table' names it.
 """
 import re
@@ -179,7 +179,7 @@ class OtherKind(Exception):
 
 
 def row_payload(row, value):
-    """The records of a row, of which None is absent."""
+    """The records of a row; None is absent."""
     if value is None:
         return b""
     if not fits(row, value):
@@ -272,7 +272,8 @@ def trailing(first):
 
 
 def lossy(content):
-    """Bytes as a text. What is no letter is U+FFFD: once for the longest beginning of a letter, else for each byte."""
+    """Bytes as a text. What is not a letter is U+FFFD: once for the longest beginning of a letter, else for each
+    byte."""
     text = ""
     at = 0
     while at < len(content):
@@ -317,7 +318,7 @@ def element_text(field, value):
 
 
 def row_text(row, value):
-    """How a row is printed, of which None is absent."""
+    """How a row is printed; None is absent."""
     if isinstance(row, OneOf):
         if value is None:
             return "<empty>"
@@ -333,7 +334,7 @@ def row_text(row, value):
 
 
 def difference(command, actual, expected):
-    """The text of a difference: a line for each printed field that differs."""
+    """The text of a difference: one line per printed field that differs."""
     rows = {row.name: row for row in rows_of(command)}
     text = ""
     for name in printed_fields(command):
@@ -393,7 +394,7 @@ def made_case(about, command, actual, expected, verdicts, text, encoded):
 
 
 def malformed(about, command, actual, expected):
-    """The line of two payloads of which one is no command."""
+    """The line of two payloads of which one is not a command."""
     return f"# {command}: {about}\n{question(command, actual, expected)} = malformed\n"
 
 

@@ -16,7 +16,7 @@ TEMPLATE = pathlib.Path(__file__).with_name("compiled.h.in")
 
 def is_by_name(call):
     """Whether the modules make a call by its name, and not within what reads streams and records."""
-    return not (call.entries or call.table or (call.numbers and not call.writes))
+    return not (call.entries or call.table or (call.numbers and not (call.writes or call.given)))
 
 
 def by_name():
@@ -25,12 +25,22 @@ def by_name():
 
 def parameters(call):
     """What a call takes of its caller, in order."""
-    return [*call.takes, *call.reads, *([call.flag] if call.flag else [])]
+    return [*call.takes, *call.reads, *(name for name in (call.flag, call.given) if name)]
 
 
 def first_room(call):
     """The room for what a call writes that is tried first: a multiple of the bytes that it reads, and more."""
     return call.room if call.writes is True else (0, call.writes or 0)
+
+
+def count(struct):
+    """How many numbers a struct has, or 0 without one."""
+    return f"JOURNAL_{structs()[struct]['constant']}" if struct else "0"
+
+
+def most(names):
+    """The most numbers that one of these structs has."""
+    return str(max(len(structs()[name]["fields"]) for name in names if name))
 
 
 def made(call):
@@ -40,8 +50,8 @@ def made(call):
         place = "second" if name in SECONDS else "first"
         given += [f"arguments->{place}.bytes", f"arguments->{place}.length"]
     given += [f"arguments->{call.flag}"] if call.flag else []
-    if call.numbers:
-        given += ["(void\u00a0*)arguments->numbers", f"JOURNAL_{structs()[call.numbers]['constant']}"]
+    given += ["(void\u00a0*)arguments->given", count(call.given)] if call.given else []
+    given += ["(void\u00a0*)arguments->numbers", count(call.numbers)] if call.numbers else []
     given += ["arguments->out", "arguments->room"] if call.writes else []
     start = f"    return library->{call.call}("
     line = textwrap.fill(", ".join(given), 120, initial_indent=start, subsequent_indent=" " * len(start),
@@ -56,10 +66,11 @@ def made(call):
 def row(call):
     """A call in the list."""
     taken = ", ".join(name.upper() for name in parameters(call)) or "NO_PARAMETER"
-    numbers = f"JOURNAL_{structs()[call.numbers]['constant']}" if call.numbers else "0"
-    times, more = first_room(call)
-    writes = "true" if call.writes else "false"
-    return f"    {{make_{call.call}, {{{taken}}}, {numbers}, {writes}, {times}, {more}}},"
+    flags = ["true" if flag else "false" for flag in (call.changes, call.writes)]
+    words = [count(call.given), flags[0], count(call.numbers), flags[1], *map(str, first_room(call))]
+    start = f"    {{make_{call.call}, {{{taken}}}, "
+    return textwrap.fill(", ".join(words), 120, initial_indent=start, subsequent_indent="     ",
+                         break_long_words=False, break_on_hyphens=False) + "},"
 
 
 def module():
@@ -76,7 +87,8 @@ def module():
     parts = {
         "PARAMETERS": ",\n".join(f"    {name.upper()}" for name in taken),
         "MOST_PARAMETERS": str(1 + max(len(parameters(call)) for call in by_name())),
-        "MOST_NUMBERS": str(max(len(structs()[call.numbers]["fields"]) for call in by_name() if call.numbers)),
+        "MOST_GIVEN": most(call.given for call in by_name()),
+        "MOST_NUMBERS": most(call.numbers for call in by_name()),
         "FUNCTIONS": "\n".join(f"    __typeof__({call.symbol()}) *{call.call};" for call in calls()),
         "COUNT": str(len(calls())),
         "POINTS": "\n".join(

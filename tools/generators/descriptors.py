@@ -193,7 +193,7 @@ class Reader:
         self.found = Description(self.file.text(12) or "proto2", self.file.text(2))
 
     def know(self, prefix, messages, enums, within):
-        """Takes note of messages and enums that are beside each other, and then of those within the messages."""
+        """Takes note of messages and enums that are next to each other, and then of those within the messages."""
         for one in (*messages, *enums):
             full = f"{prefix}.{one.text(1)}"
             self.known[full] = one
@@ -332,7 +332,7 @@ def read(path, folders=(), with_imports=False):
 
 
 def to_json(described):
-    """A description as JSON, a line for each of its messages, fields, oneofs and enums."""
+    """A description as JSON, one line per message, field, oneof and enum."""
     parts = dataclasses.asdict(described)
     lines = []
     for name, value in parts.items():

@@ -1,5 +1,5 @@
 """What is not compared of each command, erased: the impls of `Erase`, what leads from a command's type to its record
-there, of which types nothing is erased, and which fields are completion ids. What is compared is said as
+there, for which types nothing is erased, and which fields are completion ids. What is compared is said as
 shared_core_compare has it, by the options of proto/journal.proto.
 """
 from . import laid_out

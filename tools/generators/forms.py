@@ -37,7 +37,7 @@ RESERVED = set(
     "com".split()
 )
 
-# Names of types that generated code uses, so that no message and no enum of a oneof can have them. Of a oneof `result`
+# Names of types that generated code uses, so that no message and no enum of a oneof can have them. For a oneof `result`
 # is handled.
 TYPE_NAMES = set(
     "Self String Vec Option Some None Result Ok Err Box Bytes BytesMut Size Global Occurrence Record WireRecord "
@@ -57,7 +57,7 @@ TABLE_NAMES = {"schemas", "schema_count", "table"}
 HAND_WRITTEN = ("Future",)
 TEMPLATE = "NotificationTemplate"
 
-# The rows of messages that hand-written code takes apart, or makes of these alone: they have no further ones. The
+# The rows of messages that hand-written code takes apart, or makes only of these: they have no further ones. The
 # initializers of other records are completed by `numbered`.
 ROWS = {"Value": {"content"}, TEMPLATE: {"id", "result"}}
 

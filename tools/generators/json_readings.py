@@ -1,6 +1,6 @@
 """JSON texts as test vectors, conformance/json/readings.txt: what each is read as, or why it is not, and where.
 
-The results are hand-written, but for those of each field, which follow from its name and its kind in
+The results are hand-written, except those of each field, which follow from its name and its kind in
 proto/journal.proto. No reader of JSON takes part.
 """
 from . import missing  # noqa: F401

@@ -63,7 +63,7 @@ def list_bytes(held):
     return bytes(out) if max(out) < 256 else None
 
 
-# What the literals mean, by their bytes: payloads of messages, of which some are the first bytes of a longer one.
+# What the literals mean, by their bytes: payloads of messages, some of them the first bytes of a longer one.
 MEANS = {
     "CallCommandMessage": ("22061201760a016b", "22060a016b120176", "0a00"),
     "CallCompletionNotificationMessage": ("08022a040a026869",),
@@ -140,7 +140,7 @@ def written(path, data):
 
 
 def listed(byte, letter):
-    """A byte in a list, where letters are written so or not at all."""
+    """A byte in a list, where characters are written so or not at all."""
     if letter and chr(byte).isascii() and chr(byte).isalnum():
         return letter.format(chr(byte))
     return str(byte) if byte < 10 else f"0x{byte:02X}"
@@ -252,7 +252,7 @@ class Literals:
         return match[0].replace(match["text"], written(path, new[0]))
 
     def of_list(self, path, match):
-        # a few decimal numbers are no bytes
+        # a few decimal numbers are not bytes
         is_bytes = "0x" in match["held"] or "'" in match["held"] or match["held"].count(",") > 6
         data = list_bytes(match["held"]) if is_bytes else None
         new = data and self.changed(path, [data])

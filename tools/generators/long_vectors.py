@@ -57,7 +57,7 @@ def awaiting(awaited):
 
 
 def completions(ids):
-    """The three lists of a suspension before version 7, of which one has elements."""
+    """The three lists of a suspension before version 7; one has elements."""
     return payload_of("SuspensionMessageV6", waiting_completions=ids)
 
 

@@ -59,7 +59,7 @@ def inline(text):
 
 
 def filled(text):
-    """A paragraph's lines, of which none is read as a request."""
+    """A paragraph's lines; none is read as a request."""
     lines = textwrap.wrap(inline(" ".join(text.split())), 78, break_long_words=False, break_on_hyphens=False)
     return "".join(f"\\&{line}\n" if line[0] in ".'" else f"{line}\n" for line in lines)
 

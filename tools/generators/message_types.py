@@ -1,7 +1,7 @@
 """The types of messages and of commands: the enums with their codes, names and texts in Rattle, and the tables of the
 same that contracts cite.
 
-What both say of a type beyond that, as whether it is a command, is written by hand beside them.
+What both say of a type beyond that, as whether it is a command, is written by hand next to them.
 """
 from . import laid_out
 from . import missing_rt as missing  # noqa: F401

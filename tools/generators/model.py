@@ -21,7 +21,7 @@ class Options:
 class Field(Options):
     """A field: its name, its kind (u32, u64, bool, enum, text, bytes, message, or other, which the library lacks), its
     type's name, its number, its presence (plain, optional, repeated or message), the comment above it, its name in JSON
-    where that is no common one, and its options."""
+    where that is not a common one, and its options."""
 
     OPTIONS = ("not_compared", "payload", "printed", "packed")
 
@@ -111,7 +111,7 @@ def numbers(row):
 
 
 def fields_of(message):
-    """The fields of a message in the order of its rows, the members of a oneof beside each other."""
+    """The fields of a message in the order of its rows, the members of a oneof next to each other."""
     return [field for row in message.rows for field in members_of(row)]
 
 

@@ -1,7 +1,7 @@
 """The numbers of fields in files that are written by hand: the record Future, which holds itself, the suspension before
 version 7 as it is written, their definitions and proofs, and planted bugs that quote generated lines.
 
-All else of these files is written by hand, but for the order of Future's fields and the further fields of records that
+All else of these files is written by hand, except the order of Future's fields and the further fields of records that
 they make. The numbers are found by the text around them, in which the name of a field in braces is where its number is.
 """
 import itertools

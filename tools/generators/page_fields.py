@@ -45,12 +45,12 @@ def member(name, text, indent):
 
 
 def laid_out(members, indent):
-    """An object, a line for each of its members."""
+    """An object, one line per member."""
     return "{\n" + ",\n".join(members) + f"\n{' ' * indent}}}" if members else "{}"
 
 
 def message_fields(message):
-    """The fields of a message, a line for each."""
+    """The fields of a message, one per line."""
     fields = [member(json_name(field.name), json.dumps(field_entry(field)), 6) for field in fields_of(message)]
     return member(message.name, laid_out(fields, 4), 4)
 

@@ -1,4 +1,4 @@
-"""How a record of Go is given to the library: its fields are parameters of a function in C, which makes the struct of
+"""How a Go record is given to the library: its fields are parameters of a function in C, which makes the struct of
 them that the library takes. Go gives C no memory in which there are pointers of Go, so no struct can be made in Go, but
 each text and all bytes may be parameters themselves. Of lists, whose length nothing limits, the texts and bytes are
 copied, one after the other; so a record with a list of anything else but numbers is given as a table of its fields.
@@ -8,7 +8,7 @@ from .calls_data import camel
 from .typed_c import by_name, declared, element, has_content, is_borrowed, member
 from .typed_model import TypedOneOf, records
 
-# The kinds of parameters of C that are no slices, and how Go has them.
+# The kinds of parameters of C that are not slices, and how Go has them.
 NUMBERS = {"u32": "uint32_t", "u64": "uint64_t", "bool": "bool", "enum": "int32_t"}
 ZEROS = {"u32": "uint32", "u64": "uint64", "bool": "bool", "text": "string", "bytes": "[]byte"}
 
@@ -69,9 +69,10 @@ class Passed:
         self.made = []
         self.before = []
         self.given = []
-        # the texts and bytes that are no list's
+        # the texts and bytes that are in no list
         self.slices = []
-        # the lists, each with how many slices an element is and what it takes beside these, and what copies the slices
+        # the lists, each with how many slices an element is and what it takes in addition to these, and what copies the
+        # slices
         self.lists = []
         self.copied = []
         self.beside = self.rows(record, "r", "record", ())
@@ -96,7 +97,7 @@ class Passed:
         self.given.append(f"C.{kind}({value})")
 
     def value(self, field, place, path, value):
-        """Passes what is no record: the value of an expression of Go whose address can be taken."""
+        """Passes what is not a record: the value of an expression of Go whose address can be taken."""
         if field.kind not in ("text", "bytes"):
             self.number(NUMBERS[field.kind], place, path, value)
             return
@@ -143,7 +144,7 @@ class Passed:
         return self.content(field, place, path, name)
 
     def oneof(self, record, row, at, place, above):
-        """Passes a oneof: which member is there, and all of them. Their names are no other fields'."""
+        """Passes a oneof: which member is there, and all of them. No other field has their names."""
         path = (*above, row.name)
         case = self.name_in_go((*path, "case"))
         kind = f"enum journal_{record.name}_{row.name}"

@@ -1,4 +1,4 @@
-"""The peer's records and tables, over prost.
+"""The baseline's records and tables, over prost.
 
 bench/src/records.rs has the records of proto/journal.proto as prost-build would write them, with shared buffers for
 `bytes`. table.rs has what depends on their numbers: the fields of each schema, the code of each message type, and
@@ -111,7 +111,7 @@ def entry(field, written):
 
 
 def written_value(field, value):
-    """A value, of which this is a reference, as serde is given it."""
+    """A value by a reference, as serde is given it."""
     return WRITTEN.get(field.kind, "{0}").format(value)
 
 

@@ -57,7 +57,7 @@ class Argument:
         return len(f"    --{self.name} <{self.value}>" if self.value else f"    --{self.name}")
 
     def help_lines(self, taken):
-        """Its text of the help, in lines beside those that show it, which take so many columns: what clap would append
+        """Its text of the help, in lines next to those that show it, which take so many columns: what clap would append
         is in it, since clap breaks no line."""
         values = [f"[default: {self.default}]"] if self.default is not None else []
         values += [f"[possible values: {', '.join(self.values)}]"] if self.values else []
@@ -68,7 +68,7 @@ class Argument:
         return "\n".join([*lines, *more])
 
     def definition(self, taken):
-        """The call that defines it for clap, beside arguments that take so many columns."""
+        """The call that defines it for clap, next to arguments that take so many columns."""
         help = self.help_lines(taken)
         if not self.is_option:
             code = call("operand", "alloc", self.name, self.value, help)
@@ -157,7 +157,7 @@ class Program:
         return f"{JOURNAL} {self.command}" if self.is_subcommand else self.name
 
     def synopses(self):
-        """How it is used, in a line for each name by which it is called."""
+        """How it is used, in one line per name by which it is called."""
         if self.name == JOURNAL:
             return [f"{JOURNAL} COMMAND [ARGUMENT].."]
         words = [argument.synopsis() for argument in self.arguments]

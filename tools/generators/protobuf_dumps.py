@@ -139,7 +139,7 @@ def records(root):
 
 
 def json_lines(kinds, root):
-    """The JSON of these payloads, a line each."""
+    """The JSON of these payloads, one per line."""
     lines = [
         f"json {name} {payload.hex() or '-'} = {text_of(printed(getattr(kinds, name), payload))}\n"
         for name, payload in records(root)
@@ -157,7 +157,7 @@ def future_of(kinds, levels):
 def stored(kinds, root):
     """The stream of the stored run: each message with every field, with each member of its oneofs, and empty; texts
     with every escape; ninety levels; a malformed payload between two good ones; headers with bits that say nothing;
-    items that are no messages; and a rest."""
+    items that are not messages; and a rest."""
     stream = Stream(kinds, root)
     for name, payload in records(root):
         if name.endswith("Message"):

@@ -26,7 +26,7 @@ def after(**words):
 
 
 # By folder or file: how the code says the message, the last match before a literal; a message by its name where the
-# file speaks of one alone.
+# file speaks of only one.
 CONTEXTS = {
     "tests/comparisons/failing_writer.rt.in": "CallCommandMessage",
     "tests/ffi/commands.rt.in": CODE,

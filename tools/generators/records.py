@@ -1,6 +1,6 @@
 """The records of proto/journal.proto as Rattle source, as prost-build writes them for Rust.
 
-One file a message, in the crates below, laid out as `rt fmt` does. Future alone is written by hand, since it leads back
+One file a message, in the crates below, laid out as `rt fmt` does. Only Future is written by hand, since it leads back
 to itself and so has a form of its own; its fields and numbers are compared with the description.
 """
 import re
@@ -96,10 +96,10 @@ SHARED = {
 # Messages whose type is not their own name.
 TYPE_OF = {message.name: last.type_name() for message, last in earlier()}
 
-# What the enums of oneofs derive beside Debug, PartialEq and Drop, by message and oneof.
+# What the enums of oneofs derive in addition to Debug, PartialEq and Drop, by message and oneof.
 DERIVED = {("NotificationTemplate", "id"): ["Eq", "Hash"]}
 
-# What is shown of hand-written modules beside records.
+# What is shown of hand-written modules in addition to records.
 SHOWN = {PARTS_CRATE: ["texts::{HeadersText, StateKeysText}"]}
 
 # By kind: the part that a field is, and the name of its kind in schemas.

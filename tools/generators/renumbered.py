@@ -140,7 +140,7 @@ class Side:
 
 
 def values_of(field, found):
-    """The values of a field, of which lists of numbers are packed."""
+    """The values of a field; lists of numbers are packed."""
     if field.presence == "repeated" and field.kind == "u32":
         return [number for data in found for number in varints(data)]
     return found
@@ -181,7 +181,7 @@ def skipped(data, at, number):
 
 
 def value_end(data, at, form):
-    """Where the value of a record that is no group ends."""
+    """Where the value of a record that is not a group ends."""
     if form == 0:
         return descriptors.varint(data, at)[1]
     if form == 2:

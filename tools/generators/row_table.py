@@ -1,4 +1,4 @@
-"""The rows of each schema by which the program goes over payloads, in the order of the schemas of shared_core_codec.
+"""The rows of each schema by which the program reads payloads, in the order of the schemas of shared_core_codec.
 The rows are proved to be those of the schemas.
 """
 from . import laid_out

@@ -1,5 +1,5 @@
-"""The records as structs of C, and what the functions of pendratsoa_messages.h know of them. Those are in
-messages.h.in, which is C but for the words between @; nothing in them depends on the description."""
+"""The records as C structs, and what the functions of pendratsoa_messages.h know of them. Those are in
+messages.h.in, which is C except the words between @; nothing in them depends on the description."""
 import pathlib
 import textwrap
 
@@ -10,7 +10,7 @@ from .typed_model import KINDS, TypedOneOf, enumerations, records
 
 TEMPLATE = pathlib.Path(__file__).with_name("messages.h.in")
 
-# Names that no member can have in C or C++, and are no words of Python, which the model refuses.
+# Names that no member can have in C or C++, and are not words of Python, which the model refuses.
 WORDS = {
     *("alignas", "alignof", "asm", "auto", "bool", "case", "catch", "char", "const", "constexpr", "decltype"),
     *("default", "delete", "do", "double", "enum", "explicit", "export", "extern", "float", "friend", "goto"),
@@ -82,7 +82,7 @@ def oneof_enum(record, row):
 
 
 def oneof_members(record, row):
-    """The members of a oneof: which is there, and a struct of those that hold anything. It is no union, since Rattle
+    """The members of a oneof: which is there, and a struct of those that hold anything. It is not a union, since Rattle
     reads it, which has none."""
     text = f"    enum journal_{record.name}_{row.name} {member(row.name)}_case;\n"
     held = [field for field in row.members if has_content(field)]
@@ -300,7 +300,7 @@ def writer(record):
 
 
 def inner_first():
-    """The records, each after those that it holds, but for one that may hold itself."""
+    """The records, each after those that it holds, except one that may hold itself."""
     found = []
 
     def put(record, above):
@@ -365,7 +365,7 @@ def framers():
 
 
 def each_message():
-    """The words of a macro that has each message, with the name of its type but for JOURNAL_TYPE_."""
+    """The words of a macro that has each message, with the name of its type except JOURNAL_TYPE_."""
     return " \\\n".join(f"    each({message.name}, {upper(message.type_name())})" for message in typed()) + "\n"
 
 
@@ -419,7 +419,7 @@ def encoders():
 
 
 def each_record():
-    """The words of a macro that has each record, with the name of its schema but for JOURNAL_SCHEMA_."""
+    """The words of a macro that has each record, with the name of its schema except JOURNAL_SCHEMA_."""
     return " \\\n".join(f"    each({record.name}, {upper(record.name)})" for record in records()) + "\n"
 
 

@@ -301,7 +301,7 @@ TAB = "\t"
 
 CALLS_IN_C = """\
 /*
- * A call for each record: its fields are the parameters, of which the struct is made that the library takes. The texts
+ * A call for each record: its fields are the parameters; the struct that the library takes is made of them. The texts
  * and bytes of its lists come one after the other, with the length of each. The payload is written after room for a
  * header of this many bytes, which there has to be; where it is more than none, the header of a frame is written there.
  * Returns how many bytes both have. Where that is more than the room, nothing of use is written. The errors are those

@@ -1,4 +1,4 @@
-"""The calls for C as the WebAssembly module has them for JavaScript, from proto/calls.json: its functions in C, which
+"""The C calls as the WebAssembly module has them for JavaScript, from proto/calls.json: its functions in C, which
 take numbers of 32 bits and return doubles, and the functions of the package for Node over them, which take what those
 of its addon take.
 """
@@ -34,11 +34,6 @@ double js_items(uint32_t version, uint32_t limit, uint32_t bytes, uint32_t lengt
 """
 
 
-def given(call):
-    """The struct that a call reads, and whether it changes it."""
-    return getattr(call, "given", None), getattr(call, "changes", False)
-
-
 def c_struct(entry):
     fields = "".join(f"    uint64_t {field};\n" for field, _ in entry["fields"])
     return f"\nstruct journal_{entry['struct']} {{\n{fields}}};\n"
@@ -57,9 +52,8 @@ def c_call(call):
         slice_of("const uint8_t", name, "length" if name == "bytes" else f"{name}_length")
     if call.flag:
         words.append((call.flag, call.flag))
-    struct, is_changed = given(call)
-    if struct:
-        slice_of(f"{'' if is_changed else 'const '}struct journal_{struct}", struct, f"{struct}_room")
+    if call.given:
+        slice_of(f"{'' if call.changes else 'const '}struct journal_{call.given}", call.given, f"{call.given}_room")
     if call.numbers:
         slice_of(f"struct journal_{call.numbers}", call.numbers, f"{call.numbers}_room")
     if call.table:
@@ -212,9 +206,8 @@ def js_call(call):
         function.bytes(argument(name, bool(call.entries)))
     if call.flag:
         function.flag(argument(call.flag))
-    struct, is_changed = given(call)
-    if struct:
-        function.numbers(argument(struct), len(structs()[struct]["fields"]), is_changed)
+    if call.given:
+        function.numbers(argument(call.given), len(structs()[call.given]["fields"]), call.changes)
     if call.numbers:
         function.numbers("numbers", len(structs()[call.numbers]["fields"]))
     if call.table:

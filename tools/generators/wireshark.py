@@ -30,7 +30,7 @@ def kind_of(field):
 
 
 def table(name, entries):
-    """A table of Lua, with a line for each entry."""
+    """A table of Lua, with one line per entry."""
     return f"local {name} = {{\n" + "".join(f"  {entry},\n" for entry in entries) + "}\n"
 
 

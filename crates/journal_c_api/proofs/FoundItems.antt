@@ -1,11 +1,10 @@
 -- Items that are found at the front of bytes, and their numbers.
 use Rattle.std.proofs.Common.{◌≡◌, ℕ, ◌+◌, ◌-◌, ◌≤◌, Bool, true, false, List, [], ◌∷◌, ◌++◌, length, take, drop, Option}
-use Rattle.std.proofs.Common.{Some, None, refl, sym, ap, ◌∙◌, arith, length-append, length-drop, unwrap_or}
-use Rattle.std.specs.Int.{from_bool}
+use Rattle.std.proofs.Common.{Some, None, refl, sym, ap, ◌∙◌, arith, length-append, length-drop}
 use Rattle.std.proofs.lemmas.List.{length-take-le}
 use Rattle.shared_core_base.specs.declared.message_header.MessageHeader.{MessageHeader}
 use Rattle.shared_core_base.specs.declared.version.Version.{Version}
-use Rattle.shared_core_base.specs.MessageHeader.{ack_bit, header_of}
+use Rattle.shared_core_base.specs.MessageHeader.{header_of}
 use Rattle.shared_core_stream.specs.declared.encoding.item_ref.ItemRef.{ItemRef}
 use Rattle.shared_core_stream.specs.Borrowed.{IsAtFront, IsMissing, item_borrowed, missing_bytes}
 use Rattle.shared_core_stream.specs.Items.{front_word, skips_unknown_messages, body_length, item_of}

@@ -1,5 +1,5 @@
 -- Which part of a payload is malformed.
-use Rattle.std.proofs.Common.{ℕ, List, [], Result, Ok, Err}
+use Rattle.std.proofs.Common.{ℕ, List, [], Result, Err}
 use Rattle.std.proofs.lemmas.List.Elements.{All-nil}
 use Rattle.shared_core_codec.specs.Payloads.{IsAccepted}
 use Rattle.journal_c_api.specs.declared.outcome.CallError.{CallError}

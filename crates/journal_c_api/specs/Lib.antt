@@ -10,3 +10,5 @@ pub mod Notifications
 pub mod Outcomes
 pub mod Payloads
 pub mod Records
+pub mod Replays
+pub mod WholeReplays

@@ -13,7 +13,7 @@ use Rattle.journal_c_api.specs.declared.outcome.CallError.{CallError}
 use Rattle.journal_c_api.specs.declared.outcome.CallError.TheVariants.{Malformed, MalformedSecond}
 use Rattle.journal_c_api.specs.declared.outcome.CallError.TheVariants.{OutOfMemory as NoMemory, NoRoom, TooLong}
 use Rattle.journal_c_api.specs.declared.outcome.CallError.TheVariants.{UnknownVersion, UnknownSchema, UnknownType, NoId}
-use Rattle.journal_c_api.specs.declared.outcome.CallError.TheVariants.{NoResult, NotCanonical}
+use Rattle.journal_c_api.specs.declared.outcome.CallError.TheVariants.{NoResult, NotCanonical, UnknownOption}
 
 -- The number that denotes an error. Its remainder by 16 is that of its kind, which those of several arguments share.
 abbrev pub error_number : CallError → ℤ
@@ -28,6 +28,7 @@ error_number MalformedSecond = negsuc 16
 error_number UnknownVersion = negsuc 20
 error_number UnknownSchema = negsuc 36
 error_number UnknownType = negsuc 52
+error_number UnknownOption = negsuc 68
 
 -- The number that denotes a result: a count unchanged, if it is below 2 ^ 63, or the error's number.
 abbrev pub outcome_number : Result ℕ CallError → ℤ

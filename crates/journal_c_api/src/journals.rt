@@ -44,13 +44,13 @@ pub fn write_verdict(
 
 /// The report on two journals.
 #[derive(Drop)]
-struct Report {
+pub(crate) struct Report {
     /// The number of the verdict's kind.
-    kind: u64,
+    pub kind: u64,
     /// The index, or the number of commands of both.
-    index: u64,
+    pub index: u64,
     /// The text of a mismatch, otherwise empty.
-    text: String,
+    pub text: String,
 }
 
 /// Compares two journals, and returns the report on them.
@@ -76,7 +76,7 @@ fn compare(
 }
 
 /// The report of a verdict.
-fn report_of(alloc: Global, verdict: Verdict) -> Report
+pub(crate) fn report_of(alloc: Global, verdict: Verdict) -> Report
     ensures { ReportsOutcome (outcome_of verdict) result }
 {
     let (kind, index, text) = match verdict {
@@ -90,7 +90,7 @@ fn report_of(alloc: Global, verdict: Verdict) -> Report
 }
 
 /// The report of a command of this side and index that is not well-formed.
-fn malformed(alloc: Global, side: Side, index: u64) -> Report
+pub(crate) fn malformed(alloc: Global, side: Side, index: u64) -> Report
     ensures { ReportsOutcome (NotWellFormed side index) result }
 {
     let kind = match side {

@@ -15,3 +15,4 @@ pub mod notifications;
 pub mod outcome;
 pub mod payloads;
 pub mod records;
+pub mod replays;

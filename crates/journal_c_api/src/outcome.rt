@@ -35,6 +35,8 @@ pub enum CallError {
     UnknownSchema,
     /// The code or the name is that of no type, or of none of the kind that the call is for.
     UnknownType,
+    /// The options have an unknown bit.
+    UnknownOption,
     /// A notification has no id.
     NoId,
     /// A notification has an id, and no result.
@@ -130,6 +132,7 @@ pub fn outcome_of(outcome: Result<usize, CallError>) -> i64
         CallError::UnknownVersion => -21,
         CallError::UnknownSchema => -37,
         CallError::UnknownType => -53,
+        CallError::UnknownOption => -69,
     }
 }
 

@@ -17,3 +17,4 @@ pub mod names;
 pub mod notifications;
 pub mod payloads;
 pub mod records;
+pub mod replays;

@@ -1,0 +1,125 @@
+/*
+ * Checks the replay that comes on the standard input by a recording: replay RECORDING [5..9]
+ *
+ * It prints each command that is the same. Where the replay leaves the recording it prints how, where both are, which
+ * command the recording has next, the text that the SDKs report, and the fields that differ. The status is 0 if both
+ * are the same, 1 if they differ, and 2 if either cannot be read: a file, a message of more than a mebibyte, a stream
+ * that ends within an item, a command that is malformed.
+ *
+ *   cc -std=c99 replay.c $(pkg-config --cflags --libs pendratsoa) -o replay
+ */
+#include <inttypes.h>
+#include <stdio.h>
+#include <stdlib.h>
+
+#include <pendratsoa_reader.h>
+
+#define CHUNK 4096
+#define LIMIT 1048576
+
+/* The recording, how far its replay came, and memory for texts. */
+static struct journal_memory recorded, text;
+static size_t length;
+static struct journal_replay replay;
+
+/* Prints the name of a type, and the offset of a command of it. */
+static void print_command(const char *what, uint64_t code, uint64_t offset) {
+    uint8_t name[64];
+    const int64_t size = journal_type_name((uint16_t)code, name, sizeof name);
+
+    printf("%s %.*s at offset %" PRIu64 "\n", what, (int)(size < 0 ? 0 : size), (const char *)name, offset);
+}
+
+/* Prints the text of a mismatch of two commands, and the fields in which they differ. Returns 1, or an error. */
+static int64_t print_text(const struct journal_mismatch *found, uint16_t code, const uint8_t *payload, size_t size) {
+    struct journal_changed_field field;
+    int64_t needed;
+
+    while ((needed = journal_replay_text(code, recorded.bytes, length, payload, size, &replay, JOURNAL_REPLAY_NUMBERS,
+                                         text.bytes, text.size)) > (int64_t)text.size) {
+        if (!journal_memory_grow(&text, (size_t)needed)) {
+            return JOURNAL_OUT_OF_MEMORY;
+        }
+    }
+    if (needed > 0) {
+        printf("%.*s\n", (int)needed, (const char *)text.bytes);
+    }
+    /* no field is longer than the text, which has all of them */
+    for (uint32_t index = 0; needed > 0 && found->kind == JOURNAL_VERDICT_HEADER_MISMATCH; index++) {
+        needed = journal_changed_field(code, index, recorded.bytes + found->recorded_offset + 8,
+                                       (size_t)found->recorded_size - 8, payload, size, &field,
+                                       JOURNAL_CHANGED_FIELD_NUMBERS, text.bytes, text.size);
+        if (needed > 0) {
+            const char *name = (const char *)text.bytes, *one = name + field.name_length;
+
+            printf("field %.*s: recorded %.*s, replayed %.*s\n", (int)field.name_length, name,
+                   (int)field.first_length, one, (int)field.second_length, one + field.first_length);
+        }
+    }
+    return needed < 0 ? needed : 1;
+}
+
+/* Prints a mismatch, and what the recording has next. Returns the status. */
+static int print_mismatch(const struct journal_mismatch *found) {
+    static const char *const kinds[] = {"same", "recorded_ended", "replayed_ended", "type_mismatch",
+                                        "header_mismatch", "bad_recorded", "bad_replayed"};
+
+    printf("%s, command %" PRIu64 ", recorded at offset ", kinds[found->kind], found->index);
+    found->recorded_size > 0 ? printf("%" PRIu64, found->recorded_offset) : printf("-");
+    printf(", replayed at offset %" PRIu64 "\n", found->replayed_offset);
+    if (found->kind != JOURNAL_VERDICT_RECORDED_ENDED) {
+        print_command("next", found->recorded_code, found->recorded_offset);
+    }
+    return found->kind > JOURNAL_VERDICT_HEADER_MISMATCH ? 2 : 1;
+}
+
+int main(int argc, char **argv) {
+    FILE *file = argc > 1 ? fopen(argv[1], "rb") : NULL;
+    struct journal_reader reader = journal_reader_of(argc > 2 ? (uint32_t)atoi(argv[2]) : 8, LIMIT);
+    struct journal_reader_item item;
+    struct journal_mismatch found;
+    int64_t result = 0;
+    size_t count = 1;
+
+    replay.version = reader.version;
+    while (file && !feof(file) && !ferror(file) && journal_memory_grow(&recorded, length + CHUNK)) {
+        length += fread(recorded.bytes + length, 1, CHUNK, file);
+    }
+    if (!file || !feof(file)) {
+        fputs("replay: the recording cannot be read\n", stderr);
+        return 2;
+    }
+    while (result == 0 && count > 0) {
+        uint8_t *room = journal_reader_room(&reader, CHUNK);
+
+        result = room ? 0 : JOURNAL_OUT_OF_MEMORY;
+        count = room ? fread(room, 1, CHUNK, stdin) : 0;
+        journal_reader_came(&reader, count);
+        while (result == 0 && (result = journal_reader_next(&reader, &item)) == 1) {
+            const uint64_t index = replay.index;
+            const uint16_t code = (uint16_t)item.item.code;
+
+            result = journal_replay_check(code, recorded.bytes, length, item.payload, item.payload_length, &replay,
+                                          JOURNAL_REPLAY_NUMBERS, &found, JOURNAL_MISMATCH_NUMBERS);
+            if (result == 0 && replay.index > index) {
+                print_command("same", code, item.offset);
+            } else if (result == 1 && (result = print_mismatch(&found)) == 1) {
+                result = print_text(&found, code, item.payload, item.payload_length);
+            }
+        }
+    }
+    if (result == 0 && (ferror(stdin) || journal_reader_pending(&reader) > 0)) {
+        fputs("replay: the replay cannot be read to its end\n", stderr);
+        return 2;
+    }
+    if (result == 0 && (result = journal_replay_finish(recorded.bytes, length, &replay, JOURNAL_REPLAY_NUMBERS, &found,
+                                                       JOURNAL_MISMATCH_NUMBERS)) == 1) {
+        result = print_mismatch(&found);
+    } else if (result == 0) {
+        printf("same, %" PRIu64 " commands\n", replay.index);
+    }
+    if (result < 0) {
+        fprintf(stderr, "replay: %s\n", journal_error_text(result));
+    }
+    return result < 0 ? 2 : (int)result;
+}
