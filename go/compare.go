@@ -11,7 +11,7 @@ func HeaderEq(code uint16, first, second []byte, ignorePayloads bool) (bool, err
 	return result != 0, nil
 }
 
-// Difference returns a line for each printed field in which two commands of a type differ, each after a line feed and
+// Difference returns one line per printed field in which two commands of a type differ, each after a line feed and
 // three spaces, and nothing if they differ in none. The errors are those of HeaderEq.
 func Difference(code uint16, first, second []byte) (string, error) {
 	text, result := written(textRoom, func(out []byte) int64 {
@@ -29,7 +29,7 @@ func commandError(call string, result int64, code uint16, first, second []byte) 
 	return given.refusal(call, result)
 }
 
-// A VerdictKind says how two journals compare: VerdictSame, VerdictRecordedEnded, VerdictReplayedEnded,
+// A VerdictKind tells how two journals compare: VerdictSame, VerdictRecordedEnded, VerdictReplayedEnded,
 // VerdictTypeMismatch, VerdictHeaderMismatch, VerdictBadRecorded or VerdictBadReplayed.
 type VerdictKind int
 
@@ -38,7 +38,7 @@ func (kind VerdictKind) String() string {
 	return nameOfKind("VerdictKind", namesOfVerdictKind, int(kind))
 }
 
-// A Verdict says how two journals compare.
+// A Verdict tells how two journals compare.
 type Verdict struct {
 	// Kind is which verdict it is.
 	Kind VerdictKind
@@ -50,7 +50,7 @@ type Verdict struct {
 }
 
 // CompareJournals compares a recorded journal with a replayed one, both streams of a version, command by command. Other
-// items, and bytes after the last whole item, are skipped. If payloads are ignored, the content of user data is not
+// items, and trailing bytes, are skipped. If payloads are ignored, the content of user data is not
 // compared, but that of a signal is. ErrUnknown for an unknown version; ErrOutOfMemory.
 func CompareJournals(version int, recorded, replayed []byte, ignorePayloads bool) (Verdict, error) {
 	number, err := unsigned("CompareJournals", versionName, version)

@@ -14,7 +14,7 @@ import (
 	"testing/iotest"
 )
 
-// A vectorKind says how many words of a test vector come before its bytes, and what the library returns for them.
+// A vectorKind tells how many words of a test vector come before its bytes, and what the library returns for them.
 type vectorKind struct {
 	names  int
 	result func(names []string, data [][]byte) (string, error)

@@ -25,7 +25,7 @@ const (
 // A Decoder reads the items of a stream from a reader.
 //
 // It reads into blocks of memory and never writes again what it has read: the payload of an item is a part of a block,
-// which is the caller's to keep or to change, and keeps its block in memory. Only an item that goes over the end of a
+// which is the caller's to keep or to change, and keeps its block in memory. Only an item that crosses the end of a
 // block is copied into the next.
 type Decoder struct {
 	reader  io.Reader
@@ -63,14 +63,14 @@ func (e *MessageTooLong) Unwrap() error {
 	return ErrTooLong
 }
 
-// SetMaxMessageSize sets the greatest size of a payload that Next returns; without it there is no limit. Of a larger
+// SetMaxMessageSize sets the greatest size of a payload that Next returns; without it there is no limit. For a larger
 // message the error is a *MessageTooLong as soon as its header was read, and of each call from then on: what was read
 // of it is dropped.
 func (d *Decoder) SetMaxMessageSize(size uint32) {
 	d.limit, d.hasLimit = size, true
 }
 
-// NewDecoder returns a decoder of the stream of a version that comes from a reader, which it reads in blocks. Of an
+// NewDecoder returns a decoder of the stream of a version that comes from a reader, which it reads in blocks. For an
 // unknown version, Next returns ErrUnknown.
 func NewDecoder(reader io.Reader, version int) *Decoder {
 	return &Decoder{reader: reader, version: version}

@@ -36,5 +36,5 @@
 // # Memory and goroutines
 //
 // The library for C keeps nothing between calls. All memory is Go's, and what a function returns is the caller's. Any
-// number of goroutines may call the functions and methods at once, those of one Decoder one at a time.
+// number of goroutines may call the functions and methods at once, those of one Decoder or Replay one at a time.
 package pendratsoa

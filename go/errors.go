@@ -66,7 +66,7 @@ type MessageError struct {
 	Code uint16
 	// Offset is where the message begins in its stream, in bytes; -1 of one that did not come in a stream.
 	Offset int64
-	// Err says which function and which argument the error is about. It wraps ErrMalformed, ErrNoID or ErrNoResult.
+	// Err tells which function and which argument the error is about. It wraps ErrMalformed, ErrNoID or ErrNoResult.
 	Err *Error
 }
 
@@ -113,7 +113,7 @@ func (e *IncompleteError) Unwrap() error {
 	return io.ErrUnexpectedEOF
 }
 
-// An unknownError says what is unknown. It wraps ErrUnknown.
+// An unknownError tells what is unknown. It wraps ErrUnknown.
 type unknownError string
 
 func (said unknownError) Error() string {
@@ -178,7 +178,7 @@ func errorOf(number int64) error {
 		return ErrNoRoom
 	case tooLong:
 		return ErrTooLong
-	case unknownVersion, unknownSchema, unknownType:
+	case unknownVersion, unknownSchema, unknownType, unknownOption:
 		return ErrUnknown
 	case noID:
 		return ErrNoID
@@ -195,7 +195,7 @@ func unexpected[Number int64 | uint64](what string, number Number) error {
 	return fmt.Errorf("the library returned the %s %d: %w", what, number, ErrUnexpected)
 }
 
-// unsigned returns a version or a schema as the library takes it, or that it is unknown. A conversion alone would cut
+// unsigned returns a version or a schema as the library takes it, or that it is unknown. Only a conversion would cut
 // it.
 func unsigned(call, name string, number int) (uint32, error) {
 	// as an unsigned number, a negative one is greater than all others

@@ -75,7 +75,7 @@ func ExampleAs() {
 }
 
 func ExampleMessageError() {
-	// an End, and a SetStateCommand whose key goes over the end of the payload
+	// an End, and a SetStateCommand whose key ends after the payload
 	stream := "\x00\x03\x00\x00\x00\x00\x00\x00" + "\x04\x03\x00\x00\x00\x00\x00\x03\x0a\x05a"
 	decoder := pendratsoa.NewDecoder(strings.NewReader(stream), 8)
 	for {
@@ -153,4 +153,43 @@ func ExampleCompareJournals() {
 	// Output:
 	// VerdictHeaderMismatch at command 1
 	// same, 4 commands
+}
+
+// A replay is checked item by item: here the value of a state is another one.
+func ExampleReplay() {
+	recorded, err := os.ReadFile("../examples/streams/recorded")
+	if err != nil {
+		log.Fatal(err)
+	}
+	replayed, err := os.Open("../examples/streams/replayed_other_payload")
+	if err != nil {
+		log.Fatal(err)
+	}
+	defer replayed.Close()
+	replay, err := pendratsoa.NewReplay(8, recorded, pendratsoa.Ignored{})
+	if err != nil {
+		log.Fatal(err)
+	}
+	decoder := pendratsoa.NewDecoder(replayed, 8)
+	for {
+		item, err := decoder.Next()
+		if err == io.EOF {
+			break
+		} else if err != nil {
+			log.Fatal(err)
+		}
+		mismatch, err := replay.Check(item)
+		if err != nil {
+			log.Fatal(err)
+		}
+		if mismatch != nil {
+			fmt.Println(mismatch.Kind, "at command", mismatch.Index, "offset", mismatch.ReplayedOffset)
+			for _, field := range mismatch.Fields {
+				fmt.Println(field.Name, "is", field.Replayed, "and was", field.Recorded)
+			}
+		}
+	}
+	// Output:
+	// VerdictHeaderMismatch at command 1 offset 17
+	// value is '2' and was '1'
 }

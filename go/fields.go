@@ -11,7 +11,7 @@ import (
 // ErrField is the error that a field of a record cannot be encoded. A FieldError wraps it.
 var ErrField = errors.New("a field that cannot be encoded")
 
-// A FieldError says why a field of a record cannot be encoded. It wraps ErrField.
+// A FieldError tells why a field of a record cannot be encoded. It wraps ErrField.
 type FieldError struct {
 	// Path leads to the field, as "headers[2].key".
 	Path string
@@ -201,7 +201,7 @@ func (t *fieldTable) find(schema int, payload []byte) error {
 	return nil
 }
 
-// How many entries, and how many bytes beside them, a writer has room for at first.
+// How many entries, and how many bytes next to them, a writer has room for at first.
 const (
 	writerFields = 32
 	writerBytes  = 512

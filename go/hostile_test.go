@@ -38,7 +38,7 @@ func randomBytes(random *rand.Rand) []byte {
 	return data
 }
 
-// randomStream returns a stream of messages of random payloads, of which bytes may be changed or absent.
+// randomStream returns a stream of messages of random payloads, some bytes of which may be changed or absent.
 func randomStream(random *rand.Rand) []byte {
 	var stream []byte
 	for index := random.Intn(5); index > 0; index-- {

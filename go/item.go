@@ -9,10 +9,10 @@ import (
 // An Item is what a stream consists of: a Message, an UnknownCode or a Skipped. Its String is a line of a listing.
 type Item interface {
 	fmt.Stringer
-	// WriteTo writes the item as it came.
+	// WriteTo writes the item as received.
 	io.WriterTo
-	// Bytes returns the item as it came, byte for byte, header and payload: what a proxy passes on if it does not
-	// change it. Of an item of a Decoder they are a part of its block, as the payload is, without a copy.
+	// Bytes returns the item as received, byte for byte, header and payload: what a proxy passes on if it does not
+	// change it. Those of an item of a Decoder are a part of its block, as the payload is, without a copy.
 	Bytes() []byte
 	// Offset returns where the item begins in its stream, in bytes; -1 of one that did not come in a stream.
 	Offset() int64
@@ -26,14 +26,14 @@ type Message struct {
 	Code    uint16
 	// Payload is its payload, in any encoding.
 	Payload []byte
-	// RequestedAck says whether its header requests an acknowledgement.
+	// RequestedAck tells whether its header requests an acknowledgement.
 	RequestedAck bool
-	// came is the message as it came, or nil of one that did not
+	// came is the message as received, or nil of one that did not
 	came     []byte
 	position position
 }
 
-// An UnknownCode is eight bytes whose code is no type's, before version 9.
+// An UnknownCode is eight bytes with an unassigned code, before version 9.
 type UnknownCode struct {
 	// Version is that of its stream, and Code the unassigned code.
 	Version int
@@ -52,7 +52,7 @@ type Skipped struct {
 	Word uint64
 	// Payload is its payload.
 	Payload []byte
-	// came is the message as it came, or nil of one that did not
+	// came is the message as received, or nil of one that did not
 	came     []byte
 	position position
 }
@@ -111,8 +111,8 @@ func (s Skipped) String() string {
 	return fmt.Sprintf("skipped %#x %d", s.Code, len(s.Payload))
 }
 
-// Bytes returns the message as it came, whatever was set in it since. Of one that did not come in a stream they are its
-// payload as it is after the header of its type, and nil if its version, its code or the length has no header.
+// Bytes returns the message as received, whatever was set in it since. Of one that did not come in a stream they are
+// its payload as it is after the header of its type, and nil if its version, its code or the length has no header.
 func (m Message) Bytes() []byte {
 	bytes, _ := m.bytes()
 	return bytes
@@ -134,7 +134,7 @@ func (u UnknownCode) Bytes() []byte {
 	return wordBytes(u.Word, nil)
 }
 
-// Bytes returns the message as it came, or its payload after its word if it did not come in a stream.
+// Bytes returns the message as received, or its payload after its word if it did not come in a stream.
 func (s Skipped) Bytes() []byte {
 	if s.came != nil {
 		return s.came
@@ -142,8 +142,8 @@ func (s Skipped) Bytes() []byte {
 	return wordBytes(s.Word, s.Payload)
 }
 
-// WriteTo writes the message as it came, as Bytes returns it. Of one that did not come in a stream, the errors are also
-// those of Header.
+// WriteTo writes the message as received, as Bytes returns it. Of one that did not come in a stream, the errors are
+// also those of Header.
 func (m Message) WriteTo(writer io.Writer) (int64, error) {
 	bytes, err := m.bytes()
 	if err != nil {
@@ -157,7 +157,7 @@ func (u UnknownCode) WriteTo(writer io.Writer) (int64, error) {
 	return writeAll(writer, u.Bytes())
 }
 
-// WriteTo writes the message as it came, as Bytes returns it.
+// WriteTo writes the message as received, as Bytes returns it.
 func (s Skipped) WriteTo(writer io.Writer) (int64, error) {
 	return writeAll(writer, s.Bytes())
 }

@@ -19,7 +19,7 @@ const (
 // Schemas is the number of schemas, whose numbers begin at 0.
 const Schemas = C.JOURNAL_SCHEMAS
 
-// The errors of the calls for C.
+// The errors of the C calls.
 const (
 	malformed       = C.JOURNAL_MALFORMED
 	outOfMemory     = C.JOURNAL_OUT_OF_MEMORY
@@ -32,9 +32,10 @@ const (
 	unknownVersion  = C.JOURNAL_UNKNOWN_VERSION
 	unknownSchema   = C.JOURNAL_UNKNOWN_SCHEMA
 	unknownType     = C.JOURNAL_UNKNOWN_TYPE
+	unknownOption   = C.JOURNAL_UNKNOWN_OPTION
 )
 
-// The indices of the numbers that the calls for C write, and how many there are.
+// The indices of the numbers that the C calls write, and how many there are.
 const (
 	itemKind         = 0
 	itemWord         = 1
@@ -76,9 +77,43 @@ const (
 )
 
 const (
+	changedFieldNameLength   = 0
+	changedFieldFirstLength  = 1
+	changedFieldSecondLength = 2
+	changedFieldNumbers      = C.JOURNAL_CHANGED_FIELD_NUMBERS
+)
+
+const (
 	verdictKind    = 0
 	verdictIndex   = 1
 	verdictNumbers = C.JOURNAL_VERDICT_NUMBERS
+)
+
+const (
+	replayVersion        = 0
+	replayOptions        = 1
+	replayIndex          = 2
+	replayRecordedOffset = 3
+	replayReplayedOffset = 4
+	replayHasSaid        = 5
+	replayNumbers        = C.JOURNAL_REPLAY_NUMBERS
+)
+
+const (
+	mismatchKind           = 0
+	mismatchIndex          = 1
+	mismatchReplayedOffset = 2
+	mismatchRecordedOffset = 3
+	mismatchRecordedCode   = 4
+	mismatchRecordedSize   = 5
+	mismatchNumbers        = C.JOURNAL_MISMATCH_NUMBERS
+)
+
+const (
+	commandOffset  = 0
+	commandCode    = 1
+	commandSize    = 2
+	commandNumbers = C.JOURNAL_COMMAND_NUMBERS
 )
 
 // The kinds of items: a message; before version 9 an unassigned code, whose eight bytes are skipped; at version 9 a
@@ -209,7 +244,13 @@ var namesOfVerdictKind = []string{
 	"VerdictBadReplayed",
 }
 
-// What follows are the calls for C in the types of Go, a slice for a pointer and its count. The library keeps no
+// The options of a replay. Any of them may be set.
+const (
+	replayIgnorePayloads = C.JOURNAL_REPLAY_IGNORE_PAYLOADS
+	replayIgnoreIds      = C.JOURNAL_REPLAY_IGNORE_IDS
+)
+
+// What follows are the C calls in the types of Go, a slice for a pointer and its count. The library keeps no
 // pointer, and what the pointers lead to holds none, as the rules of cgo want it.
 
 func pointer(slice []byte) *C.uint8_t {
@@ -343,6 +384,16 @@ func journalDifference(code uint16, first []byte, second []byte, out []byte) int
 	))
 }
 
+func journalChangedField(
+	code uint16, index uint32, first []byte, second []byte, changedField *[changedFieldNumbers]uint64, out []byte,
+) int64 {
+	return int64(C.journal_changed_field(
+		C.uint16_t(code), C.uint32_t(index), pointer(first), C.size_t(len(first)), pointer(second),
+		C.size_t(len(second)), (*C.struct_journal_changed_field)(unsafe.Pointer(changedField)),
+		C.size_t(len(changedField)), pointer(out), C.size_t(len(out)),
+	))
+}
+
 func journalVerdict(
 	version uint32, recorded []byte, replayed []byte, ignorePayloads bool, verdict *[verdictNumbers]uint64, out []byte,
 ) int64 {
@@ -350,5 +401,38 @@ func journalVerdict(
 		C.uint32_t(version), pointer(recorded), C.size_t(len(recorded)), pointer(replayed), C.size_t(len(replayed)),
 		flag(ignorePayloads), (*C.struct_journal_verdict)(unsafe.Pointer(verdict)), C.size_t(len(verdict)),
 		pointer(out), C.size_t(len(out)),
+	))
+}
+
+func journalReplayCheck(
+	code uint16, recorded []byte, replayed []byte, replay *[replayNumbers]uint64, mismatch *[mismatchNumbers]uint64,
+) int64 {
+	return int64(C.journal_replay_check(
+		C.uint16_t(code), pointer(recorded), C.size_t(len(recorded)), pointer(replayed), C.size_t(len(replayed)),
+		(*C.struct_journal_replay)(unsafe.Pointer(replay)), C.size_t(len(replay)),
+		(*C.struct_journal_mismatch)(unsafe.Pointer(mismatch)), C.size_t(len(mismatch)),
+	))
+}
+
+func journalReplayText(
+	code uint16, recorded []byte, replayed []byte, replay *[replayNumbers]uint64, out []byte,
+) int64 {
+	return int64(C.journal_replay_text(
+		C.uint16_t(code), pointer(recorded), C.size_t(len(recorded)), pointer(replayed), C.size_t(len(replayed)),
+		(*C.struct_journal_replay)(unsafe.Pointer(replay)), C.size_t(len(replay)), pointer(out), C.size_t(len(out)),
+	))
+}
+
+func journalReplayExpected(recorded []byte, replay *[replayNumbers]uint64, command *[commandNumbers]uint64) int64 {
+	return int64(C.journal_replay_expected(
+		pointer(recorded), C.size_t(len(recorded)), (*C.struct_journal_replay)(unsafe.Pointer(replay)),
+		C.size_t(len(replay)), (*C.struct_journal_command)(unsafe.Pointer(command)), C.size_t(len(command)),
+	))
+}
+
+func journalReplayFinish(recorded []byte, replay *[replayNumbers]uint64, mismatch *[mismatchNumbers]uint64) int64 {
+	return int64(C.journal_replay_finish(
+		pointer(recorded), C.size_t(len(recorded)), (*C.struct_journal_replay)(unsafe.Pointer(replay)),
+		C.size_t(len(replay)), (*C.struct_journal_mismatch)(unsafe.Pointer(mismatch)), C.size_t(len(mismatch)),
 	))
 }

@@ -16,7 +16,8 @@ import (
 
 // The cases of conformance/packages.cases, which its README specifies: what each kind of line returns for its words.
 var packageCases = map[string]func(t *testing.T, words []string) string{
-	"items": itemsCase, "read": readCase, "as": asCase, "compare": compareCase, "number": numberCase,
+	"items": itemsCase, "read": readCase, "as": asCase, "compare": compareCase, "mismatch": mismatchCase,
+	"number": numberCase,
 }
 
 func TestPackages(t *testing.T) {
@@ -160,7 +161,7 @@ func readCase(t *testing.T, words []string) string {
 	return strings.Join(results, ", ")
 }
 
-// outcomeOf returns what an error of a message is; one of its payload says which message it is of.
+// outcomeOf returns what an error of a message is; one of its payload tells which message it is of.
 func outcomeOf(t *testing.T, message Message, err error) string {
 	if err == nil {
 		return "ok"
@@ -216,9 +217,43 @@ func compareCase(t *testing.T, words []string) string {
 	recorded, replayed := bytesOf(t, words[2]), bytesOf(t, words[3])
 	version := must(strconv.Atoi(words[0]))(t)
 	verdict := must(CompareJournals(version, recorded, replayed, words[1] == "yes"))(t)
-	name := strings.TrimPrefix(verdict.Kind.String(), "Verdict")
-	snake := strings.ToLower(regexp.MustCompile(`(.)([A-Z])`).ReplaceAllString(name, "${1}_$2"))
-	return fmt.Sprintf("%s %d", snake, verdict.Index)
+	return fmt.Sprintf("%s %d", kindOf(verdict.Kind), verdict.Index)
+}
+
+// kindOf returns a kind of a verdict as the lines have it, as recorded_ended.
+func kindOf(kind VerdictKind) string {
+	name := strings.TrimPrefix(kind.String(), "Verdict")
+	return strings.ToLower(regexp.MustCompile(`(.)([A-Z])`).ReplaceAllString(name, "${1}_$2"))
+}
+
+func mismatchCase(t *testing.T, words []string) string {
+	version := must(strconv.Atoi(words[0]))(t)
+	ignored := Ignored{Payloads: words[1] == "yes", IDs: words[1] == "ids"}
+	replay := must(NewReplay(version, bytesOf(t, words[2]), ignored))(t)
+	var found []*Mismatch
+	for _, item := range itemsIn(version, bytesOf(t, words[3])) {
+		if mismatch := must(replay.Check(item))(t); mismatch != nil {
+			found = append(found, mismatch)
+		}
+	}
+	if left := must(replay.Finish())(t); left != nil {
+		found = append(found, left)
+	}
+	if len(found) == 0 {
+		return "none"
+	} else if len(found) > 1 {
+		t.Errorf("several mismatches: %v", found)
+	}
+	said, offset := found[0], "-"
+	if said.RecordedOffset >= 0 {
+		offset = strconv.FormatInt(said.RecordedOffset, 10)
+	}
+	line := fmt.Sprintf("%s %d %s %d %s", kindOf(said.Kind), said.Index, offset, said.ReplayedOffset,
+		digitsOf([]byte(said.Text)))
+	for _, field := range said.Fields {
+		line += fmt.Sprintf(" %s %s %s", field.Name, digitsOf([]byte(field.Recorded)), digitsOf([]byte(field.Replayed)))
+	}
+	return line
 }
 
 func numberCase(t *testing.T, words []string) string {

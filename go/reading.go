@@ -2,7 +2,7 @@ package pendratsoa
 
 import "fmt"
 
-// A JSONReason says why a JSON text is rejected: ReasonNotJSON, ReasonUnknownMember, ReasonRepeatedMember,
+// A JSONReason tells why a JSON text is rejected: ReasonNotJSON, ReasonUnknownMember, ReasonRepeatedMember,
 // ReasonSeveralMembers, ReasonWrongKind, ReasonOutOfRange, ReasonNotBase64 or ReasonTooDeep.
 type JSONReason int
 
@@ -22,7 +22,7 @@ func (reason JSONReason) text() string {
 	}[reason-ReasonNotJSON]
 }
 
-// A JSONError says why a JSON text means no value of its schema, and where. It wraps ErrJSON, and an Error wraps it.
+// A JSONError tells why a JSON text means no value of its schema, and where. It wraps ErrJSON, and an Error wraps it.
 type JSONError struct {
 	// Reason is why the text is rejected.
 	Reason JSONReason
@@ -48,7 +48,7 @@ func (e *JSONError) Unwrap() error {
 	return ErrJSON
 }
 
-// FromJSON returns the canonical payload of what a JSON text means, which is in protobuf's own form. A *JSONError says
+// FromJSON returns the canonical payload of what a JSON text means, which is in protobuf's own form. A *JSONError tells
 // why it means no value of the schema, and wraps ErrJSON. ErrUnknown if no schema has the number; ErrTooLong,
 // ErrOutOfMemory.
 func FromJSON(schema int, json []byte) ([]byte, error) {

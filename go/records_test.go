@@ -113,7 +113,7 @@ func TestFieldsThatCannotBeEncoded(t *testing.T) {
 }
 
 func TestCustomEntryHasNoRecord(t *testing.T) {
-	// a state that is set, a custom entry whose payload is no record, and the state again
+	// a state that is set, a custom entry whose payload is not a record, and the state again
 	stream := unhex(t, "0403000000000003"+"0a0161"+"fc01000000000002"+"ffff"+"0403000000000003"+"0a0161")
 	for version := FirstVersion; version <= LastVersion; version++ {
 		decoder := NewDecoder(bytes.NewReader(stream), version)

@@ -74,7 +74,7 @@ func TypeCode(name string) (uint16, error) {
 const headerSize = 8
 
 // Header returns the eight bytes that come before a payload of this length. ErrUnknown for an unknown version and for
-// a code that is no type's; ErrTooLong for a length of more than 4,294,967,295 bytes, ErrNegative for one below 0.
+// an unassigned code; ErrTooLong for a length of more than 4,294,967,295 bytes, ErrNegative for one below 0.
 func Header(version int, code uint16, payloadLength int) ([]byte, error) {
 	number, err := unsigned("Header", versionName, version)
 	if err != nil {
@@ -96,7 +96,7 @@ func Header(version int, code uint16, payloadLength int) ([]byte, error) {
 
 // Frame returns the message that a payload holds as a frame of a version: its header, and the canonical payload after
 // it. A suspension is read by its schema from version 7 on, and written by that of the version. ErrMalformed,
-// ErrTooLong, ErrOutOfMemory; ErrUnknown for an unknown version and for a code that is no named type's.
+// ErrTooLong, ErrOutOfMemory; ErrUnknown for an unknown version and for a code that is not a named type's.
 func Frame(version int, code uint16, payload []byte) ([]byte, error) {
 	frame, err := appendFrame("Frame", nil, version, code, payload)
 	return frame[:len(frame):len(frame)], err
@@ -194,8 +194,8 @@ func appended(dst []byte, room int, call func(out []byte) int64) ([]byte, int64)
 	}
 }
 
-// roomFor returns the slice with room for at least a number of further bytes, and for about as many more as come beside
-// them if it has not that room: so nothing is allocated where all of them have room.
+// roomFor returns the slice with room for at least a number of further bytes, and for about as many more as come next
+// to them if it has not that room: so nothing is allocated where all of them have room.
 func roomFor(dst []byte, least, beside int) []byte {
 	if dst != nil && cap(dst)-len(dst) >= least {
 		return dst

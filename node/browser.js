@@ -1,5 +1,5 @@
 // The package in browsers, and wherever else nothing of Node is there: over the WebAssembly module, which is fetched
-// from beside this file.
+// from the folder of this file.
 
 import { useCalls } from './lib/addon.js';
 import { callsOf } from './lib/module.js';

@@ -2,7 +2,7 @@
 # Builds the addon, build/pendratsoa.node: build.sh [PREFIX]
 #
 # PREFIX is where scripts/install.sh put the library for C, whose static library goes into the addon; by default
-# pkg-config says where it is. It takes Node's headers from beside node, or from where the Debian package libnode-dev
+# pkg-config says where it is. It takes Node's headers from next to node, or from where the Debian package libnode-dev
 # has them. CC is the compiler, and CFLAGS are further flags.
 set -eu
 

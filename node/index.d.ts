@@ -50,7 +50,7 @@ export interface JsonObject {
 
 // Streams.
 
-/** An item of a stream; `kind` says which one, and `type` of a message which record its `message` is. */
+/** An item of a stream; `kind` tells which one, and `type` of a message which record its `message` is. */
 export type Item = AnyTyped | UnknownCode | Skipped;
 
 /** A message of any type. */
@@ -86,7 +86,7 @@ export class Message<T extends TypeName = TypeName> {
   /** The code of its type. */
   readonly code: number;
 
-  /** Its payload, in any encoding, as it came. */
+  /** Its payload, in any encoding, as received. */
   readonly payload: Uint8Array;
 
   /** Whether its header requests an acknowledgement. */
@@ -99,7 +99,7 @@ export class Message<T extends TypeName = TypeName> {
   get offset(): number | undefined;
 
   /**
-   * The message as it came, byte for byte, in an array of its own: what a proxy passes on if it does not change it. If
+   * The message as received, byte for byte, in an array of its own: what a proxy passes on if it does not change it. If
    * it came in no stream, its payload as it is after the header of its type.
    * @throws {Unknown} it came in no stream, and there is no such version or type
    */
@@ -169,7 +169,7 @@ export class Message<T extends TypeName = TypeName> {
 
   /**
    * Its id and its result.
-   * @throws {Unknown} it is no notification
+   * @throws {Unknown} it is not a notification
    * @throws {Malformed} a payload is not well-formed for its schema
    * @throws {NoId} it has no id
    * @throws {NoResult} it has an id and no result
@@ -183,7 +183,7 @@ export class Message<T extends TypeName = TypeName> {
   toJSON(): JsonObject;
 }
 
-/** A header whose code is no type's, before version 9: eight bytes, which are skipped. */
+/** A header with an unassigned code, before version 9: eight bytes, which are skipped. */
 export class UnknownCode {
   constructor(version: number, code: number, word: bigint);
 
@@ -201,10 +201,10 @@ export class UnknownCode {
   /** Where they begin in their stream, in bytes; undefined if they came in no stream. */
   get offset(): number | undefined;
 
-  /** Undefined: it is no message. */
+  /** Undefined: it is not a message. */
   record<N extends MessageName>(name: N): Records[N] | undefined;
 
-  /** The eight bytes as they came. */
+  /** The eight bytes as received. */
   get bytes(): Uint8Array;
 
   /** A line of a listing, as `'unknown 0x8'`. */
@@ -229,7 +229,7 @@ export class Skipped {
   /** The eight bytes of its header as one big-endian number. */
   readonly word: bigint;
 
-  /** Its payload, as it came. */
+  /** Its payload, as received. */
   readonly payload: Uint8Array;
 
   /** Where it begins in its stream, in bytes; undefined if it came in no stream. */
@@ -238,7 +238,7 @@ export class Skipped {
   /** Undefined: no record is known of its type. */
   record<N extends MessageName>(name: N): Records[N] | undefined;
 
-  /** The message as it came, byte for byte, in an array of its own. */
+  /** The message as received, byte for byte, in an array of its own. */
   get bytes(): Uint8Array;
 
   /** A line of a listing, as `'skipped 0x8 2'`. */
@@ -263,20 +263,20 @@ export interface StreamOptions {
  * where the one before stopped, and ends when no whole item is left; a chunk may be fed meanwhile.
  *
  * A chunk is copied as it is fed, and a payload as it is taken, so that neither changes with the other, and either may
- * be transferred to a worker. The memory of a stream is proportional to the bytes that are in no item yet.
+ * be transferred to a worker. The memory of a stream is proportional to the pending bytes.
  */
 export class Stream implements Iterable<Item> {
   /**
    * @param version the protocol version, by default 8
    * @param options the limit of a stream, by default none
-   * @throws {Unknown} it is no protocol version
+   * @throws {Unknown} it is not a protocol version
    */
   constructor(version?: number, options?: StreamOptions);
 
   /** The protocol version. */
   get version(): number;
 
-  /** The number of bytes that came and are in no item that was taken. */
+  /** The number of pending bytes: those received that no item has yet. */
   get rest(): number;
 
   /**
@@ -297,7 +297,7 @@ export class Stream implements Iterable<Item> {
 /**
  * Decodes chunks into items. The transformed stream fails with `Incomplete` if it ends within an item.
  * @param version the protocol version, by default 8
- * @throws {Unknown} it is no protocol version
+ * @throws {Unknown} it is not a protocol version
  */
 export function decode(version?: number, options?: StreamOptions): TransformStream<Uint8Array, Item>;
 
@@ -306,7 +306,7 @@ export function decode(version?: number, options?: StreamOptions): TransformStre
  * It throws `Incomplete` if the source ends within an item, and whatever the source throws. A loop that ends early
  * closes the source.
  * @param version the protocol version, by default 8
- * @throws {Unknown} it is no protocol version
+ * @throws {Unknown} it is not a protocol version
  */
 export function items(
   source: AsyncIterable<Uint8Array> | Iterable<Uint8Array>,
@@ -452,6 +452,15 @@ export interface CompareOptions {
   readonly ignorePayloads?: boolean;
 }
 
+/** How a replay is checked. */
+export interface ReplayOptions extends CompareOptions {
+  /**
+   * Whether completion ids are left out of the comparison, which shift behind an inserted command; by default they are
+   * not.
+   */
+  readonly ignoreIds?: boolean;
+}
+
 /**
  * Whether two commands of a type are the same for a replay.
  * @throws {Unknown} no command has the code
@@ -502,6 +511,83 @@ export function compareJournals(
   replayed: Uint8Array,
   options?: CompareOptions,
 ): Verdict;
+
+/** A field in which two commands differ, as the text of their mismatch prints it. */
+export interface ChangedField {
+  /** The name of the field. */
+  readonly name: string;
+
+  /** What the recorded command has. */
+  readonly recorded: string;
+
+  /** What the replayed command has. */
+  readonly replayed: string;
+}
+
+/** Where a replay leaves its recording: all commands before this one are the same. */
+export interface Mismatch {
+  /** Which verdict it is. */
+  readonly kind: Exclude<Verdict['kind'], 'same'>;
+
+  /** The index of the command, from 0. */
+  readonly index: number;
+
+  /**
+   * Where the recorded command begins in the recording, in bytes. If the recording has ended, where its last command
+   * begins, or undefined if it has none.
+   */
+  readonly recordedOffset: number | undefined;
+
+  /** Where the replayed command begins in the replay, in bytes, or where the replay ends. */
+  readonly replayedOffset: number;
+
+  /** The text of a mismatch of two commands, as the SDKs report it; otherwise empty. */
+  readonly text: string;
+
+  /** The printed fields in which two commands of one type differ. */
+  readonly fields: readonly ChangedField[];
+}
+
+/** A replay that is checked by its recording, item by item as it comes. It keeps nothing of the replay. */
+export class Replay {
+  /**
+   * @param version the protocol version of both
+   * @param recorded the recording, a whole journal, which is not copied and must not change meanwhile
+   * @param options what is not compared, by default nothing
+   * @throws {Unknown} the version is none
+   */
+  constructor(version: number, recorded: Uint8Array, options?: ReplayOptions);
+
+  /** The protocol version. */
+  get version(): number;
+
+  /** How many commands were the same, which is the index of the one that comes next. */
+  get index(): number;
+
+  /**
+   * Checks the next item of the replay by the command that comes next in the recording. A mismatch is reported once:
+   * afterwards nothing is compared. `compareJournals` of the recording and of all items so far has the same `kind`,
+   * `index` and `text`.
+   * @returns undefined if there is nothing to report: the commands are the same, or the item is not a command
+   * @throws {OutOfMemory} an allocation failed; nothing is changed, and the call can be repeated
+   */
+  check(item: Item | Message): Mismatch | undefined;
+
+  /**
+   * The command that comes next in the recording, which is not taken: its `offset` is that in the recording, and its
+   * `message` has the name or the key of a command that has one. After a mismatch it is the command at the index of
+   * that.
+   * @returns undefined if there is none
+   */
+  expected(): Message | undefined;
+
+  /**
+   * Says that the replay ended. It changes nothing.
+   * @returns undefined if nothing is left of the recording, or a mismatch was reported; otherwise the mismatch of the
+   *   command that comes next, whose kind is `'replayedEnded'`
+   */
+  finish(): Mismatch | undefined;
+}
 
 // Errors.
 
@@ -641,7 +727,7 @@ export class FieldError extends JournalError {
 }
 
 /**
- * The WebAssembly module stopped in a call, as where the stack of the engine ends; the cause says why. Nothing was
+ * The WebAssembly module stopped in a call, as where the stack of the engine ends; the cause tells why. Nothing was
  * written, and the next call has a new module. A call of the addon never throws it.
  */
 export class Trapped extends JournalError {

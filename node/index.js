@@ -1,5 +1,5 @@
-// The journal protocol of the Restate SDKs. index.d.ts says what each name is; node.js and browser.js, from which it is
-// imported, say where the calls come from.
+// The journal protocol of the Restate SDKs. index.d.ts tells what each name is; node.js and browser.js, from which it
+// is imported, say where the calls come from.
 
 export {
   FIRST_VERSION,
@@ -40,5 +40,6 @@ export {
 export { Message, Skipped, UnknownCode } from './lib/items.js';
 export { CombinatorType, ErrorBehavior } from './lib/records.js';
 export { readRecord, writeRecord } from './lib/fields.js';
+export { Replay } from './lib/replay.js';
 export { schemaNames } from './lib/schemas.js';
 export { Stream, decode, items } from './lib/stream.js';

@@ -125,7 +125,7 @@ export function compareJournals(version, recorded, replayed, { ignorePayloads = 
   return { kind: kindOf(VERDICT_KINDS, kind, given, 'kind of verdict'), index, text: text(found) };
 }
 
-/** What a call returned, which is no error. `given` has its name and its arguments. */
+/** What a call returned, which is not an error. `given` has its name and its arguments. */
 export function checked(returned, given) {
   if (returned < 0) {
     throw refusal(returned, given);
@@ -134,7 +134,7 @@ export function checked(returned, given) {
 }
 
 /** What a call writes into room that is enough: a part of `scratch`, which the next call writes to, or an own array. */
-function written(call, given) {
+export function written(call, given) {
   let out = scratch;
   for (;;) {
     const needed = checked(call(out), given);
@@ -151,7 +151,7 @@ function bytes(found) {
 }
 
 /** Bytes that were written, as a text. */
-function text(found) {
+export function text(found) {
   return texts.utf8(found, 0, found.length);
 }
 
@@ -173,7 +173,7 @@ function known(schema, given) {
   return isUnknownName ? checked(UNKNOWN_SCHEMA, given) : schemaNumber(schema);
 }
 
-function kindOf(kinds, number, given, what) {
+export function kindOf(kinds, number, given, what) {
   if (number >= kinds.length) {
     throw notKnown(given.call, what, number);
   }

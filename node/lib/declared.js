@@ -78,6 +78,13 @@ export const VERDICT_KINDS = [
   'badReplayed',
 ];
 
+/** The options of a replay. Any of them may be set. */
+export const REPLAY_OPTIONS = [
+  undefined,
+  'ignorePayloads',
+  'ignoreIds',
+];
+
 /** The indices of the numbers of a item, and how many there are. */
 export const ITEM = { kind: 0, word: 1, code: 2, requestedAck: 3, size: 4, payload: 5 };
 export const ITEM_NUMBERS = 6;
@@ -98,9 +105,25 @@ export const WRITING_NUMBERS = 2;
 export const NOTIFICATION = { id: 0, number: 1, nameLength: 2, result: 3 };
 export const NOTIFICATION_NUMBERS = 4;
 
+/** The indices of the numbers of a changed_field, and how many there are. */
+export const CHANGED_FIELD = { nameLength: 0, firstLength: 1, secondLength: 2 };
+export const CHANGED_FIELD_NUMBERS = 3;
+
 /** The indices of the numbers of a verdict, and how many there are. */
 export const VERDICT = { kind: 0, index: 1 };
 export const VERDICT_NUMBERS = 2;
+
+/** The indices of the numbers of a replay, and how many there are. */
+export const REPLAY = { version: 0, options: 1, index: 2, recordedOffset: 3, replayedOffset: 4, hasSaid: 5 };
+export const REPLAY_NUMBERS = 6;
+
+/** The indices of the numbers of a mismatch, and how many there are. */
+export const MISMATCH = { kind: 0, index: 1, replayedOffset: 2, recordedOffset: 3, recordedCode: 4, recordedSize: 5 };
+export const MISMATCH_NUMBERS = 6;
+
+/** The indices of the numbers of a command, and how many there are. */
+export const COMMAND = { offset: 0, code: 1, size: 2 };
+export const COMMAND_NUMBERS = 3;
 
 /** The class of each error by its number, and the names of the arguments one of which it is about. */
 export const ERRORS = new Map([
@@ -115,6 +138,7 @@ export const ERRORS = new Map([
   [-21, ['Unknown', ['version']]],
   [-37, ['Unknown', ['schema']]],
   [-53, ['Unknown', ['code', 'name']]],
+  [-69, ['Unknown', ['options']]],
 ]);
 
 /** The numbers of errors that calls return before the library is called. */

@@ -287,7 +287,7 @@ function shown(value) {
   return texts.shown(value);
 }
 
-/** The code of a type as a text, as 0x0400; what is no code as it is. */
+/** The code of a type as a text, as 0x0400; what is not a code, as it is. */
 function codeText(code) {
   return Number.isInteger(code) && code >= 0 ? `0x${code.toString(16).padStart(4, '0')}` : shown(code);
 }

@@ -330,7 +330,7 @@ class Writer {
     table.halves[at + NUMBER] = number;
     table.halves[at + KIND] = kind;
     table.halves[at + VALUE] = value;
-    // the table had other entries before, of which the upper halves of places are never set
+    // the table had other entries before; the upper halves of their places are never set
     table.halves[at + VALUE + 1] = 0;
     table.halves[at + OFFSET] = 0;
     table.halves[at + LENGTH] = 0;

@@ -194,7 +194,7 @@ function made(version, code, payload) {
 /** The codes of types that have another schema at earlier versions. */
 const EARLIER = new Set(RECORDS.filter((record) => record.beforeVersion !== undefined).map((record) => record.code));
 
-/** The schema of a type at a version, if the type has another one since. What is no version has none. */
+/** The schema of a type at a version, if the type has another one since. What is not a version has none. */
 function earlierSchema(version, code) {
   if (!EARLIER.has(code)) {
     return undefined;
@@ -247,7 +247,7 @@ function isPlainObject(value) {
   return typeof value === 'object' && value !== null && [Object.prototype, null].includes(Object.getPrototypeOf(value));
 }
 
-/** Eight bytes whose code is no type's, before version 9. */
+/** Eight bytes with an unassigned code, before version 9. */
 export class UnknownCode {
   #offset;
   kind = 'unknownCode';

@@ -359,6 +359,34 @@ function difference(code, first, second, out) {
   return finished(returned);
 }
 
+function changedField(code, index, first, second, numbers, out) {
+  const refused = firstOf(codeIn(code), sizeIn('index', index));
+  const firstLength = bytesIn('first', first);
+  const secondLength = bytesIn('second', second);
+  const numbersLength = Math.min(numbersIn('numbers', numbers), 3);
+  const outLength = bytesIn('out', out);
+  if (refused !== 0) {
+    return refused;
+  }
+  const at = reserve(aligned(firstLength) + aligned(secondLength) + aligned(8 * numbersLength) + aligned(outLength));
+  if (at === 0) {
+    return NO_MEMORY;
+  }
+  const firstAt = at;
+  const secondAt = firstAt + aligned(firstLength);
+  const numbersAt = secondAt + aligned(secondLength);
+  const outAt = numbersAt + aligned(8 * numbersLength);
+  putBytes(first, firstLength, firstAt);
+  putBytes(second, secondLength, secondAt);
+  putNumbers(numbers, numbersLength, numbersAt);
+  const returned = instance.js_changed_field(
+    code, index, firstAt, firstLength, secondAt, secondLength, numbersAt, numbersLength, outAt, outLength
+  );
+  takeNumbers(numbers, returned < 0 ? 0 : numbersLength, numbersAt);
+  takeBytes(returned, out, outLength, outAt);
+  return finished(returned);
+}
+
 function verdict(version, recorded, replayed, ignorePayloads, numbers, out) {
   const refused = versionIn(version);
   const recordedLength = bytesIn('recorded', recorded);
@@ -388,6 +416,108 @@ function verdict(version, recorded, replayed, ignorePayloads, numbers, out) {
   );
   takeNumbers(numbers, returned < 0 ? 0 : numbersLength, numbersAt);
   takeBytes(returned, out, outLength, outAt);
+  return finished(returned);
+}
+
+function replayCheck(code, recorded, replayed, replay, numbers) {
+  const refused = codeIn(code);
+  const recordedLength = bytesIn('recorded', recorded);
+  const replayedLength = bytesIn('replayed', replayed);
+  const replayLength = Math.min(numbersIn('replay', replay), 6);
+  const numbersLength = Math.min(numbersIn('numbers', numbers), 6);
+  if (refused !== 0) {
+    return refused;
+  }
+  const at = reserve(
+    aligned(recordedLength) + aligned(replayedLength) + aligned(8 * replayLength) + aligned(8 * numbersLength)
+  );
+  if (at === 0) {
+    return NO_MEMORY;
+  }
+  const recordedAt = at;
+  const replayedAt = recordedAt + aligned(recordedLength);
+  const replayAt = replayedAt + aligned(replayedLength);
+  const numbersAt = replayAt + aligned(8 * replayLength);
+  putBytes(recorded, recordedLength, recordedAt);
+  putBytes(replayed, replayedLength, replayedAt);
+  putNumbers(replay, replayLength, replayAt);
+  putNumbers(numbers, numbersLength, numbersAt);
+  const returned = instance.js_replay_check(
+    code, recordedAt, recordedLength, replayedAt, replayedLength, replayAt, replayLength, numbersAt, numbersLength
+  );
+  takeNumbers(replay, returned < 0 ? 0 : replayLength, replayAt);
+  takeNumbers(numbers, returned < 0 ? 0 : numbersLength, numbersAt);
+  return finished(returned);
+}
+
+function replayText(code, recorded, replayed, replay, out) {
+  const refused = codeIn(code);
+  const recordedLength = bytesIn('recorded', recorded);
+  const replayedLength = bytesIn('replayed', replayed);
+  const replayLength = Math.min(numbersIn('replay', replay), 6);
+  const outLength = bytesIn('out', out);
+  if (refused !== 0) {
+    return refused;
+  }
+  const at = reserve(
+    aligned(recordedLength) + aligned(replayedLength) + aligned(8 * replayLength) + aligned(outLength)
+  );
+  if (at === 0) {
+    return NO_MEMORY;
+  }
+  const recordedAt = at;
+  const replayedAt = recordedAt + aligned(recordedLength);
+  const replayAt = replayedAt + aligned(replayedLength);
+  const outAt = replayAt + aligned(8 * replayLength);
+  putBytes(recorded, recordedLength, recordedAt);
+  putBytes(replayed, replayedLength, replayedAt);
+  putNumbers(replay, replayLength, replayAt);
+  const returned = instance.js_replay_text(
+    code, recordedAt, recordedLength, replayedAt, replayedLength, replayAt, replayLength, outAt, outLength
+  );
+  takeBytes(returned, out, outLength, outAt);
+  return finished(returned);
+}
+
+function replayExpected(recorded, replay, numbers) {
+  const recordedLength = bytesIn('recorded', recorded);
+  const replayLength = Math.min(numbersIn('replay', replay), 6);
+  const numbersLength = Math.min(numbersIn('numbers', numbers), 3);
+  const at = reserve(aligned(recordedLength) + aligned(8 * replayLength) + aligned(8 * numbersLength));
+  if (at === 0) {
+    return NO_MEMORY;
+  }
+  const recordedAt = at;
+  const replayAt = recordedAt + aligned(recordedLength);
+  const numbersAt = replayAt + aligned(8 * replayLength);
+  putBytes(recorded, recordedLength, recordedAt);
+  putNumbers(replay, replayLength, replayAt);
+  putNumbers(numbers, numbersLength, numbersAt);
+  const returned = instance.js_replay_expected(
+    recordedAt, recordedLength, replayAt, replayLength, numbersAt, numbersLength
+  );
+  takeNumbers(numbers, returned < 0 ? 0 : numbersLength, numbersAt);
+  return finished(returned);
+}
+
+function replayFinish(recorded, replay, numbers) {
+  const recordedLength = bytesIn('recorded', recorded);
+  const replayLength = Math.min(numbersIn('replay', replay), 6);
+  const numbersLength = Math.min(numbersIn('numbers', numbers), 6);
+  const at = reserve(aligned(recordedLength) + aligned(8 * replayLength) + aligned(8 * numbersLength));
+  if (at === 0) {
+    return NO_MEMORY;
+  }
+  const recordedAt = at;
+  const replayAt = recordedAt + aligned(recordedLength);
+  const numbersAt = replayAt + aligned(8 * replayLength);
+  putBytes(recorded, recordedLength, recordedAt);
+  putNumbers(replay, replayLength, replayAt);
+  putNumbers(numbers, numbersLength, numbersAt);
+  const returned = instance.js_replay_finish(
+    recordedAt, recordedLength, replayAt, replayLength, numbersAt, numbersLength
+  );
+  takeNumbers(numbers, returned < 0 ? 0 : numbersLength, numbersAt);
   return finished(returned);
 }
 
@@ -434,7 +564,12 @@ export const CALLS = {
   notification,
   headerEq,
   difference,
+  changedField,
   verdict,
+  replayCheck,
+  replayText,
+  replayExpected,
+  replayFinish,
   items,
   chunkLength,
 };

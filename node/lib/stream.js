@@ -11,7 +11,7 @@ const HEADER_SIZE = 8;
 const NO_LIMIT = 0xffffffff;
 
 // How many items are looked for at once, since a call costs more than finding one; and in how many bytes, which are
-// copied for it, but for an item that is longer.
+// copied for it, except an item that is longer.
 const MOST_ITEMS = 256;
 const MOST_BYTES = 2 ** 15;
 
@@ -22,7 +22,7 @@ const halves = new Uint32Array(numbers.buffer);
 const HALVES = 2 * ITEM_NUMBERS;
 const NONE_FOUND = new Uint32Array(0);
 
-/** Throws if a stream has bytes that are in no item. */
+/** Throws if a stream has trailing bytes. */
 let atEnd;
 
 /** A stream that comes in chunks. */
@@ -36,7 +36,7 @@ export class Stream {
   #bytes = NOTHING;
   #begin = 0;
   #end = 0;
-  // the halves of the numbers of the items that were found, of which those from #at on are not taken yet
+  // the halves of the numbers of the items that were found; those from #at on are not taken yet
   #found = NONE_FOUND;
   #at = 0;
   // the number of bytes before which the next item is not whole
@@ -125,7 +125,7 @@ export class Stream {
     return false;
   }
 
-  /** What is no error. A message that is longer than the limit ends the stream: what came of it is dropped. */
+  /** What is not an error. A message that is longer than the limit ends the stream: what came of it is dropped. */
   #refused(returned, bytes) {
     const given = { call: 'Stream', version: this.#version, maxMessageSize: this.#limit };
     try {
@@ -199,6 +199,12 @@ function itemOf(version, offset, found, at, bytes) {
     default:
       throw notKnown('Stream', 'kind of item', kind);
   }
+}
+
+/** The item that bytes are, which begins at an offset of its stream. */
+export function itemAt(version, bytes, offset) {
+  checked(addon.next(version, bytes, numbers), { call: 'expected', version });
+  return itemOf(version, offset, halves, 0, bytes);
 }
 
 /** Decodes chunks into items. */

@@ -9,6 +9,7 @@ static const char *const NAMES[] = {
     [SCHEMA] = "schema",
     [PAYLOAD_LENGTH] = "payloadLength",
     [LIMIT] = "maxMessageSize",
+    [INDEX] = "index",
     [NAME] = "name",
     [CHUNK] = "chunk",
     [BYTES] = "bytes",
@@ -19,6 +20,7 @@ static const char *const NAMES[] = {
     [RECORDED] = "recorded",
     [REPLAYED] = "replayed",
     [IGNORE_PAYLOADS] = "ignorePayloads",
+    [REPLAY] = "replay",
     [FIELDS] = "fields",
     [NUMBERS] = "numbers",
     [OUT] = "out",
@@ -57,7 +59,7 @@ bool succeeded(napi_env env, napi_status status) {
     return false;
 }
 
-/* Throws a TypeError that says what an argument is and what it has to be. */
+/* Throws a TypeError that tells what an argument is and what it has to be. */
 static enum reading wrong_kind(napi_env env, enum parameter parameter, const char *is, const char *has_to_be) {
     char text[128];
 
@@ -86,7 +88,7 @@ static enum reading read_number(napi_env env, enum parameter parameter, napi_val
 }
 
 /*
- * Reads the number of a version, a schema or a code. What is no whole number up to the greatest is that of none, and
+ * Reads the number of a version, a schema or a code. What is not a whole number up to the greatest is that of none, and
  * `unknown` says of what.
  */
 static enum reading read_identifier(napi_env env, enum parameter parameter, napi_value value, uint32_t greatest,
@@ -215,6 +217,8 @@ static enum reading read_argument(napi_env env, enum parameter parameter, napi_v
         return read_length(env, parameter, value, &arguments->payload_length);
     case LIMIT:
         return read_length(env, parameter, value, &arguments->limit);
+    case INDEX:
+        return read_length(env, parameter, value, &arguments->index);
     case NAME:
     case CHUNK:
     case BYTES:
@@ -228,6 +232,8 @@ static enum reading read_argument(napi_env env, enum parameter parameter, napi_v
         return read_bytes(env, parameter, value, &arguments->second);
     case IGNORE_PAYLOADS:
         return read_flag(env, parameter, value, &arguments->ignore_payloads);
+    case REPLAY:
+        return read_numbers(env, parameter, value, &arguments->replay, &arguments->replay_room);
     case FIELDS:
         return read_numbers(env, parameter, value, &arguments->fields, &arguments->fields_count);
     case NUMBERS:

@@ -21,6 +21,7 @@ enum parameter {
     SCHEMA,
     PAYLOAD_LENGTH,
     LIMIT,
+    INDEX,
     NAME,
     CHUNK,
     BYTES,
@@ -31,6 +32,7 @@ enum parameter {
     RECORDED,
     REPLAYED,
     IGNORE_PAYLOADS,
+    REPLAY,
     FIELDS,
     NUMBERS,
     OUT
@@ -51,12 +53,15 @@ struct arguments {
     uint32_t schema;
     uint32_t payload_length;
     uint32_t limit;
+    uint32_t index;
     uint32_t ignore_payloads;
     uint16_t code;
     struct slice first;
     struct slice second;
     uint64_t *fields;
     size_t fields_count;
+    uint64_t *replay;
+    size_t replay_room;
     uint64_t *numbers;
     size_t numbers_room;
     struct slice out;

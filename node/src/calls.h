@@ -90,10 +90,38 @@ static int64_t difference(const struct arguments *arguments) {
                               arguments->second.length, arguments->out.bytes, arguments->out.length);
 }
 
+static int64_t changed_field(const struct arguments *arguments) {
+    return journal_changed_field(arguments->code, arguments->index, arguments->first.bytes, arguments->first.length,
+                                 arguments->second.bytes, arguments->second.length, (void *)arguments->numbers,
+                                 arguments->numbers_room, arguments->out.bytes, arguments->out.length);
+}
+
 static int64_t verdict(const struct arguments *arguments) {
     return journal_verdict(arguments->version, arguments->first.bytes, arguments->first.length, arguments->second.bytes,
                            arguments->second.length, arguments->ignore_payloads, (void *)arguments->numbers,
                            arguments->numbers_room, arguments->out.bytes, arguments->out.length);
+}
+
+static int64_t replay_check(const struct arguments *arguments) {
+    return journal_replay_check(arguments->code, arguments->first.bytes, arguments->first.length,
+                                arguments->second.bytes, arguments->second.length, (void *)arguments->replay,
+                                arguments->replay_room, (void *)arguments->numbers, arguments->numbers_room);
+}
+
+static int64_t replay_text(const struct arguments *arguments) {
+    return journal_replay_text(arguments->code, arguments->first.bytes, arguments->first.length,
+                               arguments->second.bytes, arguments->second.length, (void *)arguments->replay,
+                               arguments->replay_room, arguments->out.bytes, arguments->out.length);
+}
+
+static int64_t replay_expected(const struct arguments *arguments) {
+    return journal_replay_expected(arguments->first.bytes, arguments->first.length, (void *)arguments->replay,
+                                   arguments->replay_room, (void *)arguments->numbers, arguments->numbers_room);
+}
+
+static int64_t replay_finish(const struct arguments *arguments) {
+    return journal_replay_finish(arguments->first.bytes, arguments->first.length, (void *)arguments->replay,
+                                 arguments->replay_room, (void *)arguments->numbers, arguments->numbers_room);
 }
 
 /* All of them, as rows of the table of functions. */
@@ -116,4 +144,9 @@ static int64_t verdict(const struct arguments *arguments) {
     {"notification", notification, {CODE, PAYLOAD, NUMBERS, OUT}}, \
     {"headerEq", header_eq, {CODE, FIRST, SECOND, IGNORE_PAYLOADS}}, \
     {"difference", difference, {CODE, FIRST, SECOND, OUT}}, \
-    {"verdict", verdict, {VERSION, RECORDED, REPLAYED, IGNORE_PAYLOADS, NUMBERS, OUT}},
+    {"changedField", changed_field, {CODE, INDEX, FIRST, SECOND, NUMBERS, OUT}}, \
+    {"verdict", verdict, {VERSION, RECORDED, REPLAYED, IGNORE_PAYLOADS, NUMBERS, OUT}}, \
+    {"replayCheck", replay_check, {CODE, RECORDED, REPLAYED, REPLAY, NUMBERS}}, \
+    {"replayText", replay_text, {CODE, RECORDED, REPLAYED, REPLAY, OUT}}, \
+    {"replayExpected", replay_expected, {RECORDED, REPLAY, NUMBERS}}, \
+    {"replayFinish", replay_finish, {RECORDED, REPLAY, NUMBERS}},

@@ -21,7 +21,7 @@ function detached() {
   return bytes;
 }
 
-// Values that are no number, and values that are no bytes.
+// Values that are not numbers, and values that are not bytes.
 const NO_NUMBERS = [undefined, null, true, '8', 8n, Symbol('8'), {}, [8], () => 8, { valueOf: () => 8 }, new Number(8)];
 const NO_BYTES = [
   undefined,
@@ -67,6 +67,9 @@ const CALLS = {
   compareJournals: { version: 8, recorded: NONE, replayed: NONE },
 };
 
+// The numbers of a replay that has not begun.
+const BEGUN = BigUint64Array.of(8n, 0n, 0n, 0n, 0n, 0n);
+
 // The calls as the addon and the module have them.
 const ADDON_CALLS = {
   libraryVersion: [new Uint8Array(8)],
@@ -89,7 +92,12 @@ const ADDON_CALLS = {
   notification: [0xfbff, hex('10112200'), new BigUint64Array(4), new Uint8Array(8)],
   headerEq: [0x0400, NONE, NONE, false],
   difference: [0x0400, NONE, NONE, new Uint8Array(8)],
+  changedField: [0x0400, 0, NONE, NONE, new BigUint64Array(3), new Uint8Array(8)],
   verdict: [8, NONE, NONE, false, new BigUint64Array(2), new Uint8Array(8)],
+  replayCheck: [0x0400, NONE, NONE, BEGUN.slice(), new BigUint64Array(6)],
+  replayText: [0x0400, NONE, NONE, BEGUN, new Uint8Array(8)],
+  replayExpected: [NONE, BEGUN, new BigUint64Array(3)],
+  replayFinish: [NONE, BEGUN, new BigUint64Array(6)],
 };
 
 for (const [name, given] of Object.entries(CALLS)) {

@@ -29,7 +29,7 @@ import {
 
 import { chunksOf, digits, hex, listed, textOf } from './support.js';
 
-// By its kind, what a line has as its result, and how many of its words are no bytes.
+// By its kind, what a line has as its result, and how many of its words are not bytes.
 const KINDS = {
   payload: [1, payloadResult],
   merge: [1, mergeResult],

@@ -1,4 +1,4 @@
-// Items as they came and as texts, frames with a destination, and the end of a stream.
+// Items as received and as texts, frames with a destination, and the end of a stream.
 
 import assert from 'node:assert/strict';
 import test from 'node:test';
@@ -61,7 +61,7 @@ test('frames with a destination', () => {
   assert.throws(() => message.frameInto([]), TypeError);
 });
 
-// Suspensions that came at a version, and their frames at another: the digits, or the error that it has none.
+// Suspensions received at a version, and their frames at another: the digits, or the error that it has none.
 const V6 = '08010a0202030804';
 const V7 = '22120a010122080a010222030a010122030a0103';
 const SUSPENSIONS = [

@@ -22,7 +22,7 @@ int64_t journal_schema(uint32_t version, uint16_t code) {
     return -(int64_t)code;
 }
 
-/* A text of two to the power of the code bytes, of which nothing is written. */
+/* A text of two to the power of the code bytes; nothing of it is written. */
 int64_t journal_type_name(uint16_t code, uint8_t *out, size_t room) {
     (void)out;
     (void)room;
@@ -222,4 +222,73 @@ int64_t journal_verdict(uint32_t version, const uint8_t *recorded, size_t record
     verdict->kind = recorded_length > 0 ? recorded[0] : JOURNAL_VERDICT_SAME;
     verdict->index = 0;
     return 0;
+}
+
+int64_t journal_changed_field(uint16_t code, uint32_t index, const uint8_t *first, size_t first_length,
+                              const uint8_t *second, size_t second_length,
+                              struct journal_changed_field *changed_field, size_t changed_field_room, uint8_t *out,
+                              size_t room) {
+    (void)code;
+    (void)index;
+    (void)first;
+    (void)first_length;
+    (void)second;
+    (void)second_length;
+    (void)changed_field;
+    (void)changed_field_room;
+    (void)out;
+    (void)room;
+    return JOURNAL_OUT_OF_MEMORY;
+}
+
+int64_t journal_replay_check(uint16_t code, const uint8_t *recorded, size_t recorded_length, const uint8_t *replayed,
+                             size_t replayed_length, struct journal_replay *replay, size_t replay_room,
+                             struct journal_mismatch *mismatch, size_t mismatch_room) {
+    (void)code;
+    (void)recorded;
+    (void)recorded_length;
+    (void)replayed;
+    (void)replayed_length;
+    (void)replay;
+    (void)replay_room;
+    (void)mismatch;
+    (void)mismatch_room;
+    return JOURNAL_OUT_OF_MEMORY;
+}
+
+int64_t journal_replay_text(uint16_t code, const uint8_t *recorded, size_t recorded_length, const uint8_t *replayed,
+                            size_t replayed_length, const struct journal_replay *replay, size_t replay_room,
+                            uint8_t *out, size_t room) {
+    (void)code;
+    (void)recorded;
+    (void)recorded_length;
+    (void)replayed;
+    (void)replayed_length;
+    (void)replay;
+    (void)replay_room;
+    (void)out;
+    (void)room;
+    return JOURNAL_OUT_OF_MEMORY;
+}
+
+int64_t journal_replay_expected(const uint8_t *recorded, size_t recorded_length, const struct journal_replay *replay,
+                                size_t replay_room, struct journal_command *command, size_t command_room) {
+    (void)recorded;
+    (void)recorded_length;
+    (void)replay;
+    (void)replay_room;
+    (void)command;
+    (void)command_room;
+    return JOURNAL_OUT_OF_MEMORY;
+}
+
+int64_t journal_replay_finish(const uint8_t *recorded, size_t recorded_length, const struct journal_replay *replay,
+                              size_t replay_room, struct journal_mismatch *mismatch, size_t mismatch_room) {
+    (void)recorded;
+    (void)recorded_length;
+    (void)replay;
+    (void)replay_room;
+    (void)mismatch;
+    (void)mismatch_room;
+    return JOURNAL_OUT_OF_MEMORY;
 }

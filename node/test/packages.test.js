@@ -10,6 +10,7 @@ import {
   MessageTooLong,
   NoId,
   NoResult,
+  Replay,
   Skipped,
   Stream,
   Unknown,
@@ -30,6 +31,11 @@ const CASES = textOf('conformance/packages.cases')
 /** The bytes of a word. */
 function bytesOf(word) {
   return word === '-' ? new Uint8Array(0) : hex(word);
+}
+
+/** The bytes of a text as a word. */
+function wordOf(text) {
+  return digits(new TextEncoder().encode(text)) || '-';
 }
 
 /** The name of a type by its code, or - where there is none. */
@@ -196,9 +202,25 @@ const KINDS = {
   },
 
   compare(version, ignore, recorded, replayed) {
-    const options = { ignorePayloads: ignore === 'yes' };
+    const options = { ignorePayloads: ignore === 'yes', ignoreIds: ignore === 'ids' };
     const verdict = compareJournals(Number(version), bytesOf(recorded), bytesOf(replayed), options);
     return `${snake(verdict.kind)} ${verdict.index}`;
+  },
+
+  mismatch(version, ignore, recorded, replayed) {
+    const ignored = { ignorePayloads: ignore === 'yes', ignoreIds: ignore === 'ids' };
+    const replay = new Replay(Number(version), bytesOf(recorded), ignored);
+    const said = [...itemsOf(version, replayed).map((item) => replay.check(item)), replay.finish()];
+    const [found, ...others] = said.filter((mismatch) => mismatch !== undefined);
+    assert.equal(others.length, 0);
+    if (found === undefined) {
+      return 'none';
+    }
+    const { kind, index, recordedOffset = '-', replayedOffset, text, fields } = found;
+    return [
+      ...[snake(kind), index, recordedOffset, replayedOffset, wordOf(text)],
+      ...fields.flatMap(({ name, recorded, replayed }) => [name, wordOf(recorded), wordOf(replayed)]),
+    ].join(' ');
   },
 
   number(what, text) {

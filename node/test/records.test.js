@@ -121,7 +121,7 @@ test('values of another kind', () => {
 });
 
 test('a custom entry has no record', () => {
-  // a state that is set, a custom entry whose payload is no record, and the state again
+  // a state that is set, a custom entry whose payload is not a record, and the state again
   const state = '0403000000000003 0a0161';
   for (const version of [5, 6, 7, 8, 9]) {
     const stream = new Stream(version);

@@ -27,7 +27,7 @@ export function joined(...arrays) {
   return new Uint8Array(Buffer.concat(arrays));
 }
 
-/** Bytes in chunks of a size, but for the last one. */
+/** Bytes in chunks of a size, except the last one. */
 export function chunksOf(bytes, size) {
   const chunks = [];
   for (let begin = 0; begin < bytes.length; begin += size) {

@@ -13,7 +13,9 @@ import {
   Malformed,
   Message,
   MessageTooLong,
+  Mismatch,
   Notification,
+  Replay,
   SchemaName,
   SetStateCommandMessage,
   Stream,
@@ -167,7 +169,7 @@ export async function streams(): Promise<void> {
     described(item);
   }
   const rest: number = stream.rest + new Stream(FIRST_VERSION).version;
-  // @ts-expect-error a text is no chunk
+  // @ts-expect-error a text is not a chunk
   stream.feed('text');
   stream.finish();
   // @ts-expect-error the rest cannot be set
@@ -204,7 +206,7 @@ export function calls(): void {
   identified(notification(0xfbff, bytes));
   // @ts-expect-error there is no such schema
   canonical('Values', bytes);
-  // @ts-expect-error a number is no text
+  // @ts-expect-error a number is not a text
   fromJson('Value', 5);
   // @ts-expect-error a version is a number
   schema('8', index);
@@ -212,6 +214,19 @@ export function calls(): void {
   schemaNames[0] = name;
   // @ts-expect-error an option that there is not
   headerEq(0x0400, bytes, bytes, { ignorePayload: true });
+}
+
+export function checkedReplay(bytes: Uint8Array, item: Item): string {
+  const replay = new Replay(8, bytes, { ignorePayloads: true, ignoreIds: true });
+  const mismatch: Mismatch | undefined = replay.check(item) ?? replay.finish();
+  const offset: Same<Mismatch['recordedOffset'], number | undefined> = true;
+  const key = replay.expected()?.record('SetStateCommandMessage')?.key.length;
+  // @ts-expect-error a mismatch is not the same
+  const isSame = mismatch?.kind === 'same';
+  // @ts-expect-error an item, and not its bytes
+  replay.check(bytes);
+  const names = mismatch?.fields.map((field) => `${field.name}: ${field.recorded} and ${field.replayed}`);
+  return `${mismatch?.index} ${mismatch?.replayedOffset} ${offset} ${key} ${isSame} ${names?.join()}`;
 }
 
 export function caught(error: unknown): string {

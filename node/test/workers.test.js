@@ -12,7 +12,7 @@ import { hex } from './support.js';
 
 const INPUT = hex('0400000000000009 72070a05696e707574');
 
-/** The test vectors, but for the longest lines. */
+/** The test vectors, except the longest lines. */
 function vectors() {
   return vectorsOf('conformance').filter(([question]) => question.length < 200);
 }

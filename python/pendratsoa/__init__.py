@@ -11,7 +11,7 @@ schema is given by its number or by the name of its record, as "SleepCommandMess
 
 The first call loads the library: the file that PENDRATSOA_LIBRARY names, or else that which is installed with this
 package, or else what the system finds as libpendratsoa.so.0. Where there is none, the call is an ImportError. COMPILED
-says whether the compiled module makes the calls; it is not used where PENDRATSOA_PURE is set.
+tells whether the compiled module makes the calls; it is not used where PENDRATSOA_PURE is set.
 """
 
 from ._calls import (
@@ -53,6 +53,7 @@ from ._fast import COMPILED
 from ._items import Item, Message, Skipped, UnknownCode
 from ._kinds import BytesLike, Schema
 from ._protocol import SCHEMA_NAMES, TypeCode
+from ._replay import ChangedField, Mismatch, Replay
 from ._request import SCHEMAS
 from ._stream import Stream
 
@@ -63,6 +64,7 @@ __all__ = [
     "SCHEMAS",
     "SCHEMA_NAMES",
     "BytesLike",
+    "ChangedField",
     "FieldError",
     "FieldReason",
     "IdKind",
@@ -73,12 +75,14 @@ __all__ = [
     "JsonReason",
     "Malformed",
     "Message",
+    "Mismatch",
     "NoId",
     "NoResult",
     "NoRoom",
     "NotCanonical",
     "Notification",
     "OutOfMemory",
+    "Replay",
     "ResultKind",
     "Schema",
     "Skipped",

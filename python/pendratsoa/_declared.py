@@ -30,19 +30,27 @@ CALLS: Dict[str, Tuple[str, ...]] = {
     "journal_notification": ("u16", "slice", "slice", "slice"),
     "journal_header_eq": ("u16", "slice", "slice", "u32"),
     "journal_difference": ("u16", "slice", "slice", "slice"),
+    "journal_changed_field": ("u16", "u32", "slice", "slice", "slice", "slice"),
     "journal_verdict": ("u32", "slice", "slice", "u32", "slice", "slice"),
+    "journal_replay_check": ("u16", "slice", "slice", "slice", "slice"),
+    "journal_replay_text": ("u16", "slice", "slice", "slice", "slice"),
+    "journal_replay_expected": ("slice", "slice", "slice"),
+    "journal_replay_finish": ("slice", "slice", "slice"),
 }
 
 
 class NamedCall(NamedTuple):
     """A call that is made by its name: its function, its name in this package, what it takes of its caller, what its
-    code has to be that of, how many numbers it writes, whether it writes bytes, and the room for them that is tried
-    first: a multiple of the bytes that it reads, and more."""
+    code has to be that of, how many numbers it is given, as bytes, and whether it changes them, how many numbers it
+    writes, whether it writes bytes, and the room for them that is tried first: a multiple of the bytes that it reads,
+    and more."""
 
     function: str
     name: str
     takes: Tuple[str, ...]
     kind: str
+    given: int
+    changes: bool
     numbers: int
     writes: bool
     times: int
@@ -51,18 +59,18 @@ class NamedCall(NamedTuple):
 
 # in the order in which the compiled module has them
 NAMED_CALLS: Tuple[NamedCall, ...] = (
-    NamedCall("journal_library_version", "library_version", (), "a type", 0, True, 0, 16),
-    NamedCall("journal_schema", "schema", ("version", "code"), "a named type", 0, False, 0, 0),
-    NamedCall("journal_type_name", "type_name", ("code",), "a type", 0, True, 0, 64),
-    NamedCall("journal_type_code", "type_code", ("name",), "a type", 0, False, 0, 0),
-    NamedCall("journal_header", "header", ("version", "code", "payload_length"), "a type", 0, True, 0, 8),
-    NamedCall("journal_frame", "frame", ("version", "code", "payload"), "a named type", 0, True, 1, 32),
-    NamedCall("journal_is_well_formed", "is_well_formed", ("schema", "payload"), "a type", 0, False, 0, 0),
-    NamedCall("journal_canonical", "canonical", ("schema", "payload"), "a type", 0, True, 1, 16),
-    NamedCall("journal_merge", "merge", ("schema", "first", "second"), "a type", 0, True, 1, 16),
-    NamedCall("journal_json", "to_json", ("schema", "payload"), "a type", 0, True, 2, 128),
-    NamedCall("journal_payload_of_json", "from_json", ("schema", "json"), "a type", 2, True, 1, 0),
-    NamedCall("journal_notification", "notification", ("code", "payload"), "a notification", 4, True, 1, 16),
+    NamedCall("journal_library_version", "library_version", (), "a type", 0, False, 0, True, 0, 16),
+    NamedCall("journal_schema", "schema", ("version", "code"), "a named type", 0, False, 0, False, 0, 0),
+    NamedCall("journal_type_name", "type_name", ("code",), "a type", 0, False, 0, True, 0, 64),
+    NamedCall("journal_type_code", "type_code", ("name",), "a type", 0, False, 0, False, 0, 0),
+    NamedCall("journal_header", "header", ("version", "code", "payload_length"), "a type", 0, False, 0, True, 0, 8),
+    NamedCall("journal_frame", "frame", ("version", "code", "payload"), "a named type", 0, False, 0, True, 1, 32),
+    NamedCall("journal_is_well_formed", "is_well_formed", ("schema", "payload"), "a type", 0, False, 0, False, 0, 0),
+    NamedCall("journal_canonical", "canonical", ("schema", "payload"), "a type", 0, False, 0, True, 1, 16),
+    NamedCall("journal_merge", "merge", ("schema", "first", "second"), "a type", 0, False, 0, True, 1, 16),
+    NamedCall("journal_json", "to_json", ("schema", "payload"), "a type", 0, False, 0, True, 2, 128),
+    NamedCall("journal_payload_of_json", "from_json", ("schema", "json"), "a type", 0, False, 2, True, 1, 0),
+    NamedCall("journal_notification", "notification", ("code", "payload"), "a notification", 0, False, 4, True, 1, 16),
     NamedCall(
         "journal_header_eq",
         "header_eq",
@@ -71,19 +79,61 @@ NAMED_CALLS: Tuple[NamedCall, ...] = (
         0,
         False,
         0,
+        False,
+        0,
         0,
     ),
-    NamedCall("journal_difference", "difference", ("code", "first", "second"), "a command", 0, True, 0, 256),
+    NamedCall("journal_difference", "difference", ("code", "first", "second"), "a command", 0, False, 0, True, 0, 256),
+    NamedCall(
+        "journal_changed_field",
+        "changed_field",
+        ("code", "index", "first", "second"),
+        "a command",
+        0,
+        False,
+        3,
+        True,
+        0,
+        256,
+    ),
     NamedCall(
         "journal_verdict",
         "compare_journals",
         ("version", "recorded", "replayed", "ignore_payloads"),
         "a type",
+        0,
+        False,
         2,
         True,
         0,
         1024,
     ),
+    NamedCall(
+        "journal_replay_check",
+        "check",
+        ("code", "recorded", "replayed", "replay"),
+        "a type",
+        6,
+        True,
+        6,
+        False,
+        0,
+        0,
+    ),
+    NamedCall(
+        "journal_replay_text",
+        "replay_text",
+        ("code", "recorded", "replayed", "replay"),
+        "a type",
+        6,
+        False,
+        0,
+        True,
+        0,
+        1024,
+    ),
+    NamedCall("journal_replay_expected", "expected", ("recorded", "replay"), "a type", 6, False, 3, False, 0, 0),
+    NamedCall("journal_replay_finish", "finish", ("recorded", "replay"), "a type", 6, False, 6, False, 0, 0),
 )
 
 
@@ -118,9 +168,23 @@ class NamedCalls(Protocol):
 
     def difference(self, code: int, first: BytesLike, second: BytesLike, /) -> bytes: ...
 
+    def changed_field(
+        self, code: int, index: int, first: BytesLike, second: BytesLike, /
+    ) -> Tuple[bytes, Tuple[int, ...]]: ...
+
     def compare_journals(
         self, version: int, recorded: BytesLike, replayed: BytesLike, ignore_payloads: bool, /
     ) -> Tuple[bytes, Tuple[int, ...]]: ...
+
+    def check(
+        self, code: int, recorded: BytesLike, replayed: BytesLike, replay: bytes, /
+    ) -> Tuple[int, Tuple[int, ...], bytes]: ...
+
+    def replay_text(self, code: int, recorded: BytesLike, replayed: BytesLike, replay: bytes, /) -> bytes: ...
+
+    def expected(self, recorded: BytesLike, replay: bytes, /) -> Tuple[int, Tuple[int, ...]]: ...
+
+    def finish(self, recorded: BytesLike, replay: bytes, /) -> Tuple[int, Tuple[int, ...]]: ...
 
 
 # how many numbers each struct has
@@ -129,7 +193,11 @@ READ_NUMBERS = 2
 FIELD_NUMBERS = 6
 WRITING_NUMBERS = 2
 NOTIFICATION_NUMBERS = 4
+CHANGED_FIELD_NUMBERS = 3
 VERDICT_NUMBERS = 2
+REPLAY_NUMBERS = 6
+MISMATCH_NUMBERS = 6
+COMMAND_NUMBERS = 3
 
 # the kinds of fields
 FIELD_UINT32 = 1
@@ -153,6 +221,7 @@ ERRORS: Dict[int, Tuple[str, Tuple[str, ...]]] = {
     -21: ("Unknown", ("version",)),
     -37: ("Unknown", ("schema",)),
     -53: ("Unknown", ("code", "name")),
+    -69: ("Unknown", ("options",)),
 }
 
 

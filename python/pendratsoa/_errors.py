@@ -55,7 +55,7 @@ class NoRoom(JournalError):
 
 
 class TooLong(JournalError, OverflowError):
-    """A payload has, or would have, more than 4,294,967,295 bytes, which no header can say; or a message that came has
+    """A payload has, or would have, more than 4,294,967,295 bytes, which no header can say; or a message received has
     more than the limit of its stream.
 
     Then `code` is that of its type, `length` the length of its payload and `limit` the limit, and `offset` is where the
@@ -99,7 +99,7 @@ class NotCanonical(JournalError, ValueError):
 class JsonError(JournalError, ValueError):
     """A JSON text means no value of its schema.
 
-    `reason` says why. `offset` is where the text stops being JSON, in bytes of its UTF-8, and None if it is JSON; then
+    `reason` tells why. `offset` is where the text stops being JSON, in bytes of its UTF-8, and None if it is JSON; then
     `path` leads to the rejected value, as "headers[2].key".
     """
 
@@ -120,7 +120,7 @@ class JsonError(JournalError, ValueError):
 
 
 class Incomplete(JournalError, EOFError):
-    """A stream ended within an item; `rest` is the number of bytes of it that came, and `offset` where it begins.
+    """A stream ended within an item; `rest` is the number of bytes of it received, and `offset` where it begins.
     `code` is that of its type, and None if fewer bytes came than a header has."""
 
     def __init__(
@@ -138,7 +138,7 @@ class Incomplete(JournalError, EOFError):
 
 
 class FieldError(JournalError, ValueError):
-    """A field of a record cannot be encoded. `reason` says why, and `path` leads to it, as "headers[2].key"."""
+    """A field of a record cannot be encoded. `reason` tells why, and `path` leads to it, as "headers[2].key"."""
 
     def __init__(
         self,

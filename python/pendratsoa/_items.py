@@ -30,7 +30,7 @@ class Writable(Protocol):
 
 
 class _Item:
-    """What all items have. `bytes(item)` are its bytes as they came, header and payload."""
+    """What all items have. `bytes(item)` are its bytes as received, header and payload."""
 
     def __bytes__(self) -> bytes:
         raise NotImplementedError
@@ -42,11 +42,11 @@ class _Item:
 
     @property
     def bytes(self) -> builtins.bytes:
-        """The item as it came, byte for byte, header and payload: what a proxy passes on if it does not change it."""
+        """The item as received, byte for byte, header and payload: what a proxy passes on if it does not change it."""
         return self.__bytes__()
 
     def write_to(self, file: Writable) -> None:
-        """Writes the item as it came, by one call of `file.write`."""
+        """Writes the item as received, by one call of `file.write`."""
         file.write(self.__bytes__())
 
 
@@ -189,7 +189,7 @@ class Message(_Item):
         file.write(self.frame(version))
 
     def __bytes__(self) -> bytes:
-        """It as it came; if it came in no stream, its payload as it is after the header of its type."""
+        """The message as received; if it came in no stream, its payload as it is after the header of its type."""
         if self.word is None:
             return _calls.header(self.version, self.code, len(self.payload)) + self.payload
         return _bytes_of(self.word) + self.payload
@@ -224,7 +224,7 @@ class Message(_Item):
 
 @dataclass(frozen=True)
 class UnknownCode(_Item):
-    """Eight bytes whose code is no type's, before version 9; `word` is all eight as one big-endian number, and `offset`
+    """Eight bytes with an unassigned code, before version 9; `word` is all eight as one big-endian number, and `offset`
     where they begin in their stream."""
 
     version: int
@@ -319,7 +319,7 @@ def _is_custom_entry(version: int, code: int) -> bool:
 
 
 def _check_class(record: Type[MessageRecord]) -> None:
-    """Says that what is looked for is no class of a message's record."""
+    """Says that what is looked for is not a class of a message's record."""
     if not (isinstance(record, type) and issubclass(record, MessageRecord)):
         shown_as = record.__name__ if isinstance(record, type) else repr(record)
         raise TypeError(f"record: record must be the class of a message's record, not {shown_as}")

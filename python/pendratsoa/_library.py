@@ -77,7 +77,7 @@ class Library:
         return tuple(ctypes.cast(getattr(self, name), ctypes.c_void_p).value or 0 for name in PARAMETERS)
 
     def __getattr__(self, name: str) -> Callable[..., int]:
-        # Python looks here for what is no attribute yet
+        # Python looks here for what is not an attribute yet
         if name not in PARAMETERS:
             raise AttributeError(f"the library has no function {name}")
         self.load()

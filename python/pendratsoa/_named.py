@@ -5,7 +5,7 @@ from __future__ import annotations
 
 import ctypes
 import functools
-from typing import Any, Callable, Dict, List, NoReturn, Protocol, Tuple, Type, cast
+from typing import Any, Callable, Dict, List, NoReturn, Protocol, Sequence, Tuple, Type, Union, cast
 
 from ._declared import NAMED_CALLS, NamedCall, NamedCalls
 from ._kinds import BytesLike
@@ -13,7 +13,7 @@ from ._library import library
 from ._request import Request
 
 # calls with the name of another one: what they return is used otherwise
-ALIASES = {"append_frame": "frame"}
+ALIASES = {"append_frame": "frame", "Replay": "compare_journals"}
 
 PLACES = {call.name: place for place, call in enumerate(NAMED_CALLS)}
 PLACES.update({name: PLACES[call] for name, call in ALIASES.items()})
@@ -35,7 +35,7 @@ def refused(place: int, name: str, given: Tuple[Any, ...], number: int) -> NoRet
     raise request_of(place, name, given).refused(number)
 
 
-def parameters_of(values: Tuple[Any, ...]) -> Tuple[List[Any], int]:
+def parameters_of(values: Sequence[Any]) -> Tuple[List[Any], int]:
     """Checked arguments as parameters of C, where bytes are two, and how many bytes they have."""
     parameters: List[Any] = []
     size = 0
@@ -53,33 +53,43 @@ def by_ctypes(place: int, name: str) -> Callable[..., Any]:
     call = NAMED_CALLS[place]
     # a type is made once: it is slow to make, and no memory is freed with it before a collection
     array = ctypes.c_uint64 * call.numbers
+    given_array = ctypes.c_uint64 * call.given
 
     def made(*given: Any) -> Any:
-        parameters, size = parameters_of(checked(place, name, given))
+        values = checked(place, name, given)
+        changed = given_array.from_buffer_copy(values[-1]) if call.given else given_array()
         numbers = array()
-        if call.numbers:
-            parameters += numbers, call.numbers
-        function = getattr(library, call.function)
-        if not call.writes:
-            returned = function(*parameters)
-            return returned if returned >= 0 else refused(place, name, given, returned)
-        needed = call.more + call.times * size
-        while True:
-            out = room_for(needed)()
-            room = len(out)
-            needed = function(*parameters, out, room)
-            if needed < 0:
-                refused(place, name, given, needed)
-            if needed <= room:
-                data = memoryview(out)[:needed].tobytes()
-                return (data, tuple(numbers)) if call.numbers else data
+        parameters, size = parameters_of(values[:-1] if call.given else values)
+        for struct in (changed, numbers):
+            parameters += (struct, len(struct)) if len(struct) else ()
+        result = written(getattr(library, call.function), call, parameters, size)
+        if isinstance(result, int) and result < 0:
+            refused(place, name, given, result)
+        if call.changes:
+            return result, tuple(numbers), bytes(changed)
+        return (result, tuple(numbers)) if call.numbers else result
 
     return made
 
 
+def written(function: Callable[..., int], call: NamedCall, parameters: List[Any], size: int) -> Union[int, bytes]:
+    """What a call returns, or the bytes that it writes. The size is that of what it reads."""
+    if not call.writes:
+        return function(*parameters)
+    needed = call.more + call.times * size
+    while True:
+        out = room_for(needed)()
+        room = len(out)
+        needed = function(*parameters, out, room)
+        if needed < 0:
+            return needed
+        if needed <= room:
+            return memoryview(out)[:needed].tobytes()
+
+
 @functools.lru_cache(maxsize=None)
 def _room(bits: int) -> Type[ctypes.Array[ctypes.c_char]]:
-    """Arrays of a power of two of bytes, of which each is made once: a new one for each length would be slow."""
+    """Arrays of a power of two of bytes, each made once: a new one for each length would be slow."""
     return ctypes.c_char * (1 << bits)
 
 
@@ -93,13 +103,17 @@ class Calls(NamedCalls, Protocol):
 
     def append_frame(self, version: int, code: int, payload: BytesLike, /) -> bytes: ...
 
+    def Replay(
+        self, version: int, recorded: BytesLike, replayed: BytesLike, ignore_payloads: bool, /
+    ) -> Tuple[bytes, Tuple[int, ...]]: ...
+
 
 class _Calls:
     """The calls, as attributes. The first one that is used loads the library, and is an ImportError if there is
     none."""
 
     def __getattr__(self, name: str) -> Callable[..., Any]:
-        # Python looks here for what is no attribute yet
+        # Python looks here for what is not an attribute yet
         if name not in PLACES:
             raise AttributeError(f"there is no call {name}")
         library.load()

@@ -61,7 +61,7 @@ class Pending:
             return self._cut() if missing == 0 else missing if missing < 0 else None
 
     def rest(self) -> int:
-        """The number of bytes that are in no item yet."""
+        """The number of pending bytes: those received that no item has yet."""
         with self._lock:
             data, _, begin = self._left
             return len(data) - begin + self._chunks_size

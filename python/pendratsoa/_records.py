@@ -157,7 +157,8 @@ def schema_of(version: int, code: int) -> int:
 
 
 def earlier_schema(version: int, code: int) -> Optional[int]:
-    """The schema of a type at a version, if the type has another one since. What is no version or no type has none."""
+    """The schema of a type at a version, if the type has another one since. What is not a version or no type has
+    none."""
     try:
         schema = schema_of(version, code)
         return None if schema == schema_of(LAST_VERSION, code) else schema
@@ -253,7 +254,7 @@ def _read(record: Type[R], table: List[int], at: int, level: int, data: bytes) -
 
 
 def _value(kind: int, holds: Any, table: List[int], at: int, data: bytes) -> Any:
-    """The value of the entry at a place, which is no record."""
+    """The value of the entry at a place, which is not a record."""
     if kind == FIELD_BYTES or kind == FIELD_STRING:
         first = table[at + 4]
         found = data[first : first + table[at + 5]]

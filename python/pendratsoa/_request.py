@@ -207,6 +207,7 @@ CHECKS: Dict[str, Callable[[Request, str], Any]] = {
     "code": Request.code,
     "schema": Request.schema,
     "payload_length": Request.length,
+    "index": Request.length,
     "max_message_size": Request.length,
     "name": Request.text,
     "json": Request.json,

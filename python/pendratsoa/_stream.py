@@ -50,7 +50,7 @@ class Stream:
 
     A message whose payload has more than `max_message_size` bytes is a `TooLong` as soon as its header came, and ends
     the stream: what came is dropped, and from then on each loop, `feed`, `read` and `finish` raise the same error. None
-    is no limit.
+    is not a limit.
     """
 
     def __init__(self, version: int = 8, max_message_size: Optional[int] = None) -> None:
@@ -70,11 +70,11 @@ class Stream:
 
     @property
     def rest(self) -> int:
-        """The number of bytes that are in no item yet."""
+        """The number of pending bytes: those received that no item has yet."""
         return self._pending.rest()
 
     def feed(self, data: BytesLike) -> None:
-        """Appends bytes to those that came. `bytes` are kept, others are copied."""
+        """Appends bytes to those received. `bytes` are kept, others are copied."""
         chunk = data if type(data) is bytes else Request("feed", data=data).data("data")
         if chunk:
             self._check()
@@ -82,7 +82,7 @@ class Stream:
 
     def read(self, file: Source, size: int = CHUNK, strict: bool = False) -> Iterator[Item]:
         """Feeds what a binary file or a socket has, at most `size` bytes at a time, and iterates over the items as they
-        come. It ends where the file ends; the bytes in no item are then in `rest`, and are `Incomplete` if it is
+        come. It ends where the file ends; the trailing bytes are then in `rest`, and are `Incomplete` if it is
         `strict`.
 
         A file that does not block and has no bytes yet is a `BlockingIOError`; the call can be repeated.

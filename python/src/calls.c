@@ -53,8 +53,19 @@ static enum outcome read_slice(PyObject *value, bool is_text, bool is_bytes, str
     return READ;
 }
 
+/* Reads the numbers of a struct, which are the bytes of it. */
+static enum outcome read_numbers(PyObject *value, size_t count, uint64_t *numbers)
+{
+    size_t size = count * sizeof *numbers;
+    if (!PyBytes_CheckExact(value) || (size_t)PyBytes_Size(value) != size) {
+        return UNUSUAL;
+    }
+    memcpy(numbers, PyBytes_AsString(value), size);
+    return READ;
+}
+
 /* Reads an argument. What Python has checked may be bytes where only a text is usual. */
-static enum outcome read_argument(const struct native *native, enum parameter parameter, PyObject *value,
+static enum outcome read_argument(const struct named_call *self, enum parameter parameter, PyObject *value,
                                   bool is_checked, struct arguments *arguments, PyObject **held)
 {
     uint64_t number = 0;
@@ -69,10 +80,14 @@ static enum outcome read_argument(const struct native *native, enum parameter pa
         arguments->code = (uint16_t)number;
         return outcome;
     case SCHEMA:
-        return read_schema(native, value, &arguments->schema);
+        return read_schema(self->native, value, &arguments->schema);
     case PAYLOAD_LENGTH:
         outcome = read_number(value, UINT64_C(1) << 32, &number);
         arguments->payload_length = (uint32_t)number;
+        return outcome;
+    case INDEX:
+        outcome = read_number(value, UINT64_C(1) << 32, &number);
+        arguments->index = (uint32_t)number;
         return outcome;
     case NAME:
         return read_slice(value, true, is_checked, &arguments->first, held);
@@ -91,6 +106,8 @@ static enum outcome read_argument(const struct native *native, enum parameter pa
         }
         arguments->ignore_payloads = value == Py_True;
         return READ;
+    case REPLAY:
+        return read_numbers(value, self->call->given, arguments->given);
     case NO_PARAMETER:
         break;
     }
@@ -112,8 +129,8 @@ static enum outcome read_arguments(const struct named_call *self, PyObject *valu
                                    struct arguments *arguments, PyObject **held)
 {
     for (Py_ssize_t at = 0; self->call->parameters[at] != NO_PARAMETER; at += 1) {
-        if (read_argument(self->native, self->call->parameters[at], PyTuple_GetItem(values, at), is_checked, arguments,
-                          held) != READ) {
+        if (read_argument(self, self->call->parameters[at], PyTuple_GetItem(values, at), is_checked, arguments, held) !=
+            READ) {
             return UNUSUAL;
         }
     }
@@ -166,8 +183,8 @@ static PyObject *written(const struct named_call *self, struct arguments *argume
     }
 }
 
-/* The numbers that a call wrote, after its bytes, which are taken. */
-static PyObject *with_numbers(const struct named_call *self, PyObject *bytes, const struct arguments *arguments)
+/* The numbers that a call wrote, after its result, which is taken, and after them those that it changed. */
+static PyObject *with_numbers(const struct named_call *self, PyObject *result, const struct arguments *arguments)
 {
     PyObject *numbers = PyTuple_New((Py_ssize_t)self->call->numbers);
     for (size_t at = 0; numbers != NULL && at < self->call->numbers; at += 1) {
@@ -176,9 +193,17 @@ static PyObject *with_numbers(const struct named_call *self, PyObject *bytes, co
             Py_CLEAR(numbers);
         }
     }
-    PyObject *found = numbers == NULL ? NULL : PyTuple_Pack(2, bytes, numbers);
+    PyObject *found = NULL;
+    if (numbers != NULL && self->call->changes) {
+        size_t size = self->call->given * sizeof *arguments->given;
+        PyObject *changed = PyBytes_FromStringAndSize((const char *)arguments->given, (Py_ssize_t)size);
+        found = changed == NULL ? NULL : PyTuple_Pack(3, result, numbers, changed);
+        Py_XDECREF(changed);
+    } else if (numbers != NULL) {
+        found = PyTuple_Pack(2, result, numbers);
+    }
     Py_XDECREF(numbers);
-    Py_DECREF(bytes);
+    Py_DECREF(result);
     return found;
 }
 
@@ -203,18 +228,22 @@ static PyObject *refused(const struct named_call *self, PyObject *given, int64_t
 static PyObject *make(const struct named_call *self, PyObject *given, struct arguments *arguments)
 {
     int64_t number;
-    if (!self->call->writes) {
+    PyObject *result = NULL;
+    /* a call may write none of them */
+    memset(arguments->numbers, 0, sizeof arguments->numbers);
+    if (self->call->writes) {
+        result = written(self, arguments, &number);
+    } else {
         number = returned(self, arguments, bytes_read(self->call, arguments));
-        return number < 0 ? refused(self, given, number) : PyLong_FromLongLong(number);
+        result = number < 0 ? NULL : PyLong_FromLongLong(number);
     }
-    PyObject *bytes = written(self, arguments, &number);
-    if (bytes == NULL) {
+    if (result == NULL) {
         return PyErr_Occurred() ? NULL : refused(self, given, number);
     }
-    return self->call->numbers == 0 ? bytes : with_numbers(self, bytes, arguments);
+    return self->call->numbers == 0 ? result : with_numbers(self, result, arguments);
 }
 
-/* Makes a call with arguments that Python checks first, and says what is wrong with them. */
+/* Makes a call with arguments that Python checks first, and tells what is wrong with them. */
 static PyObject *make_checked(const struct named_call *self, PyObject *given)
 {
     struct arguments arguments;

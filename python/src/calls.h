@@ -25,13 +25,16 @@ enum parameter {
     SECOND,
     JSON,
     IGNORE_PAYLOADS,
+    INDEX,
     RECORDED,
-    REPLAYED
+    REPLAYED,
+    REPLAY
 };
 
-/* The most parameters of one call, with the end of the list, and the most numbers that one writes. */
+/* The most parameters of one call, with the end of the list, and the most numbers that one is given and writes. */
 #define MOST_PARAMETERS 5
-#define MOST_NUMBERS 4
+#define MOST_GIVEN 6
+#define MOST_NUMBERS 6
 
 /* Bytes, which stay as they are while a call runs. */
 struct slice {
@@ -44,11 +47,13 @@ struct arguments {
     uint32_t version;
     uint32_t schema;
     uint32_t payload_length;
+    uint32_t index;
     uint32_t limit;
     uint32_t ignore_payloads;
     uint16_t code;
     struct slice first;
     struct slice second;
+    uint64_t given[MOST_GIVEN];
     uint64_t numbers[MOST_NUMBERS];
     uint8_t *out;
     size_t room;
@@ -74,11 +79,16 @@ struct library {
     __typeof__(journal_notification) *notification;
     __typeof__(journal_header_eq) *header_eq;
     __typeof__(journal_difference) *difference;
+    __typeof__(journal_changed_field) *changed_field;
     __typeof__(journal_verdict) *verdict;
+    __typeof__(journal_replay_check) *replay_check;
+    __typeof__(journal_replay_text) *replay_text;
+    __typeof__(journal_replay_expected) *replay_expected;
+    __typeof__(journal_replay_finish) *replay_finish;
 };
 
 /* How many they are; their addresses are given in this order. */
-#define FUNCTIONS 19
+#define FUNCTIONS 24
 
 /* Takes the address of a function, at its place among them. */
 static inline void point(struct library *library, int place, uintptr_t address)
@@ -139,18 +149,36 @@ static inline void point(struct library *library, int place, uintptr_t address)
         library->difference = (__typeof__(library->difference))address;
         break;
     case 18:
+        library->changed_field = (__typeof__(library->changed_field))address;
+        break;
+    case 19:
         library->verdict = (__typeof__(library->verdict))address;
+        break;
+    case 20:
+        library->replay_check = (__typeof__(library->replay_check))address;
+        break;
+    case 21:
+        library->replay_text = (__typeof__(library->replay_text))address;
+        break;
+    case 22:
+        library->replay_expected = (__typeof__(library->replay_expected))address;
+        break;
+    case 23:
+        library->replay_finish = (__typeof__(library->replay_finish))address;
         break;
     default:
         break;
     }
 }
 
-/* A call: what makes it, its parameters, how many numbers it writes, whether it writes bytes, and the room for them
- * that is tried first: a multiple of the bytes that it reads, and more. */
+/* A call: what makes it, its parameters, how many numbers it is given and whether it changes them, how many numbers it
+ * writes, whether it writes bytes, and the room for them that is tried first: a multiple of the bytes that it reads, and
+ * more. */
 struct call {
     int64_t (*make)(const struct library *library, struct arguments *arguments);
     enum parameter parameters[MOST_PARAMETERS];
+    size_t given;
+    bool changes;
     size_t numbers;
     bool writes;
     size_t times;
@@ -237,6 +265,13 @@ static int64_t make_difference(const struct library *library, struct arguments *
                                arguments->second.bytes, arguments->second.length, arguments->out, arguments->room);
 }
 
+static int64_t make_changed_field(const struct library *library, struct arguments *arguments)
+{
+    return library->changed_field(arguments->code, arguments->index, arguments->first.bytes, arguments->first.length,
+                                  arguments->second.bytes, arguments->second.length, (void *)arguments->numbers,
+                                  JOURNAL_CHANGED_FIELD_NUMBERS, arguments->out, arguments->room);
+}
+
 static int64_t make_verdict(const struct library *library, struct arguments *arguments)
 {
     return library->verdict(arguments->version, arguments->first.bytes, arguments->first.length,
@@ -244,26 +279,58 @@ static int64_t make_verdict(const struct library *library, struct arguments *arg
                             (void *)arguments->numbers, JOURNAL_VERDICT_NUMBERS, arguments->out, arguments->room);
 }
 
+static int64_t make_replay_check(const struct library *library, struct arguments *arguments)
+{
+    return library->replay_check(arguments->code, arguments->first.bytes, arguments->first.length,
+                                 arguments->second.bytes, arguments->second.length, (void *)arguments->given,
+                                 JOURNAL_REPLAY_NUMBERS, (void *)arguments->numbers, JOURNAL_MISMATCH_NUMBERS);
+}
+
+static int64_t make_replay_text(const struct library *library, struct arguments *arguments)
+{
+    return library->replay_text(arguments->code, arguments->first.bytes, arguments->first.length,
+                                arguments->second.bytes, arguments->second.length, (void *)arguments->given,
+                                JOURNAL_REPLAY_NUMBERS, arguments->out, arguments->room);
+}
+
+static int64_t make_replay_expected(const struct library *library, struct arguments *arguments)
+{
+    return library->replay_expected(arguments->first.bytes, arguments->first.length, (void *)arguments->given,
+                                    JOURNAL_REPLAY_NUMBERS, (void *)arguments->numbers, JOURNAL_COMMAND_NUMBERS);
+}
+
+static int64_t make_replay_finish(const struct library *library, struct arguments *arguments)
+{
+    return library->replay_finish(arguments->first.bytes, arguments->first.length, (void *)arguments->given,
+                                  JOURNAL_REPLAY_NUMBERS, (void *)arguments->numbers, JOURNAL_MISMATCH_NUMBERS);
+}
+
 /* The calls by name that the modules make. Those that read streams and tables of fields they make themselves. */
 static const struct call CALLS[] = {
-    {make_library_version, {NO_PARAMETER}, 0, true, 0, 16},
-    {make_schema, {VERSION, CODE}, 0, false, 0, 0},
-    {make_type_name, {CODE}, 0, true, 0, 64},
-    {make_type_code, {NAME}, 0, false, 0, 0},
-    {make_header, {VERSION, CODE, PAYLOAD_LENGTH}, 0, true, 0, 8},
-    {make_frame, {VERSION, CODE, PAYLOAD}, 0, true, 1, 32},
-    {make_is_well_formed, {SCHEMA, PAYLOAD}, 0, false, 0, 0},
-    {make_canonical, {SCHEMA, PAYLOAD}, 0, true, 1, 16},
-    {make_merge, {SCHEMA, FIRST, SECOND}, 0, true, 1, 16},
-    {make_json, {SCHEMA, PAYLOAD}, 0, true, 2, 128},
-    {make_payload_of_json, {SCHEMA, JSON}, JOURNAL_READ_NUMBERS, true, 1, 0},
-    {make_notification, {CODE, PAYLOAD}, JOURNAL_NOTIFICATION_NUMBERS, true, 1, 16},
-    {make_header_eq, {CODE, FIRST, SECOND, IGNORE_PAYLOADS}, 0, false, 0, 0},
-    {make_difference, {CODE, FIRST, SECOND}, 0, true, 0, 256},
-    {make_verdict, {VERSION, RECORDED, REPLAYED, IGNORE_PAYLOADS}, JOURNAL_VERDICT_NUMBERS, true, 0, 1024},
+    {make_library_version, {NO_PARAMETER}, 0, false, 0, true, 0, 16},
+    {make_schema, {VERSION, CODE}, 0, false, 0, false, 0, 0},
+    {make_type_name, {CODE}, 0, false, 0, true, 0, 64},
+    {make_type_code, {NAME}, 0, false, 0, false, 0, 0},
+    {make_header, {VERSION, CODE, PAYLOAD_LENGTH}, 0, false, 0, true, 0, 8},
+    {make_frame, {VERSION, CODE, PAYLOAD}, 0, false, 0, true, 1, 32},
+    {make_is_well_formed, {SCHEMA, PAYLOAD}, 0, false, 0, false, 0, 0},
+    {make_canonical, {SCHEMA, PAYLOAD}, 0, false, 0, true, 1, 16},
+    {make_merge, {SCHEMA, FIRST, SECOND}, 0, false, 0, true, 1, 16},
+    {make_json, {SCHEMA, PAYLOAD}, 0, false, 0, true, 2, 128},
+    {make_payload_of_json, {SCHEMA, JSON}, 0, false, JOURNAL_READ_NUMBERS, true, 1, 0},
+    {make_notification, {CODE, PAYLOAD}, 0, false, JOURNAL_NOTIFICATION_NUMBERS, true, 1, 16},
+    {make_header_eq, {CODE, FIRST, SECOND, IGNORE_PAYLOADS}, 0, false, 0, false, 0, 0},
+    {make_difference, {CODE, FIRST, SECOND}, 0, false, 0, true, 0, 256},
+    {make_changed_field, {CODE, INDEX, FIRST, SECOND}, 0, false, JOURNAL_CHANGED_FIELD_NUMBERS, true, 0, 256},
+    {make_verdict, {VERSION, RECORDED, REPLAYED, IGNORE_PAYLOADS}, 0, false, JOURNAL_VERDICT_NUMBERS, true, 0, 1024},
+    {make_replay_check, {CODE, RECORDED, REPLAYED, REPLAY}, JOURNAL_REPLAY_NUMBERS, true, JOURNAL_MISMATCH_NUMBERS,
+     false, 0, 0},
+    {make_replay_text, {CODE, RECORDED, REPLAYED, REPLAY}, JOURNAL_REPLAY_NUMBERS, false, 0, true, 0, 1024},
+    {make_replay_expected, {RECORDED, REPLAY}, JOURNAL_REPLAY_NUMBERS, false, JOURNAL_COMMAND_NUMBERS, false, 0, 0},
+    {make_replay_finish, {RECORDED, REPLAY}, JOURNAL_REPLAY_NUMBERS, false, JOURNAL_MISMATCH_NUMBERS, false, 0, 0},
 };
 
-/* How many bytes a call reads. */
+/* How many bytes a call reads. A replay reads only the next command of its recording. */
 static inline size_t bytes_read(const struct call *call, const struct arguments *arguments)
 {
     size_t length = 0;
@@ -278,7 +345,7 @@ static inline size_t bytes_read(const struct call *call, const struct arguments 
         case FIRST:
         case JSON:
         case RECORDED:
-            length += arguments->first.length;
+            length += call->given == 0 ? arguments->first.length : 0;
             break;
         default:
             break;
@@ -316,7 +383,7 @@ static inline bool is_within(const struct journal_field *entry, uint64_t whole)
     return entry->offset <= whole && entry->length <= whole - entry->offset;
 }
 
-/* Whether a value is what its field is by default, of which no table of a payload has an entry. */
+/* Whether a value is what its field is by default: no table of a payload has an entry of it. */
 static inline bool is_left_out(const struct field *field, uint64_t value, uint64_t length)
 {
     return field->shape == PLAIN && value == 0 && length == 0 && field->kind != JOURNAL_FIELD_MESSAGE;

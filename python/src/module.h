@@ -29,7 +29,7 @@
 /* How many lists a record has at most. */
 #define LISTS 16
 
-/* A field of a record: what it holds, beside what the table of fields has of it. */
+/* A field of a record: what it holds, next to what the table of fields has of it. */
 struct row {
     Py_ssize_t list;    /* of a repeated field, which of the lists of its record it is */
     Py_ssize_t schema;  /* of a message, the number of its schema */
@@ -40,7 +40,7 @@ struct row {
 };
 
 /* A record: its class, the code of its type or -1, what its fields are by default, and its fields in the order of the
- * description, what is held beside what the table has. */
+ * description, what is held next to what the table has. */
 struct record {
     PyTypeObject *class;
     long code;
@@ -84,7 +84,7 @@ extern PyType_Spec pending_spec;
 /* An instance of the type that is this attribute of a `Native`; NULL with an exception. */
 void *made_of(struct native *native, const char *type);
 
-/* It is made by a `Native` alone. */
+/* Only a `Native` makes it. */
 PyObject *made_by_native(PyTypeObject *type, PyObject *arguments, PyObject *keywords);
 
 /* The instance of a class with these attributes, which are set as __dict__ is, since versions keep them differently. */

@@ -37,7 +37,7 @@ extern "C" {
 #define JOURNAL_NO_ROOM (-3)
 /* A payload would have more than 4,294,967,295 bytes, or has more than a limit, or a result 2^63 or more. */
 #define JOURNAL_TOO_LONG (-4)
-/* The kind of the last three; no call returns it by itself. */
+/* The kind of the last four; no call returns it by itself. */
 #define JOURNAL_UNKNOWN (-5)
 /* A notification has no id. */
 #define JOURNAL_NO_ID (-6)
@@ -53,6 +53,8 @@ extern "C" {
 #define JOURNAL_UNKNOWN_SCHEMA (-37)
 /* The code or the name is that of no type, or of none of the kind that the call is for. */
 #define JOURNAL_UNKNOWN_TYPE (-53)
+/* The options have an unknown bit. */
+#define JOURNAL_UNKNOWN_OPTION (-69)
 
 /*
  * The kind of an error, by the result of a call: JOURNAL_UNKNOWN of JOURNAL_UNKNOWN_TYPE. The errors of a kind are its
@@ -94,6 +96,8 @@ static inline const char *journal_error_text(int64_t result) {
         return "unknown schema";
     case JOURNAL_UNKNOWN_TYPE:
         return "unknown type";
+    case JOURNAL_UNKNOWN_OPTION:
+        return "unknown option";
     default:
         return result < -16 && JOURNAL_KIND_OF_ERROR(result) < 0 ? journal_error_text(JOURNAL_KIND_OF_ERROR(result))
                                                                  : "unknown error";
@@ -525,6 +529,33 @@ int64_t journal_header_eq(uint16_t code, const uint8_t *first, size_t first_leng
 int64_t journal_difference(uint16_t code, const uint8_t *first, size_t first_length, const uint8_t *second,
                            size_t second_length, uint8_t *out, size_t room);
 
+/* A field in which two commands differ: how many of the bytes are which. */
+struct journal_changed_field {
+    uint64_t name_length;   /* those of its name, which come first */
+    uint64_t first_length;  /* those of what the first command has, which come next */
+    uint64_t second_length; /* those of what the second one has, which come last */
+};
+
+/*
+ * How many numbers that are: a struct journal_changed_field is as an array of them, and the room for one is their
+ * count.
+ */
+#define JOURNAL_CHANGED_FIELD_NUMBERS 3
+
+/*
+ * Writes one of the printed fields in which two commands differ, the line of this index in the text of
+ * journal_difference, as data: three numbers, and as bytes the name of the field, what the first command has, and what
+ * the second one has, one after the other. Returns how many bytes these are, which is never 0; if there is no room for
+ * them, the numbers are written nevertheless. Returns 0 if there are no more lines, and writes nothing.
+ *
+ * Errors, in order of precedence: JOURNAL_NO_ROOM, JOURNAL_UNKNOWN_TYPE if the code is that of no command,
+ * JOURNAL_MALFORMED, JOURNAL_MALFORMED_SECOND; JOURNAL_OUT_OF_MEMORY may replace each after JOURNAL_UNKNOWN_TYPE.
+ */
+int64_t journal_changed_field(uint16_t code, uint32_t index, const uint8_t *first, size_t first_length,
+                              const uint8_t *second, size_t second_length,
+                              struct journal_changed_field *changed_field, size_t changed_field_room, uint8_t *out,
+                              size_t room);
+
 /*
  * Comparing journals.
  */
@@ -559,6 +590,107 @@ struct journal_verdict {
 int64_t journal_verdict(uint32_t version, const uint8_t *recorded, size_t recorded_length, const uint8_t *replayed,
                         size_t replayed_length, uint32_t ignore_payloads, struct journal_verdict *verdict,
                         size_t verdict_room, uint8_t *out, size_t room);
+
+/*
+ * Checking a replay as it comes. Both the recording, a whole journal, and the numbers of the replay stay with the
+ * caller.
+ */
+
+/* The options of a replay. Any of them may be set. */
+#define JOURNAL_REPLAY_IGNORE_PAYLOADS 1 /* the content of user data is not compared, but that of a signal is */
+#define JOURNAL_REPLAY_IGNORE_IDS 2      /* completion ids are not compared, which shift behind an inserted command */
+
+/*
+ * How far a replay has followed its recording. One whose other numbers are 0 is before its first item, so that `struct
+ * journal_replay replay = {8, 0};` begins one of version 8. A copy of it goes on by itself.
+ */
+struct journal_replay {
+    uint64_t version;         /* the version of both, from 5 to 9 */
+    uint64_t options;         /* the sum of the options that are set, or 0 */
+    uint64_t index;           /* how many commands were the same */
+    uint64_t recorded_offset; /* where the last of them begins in the recording, in bytes; 0 if there is none */
+    uint64_t replayed_offset; /* how many bytes the items of the replay have */
+    uint64_t has_said;        /* 1 if a mismatch was said, otherwise 0; any other number is as 1 */
+};
+
+/* How many numbers that are: a struct journal_replay is as an array of them, and the room for one is their count. */
+#define JOURNAL_REPLAY_NUMBERS 6
+
+/*
+ * Where a replay leaves its recording. The recorded command is that at the index, or the last one if the recording has
+ * ended; if it has none, its three numbers are 0.
+ */
+struct journal_mismatch {
+    uint64_t kind;            /* one of the kinds of verdicts but the first */
+    uint64_t index;           /* the index of the command: all before it are the same */
+    uint64_t replayed_offset; /* where the replayed command begins in the replay, in bytes, or where the replay ends */
+    uint64_t recorded_offset; /* where the recorded command begins in the recording, in bytes */
+    uint64_t recorded_code;   /* the code of its type */
+    uint64_t recorded_size;   /* its size in bytes, header and payload */
+};
+
+/* How many numbers that are: a struct journal_mismatch is as an array of them, and the room for one is their count. */
+#define JOURNAL_MISMATCH_NUMBERS 6
+
+/* A command of a recording. */
+struct journal_command {
+    uint64_t offset; /* where it begins in the recording, in bytes; its payload is 8 bytes behind */
+    uint64_t code;   /* the code of its type */
+    uint64_t size;   /* its size in bytes, header and payload */
+};
+
+/* How many numbers that are: a struct journal_command is as an array of them, and the room for one is their count. */
+#define JOURNAL_COMMAND_NUMBERS 3
+
+/*
+ * Checks the next item of a replay, given by its code and its payload, by the command that comes next in the recording.
+ * Any item may come, and one that is not a command passes. Returns 0 if there is nothing to say, and changes only the
+ * replay. Returns 1 where the replay leaves its recording, or one of the two commands is malformed, and writes the six
+ * numbers of the mismatch; unless ids are ignored, journal_verdict of the recording and of all items so far has the
+ * same kind and index. That is said once: afterwards the call compares nothing, changes nothing, and returns 0.
+ *
+ * Memory is allocated only for commands of the same type that differ in a byte. An error changes nothing, so that the
+ * call can be repeated.
+ *
+ * Errors, in order of precedence: JOURNAL_NO_ROOM, JOURNAL_UNKNOWN_VERSION, JOURNAL_UNKNOWN_OPTION, JOURNAL_TOO_LONG if
+ * the payload has more than 4,294,967,295 bytes, or the replay 2^63 or more; JOURNAL_OUT_OF_MEMORY after these.
+ */
+int64_t journal_replay_check(uint16_t code, const uint8_t *recorded, size_t recorded_length, const uint8_t *replayed,
+                             size_t replayed_length, struct journal_replay *replay, size_t replay_room,
+                             struct journal_mismatch *mismatch, size_t mismatch_room);
+
+/*
+ * Writes the text of the mismatch that journal_replay_check has said of an item, as the SDKs report it, and nothing if
+ * there is none, or a journal has ended. The replay is that before or after the check. Returns the text's length in
+ * bytes.
+ *
+ * Errors, in order of precedence: JOURNAL_NO_ROOM, JOURNAL_UNKNOWN_VERSION, JOURNAL_UNKNOWN_OPTION, JOURNAL_TOO_LONG if
+ * the payload has more than 4,294,967,295 bytes, or the replay 2^63 or more, JOURNAL_MALFORMED if the recorded command
+ * is, JOURNAL_MALFORMED_SECOND if the replayed one is; JOURNAL_OUT_OF_MEMORY may replace each after JOURNAL_TOO_LONG.
+ */
+int64_t journal_replay_text(uint16_t code, const uint8_t *recorded, size_t recorded_length, const uint8_t *replayed,
+                            size_t replayed_length, const struct journal_replay *replay, size_t replay_room,
+                            uint8_t *out, size_t room);
+
+/*
+ * Writes the three numbers of the command that comes next in the recording, which is not taken, and returns 1. Returns
+ * 0 if there is none, and writes nothing. After a mismatch it is the command at the index of that. It copies nothing
+ * and does not allocate.
+ *
+ * Errors, in order of precedence: JOURNAL_NO_ROOM, JOURNAL_UNKNOWN_VERSION, JOURNAL_UNKNOWN_OPTION.
+ */
+int64_t journal_replay_expected(const uint8_t *recorded, size_t recorded_length, const struct journal_replay *replay,
+                                size_t replay_room, struct journal_command *command, size_t command_room);
+
+/*
+ * Says what is left of the recording if the replay ends here. Returns 0 if no command is left, or a mismatch was said
+ * before, and writes nothing. Otherwise returns 1, and writes the six numbers of the mismatch: its kind is
+ * JOURNAL_VERDICT_REPLAYED_ENDED. It copies nothing and does not allocate.
+ *
+ * Errors, in order of precedence: JOURNAL_NO_ROOM, JOURNAL_UNKNOWN_VERSION, JOURNAL_UNKNOWN_OPTION.
+ */
+int64_t journal_replay_finish(const uint8_t *recorded, size_t recorded_length, const struct journal_replay *replay,
+                              size_t replay_room, struct journal_mismatch *mismatch, size_t mismatch_room);
 
 #ifdef __cplusplus
 }

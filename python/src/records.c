@@ -148,7 +148,7 @@ static PyObject *read_record(struct reading *reading, const struct record *recor
     return made;
 }
 
-/* The number of the entries of a payload, of which those are written that there is room for. */
+/* The number of the entries of a payload; those are written that there is room for. */
 static int64_t fields_of(const struct record_codec *self, const struct reading *reading, struct journal_field *entries,
                          size_t room)
 {
@@ -232,7 +232,7 @@ struct writing {
 
 static int write_record(struct writing *writing, const struct record *record, PyObject *object, uint64_t level);
 
-/* More memory for what is in `memory`, of which `used` bytes count; NULL with an exception if there is none. */
+/* More memory for the first `used` bytes of `memory`; NULL with an exception if there is none. */
 static void *grown(void *memory, const void *first, size_t used, size_t wanted)
 {
     void *found = NULL;

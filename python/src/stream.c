@@ -59,7 +59,7 @@ static int64_t look(struct pending *self, struct journal_item *item)
     return missing;
 }
 
-/* Drops all that came. */
+/* Drops all bytes received. */
 static void drop(struct pending *self)
 {
     self->begin = 0;

@@ -1,4 +1,4 @@
-"""Items as they came, frames with a destination, streams that are read asynchronously, and the end of a stream."""
+"""Items as received, frames with a destination, streams that are read asynchronously, and the end of a stream."""
 
 import asyncio
 import copy
@@ -67,7 +67,7 @@ class TestCopies(unittest.TestCase):
         self.assertEqual(bytes(message), header(8, INPUT_COMMAND, 0))
 
 
-# suspensions that came at a version, and their frames at another: the digits, or the error that it has none
+# suspensions received at a version, and their frames at another: the digits, or the error that it has none
 V6, V7 = "08010a0202030804", "22120a010122080a010222030a010122030a0103"
 SUSPENSIONS = (
     (6, V6, 6, "0001000000000006" "0a0401020304"),

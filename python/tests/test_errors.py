@@ -23,7 +23,7 @@ from support import CALL_COMMAND, CUSTOM_ENTRY, INPUT, INPUT_LENGTH, SET_STATE_C
 from support import replaced, returning
 
 BAD = b"\x12"
-# a notification with a result alone, and one with an id alone
+# a notification with only a result, and one with only an id
 NO_ID, NO_RESULT = b"\x22\x00", b"\x10\x11"
 
 

@@ -161,7 +161,7 @@ class TestThreads(unittest.TestCase):
                     wrong.append(error)
 
         self.together(change, read, change, read)
-        # while a view copies it, a bytearray cannot grow, which is an error of whoever lets it grow
+        # while a view copies it, a bytearray cannot grow, which is an error of what lets it grow
         self.assertEqual(wrong, [])
 
 

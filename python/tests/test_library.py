@@ -1,4 +1,4 @@
-"""Where the library is found: by an environment variable, beside the package, or by the system."""
+"""Where the library is found: by an environment variable, next to the package, or by the system."""
 
 import os
 import pathlib
@@ -69,7 +69,7 @@ class TestLibrary(unittest.TestCase):
         self.assertEqual(self.run_with(words, PENDRATSOA_LIBRARY="/nowhere"), ("missing\nStart\n", ""))
 
 
-# what is not there, what is no library, and another one
+# what is not there, what is not a library, and another one
 NOWHERE, WRONG, OTHER = "/nowhere/libpendratsoa.so", __file__, "libc.so.6"
 
 

@@ -5,7 +5,7 @@ import io
 import unittest
 
 import pendratsoa
-from pendratsoa import Incomplete, JournalError, Malformed, Message, NoId, NoResult, Skipped, Stream, TooLong
+from pendratsoa import Incomplete, JournalError, Malformed, Message, NoId, NoResult, Replay, Skipped, Stream, TooLong
 from pendratsoa import Unknown, UnknownCode, compare_journals, is_well_formed, messages, type_name
 from support import SET_STATE_COMMAND, TOP
 
@@ -190,6 +190,19 @@ class TestPackages(unittest.TestCase):
         journals = bytes_of(recorded), bytes_of(replayed)
         verdict = compare_journals(int(version), *journals, ignore_payloads=ignore == "yes")
         return f"{verdict.kind} {verdict.index}"
+
+    def mismatch_result(self, version, ignored, recorded, replayed):
+        replay = Replay(int(version), bytes_of(recorded), ignored == "yes", ignored == "ids")
+        said = [replay.check(item) for item in items_of(version, replayed)] + [replay.finish()]
+        found = [mismatch for mismatch in said if mismatch is not None]
+        if not found:
+            return "none"
+        (mismatch,) = found
+        recorded_offset = "-" if mismatch.recorded_offset is None else mismatch.recorded_offset
+        words = [mismatch.kind, mismatch.index, recorded_offset, mismatch.replayed_offset, mismatch.text.encode().hex()]
+        for field in mismatch.fields:
+            words += field.name, field.recorded.encode().hex(), field.replayed.encode().hex()
+        return " ".join(str(word) or "-" for word in words)
 
     def number_result(self, what, number):
         error = raised(NUMBERS[what], int(number))

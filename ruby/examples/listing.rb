@@ -1,6 +1,6 @@
 # frozen_string_literal: true
 
-# Lists a stream on the standard input, of version 8 or of that which the argument says: a line for each item, and at
+# Lists a stream on the standard input, of version 8 or of that which the argument says: one line per item, and at
 # last the number of bytes that are in none. ruby listing.rb [5..9] < STREAM
 
 require "pendratsoa"

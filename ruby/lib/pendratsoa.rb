@@ -17,6 +17,7 @@ require_relative "pendratsoa/compiled"
 require_relative "pendratsoa/items"
 require_relative "pendratsoa/pending"
 require_relative "pendratsoa/stream"
+require_relative "pendratsoa/replay"
 
 # The journal protocol of the Restate SDKs, by the calls of Pendratsoa's shared library.
 #
@@ -31,7 +32,7 @@ require_relative "pendratsoa/stream"
 # may be called from any thread.
 #
 # The first call loads the library: the file that PENDRATSOA_LIBRARY names, or else that which is copied into this gem,
-# or else what the system finds as libpendratsoa.so.0. Where there is none, the call is a LoadError. COMPILED says
+# or else what the system finds as libpendratsoa.so.0. Where there is none, the call is a LoadError. COMPILED tells
 # whether the compiled module makes the calls; it is not used where PENDRATSOA_PURE is set.
 module Pendratsoa
 end

@@ -32,7 +32,7 @@ module Helper
     File.binread(File.join(TOP, path))
   end
 
-  # A block keeps no memory, of which the process may hold up to a mebibyte more after so many rounds. The least growth
+  # A block keeps no memory. The process may hold up to a mebibyte more after so many rounds. The least growth
   # of several times counts: Ruby and malloc take more pages now and then, and what is never freed grows each time.
   def assert_keeps_no_memory(rounds, &)
     skip "not run: there is no /proc" unless File.exist?("/proc/self/statm")

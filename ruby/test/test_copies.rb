@@ -47,7 +47,7 @@ class TestCopies < Minitest::Test
     assert_equal INPUT, written.string
   end
 
-  # Suspensions that came at a version, and their frames at another: the digits, or the error that it has none.
+  # Suspensions received at a version, and their frames at another: the digits, or the error that it has none.
   V6 = "08010a0202030804"
   V7 = "22120a010122080a010222030a010122030a0103"
   SUSPENSIONS = [

@@ -167,6 +167,24 @@ class TestPackages < Minitest::Test
     "#{verdict.kind} #{verdict.index}"
   end
 
+  def mismatch_result(version, ignored, recorded, replayed)
+    options = { ignore_payloads: ignored == "yes", ignore_ids: ignored == "ids" }
+    replay = Pendratsoa::Replay.new(Integer(version), bytes_of(recorded), **options)
+    found = [*items_of(version, replayed).map { |item| replay.check(item) }, replay.finish].compact
+    return "none" if found.empty?
+
+    assert_equal 1, found.length
+    kind, index, recorded_offset, replayed_offset, text, fields = *found.first
+    words = [kind, index, recorded_offset || "-", replayed_offset, word_of(text)]
+    fields.each { |field| words.push(field.name, word_of(field.recorded), word_of(field.replayed)) }
+    words.join(" ")
+  end
+
+  # The bytes of a text as a word.
+  def word_of(text)
+    text.empty? ? "-" : text.unpack1("H*")
+  end
+
   def number_result(what, number)
     error = raised { NUMBERS.fetch(what).call(Integer(number)) }
     return "known" unless error

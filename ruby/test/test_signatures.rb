@@ -31,7 +31,7 @@ class TestSignatures < Minitest::Test
     classes.each do |one|
       declared = names(@builder.build_instance(type_name(one.name))) - COMMON
       found = one.public_instance_methods(false).reject { |name| COMMON.include?(name) || name.end_with?("=") }
-      # what a class inherits of a module is in both, or in the module alone
+      # what a class inherits of a module is in both, or only in the module
       assert_equal [], (found - declared).sort, one.name
       assert_equal [], (declared - one.public_instance_methods).sort, one.name
     end

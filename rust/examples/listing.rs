@@ -1,7 +1,7 @@
 //! Lists the stream that comes on the standard input: listing [VERSION]
 //!
 //! A line is an item: the name of its type and the length of its payload, and ` ack` if its header requests an
-//! acknowledgement. The last line counts the bytes that are in no item. VERSION is from 5 to 9, by default 8.
+//! acknowledgement. The last line counts the trailing bytes. VERSION is from 5 to 9, by default 8.
 
 use std::env;
 use std::error::Error;

@@ -19,8 +19,8 @@ pub fn library_version() -> Result<String, Error> {
 
 /// The number of the schema that payloads of a type have at a version.
 ///
-/// A suspension has another schema before version 7 than later. `Error::Unknown` if the number is no version's or the
-/// code no named type's; a custom entry has no schema.
+/// A suspension has another schema before version 7 than later. `Error::Unknown` if the number is not a version's or
+/// the code no named type's; a custom entry has no schema.
 ///
 /// ```
 /// use pendratsoa::{schema, MessageType, Schema};
@@ -63,8 +63,8 @@ pub fn type_code(name: &str) -> Result<u16, Error> {
 
 /// The header that a message of a type has at a version, by the length of its payload in bytes.
 ///
-/// `Error::Unknown` if the number is no version's or the code no type's; a custom entry has a header. `Error::TooLong`
-/// if the payload has more than 4,294,967,295 bytes.
+/// `Error::Unknown` if the number is not a version's or the code unassigned; a custom entry has a header.
+/// `Error::TooLong` if the payload has more than 4,294,967,295 bytes.
 ///
 /// ```
 /// assert_eq!(pendratsoa::header(8, 0x0400, 9)?, [0x04, 0, 0, 0, 0, 0, 0, 9]);
@@ -85,7 +85,8 @@ pub fn header(version: u32, code: u16, payload_length: usize) -> Result<[u8; 8],
 /// after it.
 ///
 /// A suspension is decoded by its schema from version 7 on, and written by that of the version. `Error::Malformed`,
-/// `Error::TooLong`, `Error::OutOfMemory`; `Error::Unknown` if the number is no version's or the code no named type's.
+/// `Error::TooLong`, `Error::OutOfMemory`; `Error::Unknown` if the number is not a version's or the code no named
+/// type's.
 ///
 /// ```
 /// assert_eq!(pendratsoa::frame(8, 0x0003, &[])?, [0, 3, 0, 0, 0, 0, 0, 0]);
@@ -294,7 +295,7 @@ pub(crate) fn of_payload(refusal: Refusal, schema: u32, payload: &[u8]) -> Error
 }
 
 /// The error of a call that takes a code and two commands.
-fn of_commands(refusal: Refusal, code: u16, first: &[u8], second: &[u8]) -> Error {
+pub(crate) fn of_commands(refusal: Refusal, code: u16, first: &[u8], second: &[u8]) -> Error {
     Error::of(refusal, |about| match about {
         About::Type => Argument::Code(code),
         About::Second => Argument::Second(second.len()),

@@ -109,7 +109,7 @@ impl Decoder {
         self.taken
     }
 
-    /// Appends bytes of the stream to those that came. `Error::OutOfMemory` leaves these unchanged.
+    /// Appends bytes of the stream to those received. `Error::OutOfMemory` leaves these unchanged.
     pub fn feed(&mut self, bytes: &[u8]) -> Result<(), Error> {
         self.check()?;
         self.make_room(bytes.len())?;
@@ -118,9 +118,9 @@ impl Decoder {
         Ok(())
     }
 
-    /// Reads once, at most 64 KiB, and appends the bytes to those that came. Returns how many they are, 0 at the end.
+    /// Reads once, at most 64 KiB, and appends the bytes to those received. Returns how many they are, 0 at the end.
     ///
-    /// An error of the reader, or a failed allocation, leaves the bytes that came unchanged.
+    /// An error of the reader, or a failed allocation, leaves the bytes received unchanged.
     ///
     /// ```
     /// use pendratsoa::Decoder;
@@ -175,8 +175,8 @@ impl Decoder {
     }
 
     /// Room for more bytes of the stream, of this number, for a reader that [`Decoder::read_from`] cannot take, as one
-    /// that is read asynchronously. [`Decoder::advance`] then says how many bytes came. `Error::OutOfMemory` leaves the
-    /// bytes that came unchanged.
+    /// that is read asynchronously. [`Decoder::advance`] then tells how many bytes came. `Error::OutOfMemory` leaves
+    /// the bytes received unchanged.
     ///
     /// ```
     /// use pendratsoa::{Decoder, Error};
@@ -262,7 +262,7 @@ impl Decoder {
             .map_err(|_| Error::OutOfMemory)
     }
 
-    /// The whole items among the bytes that came and are in no item yet. An item that was taken does not come again.
+    /// The whole items among the pending bytes. An item that was taken does not come again.
     ///
     /// The iterator ends after an error, `Error::Unexpected` or `Error::MessageTooLong`; the item that is the reason is
     /// not taken.
@@ -303,7 +303,7 @@ impl Decoder {
         Some(owned)
     }
 
-    /// The number of bytes that are in no item yet.
+    /// The number of pending bytes: those received that no item has yet.
     #[must_use]
     pub fn rest(&self) -> usize {
         self.end - self.begin

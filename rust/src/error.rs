@@ -75,7 +75,7 @@ pub enum Argument {
 pub struct MessagePayload {
     /// The code of the message's type.
     pub code: u16,
-    /// Where the message begins in its stream, in bytes; `None` of one that came in no stream.
+    /// Where the message begins in its stream, in bytes; `None` of one received in no stream.
     pub offset: Option<u64>,
     /// The length of the payload in bytes.
     pub length: usize,
@@ -169,7 +169,7 @@ impl Error {
     }
 
     /// Where the message, or the item, that the error is about begins in its stream, in bytes; `None` of an error that
-    /// is about none, and of a message that came in no stream.
+    /// is about none, and of a message received in no stream.
     #[must_use]
     pub fn offset(&self) -> Option<u64> {
         match self {

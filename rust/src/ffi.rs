@@ -28,6 +28,8 @@ pub(crate) enum About {
     /// The only payload, or the first of two.
     Payload,
     Second,
+    /// The options of a replay.
+    Options,
 }
 
 /// A negative result of a call.

@@ -72,8 +72,8 @@ pub trait MessageRecord<'a>: Record<'a> {
 
     /// The frame of the message at a version: a header, and the canonical payload after it.
     ///
-    /// The errors are those of [`Record::encode`], and `Error::Unknown` if the number is no version's, or that of one
-    /// whose messages of the type have another record.
+    /// The errors are those of [`Record::encode`], and `Error::Unknown` if the number is not a version's, or that of
+    /// one whose messages of the type have another record.
     fn frame(&self, version: impl Into<u32>) -> Result<Vec<u8>, Error> {
         let (version, code) = (version.into(), Self::TYPE.code());
         let mut out = Vec::new();

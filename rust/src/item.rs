@@ -21,7 +21,7 @@ use crate::reading::from_json;
 struct Place(u64);
 
 impl Place {
-    /// That of an item that came in no stream: an offset that no item has. An `Option` would be twice as long.
+    /// That of an item received in no stream: an offset that no item has. An `Option` would be twice as long.
     const NOWHERE: Place = Place(u64::MAX);
 
     fn offset(self) -> Option<u64> {
@@ -52,7 +52,7 @@ impl fmt::Debug for Place {
 pub enum Item<'a> {
     /// A message of a named type, or a custom entry.
     Message(Message<'a>),
-    /// Eight bytes whose code is no type's, before version 9.
+    /// Eight bytes with an unassigned code, before version 9.
     UnknownCode(UnknownCode),
     /// A message of an unknown type, which is skipped with its payload, from version 9 on.
     Skipped(Skipped<'a>),
@@ -70,12 +70,12 @@ pub struct Message<'a> {
     pub word: u64,
     /// Whether the header requests an acknowledgement.
     pub requested_ack: bool,
-    /// The payload as it came, which need not be well-formed.
+    /// The payload as received, which need not be well-formed.
     pub payload: &'a [u8],
     offset: Place,
 }
 
-/// Eight bytes of a stream whose code is no type's.
+/// Eight bytes of a stream with an unassigned code.
 #[derive(Clone, Copy, Debug, PartialEq, Eq, Hash)]
 #[non_exhaustive]
 pub struct UnknownCode {
@@ -187,9 +187,9 @@ impl<'a> Item<'a> {
         }
     }
 
-    /// The header, or the eight bytes of an unknown code, and the payload after it: together the item as it came.
+    /// The header, or the eight bytes of an unknown code, and the payload after it: together the item as received.
     ///
-    /// An item as it came is what a proxy passes on if it does not change it.
+    /// An item as received is what a proxy passes on if it does not change it.
     #[must_use]
     pub fn parts(&self) -> ([u8; 8], &'a [u8]) {
         let (word, payload) = match *self {
@@ -200,7 +200,7 @@ impl<'a> Item<'a> {
         (word.to_be_bytes(), payload)
     }
 
-    /// The item as it came, byte for byte. `Error::OutOfMemory`.
+    /// The item as received, byte for byte. `Error::OutOfMemory`.
     ///
     /// ```
     /// use pendratsoa::{next_item, Next};
@@ -218,7 +218,7 @@ impl<'a> Item<'a> {
         Ok(out)
     }
 
-    /// Appends the item as it came. `Error::OutOfMemory` leaves the vector as it was.
+    /// Appends the item as received. `Error::OutOfMemory` leaves the vector as it was.
     pub fn append_to(&self, out: &mut Vec<u8>) -> Result<(), Error> {
         let (header, payload) = self.parts();
         out.try_reserve(header.len() + payload.len())
@@ -228,7 +228,7 @@ impl<'a> Item<'a> {
         Ok(())
     }
 
-    /// Writes the item as it came, by two calls of the writer. A socket is faster within a `BufWriter`.
+    /// Writes the item as received, by two calls of the writer. A socket is faster within a `BufWriter`.
     pub fn write_to<W: Write>(&self, mut writer: W) -> io::Result<()> {
         let (header, payload) = self.parts();
         writer.write_all(&header)?;
@@ -257,7 +257,7 @@ impl fmt::Display for Item<'_> {
     }
 }
 
-/// An item with bytes of its own, of which [`OwnedItem::item`] is the item.
+/// An item with bytes of its own; [`OwnedItem::item`] is the item of them.
 #[derive(Clone, Debug, PartialEq, Eq, Hash)]
 pub struct OwnedItem {
     /// The item, without its payload.
@@ -305,7 +305,7 @@ impl<'a> From<Message<'a>> for Item<'a> {
 impl<'a> Message<'a> {
     /// The message of a type with a payload, as it would come in a stream of the version.
     ///
-    /// The payload need not be well-formed. `Error::Unknown` if the number is no version's or the code no type's;
+    /// The payload need not be well-formed. `Error::Unknown` if the number is not a version's or the code unassigned;
     /// `Error::TooLong` if the payload has more than 4,294,967,295 bytes.
     ///
     /// ```
@@ -317,7 +317,7 @@ impl<'a> Message<'a> {
     /// ```
     pub fn new(version: u32, code: u16, payload: &'a [u8]) -> Result<Message<'a>, Error> {
         let word = u64::from_be_bytes(header(version, code, payload.len())?);
-        // a header of no payload is a whole item, of which the library says what it requests
+        // a header of no payload is a whole item; the library tells what it requests
         let header = header(version, code, 0)?;
         let requested_ack = match next_item(version, &header)? {
             Next::Item {
@@ -339,8 +339,8 @@ impl<'a> Message<'a> {
     /// The message of a named type that a JSON text means, as it would come in a stream of the version. Its payload,
     /// which is canonical, takes the place of what the buffer holds.
     ///
-    /// `Error::Json` if the text means no such message, `Error::Unknown` if the number is no version's or the code no
-    /// named type's; `Error::TooLong`, `Error::OutOfMemory`. After an error the buffer is unchanged.
+    /// `Error::Json` if the text means no such message, `Error::Unknown` if the number is not a version's or the code
+    /// no named type's; `Error::TooLong`, `Error::OutOfMemory`. After an error the buffer is unchanged.
     ///
     /// ```
     /// use pendratsoa::{Message, MessageType};
@@ -361,7 +361,7 @@ impl<'a> Message<'a> {
         Message::new(version, code, buffer)
     }
 
-    /// Where the message begins in its stream, in bytes, as [`Item::offset`]; `None` of one that came in no stream. An
+    /// Where the message begins in its stream, in bytes, as [`Item::offset`]; `None` of one received in no stream. An
     /// error of the payload has it too ([`Error::offset`]).
     #[must_use]
     pub fn offset(&self) -> Option<u64> {
@@ -509,8 +509,8 @@ impl<'a> Message<'a> {
         self.append_frame_at(self.version, out)
     }
 
-    /// Writes the frame of the message at its own version, as [`Message::frame`]. What is no error of the writer is one
-    /// that holds the [`Error`], of the kind `InvalidData`, or `OutOfMemory`.
+    /// Writes the frame of the message at its own version, as [`Message::frame`]. What is not an error of the writer is
+    /// one that holds the [`Error`], of the kind `InvalidData`, or `OutOfMemory`.
     pub fn write_frame<W: Write>(&self, mut writer: W) -> io::Result<()> {
         writer.write_all(&self.frame()?)
     }
@@ -539,7 +539,7 @@ pub enum Next<'a> {
 
 /// Finds the item that bytes begin with, at a version from 5 to 9. It copies nothing and does not allocate.
 ///
-/// For streams that come in chunks, a [`Decoder`](crate::Decoder) keeps the bytes that are in no item yet.
+/// For streams that come in chunks, a [`Decoder`](crate::Decoder) keeps the pending bytes.
 ///
 /// ```
 /// use pendratsoa::{next_item, Item, Next};

@@ -49,9 +49,9 @@ const KINDS: [VerdictKind; 7] = [
 
 /// Compares a recorded journal with a replayed one, both streams of a version from 5 to 9, command by command.
 ///
-/// Other items, and bytes after the last whole item, are skipped. If `ignore_payloads`, the content of user data is not
-/// compared, but that of a signal is. `Error::Unknown` if the number is no version's; `Error::OutOfMemory`. A malformed
-/// command is no error, but a verdict.
+/// Other items, and trailing bytes, are skipped. If `ignore_payloads`, the content of user data is not
+/// compared, but that of a signal is. `Error::Unknown` if the number is not a version's; `Error::OutOfMemory`. A
+/// malformed command is not an error, but a verdict.
 ///
 /// ```
 /// use pendratsoa::{compare_journals, VerdictKind};
@@ -76,14 +76,19 @@ pub fn compare_journals(
 /// The verdict of these numbers, and of the bytes of its text.
 fn verdict_of(numbers: [u64; 2], bytes: Vec<u8>) -> Result<Verdict, Error> {
     let [kind, index] = numbers;
-    let place = narrowed::<usize>("the kind of verdict", kind)?;
     Ok(Verdict {
-        kind: *KINDS
-            .get(place)
-            .ok_or_else(|| Error::unexpected("the kind of verdict", kind))?,
+        kind: kind_of(kind)?,
         index: narrowed("the index of a command", index)?,
         text: text(bytes)?,
     })
+}
+
+/// The kind of verdict of a number.
+pub(crate) fn kind_of(number: u64) -> Result<VerdictKind, Error> {
+    KINDS
+        .get(narrowed::<usize>("the kind of verdict", number)?)
+        .copied()
+        .ok_or_else(|| Error::unexpected("the kind of verdict", number))
 }
 
 #[cfg(test)]

@@ -15,7 +15,7 @@
 //! ```
 //!
 //! The library decides everything about the protocol; this crate turns its numbers into types. Each call of
-//! `pendratsoa.h` is a function here, of the same name without `journal_`, but for four: `journal_next` is
+//! `pendratsoa.h` is a function here, of the same name without `journal_`, except four: `journal_next` is
 //! [`next_item`] and, over chunks, [`Decoder`]; `journal_json` is [`to_json`]; `journal_payload_of_json` is
 //! [`from_json`]; `journal_verdict` is [`compare_journals`].
 //!
@@ -61,6 +61,7 @@ mod message_type;
 pub mod messages;
 mod notification;
 mod reading;
+mod replay;
 mod schema;
 
 pub use calls::{
@@ -76,6 +77,7 @@ pub use kinds::{FieldReason, Version};
 pub use message_type::MessageType;
 pub use notification::{notification, Notification, NotificationId, NotificationResult};
 pub use reading::{from_json, JsonError, JsonReason};
+pub use replay::{ChangedField, Ignored, Mismatch, Replay};
 pub use schema::Schema;
 
 /// The first protocol version.

@@ -533,7 +533,7 @@ fn journals_of_noise() {
     }
 }
 
-/// A record of a payload like one of a single byte, with other bytes, of which there are fewer than 2^14.
+/// A record of a payload like one of a single byte, with other bytes, fewer than 2^14.
 fn field(like: &[u8], bytes: &[u8]) -> Vec<u8> {
     let key = &like[..like.len() - 2];
     let length = bytes.len();

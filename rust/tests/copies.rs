@@ -1,4 +1,4 @@
-//! Items as they came, frames with a destination, and the end of a stream.
+//! Items as received, frames with a destination, and the end of a stream.
 
 use std::io;
 
@@ -55,7 +55,7 @@ fn a_message_that_is_made_is_copied_with_the_header_of_its_type() {
     assert_eq!(next_item(8, &bytes), Ok(Next::Item { item, size }));
 }
 
-/// Suspensions that came at a version, and their frames at another, or the error that it has none.
+/// Suspensions received at a version, and their frames at another, or the error that it has none.
 #[test]
 fn suspensions_of_each_version() {
     let v6 = &b"\x08\x01\n\x02\x02\x03\x08\x04"[..];

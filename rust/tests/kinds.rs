@@ -49,7 +49,7 @@ fn items() {
         }
         other => panic!("{other:?}"),
     }
-    // no type has the code 4: before version 9 its header alone is an item
+    // no type has the code 4: before version 9 its header is an item by itself
     let bytes = [0, 4, 1, 2, 3, 4, 0, 2, 0x08, 1];
     match item(8, &bytes[..8]) {
         Item::UnknownCode(unknown) => {

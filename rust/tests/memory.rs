@@ -1,4 +1,4 @@
-//! Memory does not grow with the number of calls. It is a program of its own, since others would take memory beside it.
+//! Memory does not grow with the number of calls. It is a program of its own, since others would take memory meanwhile.
 
 use std::fs;
 

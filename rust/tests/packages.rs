@@ -8,7 +8,8 @@ use pendratsoa::messages::{
     SuspensionMessage, SuspensionMessageV6,
 };
 use pendratsoa::{
-    compare_journals, is_well_formed, type_name, Decoder, Error, Item, Message, VerdictKind,
+    compare_journals, is_well_formed, type_name, Decoder, Error, Ignored, Item, Message, Mismatch,
+    Replay, VerdictKind,
 };
 
 /// The bytes of a word.
@@ -233,7 +234,11 @@ fn compare_case(words: &[&str]) -> String {
     let (recorded, replayed) = (bytes(words[2]), bytes(words[3]));
     let version = words[0].parse().unwrap();
     let verdict = compare_journals(version, &recorded, &replayed, words[1] == "yes").unwrap();
-    let kind = match verdict.kind {
+    format!("{} {}", kind_of(verdict.kind), verdict.index)
+}
+
+fn kind_of(kind: VerdictKind) -> &'static str {
+    match kind {
         VerdictKind::Same => "same",
         VerdictKind::RecordedEnded => "recorded_ended",
         VerdictKind::ReplayedEnded => "replayed_ended",
@@ -242,8 +247,47 @@ fn compare_case(words: &[&str]) -> String {
         VerdictKind::BadRecorded => "bad_recorded",
         VerdictKind::BadReplayed => "bad_replayed",
         kind => panic!("{kind:?}"),
+    }
+}
+
+fn mismatch_case(words: &[&str]) -> String {
+    let recorded = bytes(words[2]);
+    let version = words[0].parse().unwrap();
+    let ignored = Ignored {
+        payloads: words[1] == "yes",
+        ids: words[1] == "ids",
     };
-    format!("{kind} {}", verdict.index)
+    let mut replay = Replay::new(version, &recorded, ignored).unwrap();
+    let mut decoder = decoder(version, None);
+    decoder.feed(&bytes(words[3])).unwrap();
+    let mut found: Vec<Mismatch> = decoder
+        .items()
+        .filter_map(|item| replay.check(&item.unwrap()).unwrap())
+        .collect();
+    found.extend(replay.finish().unwrap());
+    let said = match found.pop() {
+        Some(mismatch) => mismatch,
+        None => return "none".to_owned(),
+    };
+    assert_eq!(found, []);
+    let offset = said
+        .recorded_offset
+        .map_or_else(|| "-".to_owned(), |offset| offset.to_string());
+    let mut line = vec![
+        kind_of(said.kind).to_owned(),
+        said.index.to_string(),
+        offset,
+        said.replayed_offset.to_string(),
+        word(said.text.as_bytes()),
+    ];
+    for field in said.fields {
+        line.extend([
+            field.name,
+            word(field.recorded.as_bytes()),
+            word(field.replayed.as_bytes()),
+        ]);
+    }
+    line.join(" ")
 }
 
 fn number_case(words: &[&str]) -> String {
@@ -275,6 +319,7 @@ fn each_case_has_its_result() {
             "read" => read_case(&words[1..]),
             "as" => as_case(&words[1..]),
             "compare" => compare_case(&words[1..]),
+            "mismatch" => mismatch_case(&words[1..]),
             "number" => number_case(&words[1..]),
             kind => panic!("{kind}"),
         };

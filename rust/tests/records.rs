@@ -47,7 +47,7 @@ fn the_messages_of_a_stream() {
 
 #[test]
 fn a_custom_entry_has_no_record() {
-    // a state that is set, a custom entry whose payload is no record, and the state again
+    // a state that is set, a custom entry whose payload is not a record, and the state again
     let state = b"\x04\x03\x00\x00\x00\x00\x00\x03\n\x01a";
     let custom = b"\xFC\x01\x00\x00\x00\x00\x00\x02\xFF\xFF";
     let stream = [&state[..], custom, state].concat();

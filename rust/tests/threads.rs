@@ -8,9 +8,9 @@ use std::thread;
 
 use pendratsoa::messages::{Future, Record};
 use pendratsoa::{
-    canonical, to_json, Argument, Decoder, Error, Item, Items, Message, MessageType, Next,
-    Notification, NotificationId, NotificationResult, Schema, Skipped, UnknownCode, Verdict,
-    VerdictKind,
+    canonical, to_json, Argument, ChangedField, Decoder, Error, Item, Items, Message, MessageType,
+    Mismatch, Next, Notification, NotificationId, NotificationResult, Replay, Schema, Skipped,
+    UnknownCode, Verdict, VerdictKind,
 };
 
 const INPUT: &[u8] = b"\x04\0\0\0\0\0\0\x09\x72\x07\x0A\x05input";
@@ -27,6 +27,9 @@ fn every_type_may_be_sent_and_shared() {
     shared::<Next<'_>>();
     shared::<Message<'_>>();
     shared::<Skipped<'_>>();
+    shared::<Replay<'_>>();
+    plain::<Mismatch>();
+    plain::<ChangedField>();
     plain::<UnknownCode>();
     plain::<MessageType>();
     plain::<Schema>();

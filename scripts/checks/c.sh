@@ -1,8 +1,8 @@
 #!/bin/sh
 # The library for C: installed, its constants and examples, a million adversarial calls.
 #
-# scripts/install.sh puts it into a folder and takes it away again, and both libraries show the calls of
-# include/pendratsoa.h alone. The examples in C and Python list streams alike, and as list_stream.py does; and
+# scripts/install.sh puts it into a folder and takes it away again, and both libraries show only the calls of
+# include/pendratsoa.h. The examples in C and Python list streams alike, and as list_stream.py does; and
 # tests/c/hostile_calls.c makes a million adversarial calls. It takes the proved static library, which
 # scripts/build.py builds over what rt ci has proved.
 set -u
@@ -14,7 +14,7 @@ static_library
 tools=
 emulator=
 
-# Installed beside a file of another's, below a folder whose name is not plain.
+# Installed next to a file of another's, below a folder whose name is not plain.
 prefix="$work/a prefix"
 mkdir -p "$prefix/lib"
 echo other > "$prefix/lib/other"
@@ -93,7 +93,7 @@ sed -n 's/^| \(-[0-9]*\) | `\(JOURNAL_[A-Z_]*\)` .*/\1 \2/p' docs/C.md > "$work/
 same 'the refusals of docs/C.md' "$work/wanted" "$work/out"
 
 constants
-test_vectors conformance/*.txt conformance/json/*.txt
+test_vectors conformance/*.txt conformance/json/*.txt conformance/replays/*.txt
 
 # The structs of messages: with sanitizers, where the compiler has them
 echo 'int main(void) { return 0; }' > "$work/nothing.c"
@@ -115,6 +115,7 @@ fi
 later_library
 stream_reader
 message_example "$prefix/lib/libpendratsoa.a" "$library"
+replay_example "$prefix/lib/libpendratsoa.a" "$library"
 
 # The examples in C, without a warning of any compiler that is there, and the listing with each library.
 example=examples/c/listing.c
@@ -124,7 +125,7 @@ for compiler in 'cc -std=c99' 'cc -std=c17' 'c++ -x c++ -std=c++11' 'clang -std=
     without "$compiler $example" "${compiler%% *}"
     continue
   fi
-  for file in $example examples/c/messages.c tests/c/test_messages.c tests/c/test_reader.c; do
+  for file in $example examples/c/messages.c examples/c/replay.c tests/c/test_messages.c tests/c/test_reader.c; do
     # shellcheck disable=SC2086 # the flags are split
     case_of "$compiler $file" $compiler $strict -I "$prefix/include" -c $file -o "$work/example.o"
   done
@@ -143,7 +144,7 @@ python=
 ! command -v python3 > /dev/null || python=python3
 [ -n "$python" ] || without 'the example in Python' python3
 
-# listed NAME STREAM VERSION: the examples list a stream alike, and but for the names after calls as the lister does
+# listed NAME STREAM VERSION: the examples list a stream alike, and except the names after calls as the lister does
 listed() {
   "$work/static" "$3" < "$2" > "$work/out" 2> "$work/err"
   outcome "$1 at $3" $?

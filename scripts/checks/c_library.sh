@@ -9,7 +9,7 @@ compiled() {
   case_of "$name" "${tools:+${tools}g}cc" -O2 -Wall -Wextra -Werror -I "$prefix/include" "$@"
 }
 
-# exported_names: both libraries export the calls of the two headers alone, and need the C library alone
+# exported_names: both libraries export only the calls of the two headers, and need only the C library
 exported_names() {
   library=$prefix/lib/libpendratsoa.so
   awk '/^int64_t journal_/ { sub(/^int64_t /, ""); sub(/\(.*/, ""); print }' include/pendratsoa.h \
@@ -27,7 +27,7 @@ exported_names() {
   same 'what the shared library needs and is called' "$work/wanted" "$work/names"
 }
 
-# constants: each constant of the header beside what the library returns, and none of them left out
+# constants: each constant of the header compared with what the library returns, and none of them left out
 constants() {
   compiled 'constants.c' -std=c99 -Wpedantic tests/c/constants.c "$prefix/lib/libpendratsoa.a" \
     -Wl,--wrap=malloc,--wrap=realloc -o "$work/constants"
@@ -45,7 +45,7 @@ schemas() {
     | sort -n | cut -d' ' -f2 > "$work/schemas"
 }
 
-# test_vectors FILE..: the test vectors of these files, by the calls for C
+# test_vectors FILE..: the test vectors of these files, by the C calls
 test_vectors() {
   cat "$@" > "$work/lines"
   compiled 'test_vectors.c' -std=c99 -Wpedantic -Wconversion tests/c/test_vectors.c "$prefix/lib/libpendratsoa.a" \
@@ -101,7 +101,7 @@ stream_reader() {
 
 # message_example LIBRARY..: the example of the structs, with each library
 message_example() {
-  # a state that is set, an end, and a byte that is no item
+  # a state that is set, an end, and a byte that is not an item
   printf '\004\003\000\000\000\000\000\016\012\007counter\032\003\012\0011' > "$work/stream"
   printf '\004\003\000\000\000\000\000\017\012\007counter\032\004\012\00212' > "$work/wanted"
   printf '\000\003\000\000\000\000\000\000x' | tee -a "$work/stream" >> "$work/wanted"
@@ -113,5 +113,20 @@ message_example() {
     same "what examples/c/messages.c writes with ${library##*/}" "$work/wanted" "$out"
     [ "$(cat "$err")" = 'state "counter", 1 bytes' ]
     outcome "what examples/c/messages.c says with ${library##*/}" $?
+  done
+}
+
+# replay_example LIBRARY..: the example that checks a replay, with each library
+replay_example() {
+  if ! command -v python3 > /dev/null; then
+    without 'examples/c/replay.c' python3
+    return
+  fi
+  for library in "$@"; do
+    compiled "examples/c/replay.c with ${library##*/}" -std=c99 -Wpedantic -Wconversion examples/c/replay.c \
+      "$library" -o "$work/replay"
+    # shellcheck disable=SC2086 # the words are split
+    LD_LIBRARY_PATH=$prefix/lib counted "the replays of examples/c/replay.c with ${library##*/}" \
+      python3 -B scripts/checks/replayed.py $emulator "$work/replay"
   done
 }

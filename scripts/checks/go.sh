@@ -12,7 +12,7 @@ needs gofmt golang-go
 needs pkg-config pkg-config
 installed_library
 
-# the tests read the other folders beside their own
+# the tests read the other folders next to their own
 cp -R go conformance examples include proto "$work"
 top=$PWD
 cd "$work/go" || exit 1
@@ -58,13 +58,18 @@ listed unknown_type 9
 
 case_of 'the proxy is built' go build -o "$work/proxy_program" ./examples/proxy
 counted 'the proxy' python3 -B "$top/scripts/checks/proxied.py" "$work/proxy_program"
+case_of 'the example that checks a replay is built' go build -o "$work/replay_program" ./examples/replay
+counted 'the replays' python3 -B "$top/scripts/checks/replayed.py" "$work/replay_program"
 
 # The page: its program, its part of the proxy, the program that compares, and its part of the example of errors.
 mkdir "$work/go/page" "$work/go/compare"
 awk -v page="$work/go/page/main.go" -v part="$work/part" -v compare="$work/go/compare/main.go" \
-  -v errors="$work/errors" '
+  -v replay="$work/replay" -v errors="$work/errors" '
   /^## / { section = $2 }
-  /^```go$/ { file = section == "Compare" ? compare : section == "Errors" ? errors : blocks++ ? part : page; next }
+  /^```go$/ {
+    file = section == "Compare" ? compared++ ? replay : compare : section == "Errors" ? errors : blocks++ ? part : page
+    next
+  }
   /^```$/ { file = "" }
   file != "" { print > file }' README.md
 sed -n '/^Of `examples/,/^[A-Z] /s/^    //p' README.md > "$work/wanted"
@@ -74,6 +79,7 @@ sed -n '/^Of `recorded/,/^|/s/^    //p' README.md > "$work/wanted"
 go run ./compare "$work/examples/streams/recorded" "$work/examples/streams/replayed_other_payload" > "$out" 2> "$err"
 same 'the program of go/README.md that compares' "$work/wanted" "$out"
 case_of 'the proxy of go/README.md' python3 -B "$top/scripts/checks/is_part.py" "$work/part" examples/proxy/main.go
+case_of 'the replay of go/README.md' python3 -B "$top/scripts/checks/is_part.py" "$work/replay" example_test.go
 case_of 'the errors of go/README.md' python3 -B "$top/scripts/checks/is_part.py" "$work/errors" example_test.go
 
 if go test -race -run '^$' . > "$work/race" 2>&1; then

@@ -13,7 +13,7 @@ is_recent='const [major, minor] = process.versions.node.split("."); process.exit
 node -e "$is_recent" || not_run 'node is older than 18.15'
 installed_library
 
-# copy NAME: $tree is a copy of the package, beside what its tests read
+# copy NAME: $tree is a copy of the package, next to what its tests read
 copy() {
   tree=$work/$1
   mkdir "$tree"
@@ -45,7 +45,7 @@ tested() {
   failed=$((failed + bad))
 }
 
-# refused NAME WORDS COMMAND..: a command that ends with the status 2, and says why in a line with these words
+# refused NAME WORDS COMMAND..: a command that ends with the status 2, and tells why in a line with these words
 refused() {
   name=$1
   words=$2
@@ -113,15 +113,15 @@ mkdir -p "$package"
 for file in package.json $(node -p "JSON.parse(require('fs').readFileSync('node/package.json')).files.join(' ')"); do
   case_of "a copy of $file" cp -R "$tree/node/$file" "$package/$file"
 done
-cp examples/typescript/listing.mts "$user/"
+cp examples/typescript/*.mts "$user/"
 
 # The types, and the example, which lists as that in C does.
 if command -v tsc > /dev/null; then
   case_of 'the types' tsc -p "$tree/node"
-  case_of 'the example in TypeScript' \
+  case_of 'the examples in TypeScript' \
     tsc --strict --noFallthroughCasesInSwitch --noImplicitOverride --noImplicitReturns --noUncheckedIndexedAccess \
     --noPropertyAccessFromIndexSignature --noUnusedLocals --noUnusedParameters --exactOptionalPropertyTypes \
-    --target es2022 --module node16 "$user/listing.mts"
+    --target es2022 --module node16 "$user/listing.mts" "$user/replay.mts"
   case_of 'the example in C' cc -std=c99 -I "$prefix/include" examples/c/listing.c "$prefix/lib/libpendratsoa.a" \
     -o "$work/listing"
   for stream in replay:8 recorded:8 cut_short:8 three_unknown_types:8 unknown_type:9; do
@@ -134,14 +134,15 @@ if command -v tsc > /dev/null; then
   node "$user/listing.mjs" < "$work/mixed" > "$out" 2> "$err"
   same 'the listing of a mixed stream' "$work/wanted" "$out"
   refused 'the listing with wrong words' 'usage: listing.mjs [5..9]' node "$user/listing.mjs" 10
+  counted 'the replays' python3 -B scripts/checks/replayed.py node "$user/replay.mjs"
 else
   left_out 'the types and the example' 'there is no tsc; the Debian package node-typescript has it'
 fi
 
-# The page's programs, which are JavaScript too; the second one is under Compare.
-awk -v page="$user/page.mjs" -v compare="$user/compare.mjs" '
+# The page's programs, which are JavaScript too; the others are under Compare.
+awk -v page="$user/page.mjs" -v compare="$user/compare.mjs" -v replay="$user/replay.mjs" '
   /^## / { section = $2 }
-  /^```ts$/ { file = section == "Compare" ? compare : page; next }
+  /^```ts$/ { file = section == "Compare" ? compared++ ? replay : compare : page; next }
   /^```$/ { file = "" }
   file != "" { print > file }' node/README.md
 ln -s "$PWD/examples" "$user/examples"
@@ -152,6 +153,9 @@ same 'the program of node/README.md' "$work/wanted" "$out"
 (cd "$user" && node compare.mjs) > "$out" 2> "$err"
 sed -n 's/^It prints `\(.*\)`\.$/\1/p' node/README.md > "$work/wanted"
 same 'the program of node/README.md that compares' "$work/wanted" "$out"
+(cd "$user" && node replay.mjs) > "$out" 2> "$err"
+sed -n 's/^Its line is `\(.*\)`\.$/\1/p' node/README.md > "$work/wanted"
+same 'the program of node/README.md that checks a replay' "$work/wanted" "$out"
 
 cp examples/typescript/proxy.mjs "$user/"
 counted 'the proxy' python3 -B scripts/checks/proxied.py node "$user/proxy.mjs"

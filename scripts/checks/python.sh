@@ -101,6 +101,11 @@ case_of 'the Python of README.md' python3 "$work/readme.py"
 cut -d ' ' -f 1 "$work/log" > "$out"
 printf '%s\n' Start InputCommand GetLazyStateCompletionNotification > "$work/wanted"
 same 'what it prints' "$work/wanted" "$out"
+python_of docs/TUTORIAL.md > "$work/tutorial.py"
+case_of 'the Python of docs/TUTORIAL.md' python3 "$work/tutorial.py"
+cp "$work/log" "$out"
+awk '/^```python$/ { after = 1 } after && /^    [0-9]/ { print substr($0, 5) }' docs/TUTORIAL.md > "$work/wanted"
+same 'what the program of docs/TUTORIAL.md prints' "$work/wanted" "$out"
 # The parts of the page: each in a file, with what it prints, which is indented after it; the second is of the proxy.
 mkdir "$work/page"
 awk -v folder="$work/page" '
@@ -111,7 +116,7 @@ awk -v folder="$work/page" '
 ' python/README.md
 cp examples/streams/* "$work/page"
 cp examples/streams/replay "$work/page/journal"
-for part in 1 3 4; do
+for part in 1 3 4 5; do
   if [ $part -eq 3 ] && python3 -c 'import sys; sys.exit(sys.version_info >= (3, 10))'; then
     left_out 'the match of python/README.md' 'this python3 is older than 3.10'
     continue
@@ -122,6 +127,11 @@ done
 case_of 'the proxy of python/README.md' python3 -B scripts/checks/is_part.py "$work/page/part2.py" \
   examples/python/proxy.py
 counted 'the proxy' python3 -B scripts/checks/proxied.py python3 examples/python/proxy.py
+counted 'replays beside whole journals' python3 -B scripts/checks/replays.py 7 4000
+for way in '' 1; do
+  counted "the replays${way:+, without the compiled module}" \
+    env PENDRATSOA_PURE=$way python3 -B scripts/checks/replayed.py python3 examples/python/replay.py
+done
 
 # The pages of the API are made without the library.
 for name in pendratsoa pendratsoa.messages; do
@@ -133,7 +143,8 @@ done
 if command -v mypy > /dev/null; then
   (cd "$work/python" && mypy --cache-dir=/dev/null) > "$out" 2> "$err"
   outcome 'the types' $?
-  for file in examples/python/listing.py examples/python/proxy.py python/tests/records_types.py; do
+  for file in examples/python/listing.py examples/python/proxy.py examples/python/replay.py \
+    python/tests/records_types.py; do
     MYPYPATH=$site mypy --strict --cache-dir=/dev/null $file > "$out" 2> "$err"
     outcome "the types of $file" $?
   done

@@ -13,7 +13,7 @@ ruby -rfiddle -e '' 2> "$err" || not_run 'this Ruby has no Fiddle'
 ruby -rminitest -e '' 2> "$err" || not_run 'there is no minitest; the Debian package ruby-minitest has it'
 installed_library
 
-# the tests read the other folders beside their own
+# the tests read the other folders next to their own
 cp -R ruby conformance examples include proto "$work"
 top=$PWD
 cd "$work/ruby" || exit 1
@@ -101,8 +101,12 @@ listed() {
   same "the listing of $1" "$work/listing" "$out"
 }
 counted 'the proxy' python3 -B "$top/scripts/checks/proxied.py" ruby -w examples/proxy.rb
+for way in '' 1; do
+  counted "the replays${way:+, without the compiled module}" \
+    env PENDRATSOA_PURE=$way python3 -B "$top/scripts/checks/replayed.py" ruby -w examples/replay.rb
+done
 
-# The page: its program, its part of the proxy, and its expressions, of functions and of journals compared.
+# The page: its program, its part of the proxy, and its expressions, of functions, journals and a replay.
 awk -v folder="$work" '
   /^```ruby$/ { file = folder "/page" ++blocks ".rb"; next }
   /^```$/ { file = "" }
@@ -113,7 +117,7 @@ printf '%s\n' 'Start 19' 'InputCommand 9' 'GetLazyStateCompletionNotification 4'
 cut -d ' ' -f 1,2 "$work/log" > "$out"
 same 'the program of ruby/README.md' "$work/wanted" "$out"
 case_of 'the proxy of ruby/README.md' python3 -B "$top/scripts/checks/is_part.py" "$work/page2.rb" examples/proxy.rb
-for part in 3 4; do
+for part in 3 4 5; do
   case_of "the expressions of ruby/README.md, part $part" ruby -C "$work" -rpendratsoa -e '
     File.foreach(ARGV[0]) do |line|
       found, wanted = TOPLEVEL_BINDING.eval(line).inspect, line[/# => (.*)/, 1]

@@ -1,4 +1,4 @@
-// Listing lists a stream on the standard input, of version 8 or of that which its argument says: a line for each item,
+// Listing lists a stream on the standard input, of version 8 or of that which its argument says: one line per item,
 // and at last the number of bytes that are in none.
 package main
 

@@ -1,7 +1,7 @@
 # frozen_string_literal: true
 
-# Makes a Makefile for the compiled module. Without the headers of Ruby it makes nothing: the gem then uses Fiddle
-# alone.
+# Makes a Makefile for the compiled module. Without the headers of Ruby it makes nothing: the gem then uses only
+# Fiddle.
 if File.exist?(File.join(RbConfig::CONFIG.fetch("rubyhdrdir"), "ruby.h"))
   require "mkmf"
   # no path of this folder is in the module, so that it is the same from each

@@ -29,7 +29,7 @@
 /* From how many bytes on a call of the library lets other threads run. */
 #define LONG 65536
 
-/* A field of a record: what it holds, beside what the table of fields has of it. */
+/* A field of a record: what it holds, next to what the table of fields has of it. */
 struct row {
     long schema;        /* of a message, the number of its schema */
     VALUE name;         /* the symbol, which is that of the oneof for a member */
@@ -39,8 +39,8 @@ struct row {
     bool is_wrapped;    /* whether that class is made for it */
 };
 
-/* A record: its class, the code of its type or -1, what its fields are by default, and its fields, of which those of a
- * oneof are side by side, what is held beside what the table has. */
+/* A record: its class, the code of its type or -1, what its fields are by default, and its fields; those of a
+ * oneof are side by side, what is held next to what the table has. */
 struct record {
     VALUE class;
     VALUE defaults;

@@ -49,6 +49,17 @@ static bool read_slice(VALUE value, struct slice *slice, VALUE *kept)
     return true;
 }
 
+/* Reads the numbers of a struct, which are the bytes of it. */
+static bool read_numbers(VALUE value, size_t count, uint64_t *numbers)
+{
+    size_t size = count * sizeof *numbers;
+    if (!RB_TYPE_P(value, T_STRING) || (size_t)RSTRING_LEN(value) != size) {
+        return false;
+    }
+    memcpy(numbers, RSTRING_PTR(value), size);
+    return true;
+}
+
 static bool read_argument(struct made *made, enum parameter parameter, VALUE value)
 {
     struct arguments *arguments = &made->arguments;
@@ -69,6 +80,10 @@ static bool read_argument(struct made *made, enum parameter parameter, VALUE val
         is_read = read_number(value, UINT64_C(1) << 32, &number);
         arguments->payload_length = (uint32_t)number;
         return is_read;
+    case INDEX:
+        is_read = read_number(value, UINT64_C(1) << 32, &number);
+        arguments->index = (uint32_t)number;
+        return is_read;
     case NAME:
     case JSON:
     case PAYLOAD:
@@ -81,6 +96,8 @@ static bool read_argument(struct made *made, enum parameter parameter, VALUE val
     case IGNORE_PAYLOADS:
         arguments->ignore_payloads = RTEST(value);
         return true;
+    case REPLAY:
+        return read_numbers(value, made->call->given, arguments->given);
     case NO_PARAMETER:
         break;
     }
@@ -169,21 +186,30 @@ static VALUE written(struct made *made)
     }
 }
 
-/* What a call returns: a number, the bytes that it writes, or these and its numbers; nil if that is an error. */
+/* The number that a call returns, or nil if that is an error. */
+static VALUE number_of(struct made *made)
+{
+    make_call(made, bytes_read(made->call, &made->arguments));
+    return made->number < 0 ? Qnil : LL2NUM(made->number);
+}
+
+/* What a call returns: a number or the bytes that it writes, or an array of that, of its numbers, and of those that it
+ * changed; nil if that is an error. */
 static VALUE returned(struct made *made)
 {
-    if (!made->call->writes) {
-        make_call(made, bytes_read(made->call, &made->arguments));
-        return made->number < 0 ? Qnil : LL2NUM(made->number);
+    const struct call *call = made->call;
+    VALUE result = call->writes ? written(made) : number_of(made);
+    if (NIL_P(result) || call->numbers == 0) {
+        return result;
     }
-    VALUE bytes = written(made);
-    if (NIL_P(bytes) || made->call->numbers == 0) {
-        return bytes;
-    }
-    VALUE found = rb_ary_new_capa(1 + (long)made->call->numbers);
-    rb_ary_push(found, bytes);
-    for (size_t at = 0; at < made->call->numbers; at += 1) {
+    VALUE found = rb_ary_new_capa(2 + (long)call->numbers);
+    rb_ary_push(found, result);
+    for (size_t at = 0; at < call->numbers; at += 1) {
         rb_ary_push(found, ULL2NUM(made->arguments.numbers[at]));
+    }
+    if (call->changes) {
+        const uint64_t *given = made->arguments.given;
+        rb_ary_push(found, rb_str_new((const char *)given, (long)(call->given * sizeof *given)));
     }
     return found;
 }

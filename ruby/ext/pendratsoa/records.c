@@ -125,7 +125,7 @@ static void *find(void *given)
     return NULL;
 }
 
-/* The number of the entries of a payload, of which those are written that there is room for. Those of a long one are
+/* The number of the entries of a payload; those are written that there is room for. Those of a long one are
  * found while other threads run, which cannot change it. */
 static int64_t fields_of(const struct record *record, VALUE bytes, struct journal_field *entries, size_t room)
 {

@@ -4,7 +4,7 @@
 /* How much room is kept where nothing is left. */
 #define KEPT 65536
 
-/* The bytes that came, from the first that is in no item on, and what is known of the next item. */
+/* The bytes received, from the first that is in no item on, and what is known of the next item. */
 struct pending {
     uint8_t *bytes;
     size_t begin;
@@ -53,7 +53,7 @@ static VALUE allocate(VALUE class)
     return TypedData_Make_Struct(class, struct pending, &pending_type, pending);
 }
 
-/* The bytes that are in no item yet. */
+/* The pending bytes. */
 static size_t left(const struct pending *self)
 {
     return self->end - self->begin;
@@ -198,7 +198,7 @@ static VALUE take(VALUE self)
     return made;
 }
 
-/* The number of bytes that are in no item yet. */
+/* The number of pending bytes: those received that no item has yet. */
 static VALUE rest(VALUE self)
 {
     return SIZET2NUM(left(pending_of(self)));

@@ -34,7 +34,8 @@ module Pendratsoa
     }.freeze
 
     # What checks each argument that is no String.
-    CHECKS = { version: :version, code: :code, schema: :schema, payload_length: :length, ignore_payloads: :flag }.freeze
+    CHECKS = { version: :version, code: :code, schema: :schema, payload_length: :length, index: :length,
+               ignore_payloads: :flag }.freeze
 
     # The code has to be that of this kind, as "a command".
     def initialize(name, kind = "a type", **arguments)
@@ -89,7 +90,7 @@ module Pendratsoa
       String.new(value).force_encoding(Encoding::BINARY).freeze
     end
 
-    # What a function returns, if that is no error.
+    # What a function returns, if that is not an error.
     def returned(number)
       raise refused(number) if number.negative?
 

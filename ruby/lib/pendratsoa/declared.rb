@@ -32,8 +32,12 @@ module Pendratsoa
 
   # How two journals compare.
   VERDICT_KINDS = %i[same recorded_ended replayed_ended type_mismatch header_mismatch bad_recorded bad_replayed].freeze
+
+  # The options of a replay. Any of them may be set.
+  REPLAY_OPTIONS = [nil, *%i[ignore_payloads ignore_ids]].freeze
   private_constant :ITEM_KINDS
   private_constant :FIELD_KINDS
+  private_constant :REPLAY_OPTIONS
 
   # How many numbers each struct has, and of which words each call has a parameter: the bits of a number, or a slice.
   ITEM_NUMBERS = 6
@@ -41,7 +45,11 @@ module Pendratsoa
   FIELD_NUMBERS = 6
   WRITING_NUMBERS = 2
   NOTIFICATION_NUMBERS = 4
+  CHANGED_FIELD_NUMBERS = 3
   VERDICT_NUMBERS = 2
+  REPLAY_NUMBERS = 6
+  MISMATCH_NUMBERS = 6
+  COMMAND_NUMBERS = 3
   CALLS = {
     journal_library_version: %i[slice],
     journal_schema: %i[u32 u16],
@@ -61,32 +69,46 @@ module Pendratsoa
     journal_notification: %i[u16 slice slice slice],
     journal_header_eq: %i[u16 slice slice u32],
     journal_difference: %i[u16 slice slice slice],
-    journal_verdict: %i[u32 slice slice u32 slice slice]
+    journal_changed_field: %i[u16 u32 slice slice slice slice],
+    journal_verdict: %i[u32 slice slice u32 slice slice],
+    journal_replay_check: %i[u16 slice slice slice slice],
+    journal_replay_text: %i[u16 slice slice slice slice],
+    journal_replay_expected: %i[slice slice slice],
+    journal_replay_finish: %i[slice slice slice]
   }.freeze
 
   # A call that is made by its name: its function, its name in this gem, what it takes of its caller, what its code has
-  # to be that of, how many numbers it writes, whether it writes bytes, and the room for them that is tried first: a
-  # multiple of the bytes that it reads, and more.
-  NamedCall = Struct.new(:function, :name, :takes, :kind, :numbers, :writes, :times, :more)
+  # to be that of, how many numbers it is given, as a String, and whether it changes them, how many numbers it writes,
+  # whether it writes bytes, and the room for them that is tried first: a multiple of the bytes that it reads, and more.
+  NamedCall = Struct.new(:function, :name, :takes, :kind, :given, :changes, :numbers, :writes, :times, :more)
 
   # In the order in which the compiled module has them.
   NAMED_CALLS = [
-    NamedCall.new(:journal_library_version, "library_version", %i[], "a type", 0, true, 0, 16),
-    NamedCall.new(:journal_schema, "schema", %i[version code], "a named type", 0, false, 0, 0),
-    NamedCall.new(:journal_type_name, "type_name", %i[code], "a type", 0, true, 0, 64),
-    NamedCall.new(:journal_type_code, "type_code", %i[name], "a type", 0, false, 0, 0),
-    NamedCall.new(:journal_header, "header", %i[version code payload_length], "a type", 0, true, 0, 8),
-    NamedCall.new(:journal_frame, "frame", %i[version code payload], "a named type", 0, true, 1, 32),
-    NamedCall.new(:journal_is_well_formed, "well_formed?", %i[schema payload], "a type", 0, false, 0, 0),
-    NamedCall.new(:journal_canonical, "canonical", %i[schema payload], "a type", 0, true, 1, 16),
-    NamedCall.new(:journal_merge, "merge", %i[schema first second], "a type", 0, true, 1, 16),
-    NamedCall.new(:journal_json, "to_json", %i[schema payload], "a type", 0, true, 2, 128),
-    NamedCall.new(:journal_payload_of_json, "from_json", %i[schema json], "a type", 2, true, 1, 0),
-    NamedCall.new(:journal_notification, "notification", %i[code payload], "a notification", 4, true, 1, 16),
-    NamedCall.new(:journal_header_eq, "header_eq?", %i[code first second ignore_payloads], "a command", 0, false, 0, 0),
-    NamedCall.new(:journal_difference, "difference", %i[code first second], "a command", 0, true, 0, 256),
-    NamedCall.new(:journal_verdict, "compare_journals", %i[version recorded replayed ignore_payloads], "a type", 2,
-      true, 0, 1024)
+    NamedCall.new(:journal_library_version, "library_version", %i[], "a type", 0, false, 0, true, 0, 16),
+    NamedCall.new(:journal_schema, "schema", %i[version code], "a named type", 0, false, 0, false, 0, 0),
+    NamedCall.new(:journal_type_name, "type_name", %i[code], "a type", 0, false, 0, true, 0, 64),
+    NamedCall.new(:journal_type_code, "type_code", %i[name], "a type", 0, false, 0, false, 0, 0),
+    NamedCall.new(:journal_header, "header", %i[version code payload_length], "a type", 0, false, 0, true, 0, 8),
+    NamedCall.new(:journal_frame, "frame", %i[version code payload], "a named type", 0, false, 0, true, 1, 32),
+    NamedCall.new(:journal_is_well_formed, "well_formed?", %i[schema payload], "a type", 0, false, 0, false, 0, 0),
+    NamedCall.new(:journal_canonical, "canonical", %i[schema payload], "a type", 0, false, 0, true, 1, 16),
+    NamedCall.new(:journal_merge, "merge", %i[schema first second], "a type", 0, false, 0, true, 1, 16),
+    NamedCall.new(:journal_json, "to_json", %i[schema payload], "a type", 0, false, 0, true, 2, 128),
+    NamedCall.new(:journal_payload_of_json, "from_json", %i[schema json], "a type", 0, false, 2, true, 1, 0),
+    NamedCall.new(:journal_notification, "notification", %i[code payload], "a notification", 0, false, 4, true, 1, 16),
+    NamedCall.new(:journal_header_eq, "header_eq?", %i[code first second ignore_payloads], "a command", 0, false, 0,
+      false, 0, 0),
+    NamedCall.new(:journal_difference, "difference", %i[code first second], "a command", 0, false, 0, true, 0, 256),
+    NamedCall.new(:journal_changed_field, "changed_field", %i[code index first second], "a command", 0, false, 3, true,
+      0, 256),
+    NamedCall.new(:journal_verdict, "compare_journals", %i[version recorded replayed ignore_payloads], "a type", 0,
+      false, 2, true, 0, 1024),
+    NamedCall.new(:journal_replay_check, "replay_check", %i[code recorded replayed replay], "a type", 6, true, 6, false,
+      0, 0),
+    NamedCall.new(:journal_replay_text, "replay_text", %i[code recorded replayed replay], "a type", 6, false, 0, true,
+      0, 1024),
+    NamedCall.new(:journal_replay_expected, "replay_expected", %i[recorded replay], "a type", 6, false, 3, false, 0, 0),
+    NamedCall.new(:journal_replay_finish, "replay_finish", %i[recorded replay], "a type", 6, false, 6, false, 0, 0)
   ].freeze
 
   # The class of each error, and the arguments one of which it is about.
@@ -101,8 +123,10 @@ module Pendratsoa
     -17 => [:Malformed, %i[second]],
     -21 => [:Unknown, %i[version]],
     -37 => [:Unknown, %i[schema]],
-    -53 => [:Unknown, %i[code name]]
+    -53 => [:Unknown, %i[code name]],
+    -69 => [:Unknown, %i[options]]
   }.freeze
   private_constant :ITEM_NUMBERS, :READ_NUMBERS, :FIELD_NUMBERS, :WRITING_NUMBERS, :NOTIFICATION_NUMBERS,
-    :VERDICT_NUMBERS, :CALLS, :NamedCall, :NAMED_CALLS, :ERRORS
+    :CHANGED_FIELD_NUMBERS, :VERDICT_NUMBERS, :REPLAY_NUMBERS, :MISMATCH_NUMBERS, :COMMAND_NUMBERS, :CALLS, :NamedCall,
+    :NAMED_CALLS, :ERRORS
 end

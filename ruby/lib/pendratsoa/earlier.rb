@@ -6,7 +6,7 @@ module Pendratsoa
     # The codes of the types that have such a schema.
     CODES = RECORDS.select { |record| record.const_defined?(:BEFORE_VERSION) }.map { |record| record::CODE }.freeze
 
-    # The schema of a type at a version, if the type has another one since. What is no version or no type has none.
+    # The schema of a type at a version, if the type has another one since. What is not a version or no type has none.
     def self.schema(version, code)
       return unless CODES.include?(code)
 

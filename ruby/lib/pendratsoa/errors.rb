@@ -39,7 +39,7 @@ module Pendratsoa
   # A slice for numbers was too short. This gem never passes such a slice.
   class NoRoom < Error; end
 
-  # A payload has, or would have, more than 4,294,967,295 bytes, which no header can say; or a message that came has
+  # A payload has, or would have, more than 4,294,967,295 bytes, which no header can say; or a message received has
   # more than the limit of its stream.
   class TooLong < Error
     # Of such a message the code of its type, the length of its payload, the limit, and where the message begins in the

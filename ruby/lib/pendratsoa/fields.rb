@@ -31,7 +31,7 @@ module Pendratsoa
     end
 
     def self.read(schema, bytes, entries)
-      # a String is memory that needs not be freed; what a call writes is in it alone
+      # a String is memory that needs not be freed; only it has what a call writes
       room = String.new(capacity: 8 * NUMBERS * entries)
       count = Library.call(:journal_fields, schema, bytes, bytes.bytesize, room, entries)
       return [count, []] unless count.positive?

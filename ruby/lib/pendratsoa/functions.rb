@@ -142,7 +142,7 @@ module Pendratsoa
 
     # Compares a recorded journal with a replayed one, both streams of a version, command by command.
     #
-    # Other items, custom entries among them, and bytes after the last whole item are skipped. Unknown if there is no
+    # Other items, custom entries among them, and trailing bytes are skipped. Unknown if there is no
     # such version; OutOfMemory.
     def compare_journals(version, recorded, replayed, ignore_payloads: false)
       text, kind, index =

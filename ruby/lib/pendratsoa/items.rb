@@ -5,7 +5,7 @@ require "json"
 module Pendratsoa
   # What each item of a stream has besides its fields.
   module Item
-    # Where it begins in its stream, in bytes; nil if it came in none. It is no member, and `==` does not compare it.
+    # Where it begins in its stream, in bytes; nil if it came in none. It is not a member, and `==` does not compare it.
     attr_reader :offset
 
     # The record that its payload means, if it is a message whose record is of this class; otherwise nil.
@@ -18,19 +18,19 @@ module Pendratsoa
     # What `case .. in` takes: its members, and `word` and `offset` if the pattern names them.
     def deconstruct_keys(keys)
       others = %i[word offset] - members
-      # a Struct gives nothing for a key that is no member, and for those after it
+      # a Struct gives nothing for a key that is not a member, and for those after it
       found = super(keys && (keys - others))
       (others & keys.to_a).each { |name| found[name] = public_send(name) }
       found
     end
 
-    # The item as it came, byte for byte, header and payload, as a binary String: what a proxy passes on if it does not
+    # The item as received, byte for byte, header and payload, as a binary String: what a proxy passes on if it does not
     # change it.
     def bytes
       [word].pack("Q>") << payload
     end
 
-    # Writes the item as it came to an IO or the like, and returns the item.
+    # Writes the item as received to an IO or the like, and returns the item.
     def write_to(output)
       output.write(bytes)
       self
@@ -41,7 +41,7 @@ module Pendratsoa
   # acknowledgement. It is frozen, and so is its payload.
   #
   # `word` is the eight bytes of its header as one big-endian number, where it came in a stream, and otherwise nil. It
-  # is no member, and `==` does not compare it. In a pattern a message has its `type` and its `message` besides:
+  # is not a member, and `==` does not compare it. In a pattern a message has its `type` and its `message` besides:
   #
   #   case item
   #   in Pendratsoa::Message[type: "SetStateCommand", message: { key:, value: { content: } }] then ..
@@ -169,7 +169,7 @@ module Pendratsoa
       self
     end
 
-    # The message as it came; if it came in no stream, its payload as it is after the header of its type.
+    # The message as received; if it came in no stream, its payload as it is after the header of its type.
     def bytes
       word ? super : Pendratsoa.header(version, code, payload.bytesize) << payload
     end
@@ -234,7 +234,7 @@ module Pendratsoa
     end
   end
 
-  # Eight bytes whose code is no type's, before version 9; `word` is all eight as one big-endian number. It is frozen.
+  # Eight bytes with an unassigned code, before version 9; `word` is all eight as one big-endian number. It is frozen.
   UnknownCode = Struct.new(:version, :code, :word) do
     include Item
 

@@ -57,10 +57,16 @@ module Pendratsoa
     end
 
     # Numbers of 64 bits that a function writes: yields room for a number of them, and returns them.
-    def self.numbers(count)
-      Fiddle::Pointer.malloc(8 * count, Fiddle::RUBY_FREE) do |room|
+    def self.numbers(count, &)
+      bytes("\0".b * (8 * count), &).unpack("Q*")
+    end
+
+    # Bytes that a function may change: yields a copy of them, and returns what they are then.
+    def self.bytes(given)
+      Fiddle::Pointer.malloc([given.bytesize, 1].max, Fiddle::RUBY_FREE) do |room|
+        room[0, given.bytesize] = given unless given.empty?
         yield room
-        room[0, 8 * count].unpack("Q*")
+        room[0, given.bytesize]
       end
     end
   end

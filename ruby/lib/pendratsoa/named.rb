@@ -7,27 +7,37 @@ module Pendratsoa
   module Named
     NAMED_CALLS.each_with_index { |call, place| const_set(call.function.name.delete_prefix("journal_").upcase, place) }
 
-    # The call at a place of the list, by a name, with its arguments: a number, the bytes that it writes, or these and
-    # the numbers that it writes.
+    # The call at a place of the list, by a name, with its arguments: a number or the bytes that it writes, or an array
+    # of that, of the numbers that it writes, and of a String of those that it is given and changes.
     def self.call(place, name, *given)
       row = NAMED_CALLS[place]
       call = request(place, name, given)
       values = call.checked
-      parameters = values.flat_map { |value| value.is_a?(String) ? [value, value.bytesize] : [value] }
-      return call.returned(Library.call(row.function, *parameters)) unless row.writes
-
-      room = row.more + (row.times * values.sum { |value| value.is_a?(String) ? value.bytesize : 0 })
-      return call.written(row.function, parameters, room) if row.numbers.zero?
-
-      found = nil
-      numbers = Library.numbers(row.numbers) do |out|
-        found = call.written(row.function, [*parameters, out, row.numbers], room)
+      struct = row.given.zero? ? "" : values.pop
+      result = numbers = nil
+      changed = Library.bytes(struct) do |room|
+        numbers = Library.numbers(row.numbers) do |out|
+          result = made(row, call, values, [[room, row.given], [out, row.numbers]])
+        end
       end
-      [found, *numbers]
+      return result if row.numbers.zero?
+
+      row.changes ? [result, *numbers, changed] : [result, *numbers]
     end
     # of the compiled module, which has a `call` of its own
     singleton_class.alias_method :call_by_fiddle, :call
     private_class_method :call_by_fiddle
+
+    # What a call returns, or the bytes that it writes, with its checked arguments and its structs of numbers.
+    def self.made(row, call, values, structs)
+      parameters = values.flat_map { |value| value.is_a?(String) ? [value, value.bytesize] : [value] }
+      structs.each { |struct, count| parameters.push(struct, count) if count.positive? }
+      return call.returned(Library.call(row.function, *parameters)) unless row.writes
+
+      room = row.more + (row.times * values.sum { |value| value.is_a?(String) ? value.bytesize : 0 })
+      call.written(row.function, parameters, room)
+    end
+    private_class_method :made
 
     # A call with its arguments by their names.
     def self.request(place, name, given)

@@ -21,7 +21,7 @@ module Pendratsoa
       @needed = 0
     end
 
-    # Appends the bytes of a String, of which no part changes.
+    # Appends the bytes of a String that does not change.
     def feed(bytes)
       @lock.synchronize do
         # used bytes are dropped once they are the greater part
@@ -31,7 +31,7 @@ module Pendratsoa
       self
     end
 
-    # The number of bytes that are in no item yet.
+    # The number of pending bytes: those received that no item has yet.
     def rest
       @lock.synchronize { @bytes.bytesize - @begin }
     end

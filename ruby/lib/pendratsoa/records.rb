@@ -3,7 +3,7 @@
 module Pendratsoa
   # What the records of messages have: constants TYPE and CODE, and a frame.
   module MessageRecord
-    # Its frame at a version: the header, and its canonical payload. Unknown if it is no record of the version.
+    # Its frame at a version: the header, and its canonical payload. Unknown if it is not a record of the version.
     def frame(version = 8)
       payload = encode
       type = self.class
@@ -16,7 +16,7 @@ module Pendratsoa
     private :frame_in_ruby
   end
 
-  # A member of a oneof where its class alone does not tell it apart: it holds a value.
+  # A member of a oneof where its class does not tell it apart: it holds a value.
   class Member
     attr_reader :value
 
@@ -57,7 +57,7 @@ module Pendratsoa
   #
   #   command = Pendratsoa::SetStateCommandMessage.new(key: "counter", value: Pendratsoa::Value.new(content: "1"))
   #   command.frame(8)
-  #   command.with(name: "set") # as command, but for its name
+  #   command.with(name: "set") # as command, except its name
   #
   #   case message.message
   #   in Pendratsoa::SetStateCommandMessage[key:, value: { content: }] then ..

@@ -12,7 +12,7 @@ module Pendratsoa
   #
   # A message whose payload has more than `max_message_size` bytes raises TooLong as soon as its header came, and ends
   # the stream: what came is dropped, and from then on each loop, `feed`, `read` and `finish` raise the same error. nil
-  # is no limit.
+  # is not a limit.
   class Stream
     include Enumerable
 
@@ -51,7 +51,7 @@ module Pendratsoa
       self
     end
 
-    # The number of bytes that are in no item yet.
+    # The number of pending bytes: those received that no item has yet.
     def rest
       @pending.rest
     end
@@ -69,7 +69,7 @@ module Pendratsoa
     end
 
     # Feeds what an IO or the like has, at most `size` bytes at a time, and yields the items as they come. It ends where
-    # the input ends; the bytes in no item are then in `rest`, and are Incomplete if it is strict. Without a block it
+    # the input ends; the trailing bytes are then in `rest`, and are Incomplete if it is strict. Without a block it
     # returns an Enumerator.
     def read(input, size: CHUNK, strict: false, &block)
       raise ArgumentError, "read: size #{size} is less than 1" if size < 1

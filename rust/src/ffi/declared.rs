@@ -29,6 +29,8 @@ pub(crate) const RESULT_VALUE: u64 = 1;
 pub(crate) const RESULT_FAILURE: u64 = 2;
 pub(crate) const RESULT_INVOCATION_ID: u64 = 3;
 pub(crate) const RESULT_STATE_KEYS: u64 = 4;
+pub(crate) const REPLAY_IGNORE_PAYLOADS: u64 = 1;
+pub(crate) const REPLAY_IGNORE_IDS: u64 = 2;
 
 /// The calls as the header declares them.
 mod c {
@@ -51,7 +53,12 @@ mod c {
         pub fn journal_notification(code: u16, payload: *const u8, payload_length: usize, notification: *mut u64, notification_room: usize, out: *mut u8, room: usize) -> i64;
         pub fn journal_header_eq(code: u16, first: *const u8, first_length: usize, second: *const u8, second_length: usize, ignore_payloads: u32) -> i64;
         pub fn journal_difference(code: u16, first: *const u8, first_length: usize, second: *const u8, second_length: usize, out: *mut u8, room: usize) -> i64;
+        pub fn journal_changed_field(code: u16, index: u32, first: *const u8, first_length: usize, second: *const u8, second_length: usize, changed_field: *mut u64, changed_field_room: usize, out: *mut u8, room: usize) -> i64;
         pub fn journal_verdict(version: u32, recorded: *const u8, recorded_length: usize, replayed: *const u8, replayed_length: usize, ignore_payloads: u32, verdict: *mut u64, verdict_room: usize, out: *mut u8, room: usize) -> i64;
+        pub fn journal_replay_check(code: u16, recorded: *const u8, recorded_length: usize, replayed: *const u8, replayed_length: usize, replay: *mut u64, replay_room: usize, mismatch: *mut u64, mismatch_room: usize) -> i64;
+        pub fn journal_replay_text(code: u16, recorded: *const u8, recorded_length: usize, replayed: *const u8, replayed_length: usize, replay: *const u64, replay_room: usize, out: *mut u8, room: usize) -> i64;
+        pub fn journal_replay_expected(recorded: *const u8, recorded_length: usize, replay: *const u64, replay_room: usize, command: *mut u64, command_room: usize) -> i64;
+        pub fn journal_replay_finish(recorded: *const u8, recorded_length: usize, replay: *const u64, replay_room: usize, mismatch: *mut u64, mismatch_room: usize) -> i64;
     }
 }
 
@@ -69,6 +76,7 @@ impl From<i64> for Refusal {
             -21 => Refusal::Unknown(About::Version),
             -37 => Refusal::Unknown(About::Schema),
             -53 => Refusal::Unknown(About::Type),
+            -69 => Refusal::Unknown(About::Options),
             unlisted => Refusal::Unlisted(unlisted),
         }
     }
@@ -176,8 +184,35 @@ pub(crate) fn difference(code: u16, first: &[u8], second: &[u8]) -> Result<Vec<u
     unsafe { written(256, |out, room| c::journal_difference(code, first.as_ptr(), first.len(), second.as_ptr(), second.len(), out, room)) }
 }
 
+pub(crate) fn changed_field(code: u16, index: u32, first: &[u8], second: &[u8], changed_field: &mut [u64; 3]) -> Result<Vec<u8>> {
+    // SAFETY: each pointer comes with the length of its slice, and the call writes at most `room` bytes and
+    // returns how many they are
+    unsafe { written(256, |out, room| c::journal_changed_field(code, index, first.as_ptr(), first.len(), second.as_ptr(), second.len(), changed_field.as_mut_ptr(), changed_field.len(), out, room)) }
+}
+
 pub(crate) fn verdict(version: u32, recorded: &[u8], replayed: &[u8], ignore_payloads: bool, verdict: &mut [u64; 2]) -> Result<Vec<u8>> {
     // SAFETY: each pointer comes with the length of its slice, and the call writes at most `room` bytes and
     // returns how many they are
     unsafe { written(1024, |out, room| c::journal_verdict(version, recorded.as_ptr(), recorded.len(), replayed.as_ptr(), replayed.len(), u32::from(ignore_payloads), verdict.as_mut_ptr(), verdict.len(), out, room)) }
+}
+
+pub(crate) fn replay_check(code: u16, recorded: &[u8], replayed: &[u8], replay: &mut [u64; 6], mismatch: &mut [u64; 6]) -> Result<usize> {
+    // SAFETY: each pointer comes with the length of its slice; those that are written are borrowed for it
+    count(unsafe { c::journal_replay_check(code, recorded.as_ptr(), recorded.len(), replayed.as_ptr(), replayed.len(), replay.as_mut_ptr(), replay.len(), mismatch.as_mut_ptr(), mismatch.len()) })
+}
+
+pub(crate) fn replay_text(code: u16, recorded: &[u8], replayed: &[u8], replay: &[u64; 6]) -> Result<Vec<u8>> {
+    // SAFETY: each pointer comes with the length of its slice, and the call writes at most `room` bytes and
+    // returns how many they are
+    unsafe { written(1024, |out, room| c::journal_replay_text(code, recorded.as_ptr(), recorded.len(), replayed.as_ptr(), replayed.len(), replay.as_ptr(), replay.len(), out, room)) }
+}
+
+pub(crate) fn replay_expected(recorded: &[u8], replay: &[u64; 6], command: &mut [u64; 3]) -> Result<usize> {
+    // SAFETY: each pointer comes with the length of its slice; those that are written are borrowed for it
+    count(unsafe { c::journal_replay_expected(recorded.as_ptr(), recorded.len(), replay.as_ptr(), replay.len(), command.as_mut_ptr(), command.len()) })
+}
+
+pub(crate) fn replay_finish(recorded: &[u8], replay: &[u64; 6], mismatch: &mut [u64; 6]) -> Result<usize> {
+    // SAFETY: each pointer comes with the length of its slice; those that are written are borrowed for it
+    count(unsafe { c::journal_replay_finish(recorded.as_ptr(), recorded.len(), replay.as_ptr(), replay.len(), mismatch.as_mut_ptr(), mismatch.len()) })
 }

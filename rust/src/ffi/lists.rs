@@ -63,7 +63,7 @@ impl<'r, T> List<'r, T> {
 ///
 /// # Safety
 ///
-/// It is laid out as the struct of C that the call takes; the call reads it and what it points to, and writes at most
+/// It is laid out as the C struct that the call takes; the call reads it and what it points to, and writes at most
 /// as many bytes as it is given room for. If it returns no more than that and no error, it has written that many.
 pub(crate) unsafe trait Struct: Copy {
     /// The call of the library that writes the payload of one.
@@ -76,8 +76,8 @@ type Word = MaybeUninit<u64>;
 /// How many words there are on the stack: 64 headers.
 const WORDS: usize = 256;
 
-/// What a struct takes besides its slices, at most but for very many fields. It is a guess: where it is too little, the
-/// payload is written again.
+/// What a struct takes besides its slices, at most, except with very many fields. It is a guess: where it is too
+/// little, the payload is written again.
 const BESIDE: usize = 64;
 
 /// How many bytes a slice takes besides its own, as a guess.
@@ -174,7 +174,7 @@ impl Lists<'_> {
 }
 
 /// Appends the payload of the struct that a record is made, after this many zeros, for which an empty vector gets room,
-/// and returns its length. `None` if it has no payload, or there is no memory; then the vector is as it was, but for
+/// and returns its length. `None` if it has no payload, or there is no memory; then the vector is as it was, except
 /// the zeros.
 #[inline(always)]
 pub(crate) fn append_struct<S: Struct>(

@@ -1,4 +1,4 @@
-//! The table of a record that is encoded, and the bytes beside it.
+//! The table of a record that is encoded, and the bytes next to it.
 
 use super::{Entry, Refusal, Result};
 use super::{FIELD_BOOL, FIELD_BYTES, FIELD_ENUM, FIELD_MESSAGE, FIELD_STRING};
@@ -15,7 +15,7 @@ pub struct Writer {
 }
 
 impl Writer {
-    /// The entries, of which none is missing unless an allocation failed.
+    /// The entries; none is missing unless an allocation failed.
     pub(crate) fn entries(&self) -> &[Entry] {
         &self.entries
     }
@@ -42,7 +42,7 @@ impl Writer {
         }
     }
 
-    /// Appends an entry with bytes, which are copied beside the table.
+    /// Appends an entry with bytes, which are copied next to the table.
     fn place(&mut self, level: u64, number: u64, kind: u64, value: &[u8]) {
         let offset = self.bytes.len();
         if self.bytes.try_reserve(value.len()).is_ok() {

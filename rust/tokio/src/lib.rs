@@ -25,7 +25,7 @@ use bytes::BytesMut;
 use pendratsoa::{Error, Item, OwnedItem};
 use tokio_util::codec::{Decoder, Encoder};
 
-/// The codec of a stream of one version: it decodes items, and encodes them as they came.
+/// The codec of a stream of one version: it decodes items, and encodes them as received.
 #[derive(Clone, Debug)]
 pub struct ItemCodec {
     decoder: pendratsoa::Decoder,
@@ -72,7 +72,7 @@ impl Decoder for ItemCodec {
 impl Encoder<Item<'_>> for ItemCodec {
     type Error = io::Error;
 
-    /// Appends the item as it came, byte for byte.
+    /// Appends the item as received, byte for byte.
     fn encode(&mut self, item: Item<'_>, out: &mut BytesMut) -> io::Result<()> {
         let (header, payload) = item.parts();
         out.reserve(header.len() + payload.len());
@@ -85,7 +85,7 @@ impl Encoder<Item<'_>> for ItemCodec {
 impl Encoder<OwnedItem> for ItemCodec {
     type Error = io::Error;
 
-    /// Appends the item as it came, byte for byte.
+    /// Appends the item as received, byte for byte.
     fn encode(&mut self, item: OwnedItem, out: &mut BytesMut) -> io::Result<()> {
         self.encode(item.item(), out)
     }

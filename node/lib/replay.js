@@ -1,0 +1,188 @@
+// Replays that are checked by their recording, item by item.
+
+import { addon } from './addon.js';
+import { checked, kindOf, text, written } from './calls.js';
+import {
+  CHANGED_FIELD_NUMBERS,
+  COMMAND,
+  COMMAND_NUMBERS,
+  MISMATCH_NUMBERS,
+  REPLAY,
+  REPLAY_NUMBERS,
+  REPLAY_OPTIONS,
+  VERDICT_KINDS,
+  VERDICT_NUMBERS,
+} from './declared.js';
+import { wrongKind } from './errors.js';
+import { Message, Skipped, UnknownCode } from './items.js';
+import { itemAt } from './stream.js';
+
+const NOTHING = new Uint8Array(0);
+const HEADER_SIZE = 8;
+
+// How many bytes of the recording the next command is looked for in first; then in twice as many.
+const FIRST_LOOK = 1024;
+
+// What calls write to. No JavaScript runs between a call and the reading of it.
+const mismatchNumbers = new BigUint64Array(MISMATCH_NUMBERS);
+const commandNumbers = new BigUint64Array(COMMAND_NUMBERS);
+const fieldNumbers = new BigUint64Array(CHANGED_FIELD_NUMBERS);
+
+/** The number of the options that are set: the sum of theirs. */
+function optionsOf(ignored) {
+  let options = 0;
+  for (const [name, value] of Object.entries(ignored)) {
+    options += value ? REPLAY_OPTIONS.indexOf(name) : 0;
+  }
+  return BigInt(options);
+}
+
+/** A replay that is checked by its recording. */
+export class Replay {
+  #version;
+  #recorded;
+  // the recording is given to the library from the last command that was the same on, or from its beginning, so that
+  // the module copies no more of it than it reads: the numbers are of a recording that begins there
+  #numbers = new BigUint64Array(REPLAY_NUMBERS);
+  #begin = 0;
+  // the size of that command, and where the next one is: its offset and its size, or null if there is none; undefined
+  // before it is looked for
+  #size = 0;
+  #next;
+
+  constructor(version, recorded, { ignorePayloads = false, ignoreIds = false } = {}) {
+    const ignored = { ignorePayloads, ignoreIds };
+    for (const [name, value] of Object.entries(ignored)) {
+      if (typeof value !== 'boolean') {
+        throw wrongKind(name, value, 'a boolean');
+      }
+    }
+    // a wrong recording or version is reported before an item comes
+    const none = recorded instanceof Uint8Array ? recorded.subarray(0, 0) : recorded;
+    const numbers = new BigUint64Array(VERDICT_NUMBERS);
+    checked(addon.verdict(version, none, NOTHING, false, numbers, NOTHING), { call: 'Replay', version });
+    this.#version = version;
+    this.#recorded = recorded;
+    this.#numbers[REPLAY.version] = BigInt(version);
+    this.#numbers[REPLAY.options] = optionsOf(ignored);
+  }
+
+  get version() {
+    return this.#version;
+  }
+
+  get index() {
+    return Number(this.#numbers[REPLAY.index]);
+  }
+
+  check(item) {
+    const { code, payload } = partsOf(item);
+    const given = { call: 'check', code, payload };
+    const next = this.#found('check');
+    const recorded = this.#window(next);
+    // the replay goes on by its copy once all of the mismatch is there
+    const numbers = this.#numbers.slice();
+    const said = checked(addon.replayCheck(code, recorded, payload, numbers, mismatchNumbers), given);
+    const mismatch = said === 0 ? undefined : this.#mismatch(given, recorded);
+    if (numbers[REPLAY.index] > this.#numbers[REPLAY.index]) {
+      this.#begin += Number(numbers[REPLAY.recordedOffset]);
+      this.#size = next.size;
+      this.#next = undefined;
+      numbers[REPLAY.recordedOffset] = 0n;
+    }
+    this.#numbers = numbers;
+    return mismatch;
+  }
+
+  expected() {
+    const next = this.#found('expected');
+    if (next === null) {
+      return undefined;
+    }
+    const bytes = this.#recorded.subarray(next.offset, next.offset + next.size);
+    return itemAt(this.#version, bytes, next.offset);
+  }
+
+  finish() {
+    const given = { call: 'finish', code: 0, payload: NOTHING };
+    const recorded = this.#window(this.#found('finish'));
+    const left = checked(addon.replayFinish(recorded, this.#numbers, mismatchNumbers), given);
+    return left === 0 ? undefined : this.#mismatch(given, recorded);
+  }
+
+  /** Where the next command of the recording is, or null. */
+  #found(call) {
+    if (this.#next === undefined) {
+      this.#next = this.#look({ call, version: this.#version });
+    }
+    return this.#next;
+  }
+
+  /** Looks for the next command in ever more of the recording. */
+  #look(given) {
+    for (let size = FIRST_LOOK + this.#size; ; size *= 2) {
+      const bytes = this.#recorded.subarray(this.#begin, this.#begin + size);
+      if (checked(addon.replayExpected(bytes, this.#numbers, commandNumbers), given) === 1) {
+        const offset = this.#begin + Number(commandNumbers[COMMAND.offset]);
+        return { offset, size: Number(commandNumbers[COMMAND.size]) };
+      }
+      if (this.#begin + size >= this.#recorded.length) {
+        return null;
+      }
+    }
+  }
+
+  /** The part of the recording from the last command that was the same to the end of the next one. */
+  #window(next) {
+    const end = next === null ? this.#begin + this.#size : next.offset + next.size;
+    return this.#recorded.subarray(this.#begin, end);
+  }
+
+  /** The mismatch that the library said of an item, by a part of the recording. */
+  #mismatch(given, recorded) {
+    const [number, index, replayedOffset, recordedOffset, , size] = Array.from(mismatchNumbers, Number);
+    const kind = kindOf(VERDICT_KINDS, number, given, 'kind of verdict');
+    const { code, payload } = given;
+    const isOfTwo = kind === 'typeMismatch' || kind === 'headerMismatch';
+    const command = recorded.subarray(recordedOffset + HEADER_SIZE, recordedOffset + size);
+    return {
+      kind,
+      index,
+      recordedOffset: size === 0 ? undefined : this.#begin + recordedOffset,
+      replayedOffset,
+      text: isOfTwo
+        ? text(written((out) => addon.replayText(code, recorded, payload, this.#numbers, out), given))
+        : '',
+      fields: kind === 'headerMismatch' ? [...changedFields(code, command, payload)] : [],
+    };
+  }
+}
+
+/** The printed fields in which two commands of a type differ. */
+function* changedFields(code, first, second) {
+  const given = { call: 'check', code, first, second };
+  for (let index = 0; ; index += 1) {
+    const found = written((out) => addon.changedField(code, index, first, second, fieldNumbers, out), given);
+    if (found.length === 0) {
+      return;
+    }
+    const [nameLength, firstLength] = Array.from(fieldNumbers, Number);
+    const end = nameLength + firstLength;
+    yield {
+      name: text(found.subarray(0, nameLength)),
+      recorded: text(found.subarray(nameLength, end)),
+      replayed: text(found.subarray(end)),
+    };
+  }
+}
+
+/** The code and the payload of an item. */
+function partsOf(item) {
+  if (item instanceof UnknownCode) {
+    return { code: item.code, payload: NOTHING };
+  }
+  if (item instanceof Message || item instanceof Skipped) {
+    return item;
+  }
+  throw wrongKind('item', item, 'an item of a stream');
+}

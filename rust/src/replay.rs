@@ -1,0 +1,275 @@
+//! A replay that is checked by its recording, item by item.
+
+use crate::calls::{of_commands, text};
+use crate::error::{narrowed, Argument, Error};
+use crate::ffi::{self, About, Refusal, REPLAY_IGNORE_IDS, REPLAY_IGNORE_PAYLOADS};
+use crate::item::{next_item, Item, Message, Next};
+use crate::journals::{kind_of, VerdictKind};
+
+/// How many bytes a header has.
+const HEADER: usize = 8;
+
+/// A field in which two commands differ, as the text of their mismatch prints it.
+#[derive(Clone, Debug, PartialEq, Eq, Hash)]
+#[non_exhaustive]
+pub struct ChangedField {
+    /// The name of the field.
+    pub name: String,
+    /// What the recorded command has.
+    pub recorded: String,
+    /// What the replayed command has.
+    pub replayed: String,
+}
+
+/// Where a replay leaves its recording: all commands before this one are the same.
+#[derive(Clone, Debug, PartialEq, Eq, Hash)]
+#[non_exhaustive]
+pub struct Mismatch {
+    /// Which verdict it is, and never `VerdictKind::Same`.
+    pub kind: VerdictKind,
+    /// The index of the command, from 0.
+    pub index: usize,
+    /// Where the recorded command begins in the recording, in bytes. If the recording has ended, where its last command
+    /// begins, or `None` if it has none.
+    pub recorded_offset: Option<u64>,
+    /// Where the replayed command begins in the replay, in bytes, or where the replay ends.
+    pub replayed_offset: u64,
+    /// The text of a mismatch of two commands, as the SDKs report it, otherwise empty.
+    pub text: String,
+    /// The printed fields in which two commands of one type differ.
+    pub fields: Vec<ChangedField>,
+}
+
+/// What a replay does not compare: nothing by default.
+#[derive(Clone, Copy, Debug, Default, PartialEq, Eq, Hash)]
+pub struct Ignored {
+    /// Whether the content of user data is ignored, but not that of a signal.
+    pub payloads: bool,
+    /// Whether completion ids are, which shift behind an inserted command.
+    pub ids: bool,
+}
+
+/// A replay of a version from 5 to 9, which is checked by its recording as it comes. It keeps nothing of the replay. A
+/// clone goes on by itself.
+///
+/// ```
+/// use pendratsoa::{Decoder, Ignored, Replay, VerdictKind};
+///
+/// let recorded = [0x04, 0x0C, 0, 0, 0, 0, 0, 0, 0x04, 0x05, 0, 0, 0, 0, 0, 0];
+/// let mut replay = Replay::new(8, &recorded, Ignored::default())?;
+/// let mut decoder = Decoder::new(8)?;
+/// decoder.feed(&recorded[..8])?;
+/// for item in decoder.items() {
+///     assert_eq!(replay.check(&item?)?, None);
+/// }
+/// assert_eq!(replay.expected()?.map(|command| command.offset()), Some(Some(8)));
+/// let left = replay.finish()?.unwrap();
+/// assert_eq!((left.kind, left.index), (VerdictKind::ReplayedEnded, 1));
+/// # Ok::<(), pendratsoa::Error>(())
+/// ```
+#[derive(Clone, Debug)]
+pub struct Replay<'a> {
+    version: u32,
+    recorded: &'a [u8],
+    numbers: [u64; 6],
+}
+
+impl<'a> Replay<'a> {
+    /// A replay of a version that is checked by a recording, which is a whole journal.
+    ///
+    /// `Error::Unknown` if there is no version of this number.
+    pub fn new(version: u32, recorded: &'a [u8], ignored: Ignored) -> Result<Replay<'a>, Error> {
+        let options = u64::from(ignored.payloads) * REPLAY_IGNORE_PAYLOADS
+            + u64::from(ignored.ids) * REPLAY_IGNORE_IDS;
+        let replay = Replay {
+            version,
+            recorded,
+            numbers: [version.into(), options, 0, 0, 0, 0],
+        };
+        // that there is no such version is known before an item comes
+        replay.command()?;
+        Ok(replay)
+    }
+
+    /// The version of the replay.
+    #[must_use]
+    pub fn version(&self) -> u32 {
+        self.version
+    }
+
+    /// How many commands were the same, which is the index of the one that comes next.
+    #[must_use]
+    pub fn index(&self) -> usize {
+        // they are in the recording, which is in memory
+        usize::try_from(self.numbers[2]).unwrap_or(usize::MAX)
+    }
+
+    /// Checks the next item of the replay by the command that comes next in the recording.
+    ///
+    /// `None` if there is nothing to report: the commands are the same, or the item is not a command. A mismatch is
+    /// returned once: afterwards nothing is compared. [`compare_journals`](crate::compare_journals) of the recording
+    /// and of all items so far has the same kind, index and text. `Error::OutOfMemory` changes nothing, so that the
+    /// call can be repeated.
+    pub fn check(&mut self, item: &Item<'_>) -> Result<Option<Mismatch>, Error> {
+        let (code, payload) = parts(item);
+        // the replay goes on by its copy once all of the mismatch is there
+        let (mut numbers, mut mismatch) = (self.numbers, [0; 6]);
+        let said = ffi::replay_check(code, self.recorded, payload, &mut numbers, &mut mismatch)
+            .map_err(|refusal| self.error(refusal, payload))?;
+        let found = if said == 0 {
+            None
+        } else {
+            Some(self.mismatch(mismatch, code, payload)?)
+        };
+        self.numbers = numbers;
+        Ok(found)
+    }
+
+    /// The command that comes next in the recording, which is not taken; `None` if there is none.
+    ///
+    /// Its offset is that in the recording, its payload a part of it, and its record has the name or the key of a
+    /// command that has one. After a mismatch it is the command at the index of that.
+    pub fn expected(&self) -> Result<Option<Message<'a>>, Error> {
+        let [offset, _, size] = match self.command()? {
+            Some(numbers) => numbers,
+            None => return Ok(None),
+        };
+        match next_item(self.version, self.part(offset, size, 0)?)? {
+            Next::Item { item, .. } => match item.with_offset(offset) {
+                Item::Message(message) => Ok(Some(message)),
+                _ => Err(Error::unexpected("a command at offset", offset)),
+            },
+            Next::Missing(_) => Err(Error::unexpected("a command at offset", offset)),
+        }
+    }
+
+    /// Says that the replay ended. `None` if nothing is left of the recording, or a mismatch was reported.
+    ///
+    /// Otherwise it is the mismatch of the command that comes next, whose kind is `VerdictKind::ReplayedEnded`. It
+    /// changes nothing.
+    pub fn finish(&self) -> Result<Option<Mismatch>, Error> {
+        let mut mismatch = [0; 6];
+        let left = ffi::replay_finish(self.recorded, &self.numbers, &mut mismatch)
+            .map_err(|refusal| self.error(refusal, &[]))?;
+        if left == 0 {
+            return Ok(None);
+        }
+        self.mismatch(mismatch, 0, &[]).map(Some)
+    }
+
+    /// The offset, the code and the size of the command that comes next in the recording.
+    fn command(&self) -> Result<Option<[u64; 3]>, Error> {
+        let mut command = [0; 3];
+        let count = ffi::replay_expected(self.recorded, &self.numbers, &mut command)
+            .map_err(|refusal| self.error(refusal, &[]))?;
+        Ok((count > 0).then_some(command))
+    }
+
+    /// The mismatch of these numbers, of an item.
+    fn mismatch(&self, numbers: [u64; 6], code: u16, payload: &[u8]) -> Result<Mismatch, Error> {
+        let [kind, index, replayed_offset, recorded_offset, _, size] = numbers;
+        let kind = kind_of(kind)?;
+        let mut found = Mismatch {
+            kind,
+            index: narrowed("the index of a command", index)?,
+            recorded_offset: (size > 0).then_some(recorded_offset),
+            replayed_offset,
+            text: String::new(),
+            fields: Vec::new(),
+        };
+        if matches!(
+            kind,
+            VerdictKind::TypeMismatch | VerdictKind::HeaderMismatch
+        ) {
+            let bytes = ffi::replay_text(code, self.recorded, payload, &self.numbers)
+                .map_err(|refusal| self.error(refusal, payload))?;
+            found.text = text(bytes)?;
+        }
+        if kind == VerdictKind::HeaderMismatch {
+            let recorded = self.part(recorded_offset, size, HEADER)?;
+            found.fields = changed_fields(code, recorded, payload)?;
+        }
+        Ok(found)
+    }
+
+    /// The bytes of a command of the recording, without the first of them.
+    fn part(&self, offset: u64, size: u64, without: usize) -> Result<&'a [u8], Error> {
+        let begin: usize = narrowed("the offset", offset)?;
+        let size: usize = narrowed("the size", size)?;
+        self.recorded
+            .get(begin..)
+            .and_then(|rest| rest.get(..size)?.get(without..))
+            .ok_or_else(|| Error::unexpected("the offset", offset))
+    }
+
+    fn error(&self, refusal: Refusal, payload: &[u8]) -> Error {
+        Error::of(refusal, |about| match about {
+            About::Version => Argument::Version(self.version),
+            _ => Argument::Payload(payload.len()),
+        })
+    }
+}
+
+/// The code and the payload of an item.
+fn parts<'i>(item: &Item<'i>) -> (u16, &'i [u8]) {
+    match item {
+        Item::Message(message) => (message.code, message.payload),
+        Item::UnknownCode(unknown) => (unknown.code, &[]),
+        Item::Skipped(skipped) => (skipped.code, skipped.payload),
+    }
+}
+
+/// The printed fields in which two commands of a type differ.
+fn changed_fields(code: u16, recorded: &[u8], replayed: &[u8]) -> Result<Vec<ChangedField>, Error> {
+    let mut fields = Vec::new();
+    for index in 0..=u32::MAX {
+        let mut lengths = [0; 3];
+        let bytes = ffi::changed_field(code, index, recorded, replayed, &mut lengths)
+            .map_err(|refusal| of_commands(refusal, code, recorded, replayed))?;
+        if bytes.is_empty() {
+            break;
+        }
+        fields.try_reserve(1).map_err(|_| Error::OutOfMemory)?;
+        fields.push(changed_field(lengths, &bytes)?);
+    }
+    Ok(fields)
+}
+
+/// The field of these lengths and bytes.
+fn changed_field(lengths: [u64; 3], bytes: &[u8]) -> Result<ChangedField, Error> {
+    let mut rest = bytes;
+    let mut taken = |length: u64| {
+        let length: usize = narrowed("the length of a field", length)?;
+        let part = rest
+            .get(..length)
+            .ok_or_else(|| Error::unexpected("the length of a field", length))?;
+        rest = &rest[length..];
+        text(part.to_vec())
+    };
+    let [name, recorded, replayed] = lengths;
+    Ok(ChangedField {
+        name: taken(name)?,
+        recorded: taken(recorded)?,
+        replayed: taken(replayed)?,
+    })
+}
+
+#[cfg(test)]
+mod tests {
+    use super::*;
+
+    #[test]
+    fn numbers_of_a_later_library() {
+        let replay = Replay::new(8, &[], Ignored::default()).unwrap();
+        for numbers in [[7, 0, 0, 0, 0, 0], [4, 0, 0, 0, 0, 8], [4, 0, 0, 9, 0, 8]] {
+            assert!(replay.mismatch(numbers, 0x0405, &[]).is_err());
+        }
+        assert!(changed_field([1, 1, 2], b"abc").is_err());
+        assert!(changed_field([u64::MAX, 1, 1], b"abc").is_err());
+        let field = changed_field([1, 0, 2], b"abc").unwrap();
+        assert_eq!(
+            (&*field.name, &*field.recorded, &*field.replayed),
+            ("a", "", "bc")
+        );
+    }
+}
