@@ -1,5 +1,5 @@
 #!/usr/bin/env python3
-"""journal_dump on examples: its options and lines; its lines beside protobuf's printer, jq and Python.
+"""journal_dump on examples: its options and lines; its lines compared with protobuf's printer, jq and Python.
 
 Standard output, the whole of standard error and the status are compared. jq and Python's json read each line of the
 dumps of adversarial streams, and protobuf prints the same JSON for random payloads of each message type. It needs jq,
@@ -8,6 +8,7 @@ protoc and Python's protobuf, for parts of it. failures.py has wrong arguments, 
 from __future__ import annotations
 
 import base64
+import gzip
 import json
 import re
 
@@ -70,7 +71,12 @@ UNKNOWN_ODD = (
     '{"offset":32,"unknown":true,"code":8,"header":"AAj//wAAAAA="}\n'
 )
 
-# Streams beside those of examples/streams.
+REPLAY = (STREAMS / "replay").read_bytes()
+COMPRESSED = gzip.compress(REPLAY, mtime=1_000_000_000)
+BASE64 = base64.b64encode(REPLAY)
+DIGITS = REPLAY.hex().encode()
+
+# Streams in addition to those of examples/streams.
 MADE = {
     # the second has the highest code that there is
     "custom": b"\xfc\0\0\0\0\0\0\0\xff\xff\0\0\0\0\0\0",
@@ -84,10 +90,19 @@ MADE = {
     "byte": b"\0",
     "eight": b"\0\0\0\0\0\0\0\x02",
     "nine": b"\0\0\0\0\0\0\0\x02\0",
+    # of no item either: what streams are kept as
+    "replay.gz": COMPRESSED,
+    "replay.base64": BASE64,
+    "replay.hex": DIGITS,
+    "seven": BASE64[:7],
+    "colons": b"00:00:00:00",
 }
 
 DUMPED = len((STREAMS / "replay.dump").read_bytes())
 IS_DUMP = "this is a dump; journal make turns it into a stream"
+IS_GZIP = "this is compressed; gzip -dc turns it into a stream"
+IS_HEX = "this looks like hexadecimal digits; xxd -r -p turns them into a stream"
+IS_BASE64 = "this looks like base64; base64 -d turns it into a stream"
 ANYWAY = "it is dumped all the same; with --strict the status is 2"
 
 
@@ -133,7 +148,7 @@ CASES: tuple[tuple[str, str, *tuple[str, ...]], ...] = (
      '{"offset":0,"type":"CustomEntry(64512)","code":64512,"length":0,"bytes":""}\n'),
     ("--type CUSTOMENTRY(65535) custom",
      '{"offset":8,"type":"CustomEntry(65535)","code":65535,"length":0,"bytes":""}\n'),
-    # such a header is shown in base64, also without payloads; and so are the bytes in no item
+    # such a header is shown in base64, also without payloads; and so are the trailing bytes
     (
         "odd",
         f'{OF_ODD}{UNKNOWN_ODD}{{"offset":40,"rest":1,"bytes":"eA=="}}\n',
@@ -171,9 +186,15 @@ CASES: tuple[tuple[str, str, *tuple[str, ...]], ...] = (
     ("--no-payload nine", '{"offset":0,"rest":9}\n', *no_journal(9), ANYWAY),
     ("--no-payload replay.dump", f'{{"offset":0,"rest":{DUMPED}}}\n', *no_journal(DUMPED), IS_DUMP, ANYWAY),
     ("--type Start replay.dump", "", *no_journal(DUMPED), IS_DUMP, ANYWAY),
+    ("--type Start replay.gz", "", *no_journal(len(COMPRESSED)), IS_GZIP, ANYWAY),
+    ("--type Start replay.base64", "", *no_journal(len(BASE64)), IS_BASE64, ANYWAY),
+    ("--type Start replay.hex", "", *no_journal(len(DIGITS)), IS_HEX, ANYWAY),
+    # too short to seem anything, and a byte that is not a digit among the first eight
+    ("--type Start seven", "", *no_journal(7), ANYWAY),
+    ("--type Start colons", "", *no_journal(11), ANYWAY),
 )
 
-# With --strict an unknown code, a malformed payload and bytes in no item are a failure, the first with its offset.
+# With --strict an unknown code, a malformed payload and trailing bytes are a failure, the first with its offset.
 FAILURES: tuple[tuple[str, str, *tuple[str, ...]], ...] = (
     ("--strict --protocol 6 v6", OF_V6 + MALFORMED, IS_MALFORMED),
     ("--strict --no-payload v6",

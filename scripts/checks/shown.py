@@ -52,7 +52,7 @@ def shown(page: pathlib.Path) -> collections.abc.Iterator[Shown]:
 def main(check: checks.Check) -> None:
     programs = {name: check.program(name).resolve() for name in ("journal", "journal_list")}
     commands = [each for pattern in PAGES for page in sorted(pathlib.Path().glob(pattern)) for each in shown(page)]
-    tools = ("jq", "base64", "curl", "protoc")
+    tools = ("jq", "base64", "curl", "gzip", "protoc", "xxd")
     needed = {word for each in commands for word in tools if re.search(rf"\b{word} ", each.command)}
     absent = [word for word in sorted(needed) if not check.has(word, "the commands of pages that need it")]
     folder, bin_folder = check.work / "top", check.work / "bin"

@@ -2,7 +2,7 @@
 """share/wireshark/pendratsoa.lua shows streams as their listings and payloads as their test vectors say, in tshark.
 
 The streams of examples/ and conformance/ are packets of TCP, split as they are there, each at its version; payloads of
-conformance/ are frames, of which those are marked that are malformed; and a stream is the body of a request of HTTP/2,
+conformance/ are frames, and those that are malformed are marked; and a stream is the body of a request of HTTP/2,
 of each media type, ended and still open. Random bytes are changed as well, where no error of Lua may come.
 """
 from __future__ import annotations
@@ -14,7 +14,7 @@ import random
 import re
 import struct
 
-from checks import ROOT, Check, perform, run
+from checks import ROOT, Check, Run, perform, run
 
 SCRIPT = ROOT / "share" / "wireshark" / "pendratsoa.lua"
 VERSIONS = range(5, 10)
@@ -251,9 +251,8 @@ def show_damaged(check: Check) -> None:
     check.case("some payloads are malformed", "The payload is malformed" in text)
 
 
-def show_page(check: Check) -> None:
-    """The commands of docs/WIRESHARK.md print what is below them, with the dissector in the folder for plugins."""
-    data = (ROOT / "examples" / "streams" / "replay").read_bytes()
+def write_captures(check: Check, data: bytes) -> None:
+    """Writes the captures that pages name, with these bytes, and puts the dissector into the folder for plugins."""
     bodies = [data[at:at + 20] for at in range(0, len(data), 20)]
     captures = {
         "capture.pcap": (9080, request(f"application/vnd.restate.invocation.v{USUAL}", bodies, True)),
@@ -266,11 +265,20 @@ def show_page(check: Check) -> None:
     plugins = check.work / ".local" / "lib" / "wireshark" / "plugins"
     plugins.mkdir(parents=True)
     (plugins / SCRIPT.name).symlink_to(SCRIPT)
+
+
+def run_shown(check: Check, command: str) -> Run:
+    """Runs a command of a page in the folder of the captures."""
+    return run(["sh", "-c", command], cwd=check.work, env={"PATH": "/usr/bin:/bin", "HOME": str(check.work)})
+
+
+def show_page(check: Check) -> None:
+    """The commands of docs/WIRESHARK.md print what is below them."""
     page = (ROOT / "docs" / "WIRESHARK.md").read_text(encoding="utf-8")
     found = re.findall(r"^    (tshark .*)\n\n((?:    .*\n)+)", page, re.M)
     check.case("the page has commands", len(found) == 3, found)
     for command, block in found:
-        ended = run(["sh", "-c", command], cwd=check.work, env={"PATH": "/usr/bin:/bin", "HOME": str(check.work)})
+        ended = run_shown(check, command)
         # with the numbers of another description lengths are others
         wanted, lines = (
             [re.sub(r"\d+", "0", line.strip()) for line in text.splitlines()] for text in (block, ended.out.decode())
@@ -279,10 +287,28 @@ def show_page(check: Check) -> None:
         check.case(command, ended.status == 0 and is_there, ended)
 
 
+def take_streams(check: Check, data: bytes) -> None:
+    """The commands of docs/SOURCES.md write the stream of a capture to a file."""
+    page = (ROOT / "docs" / "SOURCES.md").read_text(encoding="utf-8")
+    found = re.findall(r"^    (tshark (?:.*\|\n    )?.* > recorded)\n", page, re.M)
+    check.case("the page has commands", len(found) == 2, found)
+    if not check.has("xxd", "the commands that take a stream out of a capture"):
+        return
+    for command in found:
+        ended = run_shown(check, command)
+        taken = (check.work / "recorded").read_bytes()
+        check.case(command, ended.status == 0 and taken == data, taken)
+
+
 def body(check: Check) -> None:
     check.needs("tshark", "tshark")
-    for part in (show_streams, show_frames, show_payloads, show_fields, show_requests, show_damaged, show_page):
+    for part in (show_streams, show_frames, show_payloads, show_fields, show_requests, show_damaged):
         part(check)
+    data = (ROOT / "examples" / "streams" / "replay").read_bytes()
+    # the folder for plugins has the dissector from here on
+    write_captures(check, data)
+    show_page(check)
+    take_streams(check, data)
 
 
 if __name__ == "__main__":

@@ -1,4 +1,4 @@
-//! How an input begins: as a stream, or as the lines of a dump, which somebody took for one.
+//! How an input begins, for a hint if it is not a stream: the lines of a dump, compressed, or the text of a stream.
 //!
 //! It is found out by a reader around the input, in a cell. No contract can speak of a cell: it is tested.
 
@@ -8,15 +8,20 @@ use shared_core_base::version::Version;
 use std::cell::Cell;
 use std::io::{self, Read};
 
-/// How the lines of a dump begin. In a stream these would be an unassigned code.
+/// How many of the first bytes are kept: those of the first header.
+const SIZE: usize = 8;
+
+/// How the lines of a dump begin. In a stream this would be the code of a custom entry, like all below.
 const DUMP: &[u8] = b"{\"";
 
-/// How an input begins, as far as it is read.
+/// How a file of gzip begins.
+const GZIP: &[u8] = &[0x1F, 0x8B];
+
+/// The first bytes of an input, as far as they are read.
 #[derive(Drop)]
 pub struct Beginning {
-    /// How many of its first bytes are those of a dump.
-    matching: Cell<usize>,
-    /// How many bytes are read, up to as many as are compared.
+    first: Cell<[u8; SIZE]>,
+    /// How many of them are read.
     read: Cell<usize>,
 }
 
@@ -24,17 +29,12 @@ impl Beginning {
     /// That of an input of which nothing is read yet.
     pub fn new() -> Beginning {
         Beginning {
-            matching: Cell::new(0),
+            first: Cell::new([0; SIZE]),
             read: Cell::new(0),
         }
     }
 
-    /// Whether the input begins as the lines of a dump do.
-    pub fn is_dump(&self) -> bool {
-        self.matching.get() == DUMP.len()
-    }
-
-    /// Reports that no item comes before the bytes that are in none: the stream may be something else.
+    /// Reports that no item comes before the trailing bytes: the stream may be something else.
     pub fn report_no_message(&self, call: &Call<'_>, version: Version) {
         let version = version.number();
         note(
@@ -42,24 +42,59 @@ impl Beginning {
             call.name,
             format_args!("no message in it; is it a journal of version {version}?"),
         );
-        if self.is_dump() {
-            call.note("this is a dump; journal make turns it into a stream");
+        self.report_hint(call);
+    }
+
+    /// Reports what the input seems to be, if it is known how a stream is made of it.
+    pub fn report_hint(&self, call: &Call<'_>) {
+        let first = self.first.get();
+        if let Some(text) = hint(first.get(..self.read.get()).unwrap_or(&[])) {
+            call.note(text);
         }
     }
 
-    /// Notes bytes that are read.
+    /// Keeps bytes that are read.
     fn note(&self, bytes: &[u8]) {
-        let before = self.read.get();
-        for (byte, wanted) in bytes.iter().zip(DUMP.iter().skip(before)) {
-            self.read.set(self.read.get().saturating_add(1));
-            if byte == wanted {
-                self.matching.set(self.matching.get().saturating_add(1));
+        let mut first = self.first.get();
+        let mut read = self.read.get();
+        for byte in bytes.iter().take(SIZE) {
+            if let Some(place) = first.get_mut(read) {
+                *place = *byte;
+                read = read.saturating_add(1);
             }
         }
+        self.first.set(first);
+        self.read.set(read);
     }
 }
 
-/// A reader whose beginning is noted. It reads what the reader in it does.
+/// What an input with these first bytes seems to be, if it is known how a stream is made of it.
+fn hint(first: &[u8]) -> Option<&'static str> {
+    if first.starts_with(DUMP) {
+        return Some("this is a dump; journal make turns it into a stream");
+    }
+    if first.starts_with(GZIP) {
+        return Some("this is compressed; gzip -dc turns it into a stream");
+    }
+    if first.len() < SIZE {
+        return None;
+    }
+    // a header has zeros, which are the digit 0, and the letter A in base64
+    if first.iter().all(|byte| byte.is_ascii_hexdigit()) && first.contains(&b'0') {
+        return Some("this looks like hexadecimal digits; xxd -r -p turns them into a stream");
+    }
+    if first.iter().all(|byte| is_base64(*byte)) {
+        return Some("this looks like base64; base64 -d turns it into a stream");
+    }
+    None
+}
+
+/// Whether a byte is a digit of base64.
+fn is_base64(byte: u8) -> bool {
+    byte.is_ascii_alphanumeric() || byte == b'+' || byte == b'/'
+}
+
+/// A reader whose beginning is kept. It reads what the reader in it does.
 #[derive(Drop)]
 pub struct Begun<'a, R> {
     reader: R,

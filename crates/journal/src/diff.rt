@@ -55,9 +55,7 @@ fn tell_trouble(call: &Call<'_>, version: Version, trouble: &Trouble, beginnings
         Side::Recorded => &beginnings.recorded,
         Side::Replayed => &beginnings.replayed,
     };
-    if beginning.is_dump() {
-        call.note("this is a dump; journal make turns it into a stream");
-    }
+    beginning.report_hint(call);
 }
 
 /// Reports why there is no verdict, or none on the output, and returns the status.
