@@ -10,7 +10,7 @@ The toolchain builds nothing that it has not proved, and rt ci keeps no library 
 proved the functions of the crate itself are proved once more: journal_ffi takes some two minutes of CPU time, and
 bench_ffi four. Over what rt check keeps either takes some ten seconds, and from nothing every crate below is proved
 first. For arm64 only what depends on the processor is proved again of a library, and the functions of a program's own
-crate. On the standard error it says what it builds, and how long that takes; on the output it prints the line of the
+crate. On the standard error it tells what it builds, and how long that takes; on the output it prints the line of the
 verdict. Where there is no rt, or no compiler for arm64, it has status 2.
 """
 from __future__ import annotations
@@ -91,7 +91,7 @@ def compiled(crate: str, kit: pathlib.Path, file: pathlib.Path, target: list[str
     words: list[str | pathlib.Path] = [kit / "bin/rattle", "build", "--crate-name", crate]
     words += ["src/main.rt"] if crate in PROGRAMS else ["src/lib.rt", "--crate-type", "staticlib"]
     for name in ["std", *listed[crate]]:
-        # what is no crate of this repository is one of the toolchain's
+        # what is not a crate of this repository is one of the toolchain's
         words += ["--extern", f"{name}={(rlib(name) if name in listed else kit / 'rlibs') / name}.rlib"]
     for place_of in [kit / "rlibs", *map(rlib, below(crate))]:
         words += ["-L", f"dependency={place_of}"]
@@ -103,7 +103,7 @@ def compiled(crate: str, kit: pathlib.Path, file: pathlib.Path, target: list[str
 
 
 def link(machine: Machine, compiled: pathlib.Path, program: pathlib.Path) -> None:
-    """Links a program with what it calls of the system, which the toolchain has compiled for x86-64 alone."""
+    """Links a program with what it calls of the system, which the toolchain has compiled only for x86-64."""
     with tempfile.TemporaryDirectory() as work:
         made = pathlib.Path(work) / program.name
         flags = ["-std=c99", "-O2", "-Wall", "-Wextra", "-pie", "-Wl,-z,now"]

@@ -10,11 +10,10 @@ cd "$(dirname "$0")/.." || exit 1
 
 all='layout table calls pages words generated description reference tests'
 all="$all run list streams show schema diff dump make shown failures journal terminal waiting sweep wasm view"
-all="$all run list streams schema diff dump make shown failures journal terminal waiting sweep wasm view"
 all="$all conformance wireshark install package files c soak json python node rust go ruby refusals prost"
 before_release='arm64 release'
 
-# file_of NAME: the file of a check, which is Python, or shell that finds what its Python beside it takes
+# file_of NAME: the file of a check, which is Python, or shell that finds what its Python takes
 file_of() {
   if [ -e "scripts/checks/$1.sh" ]; then echo "scripts/checks/$1.sh"; else echo "scripts/checks/$1.py"; fi
 }
@@ -22,7 +21,7 @@ file_of() {
 case ${1-} in
   '')
     for name in $all $before_release; do
-      # the second line of a check says what it shows
+      # the second line of a check tells what it shows
       printf '%-12s %s\n' "$name" "$(sed -n '2s/^\("""\|# \)//p' "$(file_of "$name")")"
     done
     exit 0

@@ -24,7 +24,7 @@ def crate_of(program: str) -> str:
 
 
 def uses() -> dict[str, list[str]]:
-    """The crates that each crate names, of which some are the toolchain's; a line is 'NAME [WORD..]: CRATE..'."""
+    """The crates that each crate names, some of them the toolchain's; a line is 'NAME [WORD..]: CRATE..'."""
     listed = {}
     for line in (ROOT / "crates.txt").read_text().splitlines():
         head, colon, words = line.partition(":")

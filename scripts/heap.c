@@ -1,6 +1,6 @@
 /*
  * The heap of the library on arm64: the three functions by which proved code allocates, as src/heap.rt of the
- * toolchain's crate `libc` declares them. The toolchain has them compiled for x86-64 alone.
+ * toolchain's crate `libc` declares them. The toolchain has them compiled only for x86-64.
  */
 #include <stdbool.h>
 #include <stddef.h>

@@ -8,17 +8,17 @@
 #   PREFIX       a folder, as /usr/local; it gets the programs in bin, the header in include, the static and the shared
 #                library and files for pkg-config and CMake in lib, and man pages, completion for bash and zsh, the
 #                script journal_view, which needs Python 3, and the dissector for Wireshark in share
-#   --library    the library alone, its man pages with it: no program is proved or built for that
+#   --library    only the library, its man pages with it: no program is proved or built for that
 #   --target     for aarch64-unknown-linux-gnu, by Debian's gcc-aarch64-linux-gnu
 #   --libdir     where the libraries are, below PREFIX, instead of lib
 #   --uninstall  removes exactly these files
 #   --from       installs what is in a release, by the install.sh in it, which needs no toolchain and no compiler; where
-#                a file SHA256SUMS is beside the release, it has to name it
+#                a file SHA256SUMS is next to the release, it has to name it
 #
 # What is installed is proved. Without --from, what is not up to date is proved first: every crate below the programs
-# and the library, which takes more than an hour of processor time the first time, and no time where nothing has
+# and the library, which takes more than an hour of CPU time the first time, and no time where nothing has
 # changed. The variable DESTDIR is a folder in which PREFIX is made, for a package, and CC the C compiler. Both
-# libraries export the calls of the two headers and nothing else, and need the C library alone.
+# libraries export the calls of the two headers and nothing else, and need only the C library.
 set -eu
 
 usage() {
@@ -56,7 +56,7 @@ if [ "${1-}" = --from ]; then
 fi
 
 top=$(cd "$(dirname "$0")/.." && pwd)
-# the headers, of which the first has the version and the calls
+# the headers; the first has the version and the calls
 headers='pendratsoa.h pendratsoa_messages.h pendratsoa_reader.h'
 header=$top/include/${headers%% *}
 . "$top/scripts/up_to_date.sh"
@@ -149,7 +149,7 @@ done
 work=$(mktemp -d)
 trap 'rm -rf "$work"' EXIT
 
-# What the library allocates by is the toolchain's, which has it for x86-64 alone.
+# What the library allocates by is the toolchain's, which has it only for x86-64.
 archive=$top/crates/journal_ffi/$built/libjournal_ffi.a
 if [ -z "$tools" ]; then
   heap=$(dirname "$(rt doc)")/c/liblibc_c.a

@@ -9,7 +9,7 @@ linked() {
 
 # keeping_kit FOLDER [ARGUMENT..]: makes FOLDER/kit, whose rt try leaves its program in FOLDER/program, linked with
 # these arguments too. The toolchain's own rt try deletes what it has built and run; so this is a folder of links to the
-# toolchain, with another linker, and rt copied, since it looks for the rest beside itself.
+# toolchain, with another linker, and rt copied, since it looks for the rest next to itself.
 keeping_kit() {
   kept=$1
   shift

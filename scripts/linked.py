@@ -74,7 +74,7 @@ def texts_of(folder: pathlib.Path) -> dict[str, str]:
 
 
 def page(found: list[Linked]) -> str:
-    """The licences of all of them, for whoever passes on what they are linked into; each text is there once."""
+    """The licences of all of them, for anyone who passes on what they are linked into; each text is there once."""
     users: dict[str, list[str]] = {}
     for each in found:
         for text in each.texts.values():

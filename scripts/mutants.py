@@ -2,11 +2,11 @@
 """scripts/mutants.sh [--above] [CRATE | CRATE/NAME ..]
 
 Tries mutants: edits of crates/CRATE/mutants/ and crates/CRATE/must-fail/ that plant a bug, each of which the prover
-has to reject. Of the crates that are named, with --above also of all crates that use them, or of these mutants alone;
-with no name, of all crates. The gate tries must-fail/ alone, since a mutant takes seconds to a minute.
+has to reject: those of the crates that are named, with --above also of all crates that use them, or only these mutants;
+with no name, of all crates. The gate tries only must-fail/, since a mutant takes seconds to a minute.
 
 It works on a copy of crates/ in a temporary folder (below TMPDIR, or /tmp), by rt ci with the mutants as its edits that
-must fail, so nothing in crates/ changes and other checks can run beside it. What rt ci has proved on this machine is
+must fail, so nothing in crates/ changes and other checks can run meanwhile. What rt ci has proved on this machine is
 not proved again; what is not proved yet of a crate and of those below it is first. Several crates are tried at once,
 each in up to 3 GB of memory. A line for each mutant, once all are through:
 
@@ -56,7 +56,7 @@ VERDICTS = (
 # The last lines of a log that is shown.
 LOG_LINES = 20
 
-# Which mutants were refused over which commit, and when: after a comment a line for each, sorted.
+# Which mutants were refused over which commit, and when: after a comment one line per mutant, sorted.
 TRIED = pathlib.Path("docs/mutants.tried")
 COMMENT = "# CRATE/MUTANT COMMIT DATE: each was refused over this commit. scripts/mutants.sh writes it.\n"
 

@@ -18,7 +18,7 @@ downloading=400
 seconds=600
 wanted=$(sed 's/ *#.*//' scripts/packages.txt)
 
-# missing: the packages that are not installed, on one line, but for those whose file is there without them
+# missing: the packages that are not installed, on one line, except those whose file is there without them
 missing() {
   echo "$wanted" | while read -r package file; do
     [ -n "$package" ] || continue

@@ -1,9 +1,9 @@
 #!/bin/sh
 # Builds a program if it is not up to date, and prints where it is: scripts/program.sh [--unproved] CRATE
 #
-# The proved program is crates/CRATE/out/CRATE; to prove every crate below it takes more than an hour of processor time.
+# The proved program is crates/CRATE/out/CRATE; to prove every crate below it takes more than an hour of CPU time.
 # With --unproved it takes that one if it is up to date, and otherwise builds crates/CRATE/out/unproved/CRATE without
-# the proofs, in one to three minutes of processor time: half of them for the program, and half for a check beside it of
+# the proofs, in one to three minutes of CPU time: half of them for the program, and half for a check next to it of
 # what the compiler refuses. That program has an address sanitizer, which stops it at a bad access, and is hundreds
 # of times slower. The toolchain has no other way: rt try takes no option that leaves these checks out, and rattle
 # build, which optimises, makes nothing of what is not proved. The status is 2 where there is no rt.
@@ -43,7 +43,7 @@ fi
 # tell_time: says every 15 seconds how long it has taken, as long as the script runs
 tell_time() {
   seconds=0
-  # whoever reads what the script prints does not wait for this sleep
+  # anyone who reads what the script prints does not wait for this sleep
   while sleep 15 > /dev/null 2>&1 && kill -0 $$ 2> /dev/null; do
     seconds=$((seconds + 15))
     echo "program.sh: $seconds seconds" >&2

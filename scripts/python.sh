@@ -1,7 +1,7 @@
 #!/bin/sh
 # Makes the package for Python whole: scripts/python.sh [FOLDER [LIBRARY PLATFORM]]; FOLDER is python/ or a copy of it.
 #
-# It puts the shared library beside the modules, so that 'pip install FOLDER' takes it along, and builds the wheel in
+# It puts the shared library next to the modules, so that 'pip install FOLDER' takes it along, and builds the wheel in
 # FOLDER/dist, which needs a Python with pip, setuptools and wheel (Debian's python3-pip, python3-setuptools and
 # python3-wheel). Nothing is downloaded. The library is that of scripts/install.sh, and needs what that needs, or the
 # file LIBRARY, for a platform as manylinux_2_17_aarch64.

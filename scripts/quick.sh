@@ -8,7 +8,7 @@ set -u
 cd "$(dirname "$0")/.." || exit 1
 
 echo 'quick.sh: built without the proofs; sh scripts/test.sh proves all of it, runs every test and every test vector'
-# those of programs and of the calls for C need more libraries, and those of sizes and of memory minutes to run
+# those of programs and of the C calls need more libraries, and those of sizes and of memory minutes to run
 [ $# -gt 0 ] || set -- $(ls tests/*/mod.rt.in | cut -d/ -f2 | grep -vxE 'ffi|list|measures|out_of_memory|sizes')
 for name in "$@"; do
   if [ ! -e "tests/$name/mod.rt.in" ]; then

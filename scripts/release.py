@@ -4,15 +4,15 @@
     FOLDER             where the files are made; it is made too, and has nothing in it
     --gate FILE        what sh scripts/test.sh has printed over this commit: PROVED has its last line
     --systems FILE     likewise, what sh scripts/check.sh before_release has printed
-    --machine NAME     for this processor alone, x86_64 or aarch64
-    --only KIND        files of this kind alone, which may be given several times; --list lists the kinds
+    --machine NAME     only for this processor, x86_64 or aarch64
+    --only KIND        only files of this kind; it may be given several times; --list lists the kinds
     --sign KEY         also SHA256SUMS.minisig, a signature of the checksums by this secret key of minisign
     --draft            also of changes that are not committed, which PROVED then says
 
-The files are listed by --list. Beside them are PROVED, which says what is proved and what is trusted, a list of what is
-within (SPDX) and SHA256SUMS. The same commit has the same bytes in any folder and on any day, made by the same tools.
-What is not proved yet is proved first, in more than an hour; docs/RELEASING.md has what is run before a release. On the
-standard error is a line for each stage, before it begins.
+The files are listed by --list. Next to them are PROVED, which tells what is proved and what is trusted, a list of what
+is within (SPDX) and SHA256SUMS. The same commit has the same bytes in any folder and on any day, made by the same
+tools. What is not proved yet is proved first, in more than an hour; docs/RELEASING.md has what is run before a release.
+On the standard error is one line per stage, before it begins.
 """
 from __future__ import annotations
 

@@ -2,7 +2,7 @@
 """Runs what is run before a release, in order, and then makes it: scripts/releasing.sh [OPTION..] FOLDER
 
     FOLDER          where the outputs are kept, each as NAME.log, and at the end the release, in FOLDER/files
-    --measure       measures alone, on another processor; its FOLDER/speed goes into that of the machine of the release
+    --measure       only measures, on another processor; its FOLDER/speed goes into that of the machine of the release
     --allow TEXT    what may say 'not run', by the beginning of its line; may be given several times
     --list          lists the stages
 

@@ -14,12 +14,12 @@
 #   scripts/run.sh [--proved] journal_list [ARGUMENT]..
 #       the listing of a stream, of examples/streams/replay without arguments
 #
-# Before show, dump, make, diff and view, journal may be left out; list is journal_list. docs/PROGRAMS.md says what
+# Before show, dump, make, diff and view, journal may be left out; list is journal_list. docs/PROGRAMS.md tells what
 # arguments a program takes, and so does the program with --help.
 #
-# The first run without the proofs builds the program, in one to three minutes of processor time, and keeps it; it is
+# The first run without the proofs builds the program, in one to three minutes of CPU time, and keeps it; it is
 # hundreds of times slower than the proved one. With --proved every crate below the program is proved first, which takes
-# more than an hour of processor time. The status is the program's own, and 2 if it is not run.
+# more than an hour of CPU time. The status is the program's own, and 2 if it is not run.
 set -eu
 
 top=$(cd "$(dirname "$0")/.." && pwd)

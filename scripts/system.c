@@ -1,6 +1,6 @@
 /*
  * The arguments, the environment and errno, as src/c.rt of the toolchain's crate `os` declares them for programs. The
- * toolchain has these functions compiled for x86-64 alone.
+ * toolchain has these functions compiled only for x86-64.
  */
 #include <errno.h>
 #include <stdint.h>

@@ -1,13 +1,13 @@
 #!/usr/bin/env python3
 """Builds the library for C as a WebAssembly module, where it is not there or older than a source:
 
-    wasm.py             crates/journal_ffi/out/wasm/pendratsoa.wasm; beside it pendratsoa64.wasm, with a 64-bit memory
+    wasm.py             crates/journal_ffi/out/wasm/pendratsoa.wasm; next to it pendratsoa64.wasm, with a 64-bit memory
     wasm.py --compare   compares what this makes with what the toolchain makes for wasm64, of the calls without a heap
     wasm.py --of OUT.wasm SOURCE.c..    makes a module of sources in C, for tests
 
 The toolchain compiles what allocates for its other targets only. So the library is proved and lowered for x86-64 here;
 the LLVM module of that is given the target wasm64 by wasm/retarget.py, and linked with wasm/heap.c and wasm/calls.c;
-wasm/lower.py makes addresses of 32 bits, which every engine has. wasm/README.md says what that means for the proofs.
+wasm/lower.py makes addresses of 32 bits, which every engine has. wasm/README.md tells what that means for the proofs.
 
 It takes some 80 seconds of CPU time over proved crates, four minutes where journal_ffi is proved for this target too.
 --compare takes three minutes the first time, half a minute later. It prints the line of the verdict, and where there
@@ -76,7 +76,7 @@ def tool(name: str, *words: str | pathlib.Path) -> str:
 
 
 def linked(kit: pathlib.Path, sources: list[pathlib.Path], target: pathlib.Path) -> None:
-    """Links sources, each in C or a module of LLVM, as a module with a 32-bit memory; beside it one with a 64-bit
+    """Links sources, each in C or a module of LLVM, as a module with a 32-bit memory; next to it one with a 64-bit
     memory, from which that is made."""
     clang = kit / "toolchain/bin/clang"
     headers = ["-I", ROOT / "include", "-isystem", FOLDER / "tests/include"]

@@ -1,7 +1,7 @@
 #!/usr/bin/env python3
 """Takes the numbers of a runtime's own .proto file, on a copy: scripts/adopt.sh [OPTION..] THEIR.proto [OUT]
 
-It matches messages and fields by their names, whatever they are within, and says what is the same, renumbered, only
+It matches messages and fields by their names, whatever they are within, and tells what is the same, renumbered, only
 there, only here and of another kind; then what is lost, what is read otherwise than there, what a person decides, and
 what is only here. Then it copies this repository to OUT (adopted), writes the description there with their numbers and
 what only they have, generates what repeats it, builds the programs without proofs, and dumps a stream of each of their
@@ -12,7 +12,7 @@ toolchain. Nothing here is changed.
     --all                 shows the fields that are the same, too
     --no-build            ends before the programs are built
     --programs NAMES      builds these, of journal,journal_list
-    --stream FILE         dumps this stream of theirs, too, whose trouble is in the status
+    --stream FILE         dumps this stream of theirs, too; its faults are in the status
     --rename THEIRS=OURS  messages, or fields as Message.field, that are called otherwise there; may be repeated
     --proto-path FOLDER   where what their file imports is looked for, besides its own folder; may be repeated
 

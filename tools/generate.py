@@ -1,7 +1,7 @@
 #!/usr/bin/env python3
 """Makes the files of this repository that are not written by hand: tools/generate.py [--check] [NAME..]
 
-    tools/generate.py               makes all, and prints a line for each file that it writes
+    tools/generate.py               makes all, and prints one line per file that it writes
     tools/generate.py NAME..        makes what these generators make
     tools/generate.py --check ..    writes nothing; names each file that is not what would be written
     tools/generate.py --list        the generators, with what each makes, from what, and its files
@@ -21,7 +21,7 @@ sys.dont_write_bytecode = True
 
 from generators import NAMES, ROOT, Refused  # noqa: E402
 
-# How a file says what is in no language.
+# How a file tells what is in no language.
 COMMENTS = {
     **dict.fromkeys((".rt", ".in", ".rs", ".go", ".ts", ".js"), "//"),
     **dict.fromkeys((".txt", ".py", ".rb", ".rbs", ".bash", ".gitattributes"), "#"),
@@ -175,7 +175,7 @@ def told():
         print(refused, file=sys.stderr)
         return 2
     except BrokenPipeError:
-        # whoever reads has read enough, as head; nothing more is flushed at the end
+        # the reader has read enough, as head; nothing more is flushed at the end
         os.dup2(os.open(os.devnull, os.O_WRONLY), sys.stdout.fileno())
         return 1
     except subprocess.CalledProcessError as ended:

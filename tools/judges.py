@@ -17,7 +17,7 @@ counts = [0, 0]
 
 
 def same(about, described, found):
-    """Counts a comparison, and shows what is on one side alone."""
+    """Counts a comparison, and shows what is only on one side."""
     described, found = set(described), set(found)
     counts[described != found or not described] += 1
     if described == found and described:
@@ -92,7 +92,7 @@ def compared():
 
 
 def rules():
-    """The version from which on the peer's rules have another record for suspensions."""
+    """The version from which on the baseline's rules have another record for suspensions."""
     found = re.findall(
         r"^const TREES: u32 = (\d+);$", (ROOT / "bench" / "src" / "rules.rs").read_text(encoding="utf-8"), re.M
     )

@@ -2,7 +2,7 @@
 """Gives the protocol other numbers, in the tree that it is run in: tools/permute.py [--force] [SEED]
 
 For a trial on a copy: is the library proved for that description with no edit by hand? It writes proto/journal.proto
-with other numbers of fields, codes of types and places of schemas, drawn by SEED (1), and prints a line for each
+with other numbers of fields, codes of types and places of schemas, drawn by SEED (1), and prints one line per
 message. `python3 tools/generate.py` then writes all that repeats them, and `rt check` proves it crate by crate. A tree
 with changes that are not committed is left as it is, but with --force.
 

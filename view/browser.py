@@ -162,7 +162,7 @@ class Browser:
             self.mouse(kind, x, y, button="left", clickCount=1)
 
     def drag(self, x, y, to):
-        """Drags from a place to another one beside it."""
+        """Drags from a place to another one next to it."""
         self.mouse("mousePressed", x, y, button="left", clickCount=1)
         for place in (x + (to - x) / 2, to):
             self.mouse("mouseMoved", place, y, button="left")

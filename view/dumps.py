@@ -24,7 +24,7 @@ DUMP = re.compile(rb'(\xef\xbb\xbf)?\s*\{\s*"')
 
 BASE64 = re.compile(r"(?:[A-Za-z0-9+/]{4})*(?:[A-Za-z0-9+/]{2}==|[A-Za-z0-9+/]{3}=)?")
 
-# What journal dump says of an item beside its message, by the type of the value.
+# What journal dump says of an item in addition to its message, by the type of the value.
 MEMBERS = {
     "offset": int, "type": str, "code": int, "length": int, "requestedAck": bool, "malformed": bool, "unknown": bool,
     "skipped": bool, "rest": int, "header": "bytes", "bytes": "bytes",
@@ -272,7 +272,7 @@ class Lines:
 
 
 def read_dump(file, name, reader, kept, total=None):
-    """What is kept of the lines of a dump, of which a file has the bytes, and what makes the journal for the page of
+    """What is kept of the lines of a dump, whose bytes a file has, and what makes the journal for the page of
     it. Raises Wrong with the number of a line."""
     rest, end, gaps = None, 0, 0
     progress = Progress(name, total)

@@ -29,7 +29,7 @@ def read(name):
 
 
 def library():
-    """The calls over the module, of the package for Node, as a part of a script that is no module."""
+    """The calls over the module, of the package for Node, as a part of a script that is not a module."""
     text = "\n".join((ROOT / "node/lib" / f"{name}.js").read_text(encoding="utf-8") for name in LIBRARY)
     text = re.sub(r"^import [^;]*;\n", "", text, flags=re.M)
     text = re.sub(r"^export (?=const|let|function)", "", text, flags=re.M)

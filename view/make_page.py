@@ -22,7 +22,7 @@ import subprocess
 import sys
 import tempfile
 
-# nothing is left beside an installed script
+# nothing is left next to an installed script
 sys.dont_write_bytecode = True
 import dumps  # noqa: E402
 
@@ -107,7 +107,7 @@ def parse_arguments(words):
 
 
 def shown(path):
-    """The last part of a path as a page shows it: a byte that is no text and a hidden character by its number."""
+    """The last part of a path as a page shows it: a byte that is not a text and a hidden character by its number."""
     name = os.fsencode(pathlib.PurePath(path).name).decode("utf-8", "backslashreplace")
     return "".join(one if one.isprintable() else f"\\u{ord(one):04x}" for one in name)
 
@@ -326,8 +326,8 @@ def put(text):
 
 
 def write_file(path, text):
-    """Writes a page to a file, whole or not at all: beside it first, and then in its place. What is there and is no
-    plain file, as a pipe, is written as it is."""
+    """Writes a page to a file, whole or not at all: next to it first, and then in its place. What is there and is not
+    a plain file, as a pipe, is written as it is."""
     # a path may lead to the file, and a page stays what it was to others
     real = pathlib.Path(os.path.realpath(path))
     try:

@@ -1,8 +1,8 @@
 """Times pages of large journals in a headless Chromium: python3 view/measure.py [ITEMS..]
 
 For each number of items, by default 1000, 100000 and 438000, a page of one dump, and one of two that differ in three
-commands. Prints a row of a table: the processor time of the maker; the page's size; until it can be used the time, the
-processor time, the script's heap and the resident memory of the page's process; and the processor time of a key, of a
+commands. Prints a row of a table: the CPU time of the maker; the page's size; until it can be used the time, the
+CPU time, the script's heap and the resident memory of the page's process; and the CPU time of a key, of a
 drawing of the overview, and of a first filter by a text.
 """
 import base64
@@ -51,7 +51,7 @@ def write_dump(path, items, is_other):
 
 
 def made(page, dumps):
-    """The processor seconds in which a page is made of dumps."""
+    """The CPU seconds in which a page is made of dumps."""
     before = resource.getrusage(resource.RUSAGE_CHILDREN)
     words = [sys.executable, HERE / "make_page.py", "--items", "10000000", "-o", page, *dumps]
     subprocess.run(words, check=True, stdout=subprocess.DEVNULL)
@@ -68,7 +68,7 @@ def processes(browser):
 
 
 def spent(browser, act):
-    """The processor seconds that the page takes for something, and what that returns."""
+    """The CPU seconds that the page takes for something, and what that returns."""
     before = sum(process["cpuTime"] for process in processes(browser))
     result = act()
     browser.evaluate("1")

@@ -61,7 +61,7 @@ def words_in(png):
 
 
 def photographed(folder, picture):
-    """The words of the page, of which a picture is taken if it has a path."""
+    """The words of the page; a picture of it is taken if it has a path."""
     samples.write_orders(folder)
     page = folder / "orders.html"
     before = os.getcwd()

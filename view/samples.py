@@ -113,7 +113,7 @@ def steps(number, first=1):
 
 
 def audited():
-    """Two journals of 98 steps, of which the replay sets another state before the fiftieth."""
+    """Two journals of 98 steps; the replay sets another state before the fiftieth."""
     same = steps(98)
     other = frame("SetStateCommand", key=b"other", value={"content": b"audit"})
     return b"".join(same), b"".join([*same[:49], other, *same[49:]])

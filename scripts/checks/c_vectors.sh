@@ -1,5 +1,5 @@
 #!/bin/sh
-# The calls for C over the proved library give the results of the test vectors on the standard input, but for lines of
+# The C calls over the proved library give the results of the test vectors on the standard input, except lines of
 # the kind record, which no call has.
 set -u
 cd "$(dirname "$0")/../.." || exit 1

@@ -1,5 +1,5 @@
 #!/usr/bin/env python3
-"""The last version, the calls for C and the crates are the same wherever they are listed by hand.
+"""The last version, the C calls and the crates are the same wherever they are listed by hand.
 
 What is generated of the calls is compared by scripts/checks/generated.sh. This is the rest: each call has a function in
 each binding, tests and a promise; the names of docs/LANGUAGES.md are in the sources; each crate has its sentence, each
@@ -64,15 +64,16 @@ def calls(check: checks.Check) -> None:
     names = [call.call for call in calls_data.calls()]
     in_go = {call.symbol(): calls_data.camel(call.symbol(), False) for call in calls_data.calls()}
     in_python = {call.name_in("Python"): call.symbol() for call in calls_data.calls()}
-    by_name = re.findall(r"\bnamed\.(\w+)\(", read("python/pendratsoa/_calls.py"))
-    by_place = re.findall(r"\bNamed::([A-Z_]+)\b", read("ruby/lib/pendratsoa/functions.rb"))
+    by_name = re.findall(r"\bnamed\.(\w+)\(", together("python/pendratsoa/_calls.py", "python/pendratsoa/_replay.py"))
+    in_ruby = together(*(f"ruby/lib/pendratsoa/{name}.rb" for name in ("fields", "pending", "replay")))
+    by_place = re.findall(r"\bNamed::([A-Z_]+)\b", read("ruby/lib/pendratsoa/functions.rb") + in_ruby)
     uses = {
         "python/pendratsoa": [
             *re.findall(r"\blibrary\.(journal_\w+)", together("python/pendratsoa/*.py")),
             *(in_python.get(name, name) for name in by_name),
         ],
         "ruby/lib": [
-            *re.findall(r":(journal_\w+)", together("ruby/lib/pendratsoa/fields.rb", "ruby/lib/pendratsoa/pending.rb")),
+            *re.findall(r":(journal_\w+)", in_ruby),
             *(f"journal_{name.lower()}" for name in by_place),
         ],
         "tests/ffi": re.findall(r"\b(journal_\w+)\(", together("tests/ffi/*.rt.in")),
@@ -148,7 +149,7 @@ def crates_and_tests(check: checks.Check) -> None:
     named = {name for row in rows for name in re.findall(r"`([a-z_]+)`", row)}
     others = sorted(name for name in named - set(listed) if not pathlib.Path(name).is_dir())
     check.case("the rows of docs/ARCHITECTURE.md", not others, " ".join(others))
-    # a repository of one's own has the crates that this pattern of the page on the library takes
+    # another repository has the crates that this pattern of the page on the library takes
     pattern = re.search(r"grep -E '(.*)' PENDRATSOA/crates.txt", read("crates/shared_core/README.md"))
     copied = [crate for crate in listed if pattern and re.match(pattern[1], crate)]
     check.same("the crates that crates/shared_core/README.md copies", copied, crates.with_below(copied))

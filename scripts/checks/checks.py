@@ -1,7 +1,7 @@
 """What the checks in Python share: the tally and its last line, what is not run and why, and programs that are run.
 
 A check is a function of a Check that `perform` calls, with the top of the repository as the current folder. The second
-line of its file says what it shows, and `sh scripts/check.sh` lists that.
+line of its file tells what it shows, and `sh scripts/check.sh` lists that.
 """
 from __future__ import annotations
 
@@ -127,7 +127,7 @@ class Check:
         self.failed = 0
 
     def case(self, name: str, is_right: bool, shown: object = "") -> bool:
-        """Counts a case, and says what is shown of it where it is not right."""
+        """Counts a case, and tells what is shown of it where it is not right."""
         if is_right:
             self.passed += 1
         else:
@@ -209,7 +209,7 @@ class Check:
 
 
 def program_path(name: str) -> pathlib.Path:
-    """Where rt ci or scripts/run.sh --proved leaves a program, or a link of this name, which is made beside it."""
+    """Where rt ci or scripts/run.sh --proved leaves a program, or a link of this name, which is made next to it."""
     crate = crates.crate_of(name)
     place = ROOT / "crates" / crate / "out" / name
     if name != crate and place.parent.exists() and not place.is_symlink():

@@ -3,7 +3,7 @@
 #
 # With the word '-' it is the lines on standard input that are checked, and not those of conformance/*.txt. The program
 # is built without proofs, with checks of each access to memory, and needs a minute for some ten thousand lines. All
-# lines but `record`, the random ones too, are checked by the calls for C over the proved library (scripts/checks/c.sh)
+# lines but `record`, the random ones too, are checked by the C calls over the proved library (scripts/checks/c.sh)
 # and by each package. Each line that fails is shown with the result of the library instead. That the program finds
 # wrong results is shown first, by a wrong line of each kind.
 set -u

@@ -1,4 +1,4 @@
-"""Checks the test vectors on standard input by the calls for C: conformance_calls.py < LINES
+"""Checks the test vectors on standard input by the C calls: conformance_calls.py < LINES
 
 It takes the package for Python, which has to be installed or in PYTHONPATH. Lines of the kind `record` have no call.
 Besides, a record that is decoded and encoded is the canonical payload, a stream is the same byte by byte, a canonical

@@ -3,7 +3,7 @@
 
 Each of the descriptions is the one of proto/journal.proto with an edit, and tools/generators has to reject it with
 these words, and with a line. The files of tests/adopt are what a runtime may have: scripts/adopt.sh says of each what
-the .txt beside it has, and each message that protoc makes with that file has, by the description that comes of it,
+the .txt next to it has, and each message that protoc makes with that file has, by the description that comes of it,
 the fields that it was made of; adoptions.py has smaller ones. The hand-written test vectors get its numbers, and then
 those of before again. Nothing is generated or built. It needs protoc.
 """
@@ -523,7 +523,7 @@ def summed(check: Check) -> None:
 
 
 def earlier(check: Check) -> None:
-    """A stream of theirs is dumped as of a version before 7, if their suspension has the three lists alone."""
+    """A stream of theirs is dumped as of a version before 7, if their suspension has only the three lists."""
     from adoption.adoption import Adoption
     from generators import descriptors, proto
 

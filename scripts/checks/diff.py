@@ -25,7 +25,7 @@ def after_first(code: int, payload: bytes) -> bytes:
 # The ids of the call are others, as behind a command that was inserted.
 SHIFTED = RECORDED.replace(b"P\x01X\x02", b"P\x02X\x03")
 
-# Journals beside those of examples/streams.
+# Journals in addition to those of examples/streams.
 JOURNALS = {
     "first": FIRST,
     "other_type": after_first(0x401, b""),
@@ -36,7 +36,7 @@ JOURNALS = {
     "shifted": SHIFTED,
     "inserted": after_first(0x402, b"\n\x01aX\x01") + SHIFTED[len(FIRST):],
     "bad_start": RECORDED + b"\0\0\0\0\0\0\0\x01\xff",
-    # files that are no journals, and what of a journal is no whole item
+    # files that are not journals, and what of a journal is not a whole item
     "text": b"a text of 34 bytes, and no journal",
     "dump": (STREAMS / "replay.dump").read_bytes(),
     "brace": b"{",
@@ -112,7 +112,7 @@ CASES: tuple[tuple[str, int, str, *tuple[str, ...]], ...] = (
     ("recorded /dev/null", 1, "replayed ends at command 0", EMPTY.format("replayed")),
     ("/dev/null first", 1, "recorded ends at command 0", EMPTY.format("recorded")),
     ("/dev/null /dev/null", 0, "same, 0 commands", EMPTY.format("recorded"), EMPTY.format("replayed")),
-    # bytes and no whole item are no journal, and have no verdict
+    # bytes and no whole item are not a journal, and have no verdict
     ("text text", 2, "", *no_journal("recorded", 34)),
     ("--json recorded text", 2, "", *no_journal("replayed", 34)),
     ("--all --protocol 9 recorded text", 2, "", *no_journal("replayed", 34, 9)),

@@ -1,9 +1,9 @@
 #!/bin/sh
 # Generated files are what tools/generate.py makes.
 #
-# Records, commands compared, names in JSON, test vectors, stored runs and the records of the peer. It needs python3,
-# for some files protoc, for some of these Python's protobuf; the random test vectors are for the check 'prost'. The man
-# pages among them are read by man and mandoc, where these are installed.
+# Records, commands compared, names in JSON, test vectors, stored runs and the records of the baseline. It needs
+# python3, for some files protoc, for some of these Python's protobuf; the random test vectors are for the check
+# 'prost'. The man pages among them are read by man and mandoc, where these are installed.
 set -u
 cd "$(dirname "$0")/../.." || exit 1
 . scripts/checks/lib.sh

@@ -39,7 +39,7 @@ PRINTS = (
     *(((name, "--version"), f"{name} {checks.library_version()}\n") for name in checks.PROGRAMS),
 )
 
-# What it prints on the standard error alone, with status 2.
+# What it prints only on the standard error, with status 2.
 NO_FILE = "./nothing: No such file or directory (os error 2)"
 ERRORS = (
     (("journal_list", "0"), "usage: journal_list [1..65536] [v9]"),
@@ -61,7 +61,7 @@ COMPLETE = """. "$1/$2.bash" && shift && COMP_WORDS=("$@") && COMP_CWORD=$(($# -
 # The function with which zsh completes a command: the folder of the files, then the command.
 ZSH = 'fpath=("$1" $fpath) && autoload -Uz compinit && compinit -D -u && print -r -- "$_comps[$2]"'
 
-# What the library alone has not, by a part of its path.
+# What `--library` leaves out, by a part of its path.
 OF_PROGRAMS = re.compile("^bin/|/man1/|completion|/zsh/|/wireshark/|^share/pendratsoa/")
 
 
@@ -185,7 +185,7 @@ def main(check: checks.Check) -> None:
     names = [name for name in checks.names_below(prefix) if name != "bin/other"]
     installation.below_destdir(names)
 
-    # the library alone is the rest of it
+    # `--library` installs the rest of it
     library = check.work / "library"
     installation.install("install.sh --library", "--library", library)
     of_library = [name for name in names if not OF_PROGRAMS.search(name)]

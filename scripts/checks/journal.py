@@ -1,7 +1,7 @@
 #!/usr/bin/env python3
-"""The program journal: its subcommands by either name, its help, and what is no subcommand.
+"""The program journal: its subcommands by either name, its help, and what is not a subcommand.
 
-It runs the proved program. `journal dump` and `journal_dump` have to do the same, but for the name with which messages
+It runs the proved program. `journal dump` and `journal_dump` have to do the same, except the name with which messages
 begin and which the usage shows; so with journal make and journal diff.
 """
 from __future__ import annotations
@@ -138,7 +138,7 @@ RUNS = {
     ),
 }
 
-# What is no subcommand, and what the error says of it.
+# What is not a subcommand, and what the error says of it.
 NO_SUBCOMMAND = (
     (("view",), "journal view: the page is made by the program journal_view: journal_view [OPTION].. STREAM [OTHER]\n"),
     (("view", "--help"), "journal view: the page is made by the program journal_view"),
@@ -240,7 +240,7 @@ class Journal:
             self.check.case(f"journal {name} --version", ended == checks.Run(0, version, b""), ended)
 
     def no_subcommand(self) -> None:
-        """What is no subcommand is rejected, with the status 2 and nothing on the output."""
+        """What is not a subcommand is rejected, with the status 2 and nothing on the output."""
         for words, error in NO_SUBCOMMAND:
             ended = self.run(self.path, *words)
             is_right = ended.status == 2 and not ended.out and error.encode() in ended.err

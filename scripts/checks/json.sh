@@ -1,5 +1,5 @@
 #!/bin/sh
-# JSON read as payloads: its test vectors; beside protobuf's own parser literal, free and damaged texts.
+# JSON read as payloads: its test vectors; literal, free and damaged texts compared with protobuf's own parser.
 #
 # It takes the library for C by the package for Python, over the proved static library. It needs a C compiler, protoc
 # and Python's protobuf.

@@ -1,4 +1,4 @@
-"""JSON read as payloads, beside protobuf's own parser: json_judge.py SEED COUNT < LINES
+"""JSON read as payloads, and by protobuf's own parser: json_judge.py SEED COUNT < LINES
 
 It takes the package for Python, which has to be installed or in PYTHONPATH, protoc and Python's protobuf. The lines are
 those of conformance/json. COUNT is how many random values of each message there are, each as a text in a free form

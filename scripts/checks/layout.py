@@ -26,7 +26,7 @@ IS_KEPT = re.compile(r' *((ghost )?use \S+?(\{[^,]*\})?( as \w+)?;?$|#\[)|.*"')
 # An import of several laws, which a generator writes on one line.
 IS_MADE = re.compile(r" *ghost use ")
 
-# The sources that no formatter lays out, but for those that say in their first line that they are generated.
+# The sources that no formatter lays out, except those that say in their first line that they are generated.
 HAND_WRITTEN = (
     "scripts", "tools", "bench", "view", "python", "go", "ruby", "rust", "node", "examples", "tests", "wasm",
 )
@@ -34,7 +34,7 @@ ENDINGS = (".sh", ".py", ".c", ".h", ".rs", ".go", ".rb", ".gemspec", ".js", ".m
 
 
 def files(*folders: str, endings: tuple[str, ...]) -> list[pathlib.Path]:
-    """The files below these folders whose names end so, but for what is built."""
+    """The files below these folders whose names end so, except what is built."""
     found = []
     for top in folders:
         for folder, names_of_folders, names in os.walk(top):
@@ -49,7 +49,7 @@ def layout(check: checks.Check) -> None:
         return
     words = [rattle(), "fmt", "--check"]
     check.command("the layout of crates/", [*words, *files("crates", endings=(".rt", ".antt"))])
-    # the formatter takes .rt files alone
+    # the formatter takes only .rt files
     copies = []
     for file in files("tests", endings=(".rt.in",)):
         copies.append(check.work / file.with_suffix(""))
@@ -59,7 +59,7 @@ def layout(check: checks.Check) -> None:
 
 
 def too_long(file: pathlib.Path, is_kept: re.Pattern[str] | None) -> list[str]:
-    """The lines of a file that are too long, each with its place, but for those that are kept."""
+    """The lines of a file that are too long, each with its place, except those that are kept."""
     lines = enumerate(file.read_text(encoding="utf-8").splitlines(), 1)
     return [
         f"\n{file}:{number}:{line}"
@@ -74,7 +74,7 @@ def is_generated(file: pathlib.Path) -> bool:
 
 
 def long_lines(check: checks.Check) -> None:
-    """Lines of code, definitions and proofs have at most 120 characters, but for what stays on one line."""
+    """Lines of code, definitions and proofs have at most 120 characters, except what stays on one line."""
     found = []
     for file in files("crates", "tests", "examples", endings=(".rt", ".rt.in", ".antt")):
         for place in too_long(file, IS_KEPT):

@@ -21,7 +21,7 @@ finish() {
   exit
 }
 
-# not_run WHY: ends the check, of which nothing more can be run
+# not_run WHY: ends the check: nothing more of it can be run
 not_run() {
   echo "$check: not run, since $1"
   finish
@@ -192,14 +192,14 @@ sources() {
   done
 }
 
-# processor_seconds: sets $seconds to the processor time, in whole seconds, of all commands that have ended
+# processor_seconds: sets $seconds to the CPU time, in whole seconds, of all commands that have ended
 processor_seconds() {
   # not in a pipeline: a subshell has times of its own
   times > "$work/times"
   seconds=$(tr 'ms' '  ' < "$work/times" | awk 'NR == 2 { printf "%d", 60 * $1 + $2 + 60 * $3 + $4 }')
 }
 
-# stage COMMAND..: runs a command, shows what it prints and its processor time, and adds its last 'N passed, M failed'
+# stage COMMAND..: runs a command, shows what it prints and its CPU time, and adds its last 'N passed, M failed'
 stage() {
   processor_seconds
   before=$seconds

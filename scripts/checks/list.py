@@ -17,7 +17,7 @@ UNKNOWN = text_of("unknown_type.stdout")
 # at v9 an unknown message is skipped with its payload
 SKIPPED = "skipped 0x8 8\nrest 0\n"
 
-# Words beside those of the examples, and the listing; the standard input is the stream replay.
+# Words in addition to those of the examples, and the listing; the standard input is the stream replay.
 CASES = (
     ("./replay", REPLAY),
     ("./replay 3", REPLAY),
@@ -53,7 +53,7 @@ TOO_LONG = (
     ),
 )
 
-# Seventy thousand bytes of messages Start without a payload, of which a listing has a line each.
+# Seventy thousand bytes of messages Start without a payload, one per line of a listing.
 STARTS = bytes(70000)
 
 # What is left of a stream for the next command where the program stops at its first line.

@@ -2,14 +2,14 @@
 
 The streams are those of conformance/, each with its programs, and COUNT random ones: rows of frames at each version
 with the payloads of conformance/json, which are canonical, of custom entries and of unknown codes, with bits of the
-header that say nothing, and in half of the streams damaged payloads. Of these a batch is dumped at once, one stream
-after the other, which is a stream too; bytes that are in no item are at its end, and after SINGLE further streams, each
-of which is dumped alone.
+header that say nothing, and in half of the streams damaged payloads. A batch of these is dumped at once, one stream
+after the other, which is a stream too; trailing bytes are at its end, and after SINGLE further streams, each
+of which is dumped by itself.
 
 Each is dumped and made again of the dump. If no payload was damaged, that is the stream, so its dump is the same.
-Otherwise what is made has the same dump, but for offsets and lengths, and is what is made of its own dump. A dump
-with texts says the same, and the same is made of it. Of a batch that fails each stream is tried alone. The last line
-but one has the seed.
+Otherwise what is made has the same dump, except offsets and lengths, and is what is made of its own dump. A dump
+with texts says the same, and the same is made of it. Each stream of a batch that fails is tried by itself. The last
+line but one has the seed.
 """
 import base64
 import json
@@ -22,7 +22,7 @@ CONFORMANCE = Path(__file__).resolve().parents[2] / "conformance"
 CUSTOM = range(0xFC00, 0x10000)
 UNKNOWN = [4, 8, 9, 0x1FF, 0x201, 0x301, 0x3FF]
 
-# How many streams are dumped at once, and how many alone.
+# How many streams are dumped at once, and how many one by one.
 BATCH = 500
 SINGLE = 200
 
@@ -88,7 +88,7 @@ def stream_of(chance, corpus, version, is_damaged):
         elif kind < 0.3 and version == 9:
             stream += frame(chance.choice(UNKNOWN), bits, chance.randbytes(chance.randrange(20)))
         elif kind < 0.3:
-            # before V9 such a header is alone, whatever length it has
+            # before V9 such a header has no payload, whatever length it has
             stream += frame(chance.choice(UNKNOWN), bits, b"")[:4] + chance.choice([0, 5]).to_bytes(4)
         else:
             code, payload = chance.choice(corpus)
@@ -134,7 +134,7 @@ def is_text(encoded):
 
 
 def says_the_same(plain, texts, name=""):
-    """Whether a value of a dump with texts says what one without them does, where the names tell which are bytes."""
+    """Whether a value of a dump with texts tells what one without them does, where the names tell which are bytes."""
     if isinstance(plain, dict):
         return plain.keys() == texts.keys() and all(says_the_same(plain[key], texts[key], key) for key in plain)
     if isinstance(plain, list):
@@ -173,7 +173,7 @@ class Checker:
         self.passed = self.failed = 0
 
     def check(self, version, streams, is_canonical):
-        """Streams one after the other; each alone if that fails."""
+        """Streams one after the other; each by itself if that fails."""
         found = fault(self.dumper, self.maker, b"".join(streams), is_canonical, version)
         if not found:
             self.passed += len(streams)

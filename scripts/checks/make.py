@@ -1,8 +1,8 @@
 #!/usr/bin/env python3
 """journal_make on lines that it takes and that it rejects; the streams of conformance/ and random ones, made again.
 
-Each row is a case, of which the program's output, the whole of its standard error and its status are compared. A line
-is rejected between two that are taken, of which the first one's frame is written. There is a row for each reason but
+Each row is a case: the program's output, the whole of its standard error and its status are compared. A line
+is rejected between two that are taken; the frame of the first one is written. There is a row for each reason but
 TooLong, which a payload of 4 GiB has. failures.py has wrong arguments, and inputs and outputs that fail.
 """
 from __future__ import annotations
@@ -47,7 +47,7 @@ TAKEN = [
     # a header that is given has the length of the payload
     ("000300010000000a 01020304050607080900", '{"type":"End","header":"AAMAAQAAAAA=","bytes":"AQIDBAUGBwgJAA=="}'),
     (INPUT_FRAME, '{"type":"InputCommand","header":"BAAAAAAAAAA=","message":{"value":{"content":"aW5wdXQ="}}}'),
-    # a header alone, of which readers before V9 ignore the length
+    # only a header, whose length readers before V9 ignore
     ("0008000000000000", '{"code":8,"unknown":true}'),
     ("0008000000000005", '{"code":8,"unknown":true,"header":"AAgAAAAAAAU="}'),
     ("0008000000000000", '{"code":8,"unknown":true}', 9),

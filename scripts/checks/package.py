@@ -15,7 +15,7 @@ LIBRARIES = pathlib.Path("usr/lib/x86_64-linux-gnu")
 
 
 def words(check: checks.Check) -> None:
-    """Wrong words are rejected with a line on the standard error; --help says what there is."""
+    """Wrong words are rejected with a line on the standard error; --help tells what there is."""
     for given in (["nothing"], ["--halp"], [".", "."]):
         ended = checks.run(["sh", "scripts/package.sh", *given])
         check.case(f"package.sh {' '.join(given)}", ended.status == 2 and ended.err.count(b"\n") == 1, ended)

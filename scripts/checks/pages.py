@@ -42,7 +42,7 @@ VECTORS = ("payloads", "merging", "levels", "hostile", "worked", "streams", "fra
 
 
 def files(top: str, *endings: str) -> list[str]:
-    """The paths of all files below a folder whose names end so, but for what is built."""
+    """The paths of all files below a folder whose names end so, except what is built."""
     found = []
     for folder, folders, names in os.walk(top):
         folders[:] = [name for name in folders if name not in (*BUILT, ".git")]
@@ -108,7 +108,7 @@ def anchors() -> Found:
 
 
 def long_lines() -> Found:
-    """Lines have at most 120 characters, but for rows of tables, pictures and code. Those that have are not counted."""
+    """Lines have at most 120 characters, except rows of tables, pictures and code. Those that have are not counted."""
     for page in pages():
         is_fenced = was_code = False
         before = ""
@@ -265,7 +265,7 @@ def front_names() -> Found:
             yield "README.md", f"its page has no {code}", code in pages_of_row
 
 
-# The row of the table of compatibility, the file that says what is needed, and where.
+# The row of the table of compatibility, the file that tells what is needed, and where.
 NEEDED = (
     ("Python", "python/pyproject.toml", r'^requires-python = ">=([\d.]+)"'),
     ("Go", "go/go.mod", r"^go ([\d.]+)"),
@@ -294,12 +294,13 @@ def compatibility() -> Found:
 
 
 def stages() -> Found:
-    """The page on the gate has a row for each check, and for nothing else."""
+    """The page on the gate has each check in a row, and nothing else."""
     page = "docs/GATE.md"
     lists = re.findall(r"""^(?:all|before_release)=['"](?:\$all )?([^'"]*)""", text("scripts/check.sh"), re.MULTILINE)
     names = {name for names in lists for name in names.split()}
     section = text(page).partition("\n## The stages\n")[2].partition("\n## ")[0]
-    rows = set(re.findall(r"^\| `(\w+)` \|", section, re.MULTILINE))
+    firsts = re.findall(r"^\| (`\w+`(?:, `\w+`)*) \|", section, re.MULTILINE)
+    rows = {name for first in firsts for name in re.findall(r"\w+", first)}
     for name in sorted(names | rows):
         yield page, f"{name} is a check without a row, or a row without a check", name in names & rows
 
@@ -339,7 +340,7 @@ def commands() -> Found:
                 fence = mark[1] if fence is None else None
             elif (fence is None and line.startswith("    ") or fence == "sh") and COMMAND.match(line.strip()):
                 words = line.strip()
-                # what a program prints is no command, nor is a line of a picture
+                # what a program prints is not a command, nor is a line of a picture
                 if not re.match(r"\w+ make: |\w+: |journal +\w+[,/]|journal  ", words):
                     known = any(re.match(pattern, words) for pattern, _ in NOT_SHOWN)
                     yield page, f"line {number} is a command that no check runs: {words}", known

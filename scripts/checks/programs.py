@@ -19,7 +19,7 @@ def text_of(name: str) -> str:
 
 
 def go_to_streams(check: checks.Check, made: typing.Mapping[str, bytes] = {}) -> None:
-    """Makes a copy of examples/streams the current folder, with these files beside."""
+    """Makes a copy of examples/streams the current folder, with these files in it."""
     folder = check.work / "streams"
     shutil.copytree(STREAMS, folder)
     for name, data in made.items():

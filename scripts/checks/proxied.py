@@ -11,7 +11,7 @@ import subprocess
 import sys
 import threading
 
-# what is passed on as it came: an input, a custom entry and a code that no type has, with all of their flags
+# what is passed on as received: an input, a custom entry and a code that no type has, with all of their flags
 KEPT = bytes.fromhex("0400123400000009" "72070a05696e707574" "fc01ffff00000001ff" "0008a5a500000000")
 INPUT = KEPT[:-17]
 SKIPPED = bytes.fromhex("0008a5a500000003" "000403")

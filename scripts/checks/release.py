@@ -29,7 +29,7 @@ LISTED = (STREAMS / "replay", STREAMS / "replay.stdout")
 LIBRARY_GLIBC = (2, 31)
 PROGRAMS_GLIBC = (2, 34)
 
-# What the bare systems have beside the packages of every system.
+# What the bare systems have in addition to the packages of every system.
 PACKAGES = {
     "x86_64": ("python3-venv", "ruby", "ruby-minitest", "nodejs"),
     # the last one has the standard library of Rust, with which the crate is compiled outside
@@ -240,7 +240,7 @@ class Trial:
             self.check.command("tar", ["tar", "-xf", file, "-C", package, "--strip-components=1"])
         addon = package / f"build/linux-{self.machine.node}/pendratsoa.node"
         self.needs_at_most("the addon", LIBRARY_GLIBC, addon)
-        # the tests are beside the package's files, and find the vectors two folders above
+        # the tests are next to the package's files, and find the vectors two folders above
         shutil.copytree("node/test", package / "test")
         (user / "node_modules/conformance").symlink_to("/trial/conformance")
         test = "user/node_modules/pendratsoa/test/conformance.js"
@@ -336,7 +336,7 @@ def rust(trial: Trial) -> None:
             )
             return
     unpack(trial, f"pendratsoa-rust-{VERSION}.tar.gz", folder)
-    # its tests are in the repository alone
+    # its tests are only in the repository
     shutil.copy("rust/Cargo.toml", folder)
     shutil.copytree("rust/tests", folder / "tests")
     (trial.work / "conformance").symlink_to(trial.inside / "conformance")
@@ -451,7 +451,7 @@ def under_qemu(trial: Trial) -> None:
 
 
 def rejected(check: checks.Check) -> None:
-    """Wrong words, and what is no release, are rejected in a line on the standard error that says why."""
+    """Wrong words, and what is not a release, are rejected in a line on the standard error that tells why."""
     full = check.work / "full"
     full.mkdir()
     (full / "file").write_text("file\n")

@@ -1,7 +1,7 @@
 #!/usr/bin/env python3
-"""journal schema on the descriptions of other runtimes: the table, and what is no descriptor set.
+"""journal schema on the descriptions of other runtimes: the table, and what is not a descriptor set.
 
-protoc makes a set of each .proto file of tests/adopt, and of the protocol's own. The tables are beside those files.
+protoc makes a set of each .proto file of tests/adopt, and of the protocol's own. The tables are next to those files.
 """
 from __future__ import annotations
 

@@ -1,7 +1,7 @@
 #!/usr/bin/env python3
-"""journal_list on adversarial streams, beside an independent lister and under bounds of memory.
+"""journal_list on adversarial streams, compared with an independent lister, and under bounds of memory.
 
-The streams are some MiB of any bytes, unknown headers alone, a header that promises 4 GiB, and frames of all types with
+The streams are some MiB of any bytes, only unknown headers, a header that promises 4 GiB, and frames of all types with
 any payload, at v9 unknown ones too. The proved program reads each in chunks of several sizes, under a bound of address
 space. The listing has to be that of list_stream.py, which knows the rule of items and nothing of the library. The
 streams are the same in each run.

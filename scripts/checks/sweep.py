@@ -1,4 +1,4 @@
-"""Many reads and large payloads, in the programs and in the library for C, beside results that are made here.
+"""Many reads and large payloads, in the programs and in the library for C, compared with results that are made here.
 
     sweep.py LIST DIFF DUMP MAKE [TEST..]
     sweep.py - [TEST..]
@@ -78,12 +78,12 @@ def set_state_json(key, content):
 
 @functools.cache
 def large():
-    """A value: letters and digits without an order."""
+    """A value: characters and digits without an order."""
     return base64.b64encode(random.Random(1).randbytes(VALUE // 4 * 3))
 
 
 def other(content):
-    """The same value but for its last byte."""
+    """The same value except its last byte."""
     return content[:-1] + b"!"
 
 
@@ -313,7 +313,7 @@ class Calls(Sweep):
 
     @functools.cached_property
     def loose(self):
-        """The same fields in another order, with two keys, of which the last one counts."""
+        """The same fields in another order, with two keys, the last of which counts."""
         return record(1, b"x") + record(3, record(1, large())) + record(1, b"key")
 
     @functools.cached_property

@@ -1,7 +1,7 @@
 #!/bin/sh
 # Large inputs: millions of reads, streams of 320 MB, payloads of 120 MB, in the programs and in the library for C.
 #
-# It takes the proved programs, and the proved static library as scripts/checks/c.sh does. scripts/checks/sweep.py says
+# It takes the proved programs, and the proved static library as scripts/checks/c.sh does. scripts/checks/sweep.py tells
 # how it is run over others.
 set -u
 cd "$(dirname "$0")/../.." || exit 1

@@ -28,7 +28,7 @@ WORK = pathlib.Path(FOLDER.name)
 # the characters that a terminal may take as commands, as docs/PROGRAMS.md lists them
 RANGES = [(0, 0x1F), (0x7F, 0x9F), (0x61C, 0x61C), (0x200E, 0x200F), (0x2028, 0x202E), (0x2066, 0x2069)]
 STEERING = [chr(code) for first, last in RANGES for code in range(first, last + 1)]
-# the characters beside them, and some that are shown as they are
+# the characters next to them, and some that are shown as they are
 SHOWN = [
     chr(code) for code in (0x20, 0x7E, 0xA0, 0x61B, 0x61D, 0x200D, 0x2010, 0x2027, 0x202F, 0x2065, 0x206A, 0x1F600)
 ]
@@ -288,7 +288,7 @@ class Programs(unittest.TestCase):
             self.assertNotIn("terminal", run(DUMP, "--no-payload", rest, out=True)[2])
 
     def test_progress_of_a_slow_input(self):
-        """An input that takes more than a second: a line says how much is read, and is removed at the end."""
+        """An input that takes more than a second: a line tells how much is read, and is removed at the end."""
         data = (STREAMS / "recorded").read_bytes()
         runs = []
         for words in (LIST, "3"), (DUMP,), (DIFF, "-", STREAMS / "recorded"):

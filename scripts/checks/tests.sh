@@ -1,11 +1,11 @@
 #!/bin/sh
-# The tests of tests/, compiled and run without proofs; also of the folders alone that are named.
+# The tests of tests/, compiled and run without proofs; also only of the folders that are named.
 #
 # They check the public API by its types, and what calls return and print where no contract says it. `rt try --test`
 # compiles all of them as one crate, in a temporary copy of the sources, and stops at each fault of memory. Each test
 # counts as one, and each folder has a line. Then each test of tests/out_of_memory runs once for each allocation that it
 # makes, with that one failing (tests/c/refuse.c), and has to pass; each such run counts as one. At last each test of
-# tests/waiting runs alone, and what it holds is compared with a bound.
+# tests/waiting runs by itself, and what it holds is compared with a bound.
 set -u
 cd "$(dirname "$0")/../.." || exit 1
 . scripts/checks/lib.sh
@@ -86,7 +86,7 @@ awk '/^test / { shown = / \.\.\. / && !/ \.\.\. ok$/ && !/^test result: / } show
 # nothing is looked for after the end of a run
 ASAN_OPTIONS=detect_leaks=0
 export ASAN_OPTIONS
-# alone NAME FOLDER FILE LINES: a check that runs each test of a folder alone, and its lines that end so are shown
+# `alone` NAME FOLDER FILE LINES: a check that runs each test of a folder by itself, and its lines that end so are shown
 alone() {
   if [ ! -d "$crate/src/$2" ]; then
     return

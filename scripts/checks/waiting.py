@@ -46,7 +46,7 @@ class Waiting(unittest.TestCase):
         with tempfile.TemporaryDirectory() as folder:
             fifo = os.path.join(folder, "fifo")
             os.mkfifo(fifo)
-            # for both, since an end alone would wait for the other one
+            # for both, since one end would wait for the other
             reader = os.open(fifo, os.O_RDONLY | os.O_NONBLOCK)
             writer = os.open(fifo, os.O_WRONLY)
             os.set_blocking(reader, True)

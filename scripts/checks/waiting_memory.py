@@ -1,7 +1,7 @@
 """What a decoder or a reader of items holds of bytes that wait is at most twice their number and 64 KiB.
 
 The names of the tests of tests/waiting are the lines of the standard input. waiting_memory.py PROGRAM runs a program
-with each of them alone; it has tests/c/refuse.c, which says the most bytes that were allocated at once. Beyond that of
+with only one of them; it has tests/c/refuse.c, which says the most bytes that were allocated at once. Beyond that of
 a test without chunks a decoder may have what is said here.
 """
 from __future__ import annotations

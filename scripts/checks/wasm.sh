@@ -45,7 +45,7 @@ for added in 'declare i64 @clock(i64)' '  call void asm sideeffect "cpuid", ""()
   outcome "retarget.py refuses '$added'" $?
 done
 
-# The addon beside it.
+# The addon next to it.
 if command -v cc > /dev/null; then
   installed_library
   mkdir "$work/native"

@@ -5,7 +5,8 @@ Each phrase below is searched in pages, comments and docstrings, code in backquo
 the end of a line. A word with honest other uses is here only in the wrong phrase. Each page is plain: it has none of
 the phrases of DIALECT either, and of a hundred sentences fewer than five with more than 30 words. So are the help texts
 and the texts of the man pages, in the description of the programs. Comments of public items and of headers have as few
-long sentences, and comments of the folders of PLAIN have none of the phrases of DIALECT.
+long sentences, and comments of the folders of PLAIN have none of the phrases of DIALECT. With --pages it prints of
+each page its words, its long sentences of a hundred, and its phrases.
 """
 from __future__ import annotations
 
@@ -14,6 +15,7 @@ import collections.abc
 import pathlib
 import re
 import subprocess
+import sys
 
 import checks
 
@@ -82,7 +84,7 @@ PHRASES = (
 PATTERNS = [(re.compile(pattern), better) for pattern, better in PHRASES]
 CODE = re.compile("`[^`]*`")
 
-# Phrases of pages, each with the field's term.
+# Phrases of pages, each with the field's term. A message may say something.
 DIALECT = (
     (r"bytes (that are )?in no item", "trailing bytes, or incomplete data"),
     (r"code (that is no type's|of no type)|codes of no type", "unassigned code"),
@@ -91,7 +93,7 @@ DIALECT = (
     (r"\balone\b", "only"),
     (r", of which |[.:;] Of (the|its|an?|all|these|those|two|both) ", "split the sentence; name the subject first"),
     (r"(?<![Tt]here )\b(is|are) no (?!longer\b|more\b|less\b|such\b)[a-z]+", "is not a"),
-    (r"\bsays (how|what|which|whether|why)\b", "documents, reports, specifies"),
+    (r"(?<!Message: )\bsays (how|what|which|whether|why)\b", "documents, reports, specifies, tells"),
     (r"\b[Ww]hoever\b", "Audience:, anyone who"),
     (r"\b[Tt]he kit\b", "Rattle's standard library, or the toolchain"),
     (r"\b[Tt]he peer\b", "the baseline, or prost"),
@@ -116,7 +118,10 @@ DIALECT = (
 DIALECT_PATTERNS = [(re.compile(pattern), better) for pattern, better in DIALECT]
 
 # The folders whose comments have none of these phrases.
-PLAIN = ("crates/", "include/", "tests/", "examples/", "bench/")
+PLAIN = (
+    "crates/", "include/", "tests/", "examples/", "bench/", "go/", "node/", "python/", "ruby/", "rust/", "scripts/",
+    "tools/", "view/", "wasm/", "proto/",
+)
 
 # How many words a sentence may have, and how many of a hundred may have more.
 WORDS, LONG = 30, 5
@@ -239,14 +244,31 @@ def plain(check: checks.Check, page: str, lines: list[Line]) -> None:
     check.case(said, is_plain, "".join(shown))
 
 
+def files() -> list[str]:
+    """The files of the repository."""
+    listed = subprocess.run(["git", "ls-files", "-z"], stdout=subprocess.PIPE, check=True, encoding="utf-8").stdout
+    # a file that was removed is listed until that is staged
+    return [file for file in listed.rstrip("\0").split("\0") if pathlib.Path(file).exists()]
+
+
+def print_pages() -> None:
+    """Prints of each page its words, its long sentences of a hundred, and its phrases of DIALECT."""
+    for page in files():
+        if page.endswith(PAGE):
+            text = pathlib.Path(page).read_text(encoding="utf-8")
+            lines = list(page_lines(text.split("\n")))
+            all_of_page = sentences(lines)
+            share = 100 * len(too_long(all_of_page)) / len(all_of_page)
+            phrases = len(found(lines, DIALECT_PATTERNS))
+            print(f"{page}: {len(text.split())} words, {share:.1f} of 100 sentences, {phrases} phrases")
+
+
 def main(check: checks.Check) -> None:
     endings = (PAGE, *MARKS, PROGRAMS)
     counted = {what: [0, 0] for what, _ in COUNTED.values()}
-    listed = subprocess.run(["git", "ls-files", "-z"], stdout=subprocess.PIPE, check=True, encoding="utf-8").stdout
-    for file in listed.rstrip("\0").split("\0"):
+    for file in files():
         ending = next((ending for ending in endings if file.endswith(ending)), None)
-        # a file that was removed is listed until that is staged
-        if ending is None or not pathlib.Path(file).exists():
+        if ending is None:
             continue
         lines = [] if file == SELF else pathlib.Path(file).read_text(encoding="utf-8").split("\n")
         lines = [line if "@generated" not in line else "" for line in lines]
@@ -279,4 +301,7 @@ def main(check: checks.Check) -> None:
 
 
 if __name__ == "__main__":
-    checks.perform(main)
+    if sys.argv[1:] == ["--pages"]:
+        print_pages()
+    else:
+        checks.perform(main)

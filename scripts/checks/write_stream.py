@@ -1,9 +1,9 @@
 """Writes an adversarial stream, the same for the same kind, size and seed: write_stream.py KIND SIZE SEED
 
-random: any bytes. unknown: headers alone whose codes are unknown. promise: a header that promises 4,294,967,295 bytes,
+random: any bytes. unknown: only headers, whose codes are unknown. promise: a header that promises 4,294,967,295 bytes,
 and any bytes after it. mixed: frames of all types and of custom ones with any payload, unknown headers between them,
 and at the end a frame of which the last byte is missing. skipped: the same with unknown headers that have the payload
-that they say. Ignored bits of headers are random. names: a call of a service whose name has 200 letters, and of a
+that they say. Ignored bits of headers are random. names: a call of a service whose name has 200 characters, and of a
 handler whose name has SIZE.
 """
 from __future__ import annotations
@@ -64,7 +64,7 @@ class Writer:
 
 
 def named(like: bytes, letter: bytes, count: int) -> bytes:
-    """A record like one of a text of one letter, of so many letters."""
+    """A record like one of a text of one letter, of so many characters."""
     length, rest = bytearray(), count
     while rest >= 128:
         length.append(rest % 128 + 128)

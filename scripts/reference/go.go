@@ -62,7 +62,7 @@ func values(all []*doc.Value) {
 	}
 }
 
-// each says whether each line of a declaration, or the one before it in its group, has a comment.
+// each tells whether each line of a declaration, or the one before it in its group, has a comment.
 func each(decl *ast.GenDecl) bool {
 	for number, spec := range decl.Specs {
 		value, ok := spec.(*ast.ValueSpec)
@@ -131,7 +131,7 @@ func fields(one *doc.Type) {
 	}
 }
 
-// index writes a line for each function and each type, with a link.
+// index writes one line per function and type, with a link.
 func index() {
 	fmt.Println("<h2 id=\"index\">Index</h2>\n<ul>")
 	line := func(anchor, text string) {

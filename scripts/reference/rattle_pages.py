@@ -442,7 +442,7 @@ def first_sentence(comment: str) -> str:
     return re.split(r"(?<=[.:])\s", comment.strip(), maxsplit=1)[0]
 
 
-# A field whose type says what it is.
+# A field whose type tells what it is.
 OF_A_TYPE = re.compile(r": (?!String|Vec|Bytes|Option)[A-Z]\w+$")
 
 

@@ -7,7 +7,7 @@
 #   PREFIX       a folder, /usr/local if none is named; it gets bin, include, lib and share
 #   --uninstall  removes exactly what was installed below PREFIX, and the folders that were made for it
 #
-# It needs sh and the commands that every system has beside it: no toolchain, no compiler, no network. An earlier
+# It needs sh and the commands that every system has with it: no toolchain, no compiler, no network. An earlier
 # release below PREFIX is removed first. No file of another's is replaced. The variable DESTDIR is a folder in which
 # PREFIX is made.
 set -eu

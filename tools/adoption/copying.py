@@ -226,7 +226,7 @@ def adopt_literals(out, renumbering, listings):
 
 
 def made(out, theirs, text, adoption):
-    """Makes the copy, with what repeats numbers by hand, and says how much of it there is; the description there."""
+    """Makes the copy, with what repeats numbers by hand, and tells how much of it there is; the description there."""
     copied(out)
     (out / "proto" / "journal.proto").write_text(text, encoding="utf-8")
     say_whose(out, theirs)
@@ -241,7 +241,7 @@ def made(out, theirs, text, adoption):
 
 
 def generate(out):
-    """Generates there what repeats the description, or says why not."""
+    """Generates there what repeats the description, or tells why not."""
     print(f"\n{out}: the copy, with its description; generating what repeats it", flush=True)
     ended = subprocess.run([sys.executable, "-B", "tools/generate.py"], cwd=out, capture_output=True, text=True)
     if ended.returncode != 0:

@@ -21,7 +21,7 @@ class Added:
         self.is_left_out, self.why = False, ""
 
     def leave_out(self, why, section=LOST):
-        """Leaves it out, with what is in it, of which nothing more is said then."""
+        """Leaves it out, with what is in it; nothing more is reported of that then."""
         self.is_left_out, self.why = True, why
         if self.row is not None:
             point = f"{self.row.name} is only there, and is left out: {why}" if section else ""

@@ -7,7 +7,7 @@ from generators.model import COMMANDS, NOTIFICATIONS
 from . import codes, readings
 from .naming import plain, shape, similar
 
-# The field that names a command, and the messages of a suspension, of which the earlier one may be within the later
+# The field that names a command, and the messages of a suspension; the earlier one may be within the later
 # one.
 NAME = "name"
 SUSPENSION, FLAT = "SuspensionMessage", "SuspensionMessageV6"
@@ -70,7 +70,7 @@ class Pairs:
                 found[name] = self.theirs[other]
         if EMPTY[0] not in found and EMPTY[1] in self.theirs and not self.theirs[EMPTY[1]].fields:
             found[EMPTY[0]] = self.theirs[EMPTY[1]]
-        # a file that has one suspension alone may have the three lists in it
+        # a file that has only one suspension may have the three lists in it
         last = found.get(SUSPENSION)
         if FLAT not in found and last and "waiting_completions" in [field.name for field in last.fields]:
             found[FLAT] = last
@@ -103,7 +103,7 @@ class Pairs:
         return [f"--rename {self.renames.words[key]}: there is no {what} {name} {where}{similar(name, known)}"]
 
     def version(self):
-        """The version of their streams: an earlier one, if their suspension has the three lists alone."""
+        """The version of their streams: an earlier one, if their suspension has only the three lists."""
         other = self.found.get(SUSPENSION)
         return LAST_FLAT if other and self.is_flat(other) and not self.has_both_forms() else EXAMPLES
 

@@ -76,7 +76,7 @@ class Report:
         return ", ".join(f"{found[said]} {said}" for said in (SAME, RENUMBERED, THEIRS, OURS, KIND))
 
     def only_here(self, ours):
-        """What nothing of theirs fills: fields, a line for each message, then whole messages, those of types apart."""
+        """What nothing of theirs fills: fields, one line per message, then whole messages, those of types apart."""
         types = [name for name in self.messages if "code" in ours[name].options]
         others = [name for name in self.messages if name not in types]
         lines = [f"- {name}: {', '.join(fields)}" for name, fields in self.fields.items()]

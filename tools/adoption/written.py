@@ -7,7 +7,7 @@ from generators import Refused, forms, proto
 from .further import AddedEnum, AddedField, AddedMessage, AddedOneof
 from .report import LOST
 
-# What protoc says of a number that two fields have, of which either may be the one to give up.
+# What protoc says of a number that two fields have; either may be the one to give up.
 TWICE = re.compile(r'has already been used in "[\w.]*?(\w+)" by field "(\w+)"')
 
 

@@ -53,7 +53,7 @@ function base64(bytes) {
   return btoa(text);
 }
 
-/** A journal: its bytes, and the names, directions and schemas of the types that came in it. */
+/** A journal: its bytes, and the names, directions and schemas of the types received in it. */
 class Journal {
   constructor(name, bytes, version, types) {
     Object.assign(this, { name, bytes, version, types, known: new Map() });

@@ -4,7 +4,7 @@
 // where a dump has no payloads, commands are compared by type and length, and no two of them are said to be the same
 const hasPayloads = journals.every(({ commands }) => !commands.some(lacksPayload));
 
-/** What is compared of a command, as one text, but for its ids: those change where a command is inserted before it. */
+/** What is compared of a command, as one text, except its ids: those change where a command is inserted before it. */
 function comparedText(item) {
   const { type, length, message, bytes, leftOut, cut = {} } = item.dump;
   if (!hasPayloads) return JSON.stringify([typeOf(item), length]);
@@ -16,7 +16,7 @@ function comparedText(item) {
   return JSON.stringify([typeOf(item), values, digests]);
 }
 
-/** Whether two commands of one type have the same ids, but for those that are not compared. */
+/** Whether two commands of one type have the same ids, except those that are not compared. */
 function haveSameIds(one, other) {
   const fields = fieldsOf(schemaOf(one));
   const idOf = ({ dump }, name) => (isCompared(fields[name]) ? dump.message?.[name] : undefined);
@@ -24,7 +24,7 @@ function haveSameIds(one, other) {
   return true;
 }
 
-/** How two commands of which the rest is the same belong together: the same, or but for their ids. */
+/** How two commands of which the rest is the same belong together: the same, or the same except for their ids. */
 const kindOfEquals = (one, other) => (!hasPayloads ? "unseen" : haveSameIds(one, other) ? "same" : "ids");
 
 /** How two commands belong together that are not equal. */

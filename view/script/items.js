@@ -123,7 +123,7 @@ const emptyThread = () => ({ requests: [], proposes: [], acknowledges: [], compl
 
 /**
  * The items of a journal in order, last the rest; and what joins them: the items of each key by their roles. An item
- * has its number in the journal, of which the page may begin later, and its place here.
+ * has its number in the journal, as the page may begin later, and its place here.
  */
 function readJournal(side) {
   const lines = byId(`journal-${side}`).textContent.trim().split("\n");

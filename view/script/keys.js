@@ -58,7 +58,7 @@ const COLUMNS = {
 };
 const PAIR_COLUMNS = { "side-0": "recorded", mark: "", "side-1": "replayed" };
 
-/** The widths of the columns that hold numbers, and of the lines beside the list. */
+/** The widths of the columns that hold numbers, and of the lines next to the list. */
 function setWidths() {
   const longest = (values) => Math.max(0, ...values).toLocaleString("en").length;
   const style = document.querySelector("main").style;

@@ -1,4 +1,4 @@
-// The lines beside the list of one journal, each from a command to its completion.
+// The lines next to the list of one journal, each from a command to its completion.
 
 const LANES = 6; // lines side by side; what needs more has none
 const LANE_WIDTH = 7;

@@ -18,7 +18,7 @@ const CODES = {
 const COLORS = [
   "", "--core", "--notification", "--command", "--good", "--custom", "--rest", "--moved", "--bad", "--bad",
 ];
-// beside another journal the colors are of how commands belong together
+// next to another journal the colors are of how commands belong together
 if (isPair) COLORS.fill("--low", CODES.other, CODES.command);
 
 function codeOf(item, kind) {

@@ -63,7 +63,7 @@ function attempt(make, otherwise) {
 }
 
 // Characters that nothing is seen of, that look like a space, that turn the direction of a text, or that no font has,
-// but for spaces, tabs and line feeds: controls, formats such as U+202E, separators, unassigned and private characters,
+// except spaces, tabs and line feeds: controls, formats such as U+202E, separators, unassigned and private characters,
 // halves of a character, what fonts leave out, and the empty pattern of braille.
 const HIDDEN = /((?:(?![\t\n ])[\p{C}\p{Z}\p{Default_Ignorable_Code_Point}\u2800])+)/u;
 // in a row also tabs, line feeds, and spaces at an end

@@ -21,7 +21,7 @@ function quotedRun(steps, side) {
   return ends.flatMap((item, place) => [place === 0 ? "" : between, quoted(commandText(item), side)]);
 }
 
-/** How the journals part, by the steps of a difference: pairs, or commands that one journal has alone. */
+/** How the journals part, by the steps of a difference: pairs, or commands that only one journal has. */
 function partingOf({ steps, end }) {
   const amount = steps.length;
   const [{ kind, pair }] = steps;
@@ -42,7 +42,7 @@ function partingOf({ steps, end }) {
     quoted(replayed, 1), others];
 }
 
-/** How the journals part at commands that one of them has alone: at its end, or before commands of both. */
+/** How the journals part at commands that only one of them has: at its end, or before commands of both. */
 function partingAlone(steps, end, side) {
   const amount = steps.length;
   const first = steps[0].pair[side].command;

@@ -45,7 +45,7 @@ function pathOf(node) {
   return path.startsWith(".") ? path : `.${path}`;
 }
 
-/** Numbers the nodes of trees: those that are the same, but for blanks and the order of members, have one number. */
+/** Numbers the nodes of trees: those that are the same, except blanks and the order of members, have one number. */
 function numberNodes(trees) {
   const known = new Map();
   for (const { text, nodes } of trees) {
@@ -82,7 +82,7 @@ function elementPairs(left, right) {
 
 /**
  * What differs in two trees, by nodes: `changed`, with the part of a leaf that is; `only` in one of them; and `within`,
- * of nodes above these. Nothing where they differ in blanks and in the order of members alone.
+ * of nodes above these. Nothing where they differ only in blanks and in the order of members.
  */
 function treeMarks(trees) {
   numberNodes(trees);

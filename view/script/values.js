@@ -49,7 +49,7 @@ function foldedLength(text) {
   return text.length - length < FOLDED.least ? text.length : length;
 }
 
-/** What is shown of a text at first: its start, or what is marked with some characters beside it. */
+/** What is shown of a text at first: its start, or what is marked with some characters around it. */
 function foldedPart(text, part) {
   const end = foldedLength(text);
   if (part.start === part.end) return { start: 0, end };

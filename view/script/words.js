@@ -71,7 +71,7 @@ function rangeOf(text) {
 const isWithin = (value, { least, most, isOpen: isStrict }) =>
   isStrict ? value > least && value < most : value >= least && value <= most;
 
-/** A word as a test of an item; `wrong` says what is wrong with it. */
+/** A word as a test of an item; `wrong` tells what is wrong with it. */
 function testOf(field, rest) {
   if (Object.hasOwn(NUMBERS, field)) {
     const range = rangeOf(rest);

@@ -216,7 +216,7 @@ class Endings(unittest.TestCase):
 
 
 class Files(unittest.TestCase):
-    """Inputs and outputs that are no plain files, of the maker as it is run."""
+    """Inputs and outputs that are not plain files, of the maker as it is run."""
 
     def make(self, *words, **how):
         how = {"stdin": subprocess.DEVNULL, "stdout": subprocess.PIPE, **how}

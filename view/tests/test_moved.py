@@ -705,7 +705,7 @@ class Explained(PageTest):
         browser.wait("rows[selected][1]?.dump.type === 'RunCompletionNotification'")
         browser.press("Enter")
         browser.wait("kindOfRow(selected) === 'inserted'")
-        # the next difference, by the button beside the sentence
+        # the next difference, by the button next to the sentence
         browser.click_on("document.querySelector('#sentence button')")
         browser.wait("kindOfRow(selected) === 'changed'")
         self.assertIn("payments/charge", self.selected())
