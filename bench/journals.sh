@@ -1,12 +1,23 @@
 #!/bin/sh
 # Measures the program journal_diff against the baseline's comparison, on two long journals that are the same, and
-# prints a table in Markdown: journals.sh [LENGTH ..]; README.md says more
+# prints a table in Markdown: journals.sh [--replay] [LENGTH ..]; README.md says more
 #
-# It takes the proved program that rt ci leaves in out/, and proves and builds it where it is not there. If the
-# tools are missing it says 'not run: ..'.
+# It takes the proved program that rt ci leaves in out/, and proves and builds it where it is not there. With --replay
+# it measures replay.c instead, which checks one journal by the other as it comes, over the C library that build.sh
+# makes. If the tools are missing it says 'not run: ..'.
 set -u
 cd "$(dirname "$0")" || exit 1
 
+if [ "${1-}" = --replay ]; then
+  shift
+  sh build.sh || exit 0
+  work=$(mktemp -d) || exit 1
+  trap 'rm -rf "$work"' EXIT
+  "${CC:-cc}" -O2 -Wall -Wextra -Werror -I target/pendratsoa/include replay.c target/pendratsoa/lib/libpendratsoa.a \
+    -o "$work/replay" || exit 1
+  target/release/journals "$work/replay" "$work" "$@"
+  exit
+fi
 sh install.sh || exit 0
 journal=$PWD/../crates/journal/out/journal
 if [ ! -x "$journal" ]; then
