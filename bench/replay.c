@@ -1,36 +1,41 @@
 /*
  * Checks a replay by its recording, item by item, and prints the verdict: replay RECORDED REPLAYED
  *
- * It is what bench/journals.sh --replay measures. The recording is in memory; of the replay a chunk is.
+ * It is what bench/journals.sh --replay measures. The recording is mapped into memory; of the replay a chunk is there.
  */
+#include <fcntl.h>
 #include <inttypes.h>
 #include <stdio.h>
+#include <sys/mman.h>
+#include <sys/stat.h>
 
 #include <pendratsoa_reader.h>
 
 #define CHUNK 65536
 
-static struct journal_memory recorded;
+/* The bytes of a file, and how many they are; null if there are none. */
+static const uint8_t *bytes_of(const char *path, size_t *length) {
+    const int file = open(path, O_RDONLY);
+    struct stat found;
+    void *bytes;
 
-/* Reads a file into memory. Returns how many bytes it has, or -1. */
-static int64_t read_file(const char *path) {
-    FILE *file = fopen(path, "rb");
-    size_t length = 0;
-
-    while (file && !feof(file) && !ferror(file) && journal_memory_grow(&recorded, length + CHUNK)) {
-        length += fread(recorded.bytes + length, 1, CHUNK, file);
+    if (file < 0 || fstat(file, &found) != 0) {
+        return NULL;
     }
-    return file && feof(file) ? (int64_t)length : -1;
+    *length = (size_t)found.st_size;
+    bytes = mmap(NULL, *length, PROT_READ, MAP_PRIVATE, file, 0);
+    return bytes == MAP_FAILED ? NULL : bytes;
 }
 
 int main(int argc, char **argv) {
-    const int64_t length = argc == 3 ? read_file(argv[1]) : -1;
+    size_t length = 0;
+    const uint8_t *recorded = argc == 3 ? bytes_of(argv[1], &length) : NULL;
     FILE *file = argc == 3 ? fopen(argv[2], "rb") : NULL;
     struct journal_reader reader = journal_reader_of(8, UINT32_MAX);
     struct journal_replay replay = {8, 0, 0, 0, 0, 0};
     struct journal_reader_item item;
     struct journal_mismatch found;
-    int64_t result = length < 0 || !file;
+    int64_t result = !recorded || !file;
     size_t count = 1;
 
     while (result == 0 && count > 0) {
@@ -40,13 +45,13 @@ int main(int argc, char **argv) {
         count = room ? fread(room, 1, CHUNK, file) : 0;
         journal_reader_came(&reader, count);
         while (result == 0 && (result = journal_reader_next(&reader, &item)) == 1) {
-            result = journal_replay_check((uint16_t)item.item.code, recorded.bytes, (size_t)length, item.payload,
+            result = journal_replay_check((uint16_t)item.item.code, recorded, length, item.payload,
                                           item.payload_length, &replay, JOURNAL_REPLAY_NUMBERS, &found,
                                           JOURNAL_MISMATCH_NUMBERS);
         }
     }
     if (result == 0) {
-        result = journal_replay_finish(recorded.bytes, (size_t)length, &replay, JOURNAL_REPLAY_NUMBERS, &found,
+        result = journal_replay_finish(recorded, length, &replay, JOURNAL_REPLAY_NUMBERS, &found,
                                        JOURNAL_MISMATCH_NUMBERS);
     }
     if (result != 0) {
