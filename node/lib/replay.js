@@ -28,11 +28,11 @@ const mismatchNumbers = new BigUint64Array(MISMATCH_NUMBERS);
 const commandNumbers = new BigUint64Array(COMMAND_NUMBERS);
 const fieldNumbers = new BigUint64Array(CHANGED_FIELD_NUMBERS);
 
-/** The number of the options that are set: the sum of theirs. */
+/** The number of the options that are set. Each is a bit, by its place in the list, which begins with none. */
 function optionsOf(ignored) {
   let options = 0;
   for (const [name, value] of Object.entries(ignored)) {
-    options += value ? REPLAY_OPTIONS.indexOf(name) : 0;
+    options += value ? 2 ** (REPLAY_OPTIONS.indexOf(name) - 1) : 0;
   }
   return BigInt(options);
 }

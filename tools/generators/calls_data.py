@@ -112,6 +112,9 @@ def constants(entry):
     """The kinds of a list: the number of each, its name in C without `JOURNAL_`, its name elsewhere, its meaning."""
     begin = entry.get("from", 0)
     for number, (name, said) in enumerate(entry["values"], entry.get("first", 0)):
+        if entry["kinds"] == "option":
+            # options are added up, so each is a bit
+            number = 1 << (number - 1)
         yield number, entry.get("prefix", "") + name if number >= begin else name, name, said
 
 

@@ -35,9 +35,7 @@ module Pendratsoa
   class Replay
     # How many bytes a header has.
     HEADER = 8
-    IGNORE_PAYLOADS = 1
-    IGNORE_IDS = 2
-    private_constant :HEADER, :IGNORE_PAYLOADS, :IGNORE_IDS
+    private_constant :HEADER
 
     attr_reader :version
 
@@ -47,7 +45,9 @@ module Pendratsoa
       # that there is no such version is known before an item comes
       Named.call(Named::VERDICT, "Replay", version, "", "", ignore_payloads)
       @version = version
-      options = (ignore_payloads ? IGNORE_PAYLOADS : 0) + (ignore_ids ? IGNORE_IDS : 0)
+      ignored = { ignore_payloads: ignore_payloads, ignore_ids: ignore_ids }.select { |_, is_set| is_set }.keys
+      # each option is a bit, by its place in the list, which begins with none
+      options = ignored.sum { |name| 1 << (REPLAY_OPTIONS.index(name) - 1) }
       @replay = [version, options, 0, 0, 0, 0].pack("Q*").freeze
       @lock = Mutex.new
     end
