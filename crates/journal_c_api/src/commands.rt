@@ -162,11 +162,11 @@ fn changed_fields(
 
 /// Decodes two payloads, and returns 1 if the commands are the same, otherwise 0.
 #[derive(Drop)]
-pub(crate) struct Comparing<'a> {
-    pub alloc: Global,
-    pub first: &'a [u8],
-    pub second: &'a [u8],
-    pub ignore_payloads: bool,
+struct Comparing<'a> {
+    alloc: Global,
+    first: &'a [u8],
+    second: &'a [u8],
+    ignore_payloads: bool,
 }
 
 impl<'a> CommandVisitor for Comparing<'a> {
@@ -232,7 +232,7 @@ impl<'a> CommandVisitor for Listing<'a> {
 }
 
 /// The record that the second of two payloads means.
-pub(crate) fn decoded_second<M: WireRecord>(alloc: Global, payload: &[u8]) -> Result<M, CallError>
+fn decoded_second<M: WireRecord>(alloc: Global, payload: &[u8]) -> Result<M, CallError>
     ensures { MeansSecond M.schema M.parts payload.now result }
 {
     match decoded::<M>(alloc, payload) {
