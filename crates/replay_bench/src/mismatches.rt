@@ -1,6 +1,6 @@
 //! Two commands compared.
 
-ghost use Rattle.std.specs.Prelude.{◌≡◌, ◌<◌, ◌^◌, Err, IfErr, IfOk, IsSome, IsTrue, Some};
+ghost use Rattle.std.specs.Prelude.{◌≡◌, ◌↔◌, ◌<◌, ◌^◌, Err, IfErr, IfOk, IsSome, IsTrue, Some};
 ghost use Rattle.std.specs.Option.{IsSomeAnd};
 ghost use Rattle.shared_core_base.specs.CommandType.{command_type_of};
 ghost use Rattle.shared_core_codec.specs.Payloads.{IsAccepted};
@@ -108,15 +108,16 @@ pub fn compare_commands(pair: Pair<'_>) -> Result<Option<Found>, BenchError>
 
 /// Whether two payloads are the same bytes, which are well-formed for this type of commands.
 pub fn has_same_bytes(ty: MessageType, recorded: &[u8], replayed: &[u8]) -> bool
-    ensures payloads { IsTrue result → recorded.now ≡ replayed.now }
-    ensures accepted { IsTrue result → IsSomeAnd (message_schema ty) (λ s. IsAccepted s recorded.now) }
+    ensures { IsTrue result ↔ (recorded.now ≡ replayed.now)
+        × IsSomeAnd (message_schema ty) (λ s. IsAccepted s recorded.now) }
 {
     recorded == replayed && is_well_formed_command(ty, recorded)
 }
 
 /// Whether a payload is well-formed for this type of commands.
+#[tactic(auto, using(crate::proofs::EqualForms::at_v7))]
 fn is_well_formed_command(ty: MessageType, payload: &[u8]) -> bool
-    ensures { IsTrue result → IsSomeAnd (message_schema ty) (λ s. IsAccepted s payload.now) }
+    ensures { IsTrue result ↔ IsSomeAnd (message_schema ty) (λ s. IsAccepted s payload.now) }
 {
     // a command has one schema at all versions
     match schema_at(Version::V7, ty) {

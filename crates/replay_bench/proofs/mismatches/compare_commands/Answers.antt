@@ -35,8 +35,8 @@ returns-then-has_same_bytes c =
     let pair = c.args.pair in
     pair_same_bytes pair.ignore pair.is_listed pair.index (command_message pair.recorded)
     (command_message pair.replayed) (types_equal _ _ (sym c.eq.ensures ∙ c.if-eq.true))
-    (sym c.deref.ensures ∙ c.has_same_bytes.ensures.payloads c.if-has_same_bytes.true ∙ c.deref-then-eq.ensures)
-    (rw c.deref.ensures at (c.has_same_bytes.ensures.accepted c.if-has_same_bytes.true))
+    (sym c.deref.ensures ∙ (c.has_same_bytes.ensures.0 c.if-has_same_bytes.true).0 ∙ c.deref-then-eq.ensures)
+    (rw c.deref.ensures at (c.has_same_bytes.ensures.0 c.if-has_same_bytes.true).1)
 
 pub returns-in_err-text : goal.returns-in_err-text
 returns-in_err-text c =
