@@ -6,6 +6,7 @@ import (
 	"errors"
 	"fmt"
 	"io"
+	"math"
 )
 
 // The errors of readers that are none.
@@ -16,10 +17,12 @@ var (
 	ErrNilReader = errors.New("pendratsoa: the reader is nil")
 )
 
-// How many bytes a block has room for at least, and how often in a row a reader may return nothing.
+// How many bytes a block has room for at least, how often in a row a reader may return nothing, and how many items are
+// looked for at once, since a call of C costs more than finding one.
 const (
 	blockSize      = 32 << 10
 	mostEmptyReads = 100
+	mostItems      = 64
 )
 
 // A Decoder reads the items of a stream from a reader.
@@ -30,7 +33,10 @@ const (
 type Decoder struct {
 	reader  io.Reader
 	version int
-	numbers [itemNumbers]uint64
+	// found has the numbers of the items that the rest begins with; count is how many were found, and taken how many of
+	// them Next returned
+	found        [mostItems][itemNumbers]uint64
+	count, taken int
 	// rest is what was read and is in no item yet; up to its capacity goes the room for more
 	rest []byte
 	// readErr is what the reader returned with the last bytes
@@ -68,6 +74,8 @@ func (e *MessageTooLong) Unwrap() error {
 // of it is dropped.
 func (d *Decoder) SetMaxMessageSize(size uint32) {
 	d.limit, d.hasLimit = size, true
+	// what was found may be larger
+	d.count, d.taken = 0, 0
 }
 
 // NewDecoder returns a decoder of the stream of a version that comes from a reader, which it reads in blocks. For an
@@ -123,36 +131,53 @@ func (d *Decoder) take() (Item, int64, error) {
 	if d.ended != nil {
 		return nil, 0, d.ended
 	}
-	version, err := unsigned("Decoder.Next", versionName, d.version)
-	if err != nil {
-		return nil, 0, err
+	if d.taken == d.count {
+		missing, err := d.look()
+		if missing > 0 || err != nil {
+			return nil, missing, err
+		}
 	}
-	var missing int64
-	if d.hasLimit {
-		missing = journalNextWithin(version, d.limit, d.rest, &d.numbers)
-	} else {
-		missing = journalNext(version, d.rest, &d.numbers)
-	}
-	if missing == tooLong && len(d.rest) >= headerSize {
-		code, length := binary.BigEndian.Uint16(d.rest), binary.BigEndian.Uint32(d.rest[4:])
-		d.ended = &MessageTooLong{code, length, d.limit, d.offset}
-		d.rest = nil
-		return nil, 0, d.ended
-	}
-	if missing < 0 {
-		return nil, 0, arguments{version: named(versionName, d.version)}.refusal("Decoder.Next", missing)
-	}
-	if missing > 0 {
-		return nil, missing, nil
-	}
-	size := d.numbers[itemSize]
-	item, err := itemOf(d.version, d.numbers[:], d.rest[:size:size], positionAt(d.offset))
+	numbers := &d.found[d.taken]
+	size := numbers[itemSize]
+	item, err := itemOf(d.version, numbers[:], d.rest[:size:size], positionAt(d.offset))
 	if err != nil {
 		return nil, 0, &Error{"Decoder.Next", named(versionName, d.version), err}
 	}
+	d.taken++
 	d.rest = d.rest[size:]
 	d.offset += int64(size)
 	return item, 0, nil
+}
+
+// look finds the items that the rest begins with, and returns how many bytes are missing at least if none is whole.
+func (d *Decoder) look() (int64, error) {
+	version, err := unsigned("Decoder.Next", versionName, d.version)
+	if err != nil {
+		return 0, err
+	}
+	limit := uint32(math.MaxUint32)
+	if d.hasLimit {
+		limit = d.limit
+	}
+	d.count, d.taken = 0, 0
+	result := journalItems(version, limit, d.rest, d.found[:])
+	if result > 0 {
+		d.count = int(result)
+		return 0, nil
+	}
+	if result == 0 {
+		result = journalNextWithin(version, limit, d.rest, &d.found[0])
+	}
+	if result == tooLong && len(d.rest) >= headerSize {
+		code, length := binary.BigEndian.Uint16(d.rest), binary.BigEndian.Uint32(d.rest[4:])
+		d.ended = &MessageTooLong{code, length, d.limit, d.offset}
+		d.rest = nil
+		return 0, d.ended
+	}
+	if result < 0 {
+		return 0, arguments{version: named(versionName, d.version)}.refusal("Decoder.Next", result)
+	}
+	return result, nil
 }
 
 // incomplete returns the error that the stream ended within the item that the rest begins.

@@ -267,6 +267,13 @@ func pointerToFields(slice [][fieldNumbers]uint64) *C.struct_journal_field {
 	return (*C.struct_journal_field)(unsafe.Pointer(&slice[0]))
 }
 
+func pointerToItems(slice [][itemNumbers]uint64) *C.struct_journal_item {
+	if len(slice) == 0 {
+		return nil
+	}
+	return (*C.struct_journal_item)(unsafe.Pointer(&slice[0]))
+}
+
 func flag(isSet bool) C.uint32_t {
 	if isSet {
 		return 1
@@ -301,6 +308,13 @@ func journalNextWithin(version uint32, limit uint32, bytes []byte, item *[itemNu
 	return int64(C.journal_next_within(
 		C.uint32_t(version), C.uint32_t(limit), pointer(bytes), C.size_t(len(bytes)),
 		(*C.struct_journal_item)(unsafe.Pointer(item)), C.size_t(len(item)),
+	))
+}
+
+func journalItems(version uint32, limit uint32, bytes []byte, items [][itemNumbers]uint64) int64 {
+	return int64(C.journal_items(
+		C.uint32_t(version), C.uint32_t(limit), pointer(bytes), C.size_t(len(bytes)), pointerToItems(items),
+		C.size_t(len(items)),
 	))
 }
 

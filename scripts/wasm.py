@@ -31,8 +31,7 @@ FOLDER = ROOT / "wasm"
 OUT = ROOT / "crates" / CRATE / "out/wasm"
 MODULE = OUT / "pendratsoa.wasm"
 # what a module is made of besides the crate
-PARTS = [*(FOLDER / name for name in ("calls.c", "heap.c", "retarget.py", "lower.py")), ROOT / "node/src/items.h",
-         pathlib.Path(__file__)]
+PARTS = [*(FOLDER / name for name in ("calls.c", "heap.c", "retarget.py", "lower.py")), pathlib.Path(__file__)]
 
 # The words by which rattle itself calls clang for wasm64, and vectors of 128 bits, which all engines have.
 CLANG = (

@@ -109,6 +109,25 @@ function nextWithin(version, maxMessageSize, chunk, numbers) {
   return finished(returned);
 }
 
+function items(version, maxMessageSize, chunk, numbers) {
+  const refused = firstOf(versionIn(version), sizeIn('maxMessageSize', maxMessageSize));
+  const chunkLength = bytesIn('chunk', chunk);
+  const numbersLength = Math.floor(numbersIn('numbers', numbers) / 6);
+  if (refused !== 0) {
+    return refused;
+  }
+  const at = reserve(aligned(chunkLength) + aligned(48 * numbersLength));
+  if (at === 0) {
+    return NO_MEMORY;
+  }
+  const chunkAt = at;
+  const numbersAt = chunkAt + aligned(chunkLength);
+  putBytes(chunk, chunkLength, chunkAt);
+  const returned = instance.js_items(version, maxMessageSize, chunkAt, chunkLength, numbersAt, numbersLength);
+  takeNumbers(numbers, 6 * Math.min(Math.max(returned, 0), numbersLength), numbersAt);
+  return finished(returned);
+}
+
 function header(version, code, payloadLength, out) {
   const refused = firstOf(versionIn(version), codeIn(code), sizeIn('payloadLength', payloadLength));
   const outLength = bytesIn('out', out);
@@ -521,25 +540,6 @@ function replayFinish(recorded, replay, numbers) {
   return finished(returned);
 }
 
-function items(version, maxMessageSize, chunk, numbers) {
-  const refused = firstOf(versionIn(version), sizeIn('maxMessageSize', maxMessageSize));
-  const chunkLength = bytesIn('chunk', chunk);
-  const numbersLength = Math.floor(numbersIn('numbers', numbers) / 6);
-  if (refused !== 0) {
-    return refused;
-  }
-  const at = reserve(aligned(chunkLength) + aligned(48 * numbersLength));
-  if (at === 0) {
-    return NO_MEMORY;
-  }
-  const chunkAt = at;
-  const numbersAt = chunkAt + aligned(chunkLength);
-  putBytes(chunk, chunkLength, chunkAt);
-  const returned = instance.js_items(version, maxMessageSize, chunkAt, chunkLength, numbersAt, numbersLength);
-  takeNumbers(numbers, 6 * Math.min(Math.max(returned, 0), numbersLength), numbersAt);
-  return finished(returned);
-}
-
 /** The length of a chunk, by which its kind is checked before it is copied. */
 function chunkLength(chunk) {
   return bytesIn('chunk', chunk);
@@ -552,6 +552,7 @@ export const CALLS = {
   typeCode,
   next,
   nextWithin,
+  items,
   header,
   frame,
   isWellFormed,
@@ -570,6 +571,5 @@ export const CALLS = {
   replayText,
   replayExpected,
   replayFinish,
-  items,
   chunkLength,
 };

@@ -6,7 +6,6 @@
 #include <pendratsoa.h>
 
 #include "arguments.h"
-#include "items.h"
 
 /* A function: its name, what makes the call, and its parameters. */
 struct function {
@@ -17,12 +16,6 @@ struct function {
 
 #include "calls.h"
 
-/* The items that a chunk begins with, in a table: in one call, since a call costs more than finding an item. */
-static int64_t items(const struct arguments *arguments) {
-    return journal_items_of(arguments->version, arguments->limit, arguments->first.bytes, arguments->first.length,
-                            (void *)arguments->numbers, arguments->numbers_room / JOURNAL_ITEM_NUMBERS);
-}
-
 /* The length of a chunk, by which its kind is checked before it is copied. */
 static int64_t chunk_length(const struct arguments *arguments) {
     return (int64_t)arguments->first.length;
@@ -31,7 +24,6 @@ static int64_t chunk_length(const struct arguments *arguments) {
 /* All functions. Node-API takes a pointer to each as its data, and nothing writes to them. */
 static const struct function FUNCTIONS[] = {
     CALLS
-    {"items", items, {VERSION, LIMIT, CHUNK, NUMBERS}},
     {"chunkLength", chunk_length, {CHUNK}},
 };
 

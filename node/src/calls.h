@@ -27,6 +27,11 @@ static int64_t next_within(const struct arguments *arguments) {
                                (void *)arguments->numbers, arguments->numbers_room);
 }
 
+static int64_t items(const struct arguments *arguments) {
+    return journal_items(arguments->version, arguments->limit, arguments->first.bytes, arguments->first.length,
+                         (void *)arguments->numbers, arguments->numbers_room / JOURNAL_ITEM_NUMBERS);
+}
+
 static int64_t header(const struct arguments *arguments) {
     return journal_header(arguments->version, arguments->code, arguments->payload_length, arguments->out.bytes,
                           arguments->out.length);
@@ -132,6 +137,7 @@ static int64_t replay_finish(const struct arguments *arguments) {
     {"typeCode", type_code, {NAME}}, \
     {"next", next, {VERSION, CHUNK, NUMBERS}}, \
     {"nextWithin", next_within, {VERSION, LIMIT, CHUNK, NUMBERS}}, \
+    {"items", items, {VERSION, LIMIT, CHUNK, NUMBERS}}, \
     {"header", header, {VERSION, CODE, PAYLOAD_LENGTH, OUT}}, \
     {"frame", frame, {VERSION, CODE, PAYLOAD, OUT}}, \
     {"isWellFormed", is_well_formed, {SCHEMA, PAYLOAD}}, \

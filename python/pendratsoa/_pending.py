@@ -6,13 +6,19 @@ import ctypes
 import threading
 from typing import List, Optional, Tuple, Union
 
-from ._declared import ITEM_NUMBERS
+from ._declared import ITEM_MESSAGE, ITEM_NUMBERS, ITEM_SKIPPED, ITEM_UNKNOWN_CODE
 from ._errors import ERRORS, TooLong
 from ._items import Item, Message, Skipped, UnknownCode, came, message_that_came
 from ._library import library
 
+# how many items are looked for at once, since a call costs more than finding one
+LOOKED = 32
+
 # a type is made once
-ItemNumbers = ctypes.c_uint64 * ITEM_NUMBERS
+Table = ctypes.c_uint64 * (ITEM_NUMBERS * LOOKED)
+
+# the limit that is none
+NO_LIMIT = 2**32 - 1
 
 # how many bytes a header has
 HEADER = 8
@@ -27,7 +33,10 @@ class Pending:
         self._version = version
         self._limit = limit
         self._lock = threading.Lock()
-        self._numbers = ItemNumbers()
+        # the numbers of the items that were found last, how many they are, and how many of them were taken
+        self._table = Table()
+        self._found = 0
+        self._taken = 0
         # bytes, their address, and where what is in no item yet begins in them; they change together, also where a
         # signal interrupts
         self._left: Tuple[bytes, int, int] = (b"", 0, 0)
@@ -51,6 +60,8 @@ class Pending:
         """The next item, or None if not all of it came; or a number: an error of the library, or a kind of items that
         is not known."""
         with self._lock:
+            if self._taken < self._found:
+                return self._cut()
             missing = self._ended or self._missing or self._look()
             if 0 < missing <= self._chunks_size:
                 self._join()
@@ -85,12 +96,14 @@ class Pending:
             return head
 
     def _look(self) -> int:
-        """Looks for an item: how many bytes are missing at least, or an error."""
+        """Looks for items: 0 if some were found, otherwise how many bytes are missing at least, or an error."""
         data, address, begin = self._left
-        rest = address + begin, len(data) - begin, self._numbers, ITEM_NUMBERS
-        if self._limit is None:
-            return library.journal_next(self._version, *rest)
-        return library.journal_next_within(self._version, self._limit, *rest)
+        limit = NO_LIMIT if self._limit is None else self._limit
+        rest = self._version, limit, address + begin, len(data) - begin, self._table
+        found = library.journal_items(*rest, LOOKED)
+        missing = library.journal_next_within(*rest, ITEM_NUMBERS) if found == 0 else min(0, found)
+        self._found, self._taken = max(1, found) if missing == 0 else 0, 0
+        return missing
 
     def _end(self, number: int) -> None:
         """Ends the stream by an error, and drops what came."""
@@ -111,16 +124,19 @@ class Pending:
 
     def _cut(self) -> Union[Item, int]:
         """The item that was found, which is taken from the bytes, or its kind if that is not known."""
-        kind, word, code, requested_ack, size, payload_begin = self._numbers
-        if kind > 2:
+        first = ITEM_NUMBERS * self._taken
+        kind, word, code, requested_ack, size, payload_begin = self._table[first : first + ITEM_NUMBERS]
+        if kind > ITEM_SKIPPED:
+            self._found = 0
             return int(kind)
         data, address, begin = self._left
         payload = data[begin + payload_begin : begin + size]
         offset = self._offset
         self._left = data, address, begin + size
+        self._taken += 1
         self._offset = offset + size
-        if kind == 0:
+        if kind == ITEM_MESSAGE:
             return message_that_came(Message(self._version, code, payload, requested_ack == 1), word, offset)
-        if kind == 1:
+        if kind == ITEM_UNKNOWN_CODE:
             return came(UnknownCode(self._version, code, word), offset)
         return came(Skipped(self._version, code, word, payload), offset)

@@ -67,6 +67,7 @@ struct library {
     __typeof__(journal_type_code) *type_code;
     __typeof__(journal_next) *next;
     __typeof__(journal_next_within) *next_within;
+    __typeof__(journal_items) *items;
     __typeof__(journal_header) *header;
     __typeof__(journal_frame) *frame;
     __typeof__(journal_is_well_formed) *is_well_formed;
@@ -88,7 +89,7 @@ struct library {
 };
 
 /* How many they are; their addresses are given in this order. */
-#define FUNCTIONS 24
+#define FUNCTIONS 25
 
 /* Takes the address of a function, at its place among them. */
 static inline void point(struct library *library, int place, uintptr_t address)
@@ -113,57 +114,60 @@ static inline void point(struct library *library, int place, uintptr_t address)
         library->next_within = (__typeof__(library->next_within))address;
         break;
     case 6:
-        library->header = (__typeof__(library->header))address;
+        library->items = (__typeof__(library->items))address;
         break;
     case 7:
-        library->frame = (__typeof__(library->frame))address;
+        library->header = (__typeof__(library->header))address;
         break;
     case 8:
-        library->is_well_formed = (__typeof__(library->is_well_formed))address;
+        library->frame = (__typeof__(library->frame))address;
         break;
     case 9:
-        library->canonical = (__typeof__(library->canonical))address;
+        library->is_well_formed = (__typeof__(library->is_well_formed))address;
         break;
     case 10:
-        library->merge = (__typeof__(library->merge))address;
+        library->canonical = (__typeof__(library->canonical))address;
         break;
     case 11:
-        library->json = (__typeof__(library->json))address;
+        library->merge = (__typeof__(library->merge))address;
         break;
     case 12:
-        library->payload_of_json = (__typeof__(library->payload_of_json))address;
+        library->json = (__typeof__(library->json))address;
         break;
     case 13:
-        library->fields = (__typeof__(library->fields))address;
+        library->payload_of_json = (__typeof__(library->payload_of_json))address;
         break;
     case 14:
-        library->payload_of_fields = (__typeof__(library->payload_of_fields))address;
+        library->fields = (__typeof__(library->fields))address;
         break;
     case 15:
-        library->notification = (__typeof__(library->notification))address;
+        library->payload_of_fields = (__typeof__(library->payload_of_fields))address;
         break;
     case 16:
-        library->header_eq = (__typeof__(library->header_eq))address;
+        library->notification = (__typeof__(library->notification))address;
         break;
     case 17:
-        library->difference = (__typeof__(library->difference))address;
+        library->header_eq = (__typeof__(library->header_eq))address;
         break;
     case 18:
-        library->changed_field = (__typeof__(library->changed_field))address;
+        library->difference = (__typeof__(library->difference))address;
         break;
     case 19:
-        library->verdict = (__typeof__(library->verdict))address;
+        library->changed_field = (__typeof__(library->changed_field))address;
         break;
     case 20:
-        library->replay_check = (__typeof__(library->replay_check))address;
+        library->verdict = (__typeof__(library->verdict))address;
         break;
     case 21:
-        library->replay_text = (__typeof__(library->replay_text))address;
+        library->replay_check = (__typeof__(library->replay_check))address;
         break;
     case 22:
-        library->replay_expected = (__typeof__(library->replay_expected))address;
+        library->replay_text = (__typeof__(library->replay_text))address;
         break;
     case 23:
+        library->replay_expected = (__typeof__(library->replay_expected))address;
+        break;
+    case 24:
         library->replay_finish = (__typeof__(library->replay_finish))address;
         break;
     default:

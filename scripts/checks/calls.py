@@ -58,11 +58,23 @@ def versions(check: checks.Check) -> None:
     check.case(f"pages say versions from 5 to {last}", bool(said) and set(said) == {last}, set(said))
 
 
+# The calls that find items at the front of bytes. A package takes by those that fit it.
+FINDING = ("next", "next_within", "items")
+
+
+def lacking_in_package(
+    check: checks.Check, place: str, named: dict[str, str], found: collections.abc.Container[str]
+) -> None:
+    """A package makes each call, by its name there, and finds items by one of those that do."""
+    wanted = [name for call, name in named.items() if call not in FINDING]
+    lacking(check, f"the calls that {place} lacks", wanted, found)
+    check.case(f"{place} finds items", any(named[call] in found for call in FINDING))
+
+
 def calls(check: checks.Check) -> None:
     """Each call has a function in each binding, tests of its own and a promise."""
     symbols = [call.symbol() for call in calls_data.calls()]
     names = [call.call for call in calls_data.calls()]
-    in_go = {call.symbol(): calls_data.camel(call.symbol(), False) for call in calls_data.calls()}
     in_python = {call.name_in("Python"): call.symbol() for call in calls_data.calls()}
     by_name = re.findall(r"\bnamed\.(\w+)\(", together("python/pendratsoa/_calls.py", "python/pendratsoa/_replay.py"))
     in_ruby = together(*(f"ruby/lib/pendratsoa/{name}.rb" for name in ("fields", "pending", "replay")))
@@ -81,16 +93,18 @@ def calls(check: checks.Check) -> None:
             r"`(journal_\w+)`", read("docs/PROOFS.md").partition("\n## journal_ffi:")[2].partition("\n## ")[0]
         ),
     }
-    for place, found in uses.items():
-        lacking(check, f"the calls that {place} lacks", symbols, set(found))
+    for place in ("tests/ffi", "docs/PROOFS.md"):
+        lacking(check, f"the calls that {place} lacks", symbols, set(uses[place]))
+    for place in ("python/pendratsoa", "ruby/lib"):
+        lacking_in_package(check, place, dict(zip(names, symbols)), set(uses[place]))
     go = "".join(read(file) for file in sorted(pathlib.Path("go").glob("*.go")) if file.name != "library.go")
-    lacking(check, "the calls that go lacks", in_go.values(), set(re.findall(r"\bjournal[A-Z]\w*", go)))
+    in_go = {name: calls_data.camel(f"journal_{name}", False) for name in names}
+    lacking_in_package(check, "go", in_go, set(re.findall(r"\bjournal[A-Z]\w*", go)))
     rust = "".join(read(file) for file in sorted(pathlib.Path("rust/src").rglob("*.rs")))
-    lacking(check, "the calls that rust/src lacks", names, set(re.findall(r"\bffi::(\w+)\(", rust)))
-    node = [calls_data.camel(name, False, with_capitals=False) for name in names]
-    lacking(
-        check, "the calls that node/lib lacks", node, set(re.findall(r"\baddon\.(\w+)\(", together("node/lib/*.js")))
-    )
+    lacking_in_package(check, "rust/src", {name: name for name in names}, set(re.findall(r"\bffi::(\w+)\(", rust)))
+    in_node = {name: calls_data.camel(name, False, with_capitals=False) for name in names}
+    node = set(re.findall(r"\baddon\.(\w+)\(", together("node/lib/*.js")))
+    lacking_in_package(check, "node/lib", in_node, node)
 
 
 SOURCES = {

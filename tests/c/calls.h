@@ -2,7 +2,7 @@
 /* The calls, what the header says of each, and how each is made: for hostile_calls.c. */
 
 enum call {
-    LIBRARY_VERSION, SCHEMA, TYPE_NAME, TYPE_CODE, NEXT, NEXT_WITHIN, HEADER, FRAME, IS_WELL_FORMED,
+    LIBRARY_VERSION, SCHEMA, TYPE_NAME, TYPE_CODE, NEXT, NEXT_WITHIN, ITEMS, HEADER, FRAME, IS_WELL_FORMED,
     CANONICAL, MERGE, JSON, PAYLOAD_OF_JSON, FIELDS, PAYLOAD_OF_FIELDS, NOTIFICATION, HEADER_EQ, DIFFERENCE,
     CHANGED_FIELD, VERDICT, REPLAY_CHECK, REPLAY_TEXT, REPLAY_EXPECTED, REPLAY_FINISH, CALLS
 };
@@ -46,6 +46,7 @@ static const struct {
     [NEXT] = {"journal_next", 1, JOURNAL_ITEM_NUMBERS, 0, 0, 0, 0, 1u << UNKNOWN_VERSION | 1u << NO_ROOM, 4},
     [NEXT_WITHIN] = {"journal_next_within", 1, JOURNAL_ITEM_NUMBERS, 0, 0, 0, 0, 1u << UNKNOWN_VERSION | 1u << NO_ROOM |
         1u << TOO_LONG, 4},
+    [ITEMS] = {"journal_items", 1, 0, JOURNAL_ITEM_NUMBERS, 0, 0, 0, 1u << UNKNOWN_VERSION | 1u << TOO_LONG, 1},
     [HEADER] = {"journal_header", 0, 0, 0, 1, 0, 0, 1u << UNKNOWN_VERSION | 1u << UNKNOWN_TYPE, 1},
     [FRAME] = {"journal_frame", 1, 0, 0, 1, 0, 0, 1u << UNKNOWN_VERSION | 1u << UNKNOWN_TYPE | 1u << OUT_OF_MEMORY | 1u
         << MALFORMED | 1u << TOO_LONG, 1},
@@ -103,6 +104,8 @@ static int64_t make(const struct request *r, const struct slice *slices) {
         return journal_next(r->version, first->at, first->length, numbers, count);
     case NEXT_WITHIN:
         return journal_next_within(r->version, r->limit, first->at, first->length, numbers, count);
+    case ITEMS:
+        return journal_items(r->version, r->limit, first->at, first->length, numbers, count / JOURNAL_ITEM_NUMBERS);
     case HEADER:
         return journal_header(r->version, r->code, r->payload_length, out->at, out->length);
     case FRAME:

@@ -618,7 +618,10 @@ static void again_with_tables(struct work *work, const struct request *request, 
         size_t room = turn == 0 ? count : turn == 1 ? count + 3 : below(work, (uint32_t)count + 1);
         size_t fit = room < count ? room : count;
 
-        if (called(work, request, 0, entry * room, 0) != result) {
+        int64_t again = called(work, request, 0, entry * room, 0);
+
+        /* the items end at the room, and the first call may have ended there */
+        if (request->call == ITEMS ? again < (int64_t)fit || again > (int64_t)room : again != result) {
             wrong(work, request, "another result than before", result);
         }
         if (turn == 0) {
@@ -626,6 +629,24 @@ static void again_with_tables(struct work *work, const struct request *request, 
         } else if (memcmp(entries, work->table, 8 * entry * fit) != 0) {
             wrong(work, request, "other entries in a table of another size", result);
         }
+    }
+}
+
+/* Compares the items of a table with those that one call each finds. */
+static void one_by_one(struct work *work, const struct request *request, int64_t result) {
+    const struct journal_item *items = (const void *)work->table;
+    size_t offset = 0;
+
+    for (int64_t i = 0; i < result; i++) {
+        struct journal_item item;
+
+        if (journal_next_within(request->version, request->limit, request->source[0].bytes + offset,
+                                request->source[0].length - offset, &item, JOURNAL_ITEM_NUMBERS) != 0 ||
+            memcmp(&item, &items[i], sizeof item) != 0) {
+            wrong(work, request, "an item that another call does not find", result);
+            return;
+        }
+        offset += (size_t)item.size;
     }
 }
 
@@ -1059,7 +1080,8 @@ static void try_case(struct work *work, struct request *request) {
         next_turn(work, request, &error);
     }
     call = request->call;
-    numbers = listed[call].numbers;
+    /* other tables are called again with the room that they need; items end at the room */
+    numbers = call == ITEMS ? listed[call].entry * below(work, 20) : listed[call].numbers;
     room = listed[call].writes ? 1024 : 0;
     work->cases++;
     result = called(work, request, room, numbers, 0);
@@ -1074,10 +1096,13 @@ static void try_case(struct work *work, struct request *request) {
         again(work, request, result, below(work, (uint32_t)needed), numbers);
         again(work, request, result, 0, numbers);
     }
+    if (call == ITEMS && result >= 0) {
+        one_by_one(work, request, result);
+    }
     if (listed[call].entry > 0 && result >= 0) {
         again_with_tables(work, request, result);
     }
-    if (numbers > 0) {
+    if (listed[call].numbers > 0) {
         int64_t refused = called(work, request, room, below(work, (uint32_t)numbers), 0);
         if (refused != JOURNAL_NO_ROOM && (result >= 0 || refused != result)) {
             wrong(work, request, "too few numbers are taken", refused);

@@ -84,9 +84,8 @@ def c_struct(entry):
     width = max(len(field) for field, _ in entry["fields"]) + 1
     fields = "".join(f"    uint64_t {field + ';':{width}} /* {said} */\n" for field, said in entry["fields"])
     count = f"#define JOURNAL_{entry['constant']} {len(entry['fields'])}\n"
-    room = (
-        "; the room for a table is a count of structs" if is_table(entry) else ", and the room for one is their count"
-    )
+    room = "; the room for a table is a count of structs" if is_table(entry) else ""
+    room += ", and the room for one is their count" if is_one(entry) else ""
     return (
         block(paragraphs(entry["comment"]))
         + f"struct journal_{name} {{\n{fields}}};\n\n"
@@ -98,6 +97,11 @@ def c_struct(entry):
 def is_table(entry):
     """Whether calls write tables of a struct."""
     return any(call.table == entry["struct"] for call in calls())
+
+
+def is_one(entry):
+    """Whether calls read or write one such struct."""
+    return any(entry["struct"] in (call.given, call.numbers) for call in calls())
 
 
 def c_versions(said):
@@ -404,6 +408,10 @@ def python_method(call):
     return line
 
 
+# The kinds that are numbers in Python, since no caller sees them.
+PYTHON_NUMBERS = {"the kinds of items": "item", "the kinds of fields": "field", "the options of a replay": "option"}
+
+
 def python():
     text = '"""What the library for C declares: its calls, the numbers that they write, and their errors."""\n\n'
     text += "from typing import Dict, NamedTuple, Protocol, Tuple, Union\n\n"
@@ -422,8 +430,9 @@ def python():
     text += "\n\n# how many numbers each struct has\n"
     for entry in structs().values():
         text += f"{entry['constant']} = {len(entry['fields'])}\n"
-    text += "\n# the kinds of fields\n"
-    text += "".join(f"{name} = {number}\n" for number, name, _, _ in constants(field_kinds()))
+    for what, entry in PYTHON_NUMBERS.items():
+        text += f"\n# {what}\n"
+        text += "".join(f"{name} = {number}\n" for number, name, _, _ in constants(kinds_named(entry)))
     text += "\n# the class of each error, and the names of the arguments one of which it is about\n"
     text += "ERRORS: Dict[int, Tuple[str, Tuple[str, ...]]] = {\n"
     for error in returned_errors():
@@ -440,9 +449,9 @@ def python():
     return text
 
 
-def field_kinds():
-    """The kinds of fields."""
-    return next(entry for entry in kinds() if entry["kinds"] == "field")
+def kinds_named(name):
+    """The list of kinds of this name."""
+    return next(entry for entry in kinds() if entry["kinds"] == name)
 
 
 def quoted(word):
@@ -610,6 +619,22 @@ def node_calls():
         + rows.replace(",\n", ", \\\n").rstrip(" \\\n")
         + "\n"
     )
+
+
+def refusing():
+    """A library whose calls all fail, each of which another object may define otherwise."""
+    text = (
+        "/* A library whose calls return JOURNAL_OUT_OF_MEMORY. What later_library.c defines takes their place. */\n"
+        "#include <pendratsoa.h>\n\n"
+        "#define WEAK __attribute__((weak))\n"
+    )
+    for call in calls():
+        start = f"WEAK int64_t {call.symbol()}("
+        taken = ", ".join(parameter.replace(" ", "\u00a0") for parameter in c_parameters(call))
+        made = filled(taken, start, " " * len(start), WIDTH - 3).replace("\u00a0", " ")
+        unused = "".join(f"    (void){re.findall('[a-z_]+', parameter)[-1]};\n" for parameter in c_parameters(call))
+        text += f"\n{made}) {{\n{unused}    return JOURNAL_OUT_OF_MEMORY;\n}}\n"
+    return text
 
 
 # Go.
@@ -802,6 +827,11 @@ use super::{appended, count, written, About, Refusal, Result};
 """
 
 
+def rust_calls():
+    """The calls that the crate makes: all but that for many items, since a call costs Rust less than an item."""
+    return [call for call in calls() if call.call != "items"]
+
+
 def rust():
     text = RUST_HEAD
     for entry in kinds():
@@ -810,7 +840,7 @@ def rust():
         text += "".join(f"pub(crate) const {name}: u64 = {number};\n" for number, name, _, _ in shown)
     text += "\n"
     text += "/// The calls as the header declares them.\nmod c {\n    extern \"C\" {\n"
-    for call in calls():
+    for call in rust_calls():
         text += f"        pub fn {call.symbol()}({', '.join(rust_raw(call))}) -> i64;\n"
     text += (
         "    }\n}\n\nimpl From<i64> for Refusal {\n    fn from(returned: i64) -> Refusal {\n        match returned {\n"
@@ -821,7 +851,7 @@ def rust():
             f"            {error['number']} => Refusal::{kind}{f'(About::{about})' if kind in WITH_ABOUT else ''},\n"
         )
     text += "            unlisted => Refusal::Unlisted(unlisted),\n        }\n    }\n}\n"
-    return text + "".join(rust_call(call) for call in calls())
+    return text + "".join(rust_call(call) for call in rust_calls())
 
 
 # The kinds of errors of which several arguments can be the reason, and how an argument is named in Rust.
@@ -989,6 +1019,7 @@ def files():
         "ruby/lib/pendratsoa/declared.rb": ruby(),
         "node/lib/declared.js": node(),
         "node/src/calls.h": node_calls(),
+        "node/test/refusing_library.c": refusing(),
         "go/library.go": go(),
         "rust/src/ffi/declared.rs": rust(),
         "tests/c/calls.h": listed(),
@@ -1002,6 +1033,7 @@ def paths():
         "go/library.go",
         "node/lib/declared.js",
         "node/src/calls.h",
+        "node/test/refusing_library.c",
         "python/pendratsoa/_declared.py",
         "ruby/lib/pendratsoa/declared.rb",
         "rust/src/ffi/declared.rs",

@@ -23,17 +23,6 @@ typedef unsigned long long uint64_t;
 typedef __SIZE_TYPE__ size_t;
 """
 
-C_ITEMS = """
-#include "../node/src/items.h"
-
-EXPORT(js_items)
-double js_items(uint32_t version, uint32_t limit, uint32_t bytes, uint32_t length, uint32_t items, uint32_t room) {
-    return (double)journal_items_of(version, limit, (const uint8_t *)(size_t)bytes, length,
-                                    (struct journal_item *)(size_t)items, room);
-}
-"""
-
-
 def c_struct(entry):
     fields = "".join(f"    uint64_t {field};\n" for field, _ in entry["fields"])
     return f"\nstruct journal_{entry['struct']} {{\n{fields}}};\n"
@@ -70,7 +59,7 @@ def c_call(call):
 
 
 def c_calls():
-    return C_HEAD + "".join(map(c_struct, structs().values())) + "".join(map(c_call, calls())) + C_ITEMS
+    return C_HEAD + "".join(map(c_struct, structs().values())) + "".join(map(c_call, calls()))
 
 
 JS_HEAD = """\
@@ -217,23 +206,12 @@ def js_call(call):
     return function
 
 
-def js_items():
-    """The function that finds many items at once."""
-    function = Function("items")
-    for name in ("version", "limit"):
-        function.number(argument(name))
-    function.bytes("chunk")
-    function.table(len(structs()["item"]["fields"]))
-    return function
-
-
 def js_calls():
     functions = [js_call(call) for call in calls()]
     text = JS_HEAD + "".join(f.text(f"js_{call.call}") for f, call in zip(functions, calls()))
-    text += js_items().text("js_items")
     text += "\n/** The length of a chunk, by which its kind is checked before it is copied. */\n"
     text += "function chunkLength(chunk) {\n  return bytesIn('chunk', chunk);\n}\n"
-    names = [*(function.name for function in functions), "items", "chunkLength"]
+    names = [*(function.name for function in functions), "chunkLength"]
     return text + "\nexport const CALLS = {\n" + "".join(f"  {name},\n" for name in names) + "};\n"
 
 

@@ -49,7 +49,6 @@ test('it imports nothing, and exports the calls, the heap and its memory', () =>
     'memory',
     ...['blocks', 'limit', 'room'].map((name) => `pendratsoa_${name}`),
     ...declared,
-    'js_items',
     ...listed.map(({ call }) => `js_${call}`),
   ];
   assert.ok(declared.length >= listed.length + 50);

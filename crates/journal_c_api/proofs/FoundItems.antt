@@ -11,6 +11,7 @@ use Rattle.shared_core_stream.specs.Items.{front_word, skips_unknown_messages, b
 use Rattle.shared_core_stream.proofs.Items.{front_word_more}
 use Rattle.journal_c_api.specs.Outcomes.{written_over}
 use Rattle.journal_c_api.specs.Items.{item_kind, item_code, item_ack, item_payload, item_numbers, FindsItem}
+use Rattle.journal_c_api.specs.Items.{borrowed_entry, entry_of}
 
 -- if bytes are missing, nothing is written
 pub item_missing : (version : Version) (bytes old : List ℕ) (missing : ℕ) → IsMissing version bytes missing → FindsItem
@@ -106,3 +107,8 @@ module _ (version : Version) (bytes : List ℕ) (item : ItemRef) (rest : List �
           );
           kept = λ missing. absurd (omega (arith, missing));
         }
+
+    -- the entry of the borrowed item is that of the item at the front
+    pub entry_is : borrowed_entry item ≡ entry_of (front_word bytes) (length is.taken.0) (item_borrowed item)
+    unfolding first
+    entry_is = rw (is.word_is, place_is, ← size_is) refl

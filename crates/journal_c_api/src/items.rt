@@ -2,7 +2,8 @@
 
 ghost use Rattle.std.specs.Prelude.{◌≡◌, ◌+◌, ◌∷◌, [], length};
 ghost use Rattle.shared_core_stream.specs.Borrowed.{item_borrowed};
-ghost use Rattle.journal_c_api.specs.Items.{FindsItem, WritesNext, WritesNextWithin, item_ack, item_code, item_kind};
+ghost use Rattle.journal_c_api.specs.Items.{FindsItem, WritesItems, WritesNext, WritesNextWithin};
+ghost use Rattle.journal_c_api.specs.Items.{borrowed_entry, item_ack, item_code, item_kind};
 
 use crate::outcome::{CallError, version_of, write_over};
 use shared_core::encoding::{ItemKind, ItemRef, ItemRefs};
@@ -20,6 +21,24 @@ const UNKNOWN_CODE: u64 = 1;
 
 /// The kind of a message of an unknown type, which is skipped with its payload.
 const SKIPPED: u64 = 2;
+
+/// An item of a stream as six numbers.
+#[derive(Clone, Copy)]
+#[repr(C)]
+pub struct ItemEntry {
+    /// Which of the three kinds it is.
+    pub kind: u64,
+    /// Its first eight bytes as one number.
+    pub word: u64,
+    /// The code of its type, or the one that denotes none.
+    pub code: u64,
+    /// Whether its header requests an acknowledgement: 1, otherwise 0.
+    pub requested_ack: u64,
+    /// Its size in bytes, header and payload.
+    pub size: u64,
+    /// Where its payload begins, in bytes from the item's first.
+    pub payload: u64,
+}
 
 /// Finds the item that the bytes begin with, and writes its six numbers. They are its kind, its first eight bytes as a
 /// number, its code, its flag, its size in bytes, and where its payload begins. Returns 0, or the least number of
@@ -66,6 +85,36 @@ pub fn write_next_within(
     Ok(write_item(version, bytes, item))
 }
 
+/// Finds the items that the bytes begin with, one after another, and writes an entry for each, as many as there is room
+/// for. Returns how many they are. It copies nothing and does not allocate.
+///
+/// They end before an item that is not whole, and before a message whose payload is longer than the limit: a call that
+/// is given the bytes after them tells which. `UnknownVersion` if the number denotes no version; `TooLong` if the first
+/// message is longer than the limit. A limit of `u32::MAX` is none.
+pub fn write_items(
+    version: u32,
+    limit: u32,
+    bytes: &[u8],
+    items: &mut [ItemEntry],
+) -> Result<usize, CallError>
+    ensures { WritesItems version limit bytes.now items.old items.new result }
+{
+    let version = version_of(version)?;
+    let mut found = ItemRefs::with_limit(version, limit, bytes);
+    if let Some(_) = found.rejected() {
+        return Err(CallError::TooLong);
+    }
+    let mut count = 0;
+    while count < items.len() {
+        let Some(item) = found.next() else {
+            break;
+        };
+        items[count] = ItemEntry::of(&item);
+        count += 1;
+    }
+    Ok(count)
+}
+
 /// Writes the numbers of the item that the bytes begin with, or returns the number of missing bytes.
 #[tactic(auto, using(crate::proofs::FoundItems::item_found, crate::proofs::FoundItems::item_missing))]
 fn write_item(version: Version, bytes: &[u8], item: &mut [u64]) -> usize
@@ -85,21 +134,38 @@ fn numbers_of(item: &ItemRef<'_>) -> [u64; ITEM_NUMBERS]
     ensures { result ≡ item_kind (item_borrowed item.now) ∷ item.now.word ∷ item_code (item_borrowed item.now)
         ∷ item_ack (item_borrowed item.now) ∷ (8 + length item.now.payload.now) ∷ 8 ∷ [] }
 {
-    let (kind, code, asks_ack) = match item.kind {
-        ItemKind::Message(header) => (
-            MESSAGE,
-            u16::from(header.message_type()),
-            header.requested_ack().unwrap_or(false),
-        ),
-        ItemKind::Unknown(code) => (UNKNOWN_CODE, code, false),
-        ItemKind::Skipped(code) => (SKIPPED, code, false),
-    };
+    let entry = ItemEntry::of(item);
     [
-        kind,
-        item.word,
-        u64::from(code),
-        u64::from(asks_ack),
-        item.size(),
-        MessageHeader::SIZE as u64,
+        entry.kind,
+        entry.word,
+        entry.code,
+        entry.requested_ack,
+        entry.size,
+        entry.payload,
     ]
+}
+
+impl ItemEntry {
+    /// The entry of an item that is at the front of its bytes.
+    fn of(item: &ItemRef<'_>) -> ItemEntry
+        ensures { result ≡ borrowed_entry item.now }
+    {
+        let (kind, code, asks_ack) = match item.kind {
+            ItemKind::Message(header) => (
+                MESSAGE,
+                u16::from(header.message_type()),
+                header.requested_ack().unwrap_or(false),
+            ),
+            ItemKind::Unknown(code) => (UNKNOWN_CODE, code, false),
+            ItemKind::Skipped(code) => (SKIPPED, code, false),
+        };
+        ItemEntry {
+            kind,
+            word: item.word,
+            code: u64::from(code),
+            requested_ack: u64::from(asks_ack),
+            size: item.size(),
+            payload: MessageHeader::SIZE as u64,
+        }
+    }
 }

@@ -24,9 +24,10 @@ pub fn changed_fields_have_bytes()
         → ReturnsChangedField code index room first second (Ok (Some field)) → 0 < length (field_bytes field) }
 {}
 
-/// The checks of a replay say what `journal_verdict` says of the recording and a journal of the items so far. Where
-/// `journal_replay_check` or `journal_replay_finish` returns 1, both write the same kind and index; and the text of
-/// `journal_replay_text` is the same. Where `journal_replay_finish` returns 0, the commands of both journals are the
+/// The checks of a replay say the outcome of a comparison of the recording and a journal of the items so far, with what
+/// the options ignore: that of `journal_verdict`, which has no option for ids. Where `journal_replay_check` or
+/// `journal_replay_finish` returns 1, it writes the kind and the index of that outcome; the text of
+/// `journal_replay_text` is its text. Where `journal_replay_finish` returns 0, the commands of both journals are the
 /// same, and as many as the index of the replay.
 pub fn checks_say_the_verdict()
     ensures left { (number options : ℕ) (recorded numbers new before after : List ℕ) (passed : List ItemGiven)

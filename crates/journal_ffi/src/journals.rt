@@ -10,10 +10,10 @@ use journal_c_api::outcome::outcome_of;
 use std::alloc::Global;
 
 /// Compares a recorded journal with a replayed one, both streams of a version from 5 to 9, command by command. Other
-/// items, and bytes after the last whole item, are skipped. If `ignore_payloads` is not 0, the content of user data is
-/// not compared, but that of a signal is. Writes two numbers, the kind of the verdict and its index, and the text of a
-/// mismatch, as the SDKs report it. Returns the text's length in bytes: 0 if there is none; if there is no room for it,
-/// the numbers are written nevertheless.
+/// items, and trailing bytes, are skipped. If `ignore_payloads` is not 0, the content of user data is not compared, but
+/// that of a signal is. Writes two numbers, the kind of the verdict and its index, and the text of a mismatch, as the
+/// SDKs report it. Returns the text's length in bytes: 0 if there is none; if there is no room for it, the numbers are
+/// written nevertheless.
 ///
 /// Errors, in order of precedence: JOURNAL_UNKNOWN_VERSION, JOURNAL_NO_ROOM; JOURNAL_OUT_OF_MEMORY after these.
 #[unsafe(no_mangle)]

@@ -265,7 +265,10 @@ struct journal_item {
     uint64_t payload;       /* where its payload begins, in bytes from the item's first */
 };
 
-/* How many numbers that are: a struct journal_item is as an array of them, and the room for one is their count. */
+/*
+ * How many numbers that are: a struct journal_item is as an array of them; the room for a table is a count of structs,
+ * and the room for one is their count.
+ */
 #define JOURNAL_ITEM_NUMBERS 6
 
 /*
@@ -289,6 +292,20 @@ int64_t journal_next(uint32_t version, const uint8_t *bytes, size_t length, stru
  */
 int64_t journal_next_within(uint32_t version, uint32_t limit, const uint8_t *bytes, size_t length,
                             struct journal_item *item, size_t item_room);
+
+/*
+ * Finds the items that the bytes begin with, one after another, and writes the six numbers of each: for callers to whom
+ * a call costs more than finding an item. Returns how many it wrote, at most `room`; unlike in other tables, what is
+ * beyond the room is not counted.
+ *
+ * They end before an item that is not whole, and before one whose payload has more than `limit` bytes.
+ * journal_next_within, given the bytes after them, returns which it is.
+ *
+ * Errors, in order of precedence: JOURNAL_UNKNOWN_VERSION, JOURNAL_TOO_LONG if the payload of the first item has more
+ * than `limit` bytes.
+ */
+int64_t journal_items(uint32_t version, uint32_t limit, const uint8_t *bytes, size_t length,
+                      struct journal_item *items, size_t room);
 
 /*
  * Writes the eight bytes of the header that a message of a type has at a version, by the length of its payload in
@@ -580,10 +597,10 @@ struct journal_verdict {
 
 /*
  * Compares a recorded journal with a replayed one, both streams of a version from 5 to 9, command by command. Other
- * items, and bytes after the last whole item, are skipped. If `ignore_payloads` is not 0, the content of user data is
- * not compared, but that of a signal is. Writes two numbers, the kind of the verdict and its index, and the text of a
- * mismatch, as the SDKs report it. Returns the text's length in bytes: 0 if there is none; if there is no room for it,
- * the numbers are written nevertheless.
+ * items, and trailing bytes, are skipped. If `ignore_payloads` is not 0, the content of user data is not compared, but
+ * that of a signal is. Writes two numbers, the kind of the verdict and its index, and the text of a mismatch, as the
+ * SDKs report it. Returns the text's length in bytes: 0 if there is none; if there is no room for it, the numbers are
+ * written nevertheless.
  *
  * Errors, in order of precedence: JOURNAL_UNKNOWN_VERSION, JOURNAL_NO_ROOM; JOURNAL_OUT_OF_MEMORY after these.
  */

@@ -57,6 +57,7 @@ module Pendratsoa
     journal_type_code: %i[slice],
     journal_next: %i[u32 slice slice],
     journal_next_within: %i[u32 u32 slice slice],
+    journal_items: %i[u32 u32 slice slice],
     journal_header: %i[u32 u16 u32 slice],
     journal_frame: %i[u32 u16 slice slice],
     journal_is_well_formed: %i[u32 slice],

@@ -3,6 +3,12 @@
 module Pendratsoa
   # What came of a stream and is in no item yet: by Fiddle, where the compiled module is not in use.
   class Pending
+    # How many items are looked for at once, since a call costs more than finding one.
+    LOOKED = 32
+
+    # The limit that is none.
+    NO_LIMIT = (2**32) - 1
+
     TOO_LONG = ERRORS.find { |_, (name, _)| name == :TooLong }.first
 
     # How many bytes items have taken.
@@ -19,6 +25,9 @@ module Pendratsoa
       @bytes = String.new
       @begin = 0
       @needed = 0
+      # the numbers of the items that were found last, and how many of them were taken
+      @found = []
+      @taken = 0
     end
 
     # Appends the bytes of a String that does not change.
@@ -46,13 +55,14 @@ module Pendratsoa
     # known.
     def take
       @lock.synchronize do
+        next cut if @taken < @found.length
         next @ended if @ended
         next if @bytes.bytesize - @begin < @needed
 
-        missing, numbers = look
+        missing = look
         @needed = missing.positive? ? @bytes.bytesize - @begin + missing : 0
         stop(missing) if missing == TOO_LONG && @limit
-        next cut(*numbers) if missing.zero?
+        next cut if missing.zero?
 
         missing.negative? ? missing : nil
       end
@@ -67,20 +77,18 @@ module Pendratsoa
       @bytes = @bytes.dup
     end
 
-    # Looks for an item: returns how many bytes are missing at least, or an error, and the numbers of an item.
+    # Looks for items: returns 0 if some were found, otherwise how many bytes are missing at least, or an error.
     def look
-      missing = nil
+      count = missing = 0
       whole = Fiddle::Pointer[@bytes]
-      numbers = Library.numbers(ITEM_NUMBERS) do |room|
-        rest = whole + @begin, whole.size - @begin, room, ITEM_NUMBERS
-        missing =
-          if @limit
-            Library.call(:journal_next_within, @version, @limit, *rest)
-          else
-            Library.call(:journal_next, @version, *rest)
-          end
+      numbers = Library.numbers(ITEM_NUMBERS * LOOKED) do |room|
+        rest = @version, @limit || NO_LIMIT, whole + @begin, whole.size - @begin, room
+        count = Library.call(:journal_items, *rest, LOOKED)
+        missing = count.zero? ? Library.call(:journal_next_within, *rest, ITEM_NUMBERS) : [count, 0].min
       end
-      [missing, numbers]
+      @found = numbers.each_slice(ITEM_NUMBERS).first(missing.zero? ? [count, 1].max : 0)
+      @taken = 0
+      missing
     end
 
     # Ends the stream by an error, and drops what came.
@@ -96,13 +104,18 @@ module Pendratsoa
       @begin = 0
     end
 
-    # Cuts the item of these numbers from the bytes; or its kind if that is not known.
-    def cut(kind, word, code, requested_ack, size, payload_begin)
-      return kind unless kind < ITEM_KINDS.length
+    # Cuts the next item that was found from the bytes; or its kind if that is not known.
+    def cut
+      kind, word, code, requested_ack, size, payload_begin = @found[@taken]
+      unless kind < ITEM_KINDS.length
+        @found = []
+        return kind
+      end
 
       # a copy; a slice of the String could keep all of it in memory
       payload = Fiddle::Pointer[@bytes][@begin + payload_begin, size - payload_begin]
       offset = @offset
+      @taken += 1
       @begin += size
       @offset += size
       case ITEM_KINDS[kind]

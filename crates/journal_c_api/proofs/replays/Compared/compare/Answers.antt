@@ -10,8 +10,8 @@ returns-then-has_same_bytes c =
     let both = c.args.self.now in
     pair_same_bytes both.ignore false both.index (message_of both.recorded) (message_given both.replayed)
     (sym c.message_type-ty.ensures ∙ types_equal _ _ (sym c.eq.ensures ∙ c.if-eq.true))
-    (c.has_same_bytes.ensures.payloads c.if-has_same_bytes.true)
-    (rw c.message_type-ty.ensures at (c.has_same_bytes.ensures.accepted c.if-has_same_bytes.true))
+    (c.has_same_bytes.ensures.0 c.if-has_same_bytes.true).0
+    (rw c.message_type-ty.ensures at (c.has_same_bytes.ensures.0 c.if-has_same_bytes.true).1)
 
 pub returns-in_err-recorded : goal.returns-in_err-recorded
 returns-in_err-recorded c =
