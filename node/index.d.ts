@@ -501,8 +501,7 @@ export interface Verdict {
 }
 
 /**
- * Compares a recorded journal with a replayed one, command by command. Other items, and bytes after the last whole
- * item, are skipped.
+ * Compares a recorded journal with a replayed one, command by command. Other items, and trailing bytes, are skipped.
  * @throws {Unknown} the version is none
  */
 export function compareJournals(

@@ -29,14 +29,17 @@ export let skippedThatCame;
 
 /** A message of a stream. */
 export class Message {
-  #word;
+  // the word in halves, of a message of a stream
+  #high;
+  #low;
   #offset;
   kind = 'message';
 
   static {
-    messageThatCame = (offset, word, ...fields) => {
-      const message = new Message(...fields);
-      message.#word = word;
+    messageThatCame = (offset, high, low, version, code, payload, requestedAck) => {
+      const message = new Message(version, code, payload, requestedAck);
+      message.#high = high;
+      message.#low = low;
       message.#offset = offset;
       return message;
     };
@@ -65,7 +68,7 @@ export class Message {
   }
 
   get word() {
-    return this.#word;
+    return this.#high === undefined ? undefined : wordOf(this.#high, this.#low);
   }
 
   get offset() {
@@ -74,9 +77,8 @@ export class Message {
 
   get bytes() {
     // what came in no stream has the header of its type
-    const { version, code, payload } = this;
-    const first = this.#word === undefined ? header(version, code, payload.length) : wordBytes(this.#word);
-    return joined(first, payload);
+    const { version, code, payload, word } = this;
+    return joined(word === undefined ? header(version, code, payload.length) : wordBytes(word), payload);
   }
 
   get type() {
@@ -226,6 +228,11 @@ export function nameOf(code) {
 
 function hexOf(code) {
   return `0x${code.toString(16)}`;
+}
+
+/** The word of two halves of 32 bits. */
+export function wordOf(high, low) {
+  return (BigInt(high) << 32n) | BigInt(low);
 }
 
 /** The eight bytes of a word. */

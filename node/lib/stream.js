@@ -4,7 +4,7 @@ import { addon } from './addon.js';
 import { checked } from './calls.js';
 import { ITEM, ITEM_KINDS, ITEM_NUMBERS } from './declared.js';
 import { TooLong, incomplete, messageTooLong, notKnown } from './errors.js';
-import { messageThatCame, nameOf, skippedThatCame, unknownCodeThatCame } from './items.js';
+import { messageThatCame, nameOf, skippedThatCame, unknownCodeThatCame, wordOf } from './items.js';
 
 const NOTHING = new Uint8Array(0);
 const HEADER_SIZE = 8;
@@ -166,8 +166,7 @@ export class Stream {
       return undefined;
     }
     const size = wholeOf(this.#found, this.#at + 2 * ITEM.size);
-    const bytes = this.#bytes.subarray(this.#begin, this.#begin + size);
-    const item = itemOf(this.#version, this.#offset, this.#found, this.#at, bytes);
+    const item = itemOf(this.#version, this.#offset, this.#found, this.#at, this.#bytes, this.#begin, size);
     this.#at += HALVES;
     this.#begin += size;
     this.#offset += size;
@@ -183,19 +182,24 @@ function wholeOf(found, at) {
   return found[at + 1] * 2 ** 32 + found[at];
 }
 
-/** The item at an offset whose numbers are in a table, with a payload in memory of its own. */
-function itemOf(version, offset, found, at, bytes) {
+/**
+ * The item at an offset whose numbers are in a table, and which bytes have from an index on, with a payload in memory
+ * of its own. The word of a message stays in halves, since few callers read it and a bigint takes long to make.
+ */
+function itemOf(version, offset, found, at, bytes, begin, size) {
   const code = found[at + 2 * ITEM.code];
-  const word = (BigInt(found[at + 2 * ITEM.word + 1]) << 32n) | BigInt(found[at + 2 * ITEM.word]);
-  const payload = () => bytes.slice(found[at + 2 * ITEM.payload]);
+  const low = found[at + 2 * ITEM.word];
+  const high = found[at + 2 * ITEM.word + 1];
   const kind = wholeOf(found, at + 2 * ITEM.kind);
+  if (ITEM_KINDS[kind] === 'unknownCode') {
+    return unknownCodeThatCame(offset, version, code, wordOf(high, low));
+  }
+  const payload = bytes.slice(begin + found[at + 2 * ITEM.payload], begin + size);
   switch (ITEM_KINDS[kind]) {
     case 'message':
-      return messageThatCame(offset, word, version, code, payload(), found[at + 2 * ITEM.requestedAck] === 1);
-    case 'unknownCode':
-      return unknownCodeThatCame(offset, version, code, word);
+      return messageThatCame(offset, high, low, version, code, payload, found[at + 2 * ITEM.requestedAck] === 1);
     case 'skipped':
-      return skippedThatCame(offset, version, code, word, payload());
+      return skippedThatCame(offset, version, code, wordOf(high, low), payload);
     default:
       throw notKnown('Stream', 'kind of item', kind);
   }
@@ -204,7 +208,7 @@ function itemOf(version, offset, found, at, bytes) {
 /** The item that bytes are, which begins at an offset of its stream. */
 export function itemAt(version, bytes, offset) {
   checked(addon.next(version, bytes, numbers), { call: 'expected', version });
-  return itemOf(version, offset, halves, 0, bytes);
+  return itemOf(version, offset, halves, 0, bytes, 0, bytes.length);
 }
 
 /** Decodes chunks into items. */

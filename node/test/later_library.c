@@ -1,6 +1,7 @@
 /*
  * A library in place of the proved one: a later one, which returns what this package does not know, and one that fails
- * as the proved one hardly ever does. test/later_library.js is run over an addon that is built with it.
+ * as the proved one hardly ever does. test/later_library.js is run over an addon that is built with it. Calls that are
+ * not here are those of refusing_library.c, which is generated.
  */
 #include <pendratsoa.h>
 
@@ -29,12 +30,6 @@ int64_t journal_type_name(uint16_t code, uint8_t *out, size_t room) {
     return (int64_t)1 << code;
 }
 
-int64_t journal_type_code(const uint8_t *name, size_t name_length) {
-    (void)name;
-    (void)name_length;
-    return JOURNAL_OUT_OF_MEMORY;
-}
-
 /* Eight bytes are an item of the kind that the first of them is. */
 int64_t journal_next(uint32_t version, const uint8_t *bytes, size_t length, struct journal_item *item,
                      size_t item_room) {
@@ -58,6 +53,19 @@ int64_t journal_next_within(uint32_t version, uint32_t limit, const uint8_t *byt
     return journal_next(version, bytes, length, item, item_room);
 }
 
+int64_t journal_items(uint32_t version, uint32_t limit, const uint8_t *bytes, size_t length,
+                      struct journal_item *items, size_t room) {
+    size_t count = 0;
+
+    (void)limit;
+    while (count < room && journal_next(version, bytes, length, &items[count], JOURNAL_ITEM_NUMBERS) == 0) {
+        bytes += items[count].size;
+        length -= (size_t)items[count].size;
+        count++;
+    }
+    return (int64_t)count;
+}
+
 int64_t journal_header(uint32_t version, uint16_t code, uint32_t payload_length, uint8_t *out, size_t room) {
     (void)version;
     (void)code;
@@ -76,13 +84,6 @@ int64_t journal_frame(uint32_t version, uint16_t code, const uint8_t *payload, s
     (void)out;
     (void)room;
     return JOURNAL_TOO_LONG;
-}
-
-int64_t journal_is_well_formed(uint32_t schema, const uint8_t *payload, size_t payload_length) {
-    (void)schema;
-    (void)payload;
-    (void)payload_length;
-    return JOURNAL_OUT_OF_MEMORY;
 }
 
 /* More than there is memory for. */
@@ -127,15 +128,6 @@ int64_t journal_payload_of_json(uint32_t schema, const uint8_t *json, size_t jso
     reading->kind = json[0];
     reading->offset = 0;
     return 0;
-}
-
-int64_t journal_json(uint32_t schema, const uint8_t *payload, size_t payload_length, uint8_t *out, size_t room) {
-    (void)schema;
-    (void)payload;
-    (void)payload_length;
-    (void)out;
-    (void)room;
-    return JOURNAL_OUT_OF_MEMORY;
 }
 
 /* One field, of a number that no record has. */
@@ -183,29 +175,6 @@ int64_t journal_notification(uint16_t code, const uint8_t *payload, size_t paylo
     return 0;
 }
 
-int64_t journal_header_eq(uint16_t code, const uint8_t *first, size_t first_length, const uint8_t *second,
-                          size_t second_length, uint32_t ignore_payloads) {
-    (void)code;
-    (void)first;
-    (void)first_length;
-    (void)second;
-    (void)second_length;
-    (void)ignore_payloads;
-    return JOURNAL_OUT_OF_MEMORY;
-}
-
-int64_t journal_difference(uint16_t code, const uint8_t *first, size_t first_length, const uint8_t *second,
-                           size_t second_length, uint8_t *out, size_t room) {
-    (void)code;
-    (void)first;
-    (void)first_length;
-    (void)second;
-    (void)second_length;
-    (void)out;
-    (void)room;
-    return JOURNAL_OUT_OF_MEMORY;
-}
-
 /* A verdict of the kind that the recorded journal has as its first byte. */
 int64_t journal_verdict(uint32_t version, const uint8_t *recorded, size_t recorded_length, const uint8_t *replayed,
                         size_t replayed_length, uint32_t ignore_payloads, struct journal_verdict *verdict,
@@ -222,73 +191,4 @@ int64_t journal_verdict(uint32_t version, const uint8_t *recorded, size_t record
     verdict->kind = recorded_length > 0 ? recorded[0] : JOURNAL_VERDICT_SAME;
     verdict->index = 0;
     return 0;
-}
-
-int64_t journal_changed_field(uint16_t code, uint32_t index, const uint8_t *first, size_t first_length,
-                              const uint8_t *second, size_t second_length,
-                              struct journal_changed_field *changed_field, size_t changed_field_room, uint8_t *out,
-                              size_t room) {
-    (void)code;
-    (void)index;
-    (void)first;
-    (void)first_length;
-    (void)second;
-    (void)second_length;
-    (void)changed_field;
-    (void)changed_field_room;
-    (void)out;
-    (void)room;
-    return JOURNAL_OUT_OF_MEMORY;
-}
-
-int64_t journal_replay_check(uint16_t code, const uint8_t *recorded, size_t recorded_length, const uint8_t *replayed,
-                             size_t replayed_length, struct journal_replay *replay, size_t replay_room,
-                             struct journal_mismatch *mismatch, size_t mismatch_room) {
-    (void)code;
-    (void)recorded;
-    (void)recorded_length;
-    (void)replayed;
-    (void)replayed_length;
-    (void)replay;
-    (void)replay_room;
-    (void)mismatch;
-    (void)mismatch_room;
-    return JOURNAL_OUT_OF_MEMORY;
-}
-
-int64_t journal_replay_text(uint16_t code, const uint8_t *recorded, size_t recorded_length, const uint8_t *replayed,
-                            size_t replayed_length, const struct journal_replay *replay, size_t replay_room,
-                            uint8_t *out, size_t room) {
-    (void)code;
-    (void)recorded;
-    (void)recorded_length;
-    (void)replayed;
-    (void)replayed_length;
-    (void)replay;
-    (void)replay_room;
-    (void)out;
-    (void)room;
-    return JOURNAL_OUT_OF_MEMORY;
-}
-
-int64_t journal_replay_expected(const uint8_t *recorded, size_t recorded_length, const struct journal_replay *replay,
-                                size_t replay_room, struct journal_command *command, size_t command_room) {
-    (void)recorded;
-    (void)recorded_length;
-    (void)replay;
-    (void)replay_room;
-    (void)command;
-    (void)command_room;
-    return JOURNAL_OUT_OF_MEMORY;
-}
-
-int64_t journal_replay_finish(const uint8_t *recorded, size_t recorded_length, const struct journal_replay *replay,
-                              size_t replay_room, struct journal_mismatch *mismatch, size_t mismatch_room) {
-    (void)recorded;
-    (void)recorded_length;
-    (void)replay;
-    (void)replay_room;
-    (void)mismatch;
-    (void)mismatch_room;
-    return JOURNAL_OUT_OF_MEMORY;
 }

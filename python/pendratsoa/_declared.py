@@ -18,6 +18,7 @@ CALLS: Dict[str, Tuple[str, ...]] = {
     "journal_type_code": ("slice",),
     "journal_next": ("u32", "slice", "slice"),
     "journal_next_within": ("u32", "u32", "slice", "slice"),
+    "journal_items": ("u32", "u32", "slice", "slice"),
     "journal_header": ("u32", "u16", "u32", "slice"),
     "journal_frame": ("u32", "u16", "slice", "slice"),
     "journal_is_well_formed": ("u32", "slice"),
@@ -199,6 +200,11 @@ REPLAY_NUMBERS = 6
 MISMATCH_NUMBERS = 6
 COMMAND_NUMBERS = 3
 
+# the kinds of items
+ITEM_MESSAGE = 0
+ITEM_UNKNOWN_CODE = 1
+ITEM_SKIPPED = 2
+
 # the kinds of fields
 FIELD_UINT32 = 1
 FIELD_UINT64 = 2
@@ -207,6 +213,10 @@ FIELD_ENUM = 4
 FIELD_STRING = 5
 FIELD_BYTES = 6
 FIELD_MESSAGE = 7
+
+# the options of a replay
+REPLAY_IGNORE_PAYLOADS = 1
+REPLAY_IGNORE_IDS = 2
 
 # the class of each error, and the names of the arguments one of which it is about
 ERRORS: Dict[int, Tuple[str, Tuple[str, ...]]] = {

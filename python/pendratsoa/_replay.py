@@ -8,7 +8,7 @@ from dataclasses import dataclass
 from typing import Iterator, Optional, Tuple, cast
 
 from . import _calls
-from ._declared import REPLAY_NUMBERS, VerdictKind
+from ._declared import REPLAY_IGNORE_IDS, REPLAY_IGNORE_PAYLOADS, REPLAY_NUMBERS, VerdictKind
 from ._fast import pending_of
 from ._items import Item, Message, Skipped, UnknownCode, came
 from ._kinds import BytesLike
@@ -17,10 +17,6 @@ from ._request import Request
 
 # the numbers of a replay, as the library has them
 NUMBERS = struct.Struct(f"{REPLAY_NUMBERS}Q")
-
-# the one option of a replay
-IGNORE_PAYLOADS = 1
-IGNORE_IDS = 2
 
 # how many bytes a header has
 HEADER = 8
@@ -82,7 +78,7 @@ class Replay:
         self._recorded = Request("Replay", recorded=recorded).data("recorded")
         # that there is no such version is known before an item comes
         named.Replay(version, b"", b"", ignore_payloads)
-        options = (IGNORE_PAYLOADS if ignore_payloads else 0) + (IGNORE_IDS if ignore_ids else 0)
+        options = (REPLAY_IGNORE_PAYLOADS if ignore_payloads else 0) | (REPLAY_IGNORE_IDS if ignore_ids else 0)
         self._replay = NUMBERS.pack(version, options, 0, 0, 0, 0)
         self._lock = threading.Lock()
 

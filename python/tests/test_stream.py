@@ -1,6 +1,7 @@
 """Items of streams, however they come."""
 
 import array
+import ctypes
 import io
 import os
 import socket
@@ -73,15 +74,20 @@ class TestFeeding(unittest.TestCase):
         stream.feed(INPUT[:4] + length.to_bytes(4, "big"))
         self.assertEqual(list(stream), [])
         chunk = bytes(1 << 10)
-        found = library.journal_next
         looks = []
 
-        def look(*parameters):
-            looks.append(parameters)
-            return found(*parameters)
+        def looking(name):
+            found = getattr(library, name)
+
+            def look(*parameters):
+                looks.append(parameters)
+                return found(*parameters)
+
+            return replaced(name, look)
 
         tracemalloc.start()
-        with replaced("journal_next", look):
+        # the compiled module looks for one item, and ctypes for many
+        with looking("journal_next"), looking("journal_items"):
             for _ in range(length >> 10):
                 self.assertEqual(list(stream), [])
                 stream.feed(chunk)
@@ -124,7 +130,7 @@ class TestFeeding(unittest.TestCase):
             canonical(13, data)
         except Malformed as error:
             kept.append(error)
-        with replaced("journal_next", returning(-2)):
+        with replaced("journal_next", returning(-2)), replaced("journal_items", returning(-2)):
             try:
                 list(stream)
             except MemoryError as error:
@@ -137,7 +143,13 @@ class TestFeeding(unittest.TestCase):
     def test_an_item_of_another_kind(self):
         stream = Stream()
         stream.feed(STREAM)
-        with replaced("journal_next", returning(0, 3, 0, 0, 0, 17, 8)):
+        numbers = 3, 0, 0, 0, 17, 8
+
+        def items(version, limit, data, length, table, room):
+            (ctypes.c_uint64 * len(numbers)).from_address(table)[:] = numbers
+            return 1
+
+        with replaced("journal_next", returning(0, *numbers)), replaced("journal_items", items):
             for _ in range(2):
                 with self.assertRaises(JournalError) as later:
                     next(iter(stream))

@@ -128,7 +128,7 @@ class TestLaterLibrary < Minitest::Test
       if numbers
         # the slice of numbers is the last one that has this length
         place, = parameters.each_cons(2).to_a.reverse.find { |_, count| count == numbers.length }
-        Fiddle::Pointer.new(place.to_i)[0, 8 * numbers.length] = numbers.pack("Q*")
+        Fiddle::Pointer.new(place.to_i)[0, 8 * numbers.length] = numbers.pack("Q*") if place
       end
       number
     end

@@ -11,6 +11,7 @@ use crate::kinds::FieldReason;
 use crate::message_type::MessageType;
 use crate::messages::listed;
 use crate::schema::Schema;
+use crate::LAST_VERSION;
 
 /// The name of a record, and its fields: their numbers, their names, whether they are repeated, and the schema of what
 /// they hold.
@@ -69,6 +70,9 @@ pub trait MessageRecord<'a>: Record<'a> {
     const TYPE: MessageType;
     /// The version before which it is the record of its type, if the type has another one since.
     const BEFORE_VERSION: Option<u32> = None;
+    /// Whether it is the record of its type at each version that this crate knows.
+    #[doc(hidden)]
+    const IS_ALONE: bool = true;
 
     /// The frame of the message at a version: a header, and the canonical payload after it.
     ///
@@ -87,7 +91,9 @@ pub trait MessageRecord<'a>: Record<'a> {
                 append_table(self, &mut out)?
             }
         };
-        if schema(version, code)? == Self::SCHEMA.number() {
+        // a later library may have another record of the type at a later version
+        let is_its_record = Self::IS_ALONE && version <= LAST_VERSION;
+        if is_its_record || schema(version, code)? == Self::SCHEMA.number() {
             out[..HEADER].copy_from_slice(&header(version, code, length)?);
             return Ok(out);
         }

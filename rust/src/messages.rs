@@ -641,6 +641,7 @@ impl<'a> Record<'a> for SuspensionMessage<'a> {
 
 impl<'a> MessageRecord<'a> for SuspensionMessage<'a> {
     const TYPE: MessageType = MessageType::Suspension;
+    const IS_ALONE: bool = false;
 }
 
 /// A suspension as it is written before version 7: all that is awaited, in three lists.
@@ -705,6 +706,7 @@ impl<'a> Record<'a> for SuspensionMessageV6<'a> {
 impl<'a> MessageRecord<'a> for SuspensionMessageV6<'a> {
     const TYPE: MessageType = MessageType::Suspension;
     const BEFORE_VERSION: Option<u32> = Some(7);
+    const IS_ALONE: bool = false;
 }
 
 /// Ends the attempt with an error, after which the service may retry.

@@ -164,14 +164,18 @@ counted 'the proxy' python3 -B scripts/checks/proxied.py node "$user/proxy.mjs"
 copy later
 mkdir -p "$work/other/include" "$work/other/lib"
 cp include/pendratsoa.h "$work/other/include/"
-case_of 'later_library.c' cc -std=c11 -O2 -fPIC -Wall -Wextra -Werror -I include -c node/test/later_library.c \
-  -o "$work/later.o"
-case_of 'its archive' ar rcsD "$work/other/lib/libpendratsoa.a" "$work/later.o"
+for name in later refusing; do
+  case_of "${name}_library.c" cc -std=c11 -O2 -fPIC -Wall -Wextra -Werror -I include -c "node/test/${name}_library.c" \
+    -o "$work/$name.o"
+done
+# as one object, since a linker takes the first of two in an archive
+case_of 'both as one' ld -r -o "$work/both.o" "$work/later.o" "$work/refusing.o"
+case_of 'their archive' ar rcsD "$work/other/lib/libpendratsoa.a" "$work/both.o"
 case_of 'build.sh with another library' sh "$tree/node/build.sh" "$work/other"
 tested addon 'what a later library returns' test/later_library.js
 if [ -n "$module" ]; then
   case_of 'a module with another library' python3 -B scripts/wasm.py --of "$tree/node/build/pendratsoa.wasm" \
-    wasm/heap.c wasm/calls.c node/test/later_library.c
+    wasm/heap.c wasm/calls.c node/test/later_library.c node/test/refusing_library.c
   tested module 'what a later library returns' test/later_library.js
 fi
 

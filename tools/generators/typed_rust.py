@@ -233,6 +233,8 @@ def implementation(record):
         before = (
             f"    const BEFORE_VERSION: Option<u32> = Some({record.before_version});\n" if record.before_version else ""
         )
+        if record.code in {other.code for other in records() if other.before_version}:
+            before += "    const IS_ALONE: bool = false;\n"
         text += (
             f"\nimpl<'a> MessageRecord<'a> for {name}{life(name)} {{\n"
             f"    const TYPE: MessageType = MessageType::{record.type_name};\n{before}}}\n"
