@@ -42,4 +42,4 @@ PENDRATSOA_STATIC=1
 BENCH_FFI=$(folder ../crates/bench_ffi/out/libbench_ffi.a) || exit 1
 RATTLE_C=$(folder "$(dirname "$(rt doc)")/c/liblibc_c.a") || exit 1
 export PENDRATSOA_PREFIX PENDRATSOA_STATIC BENCH_FFI RATTLE_C
-quietly cargo build --release --features library
+quietly cargo build --release --features json,library

@@ -2,10 +2,10 @@
 """Measures the typed messages of each language against what its users would pick: bench/languages.sh [--no-install]
 
 A line is the language, the record, the work (a payload decoded and two fields read, or a record encoded), microseconds
-of this library's package and of the other, of CPU time except in Go and Rust, and how many times as fast this one
-is. In Python and Ruby there are also the items of a stream, the same with two fields of each read, frames and JSON. The
-others are protobuf's own packages of Debian, for streams and frames with a framing of twenty lines, prost, and for Node
-JSON.parse of the dump. Where one is missing it says 'not run'. Python and Ruby are measured with their compiled
+of CPU time of this library's package and of the other, and how many times as fast this one is. There are also the items
+of a stream, the same with two fields of each read, replays, frames and JSON; for Node only items. The others are
+protobuf's own packages of Debian, for streams and frames with a framing of twenty lines, prost with serde_json, and for
+Node JSON.parse of the dump. Where one is missing it says 'not run'. Python and Ruby are measured with their compiled
 modules, and without them as python-ctypes and ruby-fiddle.
 """
 from __future__ import annotations

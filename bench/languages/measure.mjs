@@ -1,11 +1,12 @@
-// Measures the package for Node beside JSON: node measure.mjs, with the package in node_modules.
+// Measures the package for Node beside JSON and a framing by hand: node measure.mjs, with the package in node_modules.
 //
-// JSON.parse reads the JSON of the same message, with its bytes in base64, which are decoded and encoded too. A line is
-// the record, the work, microseconds here and there, and how many times as fast this package is.
+// JSON.parse reads the JSON of the same message, with its bytes in base64, which are decoded and encoded too. Streams
+// are compared with the framing that a user writes, below. A line is the record, the work, microseconds here and there,
+// and how many times as fast this package is.
 
 import { readFileSync } from 'node:fs';
 
-import { readRecord, toJson, writeRecord } from 'pendratsoa';
+import { Message, Stream, readRecord, toJson, writeRecord } from 'pendratsoa';
 
 const bytesOf = (text) => Buffer.from(text, 'base64');
 const textOf = (bytes) => Buffer.from(bytes).toString('base64');
@@ -31,18 +32,78 @@ const READS = {
 const COUNT = 20000;
 let sum = 0;
 
-/** Microseconds of processor time, since the machine may be busy. */
-function measured(work) {
-  let least = Infinity;
-  for (let round = 0; round < 9; round += 1) {
-    const start = process.cpuUsage();
-    for (let i = 0; i < COUNT; i += 1) {
-      sum += work();
+// How many frames a stream has, and how many bytes come at a time.
+const FRAMES = 1000;
+const CHUNK = 2 ** 16;
+
+/** A part of bytes in memory of its own, as the payloads of the package are; slice of a Buffer shares it. */
+function ownOf(bytes, begin, end) {
+  return Uint8Array.prototype.slice.call(bytes, begin, end);
+}
+
+/** The messages of a stream that comes in chunks, as a framing by hand has them. */
+function* peerItems(chunks, limit = 2 ** 24) {
+  let rest = Buffer.alloc(0);
+  for (const chunk of chunks) {
+    const bytes = rest.length === 0 ? Buffer.from(chunk) : Buffer.concat([rest, chunk]);
+    let at = 0;
+    while (bytes.length - at >= 8) {
+      const code = bytes.readUInt16BE(at);
+      const length = bytes.readUInt32BE(at + 4);
+      if (length > limit) {
+        throw new RangeError(`a message of type ${code} has ${length} bytes`);
+      }
+      const end = at + 8 + length;
+      if (end > bytes.length) {
+        break;
+      }
+      yield { code, flags: bytes.readUInt16BE(at + 2), payload: ownOf(bytes, at + 8, end) };
+      at = end;
     }
-    const { user, system } = process.cpuUsage(start);
-    least = Math.min(least, (user + system) / COUNT);
+    rest = bytes.subarray(at);
   }
-  return least;
+}
+
+/** How many bytes the payloads of a stream have that comes in chunks. */
+function drained(chunks) {
+  const stream = new Stream(8);
+  let count = 0;
+  for (const chunk of chunks) {
+    stream.feed(chunk);
+    for (const { payload } of stream) {
+      count += payload.length;
+    }
+  }
+  return count;
+}
+
+function peerDrained(chunks) {
+  let count = 0;
+  for (const { payload } of peerItems(chunks)) {
+    count += payload.length;
+  }
+  return count;
+}
+
+/** Microseconds of processor time of the least round, since the machine may be busy. */
+function round(work, count, per) {
+  const start = process.cpuUsage();
+  for (let i = 0; i < count; i += 1) {
+    sum += work();
+  }
+  const { user, system } = process.cpuUsage(start);
+  return (user + system) / count / per;
+}
+
+/** Prints the line of a work: of the fastest round here and there, which take turns. */
+function show(name, work, here, there, per = 1) {
+  const count = COUNT / per;
+  let [first, second] = [Infinity, Infinity];
+  for (let i = 0; i < 9; i += 1) {
+    first = Math.min(first, round(here, count, per));
+    second = Math.min(second, round(there, count, per));
+  }
+  console.log(`node ${name} ${work} ${first.toFixed(2)} ${second.toFixed(2)} ${(second / first).toFixed(2)}`);
 }
 
 for (const line of readFileSync(new URL('messages.txt', import.meta.url), 'utf8').split('\n')) {
@@ -57,12 +118,17 @@ for (const line of readFileSync(new URL('messages.txt', import.meta.url), 'utf8'
   if (read(record) !== readJson(JSON.parse(json))) {
     throw new Error(name);
   }
-  for (const [work, here, there] of [
-    ['decode', () => read(readRecord(name, payload)), () => readJson(JSON.parse(json))],
-    ['encode', () => writeRecord(name, record).length, () => written(record).length],
-  ]) {
-    const [first, second] = [measured(here), measured(there)];
-    console.log(`node ${name} ${work} ${first.toFixed(2)} ${second.toFixed(2)} ${(second / first).toFixed(2)}`);
+  show(name, 'decode', () => read(readRecord(name, payload)), () => readJson(JSON.parse(json)));
+  show(name, 'encode', () => writeRecord(name, record).length, () => written(record).length);
+  const frame = Message.of(name.replace(/Message$/, ''), record).bytes;
+  const whole = Buffer.concat(new Array(FRAMES).fill(frame));
+  const chunks = [];
+  for (let at = 0; at < whole.length; at += CHUNK) {
+    chunks.push(new Uint8Array(whole.subarray(at, at + CHUNK)));
   }
+  if (drained(chunks) !== peerDrained(chunks)) {
+    throw new Error(name);
+  }
+  show(name, 'items', () => drained(chunks), () => peerDrained(chunks), FRAMES);
 }
 process.exitCode = Number.isFinite(sum) ? 0 : 1;

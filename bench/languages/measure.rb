@@ -46,6 +46,24 @@ def peer_items(chunks, limit: 1 << 24)
   end
 end
 
+# The index of the first command in which a replay that comes in chunks differs, or nil.
+def peer_check(recorded, chunks, classes)
+  others = []
+  peer_items([recorded]) { |item| others << item }
+  index = 0
+  peer_items(chunks) do |item|
+    other = others[index]
+    return index unless other&.code == item.code
+
+    # what is not well-formed is an error
+    message = classes[item.code].decode(item.payload)
+    return index if item.payload != other.payload && message != classes[other.code].decode(other.payload)
+
+    index += 1
+  end
+  index == others.length ? nil : index
+end
+
 # The frame of a message.
 def peer_frame(code, message)
   payload = message.class.encode(message)
@@ -58,14 +76,21 @@ def items_of(chunks, &block)
   chunks.each { |chunk| stream.feed(chunk).each(&block) }
 end
 
-# CPU time, since the machine may be busy.
-def measured(count, per)
-  times = Array.new(9) do
-    start = Process.clock_gettime(Process::CLOCK_PROCESS_CPUTIME_ID)
-    count.times { yield }
-    Process.clock_gettime(Process::CLOCK_PROCESS_CPUTIME_ID) - start
+# What is said first of a replay that comes in chunks.
+def check(recorded, chunks)
+  replay = Pendratsoa::Replay.new(8, recorded)
+  items_of(chunks) do |item|
+    mismatch = replay.check(item)
+    return mismatch if mismatch
   end
-  times.min / count / per * 1e6
+  replay.finish
+end
+
+# Microseconds of CPU time of a round, since the machine may be busy.
+def measured(count, per)
+  start = Process.clock_gettime(Process::CLOCK_PROCESS_CPUTIME_ID)
+  count.times { yield }
+  (Process.clock_gettime(Process::CLOCK_PROCESS_CPUTIME_ID) - start) / count / per * 1e6
 end
 
 File.foreach(File.join(__dir__, "messages.txt")) do |line|
@@ -98,8 +123,16 @@ File.foreach(File.join(__dir__, "messages.txt")) do |line|
     "to-json" => [-> { Pendratsoa.to_json(here::SCHEMA, payload) }, -> { there.encode_json(there.decode(payload)) }],
     "from-json" => [-> { Pendratsoa.from_json(here::SCHEMA, text) }, -> { there.encode(there.decode_json(text)) }]
   }
+  # a replay of notifications has nothing to compare
+  if name.include?("Command")
+    raise name if check(whole, chunks) || peer_check(whole, chunks, classes)
+
+    works["replay"] = [-> { check(whole, chunks) }, -> { peer_check(whole, chunks, classes) }, FRAMES]
+  end
   works.each do |work, (first, second, per)|
-    first, second = [first, second].map { |one| measured(COUNT / (per || 1), per || 1, &one) }
+    # each in its fastest round; the rounds take turns
+    rounds = Array.new(9) { [first, second].map { |one| measured(COUNT / (per || 1), per || 1, &one) } }
+    first, second = rounds.transpose.map(&:min)
     puts format("%s %s %s %.2f %.2f %.2f", LANGUAGE, name, work, first, second, second / first)
   end
 end
