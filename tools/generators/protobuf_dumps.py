@@ -5,12 +5,16 @@
         records and the types below another one
     protobuf_dumps.py --random SEED COUNT PROGRAM [WORD..]
         COUNT random payloads of each message type in one stream, dumped by the program and printed by protobuf
+    protobuf_dumps.py --other PROTO SEED COUNT PROGRAM [WORD..]
+        the same by the messages of another .proto file, of whose payloads the program prints the canonical ones
 
 It needs protoc and python3's protobuf (Debian's protobuf-compiler and python3-protobuf). Nothing of this project's own
 code takes part: payloads are those of conformance/records.txt, which protoc made, and what protobuf makes of random
 values; a type's code is that of proto/types.txt. The last line of --random is 'N passed, M failed'.
 """
 import base64
+import importlib
+import itertools
 import json
 import pathlib
 import random
@@ -30,16 +34,13 @@ HEAD = """\
 """
 
 
-def load():
-    """The messages of proto/journal.proto by their names."""
+def load(proto=ROOT / "proto" / "journal.proto"):
+    """The messages of a .proto file by their names."""
     with tempfile.TemporaryDirectory() as work:
-        subprocess.run(
-            ["protoc", f"--python_out={work}", f"-I{ROOT / 'proto'}", "options.proto", "journal.proto"], check=True
-        )
+        folders = [f"-I{folder}" for folder in (proto.parent, ROOT / "proto")]
+        subprocess.run(["protoc", f"--python_out={work}", *folders, "options.proto", proto.name], check=True)
         sys.path.insert(0, work)
-        import journal_pb2
-
-        return journal_pb2
+        return importlib.import_module(f"{proto.stem}_pb2")
 
 
 def types(root):
@@ -65,6 +66,14 @@ def printed(kind, payload):
     except Exception:
         return None
     return in_rows(message.DESCRIPTOR, json_format.MessageToDict(message, use_integers_for_enums=True))
+
+
+def is_canonical(kind, payload):
+    """Whether protobuf writes what a payload means as the payload, without fields that the message does not have."""
+    message = kind()
+    message.ParseFromString(payload)
+    message.DiscardUnknownFields()
+    return message.SerializeToString() == payload
 
 
 def in_rows(kind, shown):
@@ -99,10 +108,11 @@ def header_of(more, plain):
 
 
 class Stream:
-    """A stream, and the lines of its dump."""
+    """A stream, and the lines of its dump: of all payloads, or of the canonical ones."""
 
-    def __init__(self, kinds, root=ROOT):
+    def __init__(self, kinds, root=ROOT, reads_all=True):
         self.kinds = kinds
+        self.reads_all = reads_all
         self.codes = types(root)
         self.bytes = b""
         self.lines = []
@@ -114,13 +124,16 @@ class Stream:
     def message(self, name, payload, flag=0, kind=None):
         """A message of a type, which is read as the kind, or else as the message of its name."""
         code = self.codes[name]
-        value = printed(getattr(self.kinds, kind or name + "Message"), payload)
+        read_as = getattr(self.kinds, kind or name + "Message")
+        value = printed(read_as, payload)
         head = {"type": name, "code": code, "length": len(payload)}
         if name == "ProposeRunCompletion":
             head["requestedAck"] = flag & 0x8000 != 0
         shown = {"message": value}
         if value is None:
             shown = {"malformed": True, "bytes": base64_of(payload)}
+        elif not self.reads_all and not is_canonical(read_as, payload):
+            shown = {"notCanonical": True, "bytes": base64_of(payload)}
         more = frame(code, payload, flag)
         plain = frame(code, payload, 0x8000 if head.get("requestedAck") else 0)
         self.put(more, **head, **header_of(more, plain), **shown)
@@ -238,16 +251,16 @@ def payload_of(r, kind):
     return payload
 
 
-def dump_random(kinds, seed, count, command):
+def dump_random(stream, seed, count, command):
     r = random.Random(seed)
-    stream = Stream(kinds)
     for _ in range(count):
         for name in stream.codes:
             flag = r.choice([0, 0, 0, 0x8000, 1, r.getrandbits(16)])
-            stream.message(name, payload_of(r, getattr(kinds, name + "Message")), flag)
+            stream.message(name, payload_of(r, getattr(stream.kinds, name + "Message")), flag)
     rest, end = r.randbytes(r.randrange(2, 8)), len(stream.bytes)
     given, wanted = stream.end(rest)
-    name = " ".join([pathlib.PurePath(command[0]).name, *command[1:]])
+    called = itertools.takewhile(lambda word: not word.startswith("-"), command[1:])
+    name = " ".join([pathlib.PurePath(command[0]).name, *called])
     told = f"{name}: offset {end}: {len(rest)} bytes after the last whole item\n"
     run = subprocess.run(command, input=given, capture_output=True, check=False)
     lines = run.stdout.decode().split("\n")[:-1]
@@ -268,10 +281,13 @@ def dump_random(kinds, seed, count, command):
 
 
 def main():
-    kinds = load()
     words = sys.argv[1:]
+    if words[:1] == ["--other"] and len(words) >= 5:
+        stream = Stream(load(pathlib.Path(words[1])), reads_all=False)
+        return dump_random(stream, int(words[2]), int(words[3]), words[4:])
+    kinds = load()
     if words[:1] == ["--random"] and len(words) >= 4:
-        return dump_random(kinds, int(words[1]), int(words[2]), words[3:])
+        return dump_random(Stream(kinds), int(words[1]), int(words[2]), words[3:])
     if words[:1] != ["--write"] or len(words) != 3:
         sys.exit(__doc__)
     root = pathlib.Path(words[2])

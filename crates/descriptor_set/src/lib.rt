@@ -1,5 +1,5 @@
 //! A FileDescriptorSet, which `protoc -o` and `buf build -o` write: its messages with their fields, its enums, and the
-//! table of schemas of its messages.
+//! table of schemas of its messages, also with the names of their fields in JSON.
 #![tactic(auto)]
 
 mod error;
@@ -15,4 +15,4 @@ pub use error::{DescriptorError, Place};
 pub use field::{FieldDescriptor, FieldKind, Presence};
 pub use read::{MOST_BYTES, MOST_FIELDS, MOST_NAME_BYTES, read_set};
 pub use set::{DescriptorSet, EnumDescriptor, EnumValue, MessageDescriptor};
-pub use table::{NoForm, PassedOver, passed_over, table_of};
+pub use table::{NoForm, PassedOver, named_table_of, passed_over, table_of};

@@ -7,7 +7,9 @@ use crate::set::{DescriptorSet, MessageDescriptor};
 use shared_core_codec::loaded_rows::LoadedRow;
 use shared_core_codec::loaded_table::LoadedSchemas;
 use shared_core_codec::rows::{Field, Kind};
-use shared_core_codec::table_error::TableError;
+use shared_core_codec::table_error::{TableError, TableFault};
+use shared_core_json::loaded_names::LoadedName;
+use shared_core_json::named_table::NamedTable;
 use std::alloc::{AllocError, Global};
 
 /// Why a table has no row for a field.
@@ -209,6 +211,43 @@ pub fn table_of(alloc: Global, set: &DescriptorSet) -> Result<LoadedSchemas, Des
     match LoadedSchemas::new(schemas) {
         Ok(loaded) => Ok(loaded),
         Err(error) => Err(named(alloc, set, &error)?),
+    }
+}
+
+/// The names in JSON of the fields that the table of a set has rows for.
+fn names_of(alloc: Global, set: &DescriptorSet) -> Result<Vec<Vec<LoadedName>>, AllocError> {
+    let mut names = Vec::new(alloc);
+    for message in &set.messages {
+        let mut own = Vec::new(alloc);
+        for field in &message.fields {
+            if let Form::Kind(_) = form_of(set, field) {
+                own.push(LoadedName {
+                    number: field.number,
+                    name: String::from_str(alloc, field.json_name.as_str())?,
+                })?;
+            }
+        }
+        names.push(own)?;
+    }
+    Ok(names)
+}
+
+/// `table_of`, with the names that its fields have in JSON.
+pub fn named_table_of(
+    alloc: Global,
+    set: &DescriptorSet,
+) -> Result<NamedTable<LoadedSchemas>, DescriptorError> {
+    let table = table_of(alloc, set)?;
+    match NamedTable::new(table, names_of(alloc, set)?) {
+        Ok(named) => Ok(named),
+        Err(error) => {
+            let error = TableError {
+                schema: error.schema,
+                number: error.number,
+                fault: TableFault::NumberTwice,
+            };
+            Err(named(alloc, set, &error)?)
+        }
     }
 }
 

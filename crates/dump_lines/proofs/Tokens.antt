@@ -10,11 +10,16 @@ use Rattle.json.specs.Token.{Token, key, string, end_object}
 use Rattle.json.specs.Json.{Members, member, no_members, boolean}
 use Rattle.json.specs.Tree.{json_tokens, members_tokens}
 use Rattle.shared_core_wire.specs.Acceptance.{accepts_payload}
+use Rattle.shared_core_wire.specs.Overlay.{meaning}
+use Rattle.shared_core_wire.specs.Schema.{Table}
 use Rattle.shared_core_wire.specs.Value.{Parts}
-use Rattle.shared_core_codec.specs.Table.{table}
-use Rattle.shared_core_codec.specs.Payloads.{IsAccepted, payload_meaning}
-use Rattle.shared_core_json.specs.Form.{byte_string_json, json_with}
-use Rattle.dump_lines.specs.Lines.{ack_tokens, ack_members, header_json, header_members, header_tokens, payload_members}
+use Rattle.shared_core_codec.specs.Tables.{IsAcceptedIn}
+use Rattle.shared_core_json.specs.Fields.{Names}
+use Rattle.shared_core_json.specs.Form.{json_with_in}
+use Rattle.dump_lines.specs.Lines.{ack_tokens, ack_members, header_json, header_members, header_tokens, meaning_json}
+use Rattle.dump_lines.specs.Lines.{payload_members_in, unread_members}
+use Rattle.dump_lines.specs.Reading.{Reading, is_read}
+use Rattle.dump_lines.proofs.ReadPayloads.{not_true}
 
 pub then_tokens : (old new front rest : List Token) → new ≡ old ++ front → new ++ rest ≡ old ++ (front ++ rest)
 then_tokens old new front rest e = ap (λ (ts : List Token). ts ++ rest) e ∙ append_assoc old front rest
@@ -24,33 +29,38 @@ pub then_ack : (old new : List Token) (flag : Option Bool) (others : Members) �
 then_ack old new None others e = then_tokens old new [] (members_tokens others) e
 then_ack old new (Some flag) others e = then_tokens old new (ack_tokens (Some flag)) (members_tokens others) e
 
-pub shown_message : (texts : Bool) (schema : Option ℕ) (s : ℕ) (payload : List ℕ) → schema ≡ Some s → IsAccepted s
-    payload → payload_members texts schema payload ≡ member (codes "message")
-    (json_with texts s (payload_meaning s payload)) no_members
-shown_message texts schema s payload e a = rw (e, a) refl
+shown_message : (r : Reading) (texts : Bool) (schema : Option ℕ) (s : ℕ) (payload : List ℕ) → schema ≡ Some s
+    → IsAcceptedIn r.table s payload → is_read r s payload ≡ true → payload_members_in r texts schema payload ≡ member
+    (codes "message") (meaning_json r texts s payload) no_members
+shown_message r texts schema s payload e a h = rw (e, a, h) refl
 
 -- the member of a canonical payload that means what a well-formed one does
-pub shown_canonical : (texts : Bool) (schema : Option ℕ) (s : ℕ) (payload : List ℕ) (t : ℕ) (bytes : List ℕ)
-    (old named new : List Token) → schema ≡ Some s → IsAccepted s payload → t ≡ s
-    → payload_meaning s bytes ≡ payload_meaning s payload → named ≡ old ++ key (codes "message") ∷ []
-    → new ≡ named ++ json_tokens (json_with texts t (payload_meaning t bytes))
-    → new ++ end_object ∷ [] ≡ old ++ members_tokens (payload_members texts schema payload)
-shown_canonical texts schema s payload t bytes old named new e a k m n w =
-    let json = json_tokens (json_with texts s (payload_meaning s payload)) in
-    let written = w ∙ ap (λ (u : ℕ). named ++ json_tokens (json_with texts u (payload_meaning u bytes))) k
-    ∙ ap (λ (v : Parts). named ++ json_tokens (json_with texts s v)) m in
+pub shown_canonical : (r : Reading) (texts : Bool) (schema : Option ℕ) (s : ℕ) (payload : List ℕ) (t : ℕ)
+    (bytes : List ℕ) (table : Table) (names : Names) (old named new : List Token) → schema ≡ Some s
+    → IsAcceptedIn r.table s payload → is_read r s payload ≡ true → table ≡ r.table → names ≡ r.names → t ≡ s
+    → meaning r.table 100 s bytes ≡ meaning r.table 100 s payload → named ≡ old ++ key (codes "message") ∷ []
+    → new ≡ named ++ json_tokens (json_with_in table names texts t (meaning table 100 t bytes))
+    → new ++ end_object ∷ [] ≡ old ++ members_tokens (payload_members_in r texts schema payload)
+shown_canonical r texts schema s payload t bytes table names old named new e a h at by k m n w =
+    let json = json_tokens (meaning_json r texts s payload) in
+    let written = w
+    ∙ ap (λ (u : ℕ). named ++ json_tokens (json_with_in table names texts u (meaning table 100 u bytes))) k
+    ∙ ap (λ (u : Table). named ++ json_tokens (json_with_in u names texts s (meaning u 100 s bytes))) at
+    ∙ ap (λ (u : Names). named ++ json_tokens (json_with_in r.table u texts s (meaning r.table 100 s bytes))) by
+    ∙ ap (λ (v : Parts). named ++ json_tokens (json_with_in r.table r.names texts s v)) m in
     then_tokens named new json (end_object ∷ []) written
     ∙ then_tokens old named (key (codes "message") ∷ []) (json ++ end_object ∷ []) n
-    ∙ ap (λ (ms : Members). old ++ members_tokens ms) (sym (shown_message texts schema s payload e a))
+    ∙ ap (λ (ms : Members). old ++ members_tokens ms) (sym (shown_message r texts schema s payload e a h))
 
-not_accepted : (b : Bool) → ¬ (b ≡ true) → b ≡ false
-not_accepted true h = absurd (h refl)
-not_accepted false h = refl
+pub shown_malformed : (r : Reading) (texts : Bool) (schema : Option ℕ) (s : ℕ) (payload : List ℕ) → schema ≡ Some s → ¬
+    (IsAcceptedIn r.table s payload) → payload_members_in r texts schema payload ≡ unread_members (codes "malformed")
+    texts payload
+shown_malformed r texts schema s payload e a = rw (e, not_true (accepts_payload r.table 100 s payload) a) refl
 
-pub shown_malformed : (texts : Bool) (schema : Option ℕ) (s : ℕ) (payload : List ℕ) → schema ≡ Some s → ¬
-    (IsAccepted s payload) → payload_members texts schema payload ≡ member (codes "malformed") (boolean true)
-    (member (codes "bytes") (byte_string_json texts payload) no_members)
-shown_malformed texts schema s payload e a = rw (e, not_accepted (accepts_payload table 100 s payload) a) refl
+pub shown_unread : (r : Reading) (texts : Bool) (schema : Option ℕ) (s : ℕ) (payload : List ℕ) → schema ≡ Some s
+    → IsAcceptedIn r.table s payload → is_read r s payload ≡ false → payload_members_in r texts schema payload
+    ≡ unread_members (codes "notCanonical") texts payload
+shown_unread r texts schema s payload e a h = rw (e, a, h) refl
 
 -- the head of a message, and what is after it
 pub head_then : (old a b c d x y z : List Token) (flag : Option Bool) (others : Members) → a ≡ old ++ x → b ≡ a ++ y → c

@@ -1,9 +1,15 @@
 -- The result for a payload that is to be printed.
-use Rattle.std.specs.Prelude.{◌≡◌, ℕ, List, Option, Some, None, Result, Ok, Err}
+use Rattle.std.specs.Prelude.{◌≡◌, ◌≤◌, ◌^◌, ◌⊎◌, ℕ, Bool, true, false, List, Option, Some, None, Result, Ok, Err}
+use Rattle.shared_core_wire.specs.Schema.{Table}
+use Rattle.shared_core_wire.specs.Canonical.{size}
+use Rattle.shared_core_wire.specs.Overlay.{meaning}
+use Rattle.shared_core_codec.specs.Canonicity.{IsCanonicalIn}
 use Rattle.shared_core_codec.specs.Payloads.{IsAccepted}
+use Rattle.shared_core_codec.specs.Tables.{IsAcceptedIn}
 use Rattle.shared_core_json.specs.declared.error.JsonError.{JsonError}
 use Rattle.shared_core_json.specs.declared.error.JsonError.TheVariants.{Malformed, TooLong, OutOfMemory}
 use Rattle.shared_core_json.specs.Payloads.{IsCanonicalOf, IsTooLong}
+use Rattle.dump_lines.specs.Reading.{Reading}
 
 -- There is a schema, the payload is well-formed for it, and the canonical payload of what it means is too long to be
 -- written.
@@ -20,3 +26,33 @@ ReturnsEncoding schema payload canonical (Ok (Some s)) = (schema ≡ Some s) × 
 ReturnsEncoding schema payload canonical (Err Malformed) = (s : ℕ) × (schema ≡ Some s) × ¬ (IsAccepted s payload)
 ReturnsEncoding schema payload canonical (Err TooLong) = IsLongFor schema payload
 ReturnsEncoding schema payload canonical (Err OutOfMemory) = Unit {0}
+
+-- ---- for any reading
+
+-- The same as `IsLongFor` by a table, where every well-formed payload is read; otherwise none is written anew.
+abbrev pub IsLongBy : Table → Bool → Option ℕ → List ℕ → Type 0
+IsLongBy table true schema payload =
+    (s : ℕ) × (schema ≡ Some s) × IsAcceptedIn table s payload × (2 ^ 32 ≤ size table s (meaning table 100 s payload))
+IsLongBy table false schema payload = ⊥
+
+-- The same as `IsLongFor` by a reading.
+abbrev pub IsLongForIn : Reading → Option ℕ → List ℕ → Type 0
+IsLongForIn reading schema payload = IsLongBy reading.table reading.reads_all schema payload
+
+-- There is no schema, or the payload is well-formed for it, and only canonical payloads are read.
+abbrev pub IsUnread : Reading → Option ℕ → List ℕ → Type 0
+IsUnread reading None payload = Unit {0}
+IsUnread reading (Some s) payload = (reading.reads_all ≡ false) × IsAcceptedIn reading.table s payload
+
+-- If every well-formed payload is read, the number of the schema is returned, and the canonical payload of what the
+-- payload means is written; otherwise, and without a schema, None is returned. Malformed only if the payload is not
+-- well-formed for the schema; TooLong only if that canonical payload is too long.
+abbrev pub ReturnsEncodingIn : Reading → Option ℕ → List ℕ → List ℕ → Result (Option ℕ) JsonError → Type 0
+ReturnsEncodingIn reading schema payload canonical (Ok None) = IsUnread reading schema payload
+ReturnsEncodingIn reading schema payload canonical (Ok (Some s)) = (reading.reads_all ≡ true) × (schema ≡ Some s)
+    × IsAcceptedIn reading.table s payload × IsCanonicalIn reading.table s canonical
+    × (meaning reading.table 100 s canonical ≡ meaning reading.table 100 s payload)
+ReturnsEncodingIn reading schema payload canonical (Err Malformed) = (s : ℕ) × (schema ≡ Some s) × ¬
+    (IsAcceptedIn reading.table s payload)
+ReturnsEncodingIn reading schema payload canonical (Err TooLong) = IsLongForIn reading schema payload
+ReturnsEncodingIn reading schema payload canonical (Err OutOfMemory) = Unit {0}

@@ -1,3 +1,5 @@
+pub mod Reading
+pub mod Other
 pub mod Lines
 pub mod Dump
 pub mod Canonical

@@ -10,27 +10,37 @@ use Rattle.json.specs.Json.{Json, boolean, number, string, object, Members, no_m
 use Rattle.shared_core_base.specs.MessageType.{code_of, debug_name_of}
 use Rattle.shared_core_base.specs.MessageHeader.{word_of}
 use Rattle.shared_core_wire.specs.Acceptance.{accepts_payload}
-use Rattle.shared_core_codec.specs.Table as schema
-use Rattle.shared_core_codec.specs.Payloads.{payload_meaning}
+use Rattle.shared_core_wire.specs.Overlay.{meaning}
 use Rattle.shared_core_stream.specs.declared.encoding.item.Item.{Item}
 use Rattle.shared_core_stream.specs.declared.encoding.item.Item.TheVariants.{Message, Unknown, Skipped}
-use Rattle.shared_core_message.specs.Schemas.{schema_at}
-use Rattle.shared_core_json.specs.Form.{byte_string_json, json_with}
+use Rattle.shared_core_json.specs.Form.{byte_string_json, json_with_in}
 use Rattle.dump_lines.specs.declared.options.Options.{Options}
+use Rattle.dump_lines.specs.Reading.{Reading, is_read, protocol}
 use Rattle.dump_lines.specs.Spread.{json_text}
 
 -- The bytes of a header, in base64.
 abbrev pub header_json : List ℕ → Json
 header_json bytes = string (encode_of standard bytes)
 
--- The members of a payload, with texts or without: for a message its JSON, or that it is malformed and its bytes; for
--- a custom entry its bytes.
-abbrev pub payload_members : Bool → Option ℕ → List ℕ → Members
-payload_members texts None payload = member (codes "bytes") (byte_string_json texts payload) no_members
-payload_members texts (Some s) payload =
-    if accepts_payload schema.table 100 s payload
-    then member (codes "message") (json_with texts s (payload_meaning s payload)) no_members
-    else member (codes "malformed") (boolean true) (member (codes "bytes") (byte_string_json texts payload) no_members)
+-- The JSON of what a payload means.
+abbrev pub meaning_json : Reading → Bool → ℕ → List ℕ → Json
+meaning_json reading texts s payload = json_with_in reading.table reading.names texts s
+    (meaning reading.table 100 s payload)
+
+-- The members of a payload that is not read: why, and its bytes.
+abbrev pub unread_members : List ℕ → Bool → List ℕ → Members
+unread_members why texts payload =
+    member why (boolean true) (member (codes "bytes") (byte_string_json texts payload) no_members)
+
+-- The members of a payload, with texts or without: for a message its JSON, or that it is malformed, or not canonical
+-- where only canonical ones are read, and its bytes; without a schema, as of a custom entry, its bytes.
+abbrev pub payload_members_in : Reading → Bool → Option ℕ → List ℕ → Members
+payload_members_in reading texts None payload = member (codes "bytes") (byte_string_json texts payload) no_members
+payload_members_in reading texts (Some s) payload =
+    if accepts_payload reading.table 100 s payload
+    then (if is_read reading s payload then member (codes "message") (meaning_json reading texts s payload) no_members
+    else unread_members (codes "notCanonical") texts payload)
+    else unread_members (codes "malformed") texts payload
 
 -- Members, with one before them for whether an acknowledgement is requested, if the type has that flag.
 abbrev pub ack_members : Option Bool → Members → Members
@@ -82,21 +92,22 @@ skipped_members options word code payload =
     no_members))))
 
 -- The members of an item after its offset, by the word of its header.
-abbrev pub item_members : Options → ℕ → Item → Members
-item_members options word (Message message) =
+abbrev pub item_members_in : Reading → Options → ℕ → Item → Members
+item_members_in reading options word (Message message) =
     member (codes "type") (string (debug_name_of message.header.ty))
     (number_member (codes "code") (code_of message.header.ty)
     (number_member (codes "length") (length message.payload)
     (ack_members message.header.requested_ack
     (header_members word (written_word (Message message))
-    (if options.payloads then payload_members options.texts (schema_at options.version message.header.ty)
-    message.payload else no_members)))))
-item_members options word (Unknown code) = unknown_members word code
-item_members options word (Skipped code payload) = skipped_members options word code payload
+    (if options.payloads then payload_members_in reading options.texts
+    (reading.schema_at options.version message.header.ty) message.payload else no_members)))))
+item_members_in reading options word (Unknown code) = unknown_members word code
+item_members_in reading options word (Skipped code payload) = skipped_members options word code payload
 
 -- The object of an item that begins at an offset of the stream, with this word as its header.
-abbrev pub item_json : Options → ℕ → ℕ → Item → Json
-item_json options at word item = object (number_member (codes "offset") at (item_members options word item))
+abbrev pub item_json_in : Reading → Options → ℕ → ℕ → Item → Json
+item_json_in reading options at word item =
+    object (number_member (codes "offset") at (item_members_in reading options word item))
 
 -- The code of an item.
 abbrev pub item_code : Item → ℕ
@@ -113,9 +124,10 @@ abbrev pub json_line : Bool → Json → List ℕ
 json_line is_pretty json = json_text is_pretty json ++ codes "\n"
 
 -- The line of an item that begins at an offset, with this word as its header, if it is selected.
-abbrev pub line_of : Options → ℕ → ℕ → Item → List ℕ
-line_of options at word item =
-    if is_selected options.codes.now (item_code item) then json_line options.pretty (item_json options at word item)
+abbrev pub line_of_in : Reading → Options → ℕ → ℕ → Item → List ℕ
+line_of_in reading options at word item =
+    if is_selected options.codes.now (item_code item)
+    then json_line options.pretty (item_json_in reading options at word item)
     else []
 
 -- The member of the trailing bytes, if there are any and payloads are printed.
@@ -133,3 +145,17 @@ unread_line options at rest =
 -- The last line, where the options have it: that of the trailing bytes.
 abbrev pub rest_line : Options → ℕ → List ℕ → List ℕ
 rest_line options at rest = if options.rest then unread_line options at rest else []
+
+-- ---- for the messages of the protocol
+
+-- The members of a payload.
+abbrev pub payload_members : Bool → Option ℕ → List ℕ → Members
+payload_members = payload_members_in protocol
+
+-- The object of an item.
+abbrev pub item_json : Options → ℕ → ℕ → Item → Json
+item_json = item_json_in protocol
+
+-- The line of an item.
+abbrev pub line_of : Options → ℕ → ℕ → Item → List ℕ
+line_of = line_of_in protocol

@@ -5,7 +5,8 @@ use Rattle.stream_lines.specs.declared.report.Report.{Report}
 use Rattle.stream_lines.specs.Printing.{ArePrinted}
 use Rattle.dump_lines.specs.declared.options.Options.{Options}
 use Rattle.dump_lines.specs.Dump.{IsLong, trouble_of}
-use Rattle.dump_lines.specs.Lines.{line_of, rest_line}
+use Rattle.dump_lines.specs.Lines.{line_of_in, rest_line}
+use Rattle.dump_lines.specs.Reading.{Reading}
 
 -- The options of the last line on a terminal, for this many trailing bytes: more than 64 are left out.
 abbrev pub rest_options : Options → ℕ → Options
@@ -21,7 +22,7 @@ last_line is_terminal options = if is_terminal then shown_rest_line options else
 
 -- For the bytes that were read, the lines of their items are written, as far as the result says; the last line is that
 -- of a terminal.
-abbrev pub IsShown : Options → Result Report PrintError → List ℕ → List ℕ → Option (List ℕ) → Type 0
-IsShown options result read written left =
-    ArePrinted (line_of options) (shown_rest_line options) (IsLong options) (trouble_of options) options.version
-    options.limit result read written left
+abbrev pub IsShownIn : Reading → Options → Result Report PrintError → List ℕ → List ℕ → Option (List ℕ) → Type 0
+IsShownIn reading options result read written left =
+    ArePrinted (line_of_in reading options) (shown_rest_line options) (IsLong reading options)
+    (trouble_of reading options) options.version options.limit result read written left

@@ -4,13 +4,17 @@
 
 mod canonicalizer;
 mod lines;
+mod message_table;
 mod options;
 mod pretty;
 mod printer;
 mod scratch;
 mod stream;
+mod tables;
 
 pub use crate::canonicalizer::Canonicalizer;
+pub use crate::message_table::MessageTable;
 pub use crate::options::Options;
 pub use crate::printer::MOST_SHOWN;
 pub use crate::stream::{dump, dump_on_terminal};
+pub use crate::tables::{OtherTable, ProtocolTable};

@@ -1,6 +1,7 @@
 //! The lines of a dump.
 
-ghost use Rattle.std.specs.Prelude.{◌≡◌, ◌∷◌, ◌++◌, [], true, codes, decimal, length, OnOk, IfErr};
+ghost use Rattle.std.specs.Prelude.{◌≡◌, ◌∷◌, ◌++◌, [], ℕ, Some, true, false, codes, decimal, length};
+ghost use Rattle.std.specs.Prelude.{OnOk, IfErr, IsTrue};
 ghost use Rattle.std.specs.Str.{IsUtf8};
 ghost use Rattle.json.specs.Lex.{tokens};
 ghost use Rattle.json.specs.Print.{print};
@@ -9,24 +10,25 @@ ghost use Rattle.json.specs.Token as token;
 ghost use Rattle.json.specs.Tree.{json_tokens, members_tokens};
 ghost use Rattle.shared_core_stream.specs.declared.encoding.item.Item.TheVariants as variant;
 ghost use Rattle.shared_core_base.specs.MessageType.{debug_name_of};
-ghost use Rattle.dump_lines.specs.Canonical.{IsLongFor};
+ghost use Rattle.dump_lines.specs.Canonical.{IsLongForIn};
 ghost use Rattle.stream_lines.specs.Printing.{IsLack};
 ghost use Rattle.dump_lines.specs.Dump.{HasLongPayload};
-ghost use Rattle.shared_core_message.specs.Schemas.{schema_at};
+ghost use Rattle.shared_core_codec.specs.Canonicity.{IsCanonicalIn};
 ghost use Rattle.shared_core_json.specs.Form.{byte_string_json};
-ghost use Rattle.dump_lines.specs.Lines.{payload_members, ack_tokens, header_tokens, item_members, item_json};
+ghost use Rattle.dump_lines.specs.Lines.{payload_members_in, ack_tokens, header_tokens, item_members_in, item_json_in};
 ghost use Rattle.dump_lines.specs.Lines.{number_member, rest_members, skipped_members, unknown_members};
-ghost use Rattle.dump_lines.specs.Lines.{item_code as code_of_item, is_selected};
+ghost use Rattle.dump_lines.specs.Lines.{item_code as code_of_item, is_selected, unread_members};
+ghost use Rattle.dump_lines.specs.Reading.{is_canonical_in};
 
-use crate::canonicalizer::Canonicalizer;
+use crate::message_table::MessageTable;
 use crate::options::Options;
 use crate::scratch::Scratch;
 use bytes::Bytes;
 use json::Writer;
 use shared_core_base::header::MessageType;
+use shared_core_fields::check::is_canonical_in;
 use shared_core_fields::fields::CanonicalPayload;
 use shared_core_json::{JsonError, write_byte_string, write_payload};
-use shared_core_message::schemas::schema_at;
 use shared_core_stream::encoding::{Decoder, Item, RawMessage};
 use std::alloc::{AllocError, Global};
 use std::mem;
@@ -78,13 +80,14 @@ pub fn write_rest(
 
 /// Writes the objects of items by these options.
 #[derive(Drop)]
-pub struct ItemWriter<'a, C> {
+pub struct ItemWriter<'a, M> {
     pub alloc: Global,
     pub options: &'a Options<'a>,
-    pub canonicalizer: &'a C,
+    /// How payloads are read.
+    pub messages: &'a M,
 }
 
-impl<'a, C: Canonicalizer> ItemWriter<'a, C> {
+impl<'a, M: MessageTable> ItemWriter<'a, M> {
     /// Overwrites the line with the object of an item. After an error the line is unspecified.
     pub fn write_object(
         &self,
@@ -96,8 +99,9 @@ impl<'a, C: Canonicalizer> ItemWriter<'a, C> {
         ensures utf8 { OnOk result (IsUtf8 scratch.new.line.items) }
         ensures printed { OnOk result (scratch.new.line.items ≡ print (tokens scratch.new.line.items)) }
         ensures object { OnOk result (tokens scratch.new.line.items
-            ≡ json_tokens (item_json self.now.options.now offset word item.now)) }
-        ensures lack { IfErr result (IsLack (HasLongPayload self.now.options.now item.now)) }
+            ≡ json_tokens (item_json_in (M.reading self.now.messages.now) self.now.options.now offset word item.now)) }
+        ensures lack { IfErr result (IsLack
+            (HasLongPayload (M.reading self.now.messages.now) self.now.options.now item.now)) }
     {
         let mut line = mem::replace(&mut scratch.line, Vec::new(self.alloc));
         line.clear();
@@ -117,9 +121,10 @@ impl<'a, C: Canonicalizer> ItemWriter<'a, C> {
         out: &mut Writer,
     ) -> Result<(), PrintError>
         ensures tokens { OnOk result (out.new.tokens ≡ out.old.tokens
-            ++ json_tokens (item_json self.now.options.now offset word item.now)) }
+            ++ json_tokens (item_json_in (M.reading self.now.messages.now) self.now.options.now offset word item.now)) }
         ensures before { out.new.before ≡ out.old.before }
-        ensures lack { IfErr result (IsLack (HasLongPayload self.now.options.now item.now)) }
+        ensures lack { IfErr result (IsLack
+            (HasLongPayload (M.reading self.now.messages.now) self.now.options.now item.now)) }
     {
         out.begin_object()?;
         write_offset(out, offset, &mut scratch.text)?;
@@ -137,9 +142,10 @@ impl<'a, C: Canonicalizer> ItemWriter<'a, C> {
         out: &mut Writer,
     ) -> Result<(), PrintError>
         ensures tokens { OnOk result (out.new.tokens ++ end_object ∷ [] ≡ out.old.tokens
-            ++ members_tokens (item_members self.now.options.now word item.now)) }
+            ++ members_tokens (item_members_in (M.reading self.now.messages.now) self.now.options.now word item.now)) }
         ensures before { out.new.before ≡ out.old.before }
-        ensures lack { IfErr result (IsLack (HasLongPayload self.now.options.now item.now)) }
+        ensures lack { IfErr result (IsLack
+            (HasLongPayload (M.reading self.now.messages.now) self.now.options.now item.now)) }
     {
         match item {
             Item::Message(message) => {
@@ -162,10 +168,13 @@ impl<'a, C: Canonicalizer> ItemWriter<'a, C> {
         out: &mut Writer,
     ) -> Result<(), PrintError>
         ensures tokens { OnOk result (out.new.tokens ++ end_object ∷ [] ≡ out.old.tokens
-            ++ members_tokens (item_members self.now.options.now word (variant.Message message.now))) }
+            ++ members_tokens (item_members_in (M.reading self.now.messages.now) self.now.options.now word
+            (variant.Message message.now))) }
         ensures before { out.new.before ≡ out.old.before }
-        ensures lack { IfErr result (IsLack ((self.now.options.now.payloads ≡ true) × IsLongFor
-            (schema_at self.now.options.now.version message.now.header.ty) message.now.payload)) }
+        ensures lack { IfErr result (IsLack ((self.now.options.now.payloads ≡ true) × IsLongForIn
+            (M.reading self.now.messages.now)
+            ((M.reading self.now.messages.now).schema_at self.now.options.now.version message.now.header.ty)
+            message.now.payload)) }
     {
         let ty = message.ty();
         write_type(out, ty, &mut scratch.text)?;
@@ -190,26 +199,29 @@ impl<'a, C: Canonicalizer> ItemWriter<'a, C> {
         out: &mut Writer,
     ) -> Result<(), PrintError>
         ensures tokens { OnOk result (out.new.tokens ++ end_object ∷ [] ≡ out.old.tokens
-            ++ members_tokens (payload_members self.now.options.now.texts
-            (schema_at self.now.options.now.version ty) payload.now)) }
+            ++ members_tokens (payload_members_in (M.reading self.now.messages.now) self.now.options.now.texts
+            ((M.reading self.now.messages.now).schema_at self.now.options.now.version ty) payload.now)) }
         ensures before { out.new.before ≡ out.old.before }
-        ensures lack { IfErr result (IsLack (IsLongFor (schema_at self.now.options.now.version ty) payload.now)) }
+        ensures lack { IfErr result (IsLack (IsLongForIn (M.reading self.now.messages.now)
+            ((M.reading self.now.messages.now).schema_at self.now.options.now.version ty) payload.now)) }
     {
         let texts = self.options.texts;
-        let Some(schema) = schema_at(self.options.version, ty) else {
-            // the payload of a custom entry is opaque
+        let Some(schema) = self.messages.schema_of(self.options.version, ty) else {
+            // the payload is opaque, as that of a custom entry
             write_bytes(out, texts, payload, &mut scratch.base64)?;
             return Ok(());
         };
-        let Some(checked) = CanonicalPayload::check(schema, payload.as_slice()) else {
+        if !is_canonical(self.messages, schema, payload.as_slice()) {
             return self.write_encoded(ty, payload, scratch, out);
-        };
+        }
         out.key("message")?;
-        write_payload(out, &mut scratch.base64, texts, checked)?;
+        let known = CanonicalPayload::known_in(self.messages.table(), schema, payload.as_slice());
+        write_payload(out, &mut scratch.base64, texts, known)?;
         Ok(())
     }
 
-    /// Writes the members of a message's payload, by the canonical encoding of what it means.
+    /// Writes the members of a payload that is not canonical: by the canonical encoding of what it means, or why there
+    /// is none, and the bytes.
     fn write_encoded(
         &self,
         ty: MessageType,
@@ -217,30 +229,58 @@ impl<'a, C: Canonicalizer> ItemWriter<'a, C> {
         scratch: &mut Scratch,
         out: &mut Writer,
     ) -> Result<(), PrintError>
+        requires other { (s : ℕ)
+            × ((M.reading self.now.messages.now).schema_at self.now.options.now.version ty ≡ Some s)
+            × (is_canonical_in (M.reading self.now.messages.now).table s payload.now ≡ false) }
         ensures tokens { OnOk result (out.new.tokens ++ end_object ∷ [] ≡ out.old.tokens
-            ++ members_tokens (payload_members self.now.options.now.texts
-            (schema_at self.now.options.now.version ty) payload.now)) }
+            ++ members_tokens (payload_members_in (M.reading self.now.messages.now) self.now.options.now.texts
+            ((M.reading self.now.messages.now).schema_at self.now.options.now.version ty) payload.now)) }
         ensures before { out.new.before ≡ out.old.before }
-        ensures lack { IfErr result (IsLack (IsLongFor (schema_at self.now.options.now.version ty) payload.now)) }
+        ensures lack { IfErr result (IsLack (IsLongForIn (M.reading self.now.messages.now)
+            ((M.reading self.now.messages.now).schema_at self.now.options.now.version ty) payload.now)) }
     {
         let Options { version, texts, .. } = *self.options;
-        let canonicalizer = self.canonicalizer;
-        match canonicalizer.canonical_of(self.alloc, version, ty, payload, &mut scratch.canonical) {
+        let messages = self.messages;
+        match messages.canonical_of(self.alloc, version, ty, payload, &mut scratch.canonical) {
             Ok(Some(schema)) => {
                 out.key("message")?;
-                let canonical = CanonicalPayload::known(schema, scratch.canonical.as_slice());
-                write_payload(out, &mut scratch.base64, texts, canonical)?;
+                let canonical = scratch.canonical.as_slice();
+                let known = CanonicalPayload::known_in(messages.table(), schema, canonical);
+                write_payload(out, &mut scratch.base64, texts, known)?;
             }
-            Ok(None) => write_bytes(out, texts, payload, &mut scratch.base64)?,
+            Ok(None) => write_unread(out, "notCanonical", texts, payload, &mut scratch.base64)?,
             Err(JsonError::Malformed) => {
-                write_flag(out, "malformed", true)?;
-                write_bytes(out, texts, payload, &mut scratch.base64)?;
+                write_unread(out, "malformed", texts, payload, &mut scratch.base64)?;
             }
             Err(JsonError::TooLong) => return Err(PrintError::TooLong),
             Err(JsonError::OutOfMemory) => return Err(PrintError::OutOfMemory),
         }
         Ok(())
     }
+}
+
+/// Whether a payload is canonical for a schema of a table.
+fn is_canonical<M: MessageTable>(messages: &M, schema: u32, payload: &[u8]) -> bool
+    ensures test { result ≡ is_canonical_in (M.reading messages.now).table schema payload.now }
+    ensures canonical { IsTrue result → IsCanonicalIn (M.reading messages.now).table schema payload.now }
+{
+    is_canonical_in(&messages.table(), schema, payload)
+}
+
+/// Writes the members of a payload that is not read: why, and its bytes.
+fn write_unread(
+    out: &mut Writer,
+    why: &str,
+    texts: bool,
+    payload: &Bytes,
+    base64: &mut Vec<u8>,
+) -> Result<(), AllocError>
+    ensures tokens { OnOk result (out.new.tokens ++ end_object ∷ [] ≡ out.old.tokens
+        ++ members_tokens (unread_members why.now texts payload.now)) }
+    ensures before { out.new.before ≡ out.old.before }
+{
+    write_flag(out, why, true)?;
+    write_bytes(out, texts, payload, base64)
 }
 
 /// Writes the members of an unknown code after its offset.

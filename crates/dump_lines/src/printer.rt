@@ -7,16 +7,17 @@ ghost use Rattle.json.specs.Print.{print};
 ghost use Rattle.shared_core_stream.specs.declared.encoding.item.Item.TheVariants as variant;
 ghost use Rattle.dump_lines.specs.Dump.{wrong_of};
 ghost use Rattle.dump_lines.specs.Lines.{rest_line, unread_line};
+ghost use Rattle.dump_lines.specs.Reading.{is_well_formed_for};
 ghost use Rattle.dump_lines.specs.Spread.{AreGood, tokens_text};
 ghost use Rattle.dump_lines.specs.Terminal.{rest_options};
 
-use crate::canonicalizer::Canonicalizer;
 use crate::lines::{ItemWriter, is_selected, item_code, write_rest};
+use crate::message_table::MessageTable;
 use crate::options::Options;
 use crate::pretty::pretty_text;
 use crate::scratch::Scratch;
 use json::Writer;
-use shared_core_message::well_formed::is_well_formed_at;
+use shared_core_codec::check::is_well_formed_in;
 use shared_core_stream::encoding::{Decoder, Item, RawMessage};
 use std::alloc::{AllocError, Global};
 use stream_lines::{LinePrinter, PrintError, Trouble};
@@ -26,29 +27,29 @@ pub const MOST_SHOWN: u64 = 64;
 
 /// Prints the lines of a dump.
 #[derive(Drop)]
-pub struct Printer<'a, C> {
+pub struct Printer<'a, M> {
     /// Which items have lines, and what these contain.
     pub options: Options<'a>,
-    /// What payloads that are not canonical need.
-    pub canonicalizer: &'a C,
+    /// How payloads are read.
+    pub messages: &'a M,
     /// Whether the last line is one of a terminal.
     pub is_terminal: bool,
 }
 
-impl<'a, C: Canonicalizer> LinePrinter for Printer<'a, C> {
+impl<'a, M: MessageTable> LinePrinter for Printer<'a, M> {
     ghost use Rattle.dump_lines.specs.Dump.{IsLong, trouble_of};
-    ghost use Rattle.dump_lines.specs.Lines.{line_of};
+    ghost use Rattle.dump_lines.specs.Lines.{line_of_in};
     ghost use Rattle.dump_lines.specs.Terminal.{last_line};
 
     type Scratch = Scratch;
 
-    ghost item_line = { λ printer. line_of printer.options };
+    ghost item_line = { λ printer. line_of_in (M.reading printer.messages.now) printer.options };
 
     ghost rest_line = { λ printer. last_line printer.is_terminal printer.options };
 
-    ghost is_long = { λ printer. IsLong printer.options };
+    ghost is_long = { λ printer. IsLong (M.reading printer.messages.now) printer.options };
 
-    ghost item_trouble = { λ printer. trouble_of printer.options };
+    ghost item_trouble = { λ printer. trouble_of (M.reading printer.messages.now) printer.options };
 
     fn scratch(&self, alloc: Global) -> Scratch {
         Scratch::new(alloc)
@@ -59,7 +60,7 @@ impl<'a, C: Canonicalizer> LinePrinter for Printer<'a, C> {
             return None;
         }
         match item {
-            Item::Message(message) => message_trouble(&self.options, message),
+            Item::Message(message) => message_trouble(self.messages, &self.options, message),
             Item::Unknown(code) => Some(Trouble::UnknownCode(*code)),
             Item::Skipped(code, _) => Some(Trouble::UnknownCode(*code)),
         }
@@ -81,7 +82,7 @@ impl<'a, C: Canonicalizer> LinePrinter for Printer<'a, C> {
         let writer = ItemWriter {
             alloc,
             options,
-            canonicalizer: self.canonicalizer,
+            messages: self.messages,
         };
         writer.write_object(offset, word, &item, scratch)?;
         Ok(append_object(alloc, options.pretty, scratch.line.as_slice(), lines)?)
@@ -117,17 +118,32 @@ fn rest_options<'a>(options: &Options<'a>, count: u64) -> Options<'a>
 }
 
 /// The error of a selected message whose payload is not well-formed.
-fn message_trouble(options: &Options<'_>, message: &RawMessage) -> Option<Trouble>
-    ensures { result ≡ wrong_of options.now (variant.Message message.now) }
+fn message_trouble<M: MessageTable>(
+    messages: &M,
+    options: &Options<'_>,
+    message: &RawMessage,
+) -> Option<Trouble>
+    ensures { result ≡ wrong_of (M.reading messages.now) options.now (variant.Message message.now) }
 {
     let ty = message.ty();
     if !is_selected(options.codes, u16::from(ty)) {
         return None;
     }
-    if is_well_formed_at(options.version, ty, message.payload().as_slice()) {
+    let schema = messages.schema_of(options.version, ty);
+    if is_well_formed_for(messages, schema, message.payload().as_slice()) {
         return None;
     }
     Some(Trouble::Malformed(ty))
+}
+
+/// Whether a payload is well-formed for a schema of a table. Without a schema it is opaque, and always is.
+fn is_well_formed_for<M: MessageTable>(messages: &M, schema: Option<u32>, payload: &[u8]) -> bool
+    ensures { result ≡ is_well_formed_for (M.reading messages.now) schema payload.now }
+{
+    match schema {
+        Some(schema) => is_well_formed_in(&messages.table(), schema, payload),
+        None => true,
+    }
 }
 
 /// Appends the last line, where the options have one.

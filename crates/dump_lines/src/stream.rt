@@ -4,11 +4,11 @@ ghost use Rattle.std.specs.Prelude.{◌≤◌, ℕ, List};
 ghost use Rattle.std.specs.Io.KnownBytes.{Appends, Consumes};
 ghost use Rattle.shared_core_base.specs.Version.{version_number};
 ghost use Rattle.stream_lines.specs.Printing.{ArePrinted};
-ghost use Rattle.dump_lines.specs.Dump.{IsDumped, IsLong, trouble_of};
-ghost use Rattle.dump_lines.specs.Lines.{line_of};
-ghost use Rattle.dump_lines.specs.Terminal.{IsShown, last_line};
+ghost use Rattle.dump_lines.specs.Dump.{IsDumpedIn, IsLong, trouble_of};
+ghost use Rattle.dump_lines.specs.Lines.{line_of_in};
+ghost use Rattle.dump_lines.specs.Terminal.{IsShownIn, last_line};
 
-use crate::canonicalizer::Canonicalizer;
+use crate::message_table::MessageTable;
 use crate::options::Options;
 use crate::printer::Printer;
 use std::alloc::Global;
@@ -25,12 +25,12 @@ const CHUNK: usize = 65536;
 /// printed and one of the items after the written lines is a selected message whose canonical payload has more bytes
 /// than 32 bits can count. `MessageTooLong` comes at the first message that is longer than the limit of the options. If
 /// the options are strict, the report has the first item whose code is unassigned, or which is a selected message whose
-/// payload is not well-formed for its type at the version. The canonicalizer is called for each printed payload that is
+/// payload is not well-formed for its type at the version. `canonical_of` is called for each printed payload that is
 /// not canonical.
-pub fn dump<C: Canonicalizer, R: Read, W: Write>(
+pub fn dump<M: MessageTable, R: Read, W: Write>(
     alloc: Global,
     options: &Options<'_>,
-    canonicalizer: &C,
+    messages: &M,
     input: &mut R,
     output: &mut W,
 ) -> Result<Report, PrintError>
@@ -38,17 +38,17 @@ pub fn dump<C: Canonicalizer, R: Read, W: Write>(
     ensures { (read : List ℕ) × (written : List ℕ)
         × Consumes (R.remaining input.old) (R.remaining input.new) read
         × Appends (W.contents output.old) (W.contents output.new) written
-        × IsDumped options.now result read written (R.remaining input.new) }
+        × IsDumpedIn (M.reading messages.now) options.now result read written (R.remaining input.new) }
 {
-    print_stream(alloc, options, canonicalizer, false, input, output)
+    print_stream(alloc, options, messages, false, input, output)
 }
 
 /// Dumps a stream as `dump` does, except for the last line, which is without the trailing bytes if there are more of
 /// them than `MOST_SHOWN`.
-pub fn dump_on_terminal<C: Canonicalizer, R: Read, W: Write>(
+pub fn dump_on_terminal<M: MessageTable, R: Read, W: Write>(
     alloc: Global,
     options: &Options<'_>,
-    canonicalizer: &C,
+    messages: &M,
     input: &mut R,
     output: &mut W,
 ) -> Result<Report, PrintError>
@@ -56,16 +56,16 @@ pub fn dump_on_terminal<C: Canonicalizer, R: Read, W: Write>(
     ensures { (read : List ℕ) × (written : List ℕ)
         × Consumes (R.remaining input.old) (R.remaining input.new) read
         × Appends (W.contents output.old) (W.contents output.new) written
-        × IsShown options.now result read written (R.remaining input.new) }
+        × IsShownIn (M.reading messages.now) options.now result read written (R.remaining input.new) }
 {
-    print_stream(alloc, options, canonicalizer, true, input, output)
+    print_stream(alloc, options, messages, true, input, output)
 }
 
 /// Dumps a stream, on a terminal or not.
-fn print_stream<C: Canonicalizer, R: Read, W: Write>(
+fn print_stream<M: MessageTable, R: Read, W: Write>(
     alloc: Global,
     options: &Options<'_>,
-    canonicalizer: &C,
+    messages: &M,
     is_terminal: bool,
     input: &mut R,
     output: &mut W,
@@ -74,12 +74,13 @@ fn print_stream<C: Canonicalizer, R: Read, W: Write>(
     ensures { (read : List ℕ) × (written : List ℕ)
         × Consumes (R.remaining input.old) (R.remaining input.new) read
         × Appends (W.contents output.old) (W.contents output.new) written
-        × ArePrinted (line_of options.now) (last_line is_terminal options.now) (IsLong options.now)
-        (trouble_of options.now) options.now.version options.now.limit result read written (R.remaining input.new) }
+        × ArePrinted (line_of_in (M.reading messages.now) options.now) (last_line is_terminal options.now)
+        (IsLong (M.reading messages.now) options.now) (trouble_of (M.reading messages.now) options.now)
+        options.now.version options.now.limit result read written (R.remaining input.new) }
 {
     let printer = Printer {
         options: *options,
-        canonicalizer,
+        messages,
         is_terminal,
     };
     print_lines(

@@ -1,5 +1,5 @@
 //! A descriptor set compared with the protocol: which of its messages and fields are the same by their names, and what
-//! differs, as a table in text.
+//! differs, as a table in text. Which of its messages are the protocol's, as a list for those who read payloads by it.
 #![tactic(auto)]
 
 mod error;
@@ -11,4 +11,5 @@ mod rows;
 mod write;
 
 pub use error::SchemaError;
+pub use pairs::schemas_of;
 pub use write::write_schema;

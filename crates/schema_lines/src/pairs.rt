@@ -5,6 +5,9 @@ use descriptor_set::{DescriptorSet, MessageDescriptor};
 use shared_core_json::names::names_of;
 use std::alloc::{AllocError, Global};
 
+/// The message of a suspension before V7, and the later one.
+const SUSPENSIONS: (&str, &str) = ("SuspensionMessageV6", "SuspensionMessage");
+
 /// The message without fields of the protocol, and that of protobuf.
 const EMPTY: (&str, &str) = ("Void", "Empty");
 
@@ -60,6 +63,28 @@ impl Pairs {
     pub(crate) fn has(&self, index: usize) -> bool {
         self.found.contains(&Some(index))
     }
+}
+
+/// For each schema of the protocol the index of the message of a set that has its name, as `write_schema` finds it. If
+/// a set has one suspension, it is that of each version.
+pub fn schemas_of(alloc: Global, set: &DescriptorSet) -> Result<Vec<Option<u32>>, AllocError> {
+    let pairs = Pairs::of(alloc, set)?;
+    let mut suspension = None;
+    for (name, found) in MESSAGE_NAMES.iter().zip(pairs.found.iter()) {
+        if *name == SUSPENSIONS.1 {
+            suspension = *found;
+        }
+    }
+    let mut schemas = Vec::new(alloc);
+    for (name, found) in MESSAGE_NAMES.iter().zip(pairs.found.iter()) {
+        let found = if *name == SUSPENSIONS.0 {
+            found.or(suspension)
+        } else {
+            *found
+        };
+        schemas.push(found.and_then(|index| u32::try_from(index).ok()))?;
+    }
+    Ok(schemas)
 }
 
 /// The number of dots of a name: how deep its message is.

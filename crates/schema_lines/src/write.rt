@@ -3,27 +3,26 @@
 use crate::error::SchemaError;
 use crate::fields::all_rows;
 use crate::rows::{append_counts, append_rows};
-use descriptor_set::{DescriptorSet, NoForm, PassedOver, passed_over, read_set, table_of};
+use descriptor_set::{DescriptorSet, NoForm, PassedOver, passed_over, table_of};
 use std::alloc::{AllocError, Global};
 use std::io::Write;
 use stream_lines::output::write_whole;
 use terminal_text::{Escapes, push_escaped};
 
-/// Reads a descriptor set and writes which of its messages and fields are the protocol's, by their names: for each
-/// whether it is the same, renumbered, of another kind, only there or only here. Behind the table it writes how many
-/// are what, and the fields that the engine has no form for. Nothing is written before the set is read as a whole.
+/// Writes which messages and fields of a descriptor set are the protocol's, by their names: for each whether it is the
+/// same, renumbered, of another kind, only there or only here. Behind the table it writes how many are what, and the
+/// fields that the engine has no form for. Nothing is written if no table of schemas comes of the set.
 pub fn write_schema<W: Write>(
     alloc: Global,
-    set: &[u8],
+    set: &DescriptorSet,
     output: &mut W,
 ) -> Result<(), SchemaError> {
-    let set = read_set(alloc, set)?;
-    table_of(alloc, &set)?;
-    let rows = all_rows(alloc, &set)?;
+    table_of(alloc, set)?;
+    let rows = all_rows(alloc, set)?;
     let mut text = String::new(alloc);
     append_rows(&mut text, rows.as_slice())?;
     append_counts(&mut text, rows.as_slice())?;
-    append_passed_over(alloc, &mut text, &set)?;
+    append_passed_over(alloc, &mut text, set)?;
     write_whole(output, text.as_bytes())?;
     Ok(())
 }

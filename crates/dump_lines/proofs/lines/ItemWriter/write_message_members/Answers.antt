@@ -6,8 +6,7 @@ use Rattle.json.specs.Json.{no_members}
 use Rattle.json.specs.Tree.{members_tokens}
 use Rattle.shared_core_base.specs.MessageType.{code_of, debug_name_of}
 use Rattle.shared_core_base.specs.MessageHeader.{word_of}
-use Rattle.shared_core_message.specs.Schemas.{schema_at}
-use Rattle.dump_lines.specs.Lines.{ack_tokens, header_tokens, payload_members}
+use Rattle.dump_lines.specs.Lines.{ack_tokens, header_tokens, payload_members_in}
 use Rattle.dump_lines.proofs.Tokens.{head_with_header}
 use Rattle.dump_lines.proofs.lines.ItemWriter.write_message_members.Goals as goal
 
@@ -24,8 +23,9 @@ returns-then-self-clause-tokens g c =
     search rules in
     let head : c.write_header.new.out.tokens ≡ c.write_ack.new.out.tokens ++ header_tokens c.args.word
     (word_of message.header) = search rules in
-    let members = payload_members c.args.self.now.options.now.texts
-    (schema_at c.args.self.now.options.now.version message.header.ty) message.payload in
+    let r = g.M.MessageTable.reading c.args.self.now.messages.now in
+    let members = payload_members_in r c.args.self.now.options.now.texts
+    (r.schema_at c.args.self.now.options.now.version message.header.ty) message.payload in
     rw c.if-self.true (on_ok_weaker c.write_payload.result
     (λ t. let last : c.write_payload.new.out.tokens ++ (end_object ∷ []) ≡ c.write_header.new.out.tokens ++
     members_tokens members = search (rules, t) in last ∙ head_with_header c.args.out.now.tokens _ _ _ _ _ _ _ _

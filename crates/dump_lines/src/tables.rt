@@ -1,0 +1,104 @@
+//! The tables by which the payloads of a stream are read.
+
+ghost use Rattle.std.specs.Prelude.{◌≡◌};
+ghost use Rattle.dump_lines.specs.Other.{schema_in};
+
+use crate::canonicalizer::Canonicalizer;
+use crate::message_table::MessageTable;
+use bytes::Bytes;
+use shared_core_base::header::MessageType;
+use shared_core_base::version::Version;
+use shared_core_codec::any_table::ProtocolSchemas;
+use shared_core_codec::check::is_well_formed_in;
+use shared_core_fields::payload_table::TableRef;
+use shared_core_json::JsonError;
+use shared_core_json::named_schemas::NamedSchemas;
+use shared_core_message::schemas::schema_at;
+use std::alloc::Global;
+
+/// The protocol's own table. All well-formed payloads are read.
+#[derive(Drop)]
+pub struct ProtocolTable<'a, C> {
+    /// What payloads that are not canonical need.
+    pub canonicalizer: &'a C,
+}
+
+impl<'a, C: Canonicalizer> MessageTable for ProtocolTable<'a, C> {
+    ghost use Rattle.dump_lines.specs.Reading.{protocol};
+
+    type Table = ProtocolSchemas;
+
+    ghost reading = { λ _. protocol };
+
+    fn table(&self) -> ProtocolSchemas {
+        ProtocolSchemas
+    }
+
+    fn schema_of(&self, version: Version, ty: MessageType) -> Option<u32> {
+        schema_at(version, ty)
+    }
+
+    fn canonical_of(
+        &self,
+        alloc: Global,
+        version: Version,
+        ty: MessageType,
+        payload: &Bytes,
+        canonical: &mut Vec<u8>,
+    ) -> Result<Option<u32>, JsonError> {
+        self.canonicalizer
+            .canonical_of(alloc, version, ty, payload, canonical)
+    }
+}
+
+/// Another table for the messages of the protocol, as one with other field numbers. Only canonical payloads are read:
+/// there are no records of it.
+#[derive(Drop)]
+pub struct OtherTable<'a, T> {
+    /// The table.
+    pub table: &'a T,
+    /// For each schema of the protocol the index of the table's schema, or `None` if it has none.
+    pub schemas: &'a [Option<u32>],
+}
+
+impl<'a, T: NamedSchemas> MessageTable for OtherTable<'a, T> {
+    ghost use Rattle.dump_lines.specs.Other.{reading_by};
+
+    type Table = TableRef<'a, T>;
+
+    ghost reading = { λ other. reading_by (T.table other.table.now) (T.names other.table.now) other.schemas.now };
+
+    fn table(&self) -> TableRef<'a, T> {
+        TableRef { table: self.table }
+    }
+
+    fn schema_of(&self, version: Version, ty: MessageType) -> Option<u32> {
+        other_schema(self.schemas, schema_at(version, ty))
+    }
+
+    fn canonical_of(
+        &self,
+        _alloc: Global,
+        version: Version,
+        ty: MessageType,
+        payload: &Bytes,
+        _canonical: &mut Vec<u8>,
+    ) -> Result<Option<u32>, JsonError> {
+        if let Some(schema) = self.schema_of(version, ty) {
+            if !is_well_formed_in(self.table, schema, payload.as_slice()) {
+                return Err(JsonError::Malformed);
+            }
+        }
+        Ok(None)
+    }
+}
+
+/// The index of the table's schema for a schema of the protocol.
+fn other_schema(schemas: &[Option<u32>], schema: Option<u32>) -> Option<u32>
+    ensures { result ≡ schema_in schemas.now schema }
+{
+    match schemas.get(schema? as usize) {
+        Some(other) => *other,
+        None => None,
+    }
+}
