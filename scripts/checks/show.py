@@ -6,7 +6,10 @@ and outputs that fail.
 """
 from __future__ import annotations
 
+import re
+
 import checks
+import filter_cases
 from programs import Program, go_to_streams
 
 RECORDED = (
@@ -162,8 +165,34 @@ TOO_LONG: tuple[tuple[str, str, str], ...] = (
 )
 
 
+# Words that are not a filter, and what is said of them.
+WRONG: tuple[tuple[str, str], ...] = (
+    ("size:big", "size: is followed by a number, as size:49, size:>49 or size:40-60"),
+    ("cmd:>1-2", "cmd: is followed by a number, as cmd:49, cmd:>49 or cmd:40-60"),
+    ("cmd:", "cmd: is followed by a number, as cmd:49, cmd:>49 or cmd:40-60"),
+    ("is:constructor", "is: is not followed by constructor"),
+    ("-is:open", "-is:open: what is open is known only at the end of a journal"),
+)
+
+
+def filters(check: checks.Check, show: Program) -> None:
+    """Compares what each filter of examples/filters.txt finds."""
+    for stream, cases in filter_cases.cases():
+        for words, found in cases:
+            # with an equals sign words may begin with a minus sign
+            ended = show.run((f"--where={words}", "-"), stream)
+            shown = re.findall(r"^(open (?:[a-z ]+ of )?)?#(\d+) ", ended.out.decode(), re.MULTILINE)
+            wanted = "is:open" in words
+            indices = [int(index) for is_open, index in shown if bool(is_open) == wanted]
+            check.case(f"--where {words}", ended.status == 0 and indices == found, ended)
+    for words, said in WRONG:
+        ended = show.run((f"--where={words}",), b"")
+        check.case(f"--where {words}", ended.status == 2 and said in ended.err.decode(), ended)
+
+
 def main(check: checks.Check) -> None:
     show = Program(check, "journal_show", "recorded")
+    filters(check, show)
     go_to_streams(check, {name: stream for name, (stream, _, _) in MADE.items()})
     for words, out, *said in CASES:
         show.ends(words, out, "".join(f"journal_show: {line}\n" for line in said))

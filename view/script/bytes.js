@@ -7,14 +7,19 @@ function bytesOf(base64) {
   return bytes;
 }
 
-/** The text that bytes are, or null where they are none; `isCut` allows a last character that is not whole. */
-function textOf(bytes, isCut = false) {
+/** The text that bytes are, or null if they are not UTF-8; `isCut` allows a last character that is not whole. */
+function decoded(bytes, isCut = false) {
   try {
-    const text = new TextDecoder("utf-8", { fatal: true, ignoreBOM: true }).decode(bytes, { stream: isCut });
-    return /[\u0000-\u0008\u000e-\u001f]/.test(text) ? null : text;
+    return new TextDecoder("utf-8", { fatal: true, ignoreBOM: true }).decode(bytes, { stream: isCut });
   } catch {
     return null;
   }
+}
+
+/** The same, or null also if the text has control characters. */
+function textOf(bytes, isCut = false) {
+  const text = decoded(bytes, isCut);
+  return text === null || /[\u0000-\u0008\u000e-\u001f]/.test(text) ? null : text;
 }
 
 const hexOf = (bytes) => Array.from(bytes, (byte) => byte.toString(16).padStart(2, "0")).join(" ");

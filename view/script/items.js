@@ -1,11 +1,11 @@
 // The items of the journals, and what joins them: their ids.
 
 const ID_FIELDS = new Set(["completionId", "resultCompletionId", "invocationIdNotificationIdx"]);
-const NAME_PATH = /(^|\.)(\w*[nN]ame|key|\w+Key|keys)(\[\d+\])?$/;
+const NAME_PATH = /(name|Name|key|Key|keys)(\[\d+\])?$/;
 
 const fieldsOf = (schema) => about.messages[schema] ?? {};
 const typeOf = ({ dump, direction }) =>
-  dump.type ?? (direction === "rest" ? "rest" : `${direction} 0x${dump.code.toString(16).padStart(4, "0")}`);
+  dump.type ?? (direction === "rest" ? "rest" : `${direction} 0x${dump.code.toString(16)}`);
 const groupOf = (item) => (about.types[item.dump.type] ? item.dump.type : DIRECTIONS[item.direction]);
 const schemaOf = (item) => about.types[item.dump.type]?.message;
 

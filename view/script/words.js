@@ -1,18 +1,22 @@
-// The words of the filter: what a text of words means, and whether an item has a word.
+// The words of the filter: what a text of words means, and whether an item has a word. journal show has the same
+// filter; examples/filters.txt has what both find.
 
 const haystacks = new Map();
+
+/** What is searched of a value: texts, bytes and numbers, each with its path. */
+function searchedOf({ path, kind, value, cut }) {
+  if (kind === "Future") return allAwaitedBy(value).map((key) => [path, key.slice(1)]);
+  if (kind === "bool" || kind === "enum" || typeof value === "object") return [];
+  if (kind !== "bytes") return [[path, String(value)]];
+  const bytes = bytesOf(value);
+  return [[path, decoded(bytes, cut !== undefined) ?? hexOf(bytes).replaceAll(" ", "")]];
+}
 
 /** What is searched of an item: its type, its names, and all its texts, in lower case. */
 function haystackOf(item) {
   if (!haystacks.has(item)) {
     const type = typeOf(item).toLowerCase();
-    const texts = itemValues(item).map(({ path, kind, value, cut }) => {
-      if (kind === "Future") return [path, allAwaitedBy(value).map(keyText).join(" ")];
-      if (kind !== "bytes") return [path, typeof value === "object" ? "" : String(value)];
-      const bytes = bytesOf(value);
-      return [path, textOf(bytes, cut !== undefined) ?? hexOf(bytes).replaceAll(" ", "")];
-    });
-    const lower = texts.map(([path, text]) => [path, text.toLowerCase()]);
+    const lower = itemValues(item).flatMap(searchedOf).map(([path, text]) => [path, text.toLowerCase()]);
     haystacks.set(item, {
       type,
       names: lower.filter(([path]) => NAME_PATH.test(path)).map(([, text]) => text).join("\n"),
@@ -37,11 +41,21 @@ const KINDS = {
   inserted: ["inserted"],
 };
 
+// the fields that have ids of completions and of signals
+const ID_PATH = /(Id|idx|Idx)$/;
+
+/** The ids in a value. */
+function idsIn({ path, kind, value }) {
+  if (kind === "u32") return ID_PATH.test(path) ? [value] : [];
+  if (kind !== "Future") return [];
+  return allAwaitedBy(value).filter((key) => key[0] !== "n").map((key) => Number(key.slice(1)));
+}
+
 // the fields of a number, each with the numbers of an item
 const NUMBERS = {
   cmd: (item) => (item.command === null ? [] : [item.command]),
   item: (item) => (item.direction === "rest" ? [] : [item.number]),
-  id: (item) => item.parts.filter(({ key }) => /^[ces]/.test(key)).map(({ key }) => Number(key.slice(1))),
+  id: (item) => itemValues(item).flatMap(idsIn),
   size: (item) => [item.size],
   offset: (item) => [item.dump.offset],
 };
@@ -50,7 +64,7 @@ const UNITS = { "": 1, b: 1, kb: 1e3, mb: 1e6, gb: 1e9, kib: 1024, mib: 1024 ** 
 /** The range that is meant by 49, 40-60, >49, >=1MB or <2kB: the least and the greatest number; null by other texts. */
 function rangeOf(text) {
   const [, sign, from, unit, , to, lastUnit] =
-    text.match(/^(>=?|<=?|=)?([\d.,]+)([kmg]?i?b)?(-([\d.,]+)([kmg]?i?b)?)?$/) ?? [];
+    text.match(/^(>=?|<=?|=)?([\d.,]*\d[\d.,]*)([kmg]?i?b)?(-([\d.,]*\d[\d.,]*)([kmg]?i?b)?)?$/) ?? [];
   const [first, last] = [[from, unit], [to, lastUnit ?? unit]].map(([digits, of]) =>
     digits === undefined ? undefined : Number(digits.replaceAll(",", "")) * UNITS[of ?? ""]);
   if (first === undefined || Number.isNaN(first) || (to !== undefined && (sign || Number.isNaN(last)))) return null;
@@ -92,7 +106,7 @@ function testOf(field, rest) {
 
 /** The words of a text, in lower case: `-` before a word, a field before a colon, and a phrase in quotes. */
 function wordsOf(text) {
-  const WORD = /(-?)(?:(type|name|is|cmd|item|id|size|offset):)?(?:"([^"]*)"?|(\S*))/g;
+  const WORD = /(-?)(?:(type|name|is|cmd|item|id|size|offset):)?(?:"([^"]*)"?|([^ ]*))/g;
   const found = Array.from(text.toLowerCase().matchAll(WORD)).filter(([whole]) => whole !== "" && whole !== "-");
   return found.map(([, minus, field, phrase, word]) => {
     return { ...testOf(field, phrase ?? word), isWithout: minus === "-" };

@@ -7,6 +7,7 @@ import sys
 from support import FOLDER, STREAMS, WORK, PageTest, make_page, the_browser, written
 from tally import tell
 
+import filter_cases
 import samples
 from samples import as_json, frame
 
@@ -589,6 +590,15 @@ class Words(PageTest):
                 self.search(text)
                 self.assertEqual(self.rows(), count)
                 browser.press("Escape")
+
+    def test_what_journal_show_finds(self):
+        for stream, cases in filter_cases.cases():
+            self.open(written("filtered", stream))
+            for words, found in cases:
+                with self.subTest(words=words):
+                    self.value(f"(byId('text').value = {json.dumps(words)}, filter())")
+                    shown = self.value("shown.map((place) => rows[place][0].number)")
+                    self.assertEqual(shown, found)
 
     def test_words_that_mean_nothing(self):
         for text, said in (

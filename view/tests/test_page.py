@@ -64,9 +64,9 @@ class Examples(PageTest):
 
     def test_unknown_skipped_and_rest_are_shown_as_such(self):
         self.open(STREAMS / "unknown_type")
-        self.assertIn("unknown 0x0008", self.text("#row-0"))
+        self.assertIn("unknown 0x8", self.text("#row-0"))
         self.open(STREAMS / "unknown_type", "--protocol", "9")
-        self.assertIn("skipped 0x0008", self.text("#row-0"))
+        self.assertIn("skipped 0x8", self.text("#row-0"))
         self.assertIn("hex, 8 bytes", self.text("#detail"))
         self.open(STREAMS / "cut_short")
         browser.press("G")

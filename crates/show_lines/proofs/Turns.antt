@@ -1,7 +1,8 @@
 -- The turns of loops that append a text for each element, or look for one.
-use Rattle.std.proofs.Common.{◌≡◌, ℕ, List, [], ◌∷◌, ◌++◌, true, false, Option, None, refl, ap, sym, ◌∙◌}
+use Rattle.std.proofs.Common.{◌≡◌, ℕ, List, [], ◌∷◌, ◌++◌, Bool, true, false, Option, None, refl, ap, sym, ◌∙◌}
 use Rattle.std.proofs.Common.{append_assoc, append-nil}
 use Rattle.std.specs.Prelude.{flat_map, ◌==◌}
+use Rattle.std.specs.List.{list_any}
 use Rattle.shared_core_fields.specs.Fields.{FieldPart}
 use Rattle.show_lines.specs.Contents.{number_in, number_part, has_failure, is_failure}
 
@@ -18,6 +19,16 @@ module _ {A : Type 0} (show : A → List ℕ) where
   pub none_left : (all : List A) (line whole : List ℕ) → all ≡ [] → line ++ flat_map show all ≡ whole → line ≡ whole
   none_left all line whole is so_far = sym (append-nil line)
       ∙ ap (λ (elements : List A). line ++ flat_map show elements) (sym is) ∙ so_far
+
+module _ {A : Type 0} (test : A → Bool) where
+  -- the first of those that are left passes
+  pub any_found : (all rest : List A) (one : A) → all ≡ one ∷ rest → test one ≡ true → list_any test all ≡ true
+  any_found all rest one is passes = rw (is, passes) refl
+
+  -- it does not
+  pub any_after : (all rest : List A) (one : A) → all ≡ one ∷ rest → test one ≡ false → list_any test all ≡ list_any
+      test rest
+  any_after all rest one is fails = rw (is, fails) refl
 
 pub number_found : (n : ℕ) (all rest : List FieldPart) (one : FieldPart) → all ≡ one ∷ rest → (one.0 == n) ≡ true →
     number_in n all ≡ number_part one

@@ -1,8 +1,8 @@
 -- What a line has of the contents of a message.
 use Rattle.std.specs.Prelude.{ℕ, Bool, true, false, ◌&&◌, ◌||◌, List, [], ◌∷◌, ◌++◌, codes, decimal, nat_eq, nat_lt}
 use Rattle.std.specs.Prelude.{Option, Some, None, if◌then◌else◌, flat_map, ◌==◌}
-use Rattle.std.specs.List.{list_any}
-use Rattle.shared_core_base.specs.MessageType.{code_of}
+use Rattle.std.specs.Fmt.{digits}
+use Rattle.shared_core_base.specs.MessageType.{code_of, debug_name_of}
 use Rattle.shared_core_base.specs.declared.header.MessageType.{MessageType}
 use Rattle.shared_core_base.specs.declared.version.Version.{Version}
 use Rattle.shared_core_wire.specs.Acceptance.{accepts_payload}
@@ -13,15 +13,51 @@ use Rattle.shared_core_codec.specs.Table as schema
 use Rattle.shared_core_fields.specs.Fields.{FieldPart, message_fields}
 use Rattle.shared_core_json.specs.Fields.{names_of, name_of}
 use Rattle.shared_core_message.specs.Schemas.{schema_at}
+use Rattle.shared_core_stream.specs.declared.encoding.item.Item.{Item}
+use Rattle.shared_core_stream.specs.declared.encoding.item.Item.TheVariants as item
 use Rattle.show_lines.specs.Excerpt.{excerpt}
 use Rattle.show_lines.specs.declared.facts.Role.{Role}
 use Rattle.show_lines.specs.declared.facts.Role.TheVariants.{Command, Notification, Other}
+use Rattle.show_lines.specs.declared.held.Held.{Held}
+use Rattle.show_lines.specs.declared.held.Held.TheVariants as held
 
 -- What a message is for: by its code a command, a notification, or something else.
 abbrev pub role_of : MessageType → Role
 role_of ty =
     if nat_lt (code_of ty) 0x400 then Other else (if nat_lt (code_of ty) 0x8000 then Command else
     (if nat_lt (code_of ty) 0xFC00 then Notification else Other))
+
+-- ---- what an item holds
+
+-- Bytes whose meaning is not known, a payload that is not well-formed, or what a payload of a schema means.
+pub data Holding : Type 0 where
+  OpaqueBytes : List ℕ → Holding
+  Malformed : List ℕ → Holding
+  Means : ℕ → Parts → Holding
+
+-- What the program has of it.
+abbrev pub held_view : Held → Holding
+held_view (held.Opaque bytes) = OpaqueBytes bytes.now
+held_view (held.Malformed bytes) = Malformed bytes.now
+held_view (held.Fields payload) = Means payload.schema (payload_meaning payload.schema payload.bytes.now)
+
+-- What a payload is, by its schema; a custom entry has none.
+abbrev pub payload_held : Option ℕ → List ℕ → Holding
+payload_held None payload = OpaqueBytes payload
+payload_held (Some s) payload =
+    if accepts_payload schema.table 100 s payload then Means s (payload_meaning s payload) else Malformed payload
+
+-- What an item holds: nothing, if its code is unknown and its payload is not read.
+abbrev pub item_held : Version → Item → Option Holding
+item_held version (item.Message message) = Some (payload_held (schema_at version message.header.ty) message.payload)
+item_held version (item.Unknown code) = None
+item_held version (item.Skipped code payload) = Some (OpaqueBytes payload)
+
+-- The type of an item: the name of one, or what its code is.
+abbrev pub type_text : Item → List ℕ
+type_text (item.Message message) = debug_name_of message.header.ty
+type_text (item.Unknown code) = codes "unknown 0x" ++ digits 16 false code
+type_text (item.Skipped code payload) = codes "skipped 0x" ++ digits 16 false code
 
 -- ---- what is in a payload
 
@@ -70,6 +106,12 @@ field_text role s field = scalar_text role s field
 -- The fields of a message.
 abbrev pub fields_text : Role → ℕ → List FieldPart → List ℕ
 fields_text role s fields = flat_map (field_text role s) fields
+
+-- What a line has of what a message holds: of a custom entry its bytes, and of other messages their fields.
+abbrev pub held_text : Role → Holding → List ℕ
+held_text role (OpaqueBytes bytes) = shown_bytes bytes
+held_text role (Malformed bytes) = codes " malformed"
+held_text role (Means s value) = fields_text role s (value_fields s value)
 
 -- The number of a field that is one of 32 bits.
 abbrev pub number_part : FieldPart → Option ℕ

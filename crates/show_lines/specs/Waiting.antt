@@ -12,7 +12,7 @@ use Rattle.show_lines.specs.declared.waiting.Half.{Half}
 -- and the text by which the line of the other half names it.
 pub record Shown : Type 0 where
   pub is_command : Bool
-  pub is_in_range : Bool
+  pub is_selected : Bool
   pub text : List ℕ
 
 -- What waits, by the ids in ascending order.
@@ -23,13 +23,13 @@ Waiting = List (ℕ × Shown)
 abbrev pub half_view : Half → Shown
 half_view half = record {
   is_command = half.is_command;
-  is_in_range = half.is_in_range;
+  is_selected = half.is_selected;
   text = string_bytes half.text;
 }
 
 -- The half that a coming half of the program is.
 abbrev pub coming_view : Coming → Shown
-coming_view half = record { is_command = half.is_command; is_in_range = half.is_in_range; text = half.text.now }
+coming_view half = record { is_command = half.is_command; is_selected = half.is_selected; text = half.text.now }
 
 -- The halves of the program, by their ids.
 abbrev pub halves_view : List (ℕ × Half) → Waiting
@@ -69,7 +69,7 @@ waiting_after (Some id) half waiting = waiting_with id half (other_half half.is_
 
 -- The line of a command that nothing has completed; none of a notification, or of an item without a line.
 abbrev pub open_line : Shown → List ℕ
-open_line half = if half.is_command && half.is_in_range then codes "open " ++ (half.text ++ codes "\n") else []
+open_line half = if half.is_command && half.is_selected then codes "open " ++ (half.text ++ codes "\n") else []
 
 -- The lines of the commands that nothing has completed.
 abbrev pub open_lines : Waiting → List ℕ

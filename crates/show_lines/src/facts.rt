@@ -117,7 +117,7 @@ fn number_of(field: &Field<'_>) -> Option<u32>
 }
 
 /// Whether one of the fields is a failure.
-fn has_failure(payload: CanonicalPayload<'_>) -> bool
+pub fn has_failure(payload: CanonicalPayload<'_>) -> bool
     ensures { result ≡ has_failure
         (value_fields payload.entry.schema (payload_meaning payload.entry.schema payload.entry.bytes.now)) }
 {

@@ -4,10 +4,17 @@
 mod contents;
 mod excerpt;
 mod facts;
+mod filter;
+mod held;
 mod line;
+mod matching;
 mod options;
+mod place;
+mod range;
+mod scratch;
 mod stream;
 mod waiting;
 
+pub use crate::filter::{Filter, FilterError, Word};
 pub use crate::options::Options;
 pub use crate::stream::show;

@@ -11,14 +11,18 @@ ghost use Rattle.shared_core_io.specs.Buffered.{held_in};
 ghost use Rattle.shared_core_stream.specs.Limits.{offset_after};
 ghost use Rattle.stream_lines.specs.Printing.{item_size, IsLack, IsLongIn};
 ghost use Rattle.stream_lines.specs.Steps.{IsAfter};
-ghost use Rattle.show_lines.specs.Lines.{has_line, is_in_range, item_facts, item_name, joins, last_lines, line_of};
-ghost use Rattle.show_lines.specs.Lines.{nothing_known, then_known, waiting_then};
+ghost use Rattle.show_lines.specs.Lines.{has_line, is_in_range, is_selected, item_facts, item_name, joins, last_lines};
+ghost use Rattle.show_lines.specs.Lines.{line_of, nothing_known, place_after, then_known, waiting_then};
 ghost use Rattle.show_lines.specs.Showing.{AreShown, IsLong};
-ghost use Rattle.show_lines.specs.Steps.{Added, known_by, waiting_of};
+ghost use Rattle.show_lines.specs.Steps.{Added, AreCounted, known_by, place_of, waiting_of};
 
 use crate::facts::Facts;
-use crate::line::ItemNamer;
+use crate::held::Payloads;
+use crate::line::write_name;
+use crate::matching::Matcher;
 use crate::options::Options;
+use crate::place::Place;
+use crate::scratch::Scratch;
 use crate::waiting::{Coming, Waiting};
 use dump_lines::Canonicalizer;
 use shared_core_io::{ItemBuffer, ReadError};
@@ -46,7 +50,7 @@ const CHUNK: usize = 65536;
 /// the limit, as soon as its header is read. The canonicalizer is called for each payload that is not canonical.
 pub fn show<C: Canonicalizer, R: Read, W: Write>(
     alloc: Global,
-    options: &Options,
+    options: &Options<'_>,
     canonicalizer: &C,
     input: &mut R,
     output: &mut W,
@@ -57,7 +61,7 @@ pub fn show<C: Canonicalizer, R: Read, W: Write>(
         × Appends (W.contents output.old) (W.contents output.new) written
         × AreShown options.now result read written (R.remaining input.new) }
 {
-    let namer = ItemNamer {
+    let walk = Walk {
         alloc,
         options,
         canonicalizer,
@@ -81,13 +85,56 @@ pub fn show<C: Canonicalizer, R: Read, W: Write>(
             Err(_) => return Err(PrintError::OutOfMemory),
         }
         lines.text.clear();
-        let longer = lines.add_held(&namer, &mut items)?;
+        let longer = lines.add_held(&walk, &mut items)?;
         write_whole(output, lines.text.as_slice())?;
         if let Some(message) = longer {
             return Err(PrintError::MessageTooLong(message));
         }
     }
     Err(PrintError::Input)
+}
+
+/// How a stream is shown.
+#[derive(Drop)]
+struct Walk<'a, C> {
+    alloc: Global,
+    options: &'a Options<'a>,
+    canonicalizer: &'a C,
+}
+
+impl<'a, C: Canonicalizer> Walk<'a, C> {
+    /// What reads the payloads.
+    fn payloads(&self) -> Payloads<'_, C>
+        ensures { result.version ≡ self.now.options.now.version }
+    {
+        Payloads {
+            alloc: self.alloc,
+            version: self.options.version,
+            canonicalizer: self.canonicalizer,
+        }
+    }
+
+    /// Whether an item at a place is one of those that may have lines. `canonical` is a buffer that may be overwritten.
+    fn selects(
+        &self,
+        place: Place,
+        item: &Item,
+        canonical: &mut Vec<u8>,
+    ) -> Result<bool, PrintError>
+        ensures selected { IfOk result (λ selected. selected
+            ≡ is_selected self.now.options.now place item.now) }
+        ensures lack { IfErr result (IsLack (IsLong self.now.options.now.version item.now)) }
+    {
+        if !is_in_range(self.options, place.index) {
+            return Ok(false);
+        }
+        let payloads = self.payloads();
+        let matcher = Matcher {
+            payloads: &payloads,
+            words: self.options.words,
+        };
+        matcher.matches(place, item, canonical)
+    }
 }
 
 /// The lines of items, and what all items so far have given.
@@ -98,22 +145,11 @@ struct Lines {
     offset: u128,
     /// The index of the next item.
     index: u128,
+    /// The number of commands before the next item.
+    commands: u128,
     waiting: Waiting,
     /// Buffers that are reused for each item.
     scratch: Scratch,
-}
-
-/// The buffers in which the parts of a line are made.
-#[derive(Drop)]
-struct Scratch {
-    /// The name of an item.
-    name: String,
-    /// What names the id of the invocation that it calls.
-    invocation: String,
-    /// What it completes, or what completes it.
-    joined: String,
-    /// The canonical payload of a message.
-    canonical: Vec<u8>,
 }
 
 impl Lines {
@@ -121,44 +157,41 @@ impl Lines {
     fn new(alloc: Global) -> Lines
         ensures known { known_by result ≡ nothing_known }
         ensures place { result.offset ≡ 0 }
+        ensures counted { AreCounted result }
     {
         Lines {
             text: Vec::new(alloc),
             offset: 0,
             index: 0,
+            commands: 0,
             waiting: Waiting::new(alloc),
-            scratch: Scratch {
-                name: String::new(alloc),
-                invocation: String::new(alloc),
-                joined: String::new(alloc),
-                canonical: Vec::new(alloc),
-            },
+            scratch: Scratch::new(alloc),
         }
     }
 
     /// Adds the lines of the items that were read. Returns the message after them, if it is longer than the limit.
     fn add_held<C: Canonicalizer>(
         &mut self,
-        namer: &ItemNamer<'_, C>,
+        walk: &Walk<'_, C>,
         items: &mut ItemBuffer,
     ) -> Result<Option<MessageTooLong>, PrintError>
-        requires version { items.old.decoder.version ≡ namer.now.options.now.version }
+        requires version { items.old.decoder.version ≡ walk.now.options.now.version }
         requires accepted { items.old.decoder.rejected ≡ None }
         requires placed { items.old.decoder.offset ≡ offset_after 0 self.old.offset }
         requires room { self.old.offset + length (held_in items.old).bytes < 2 ^ 128 }
-        requires counted { self.old.index ≤ self.old.offset }
-        ensures added { IfOk result (λ longer. (rest : List ℕ) × Added namer.now.options.now items.old.decoder.limit
+        requires counted { AreCounted self.old }
+        ensures added { IfOk result (λ longer. (rest : List ℕ) × Added walk.now.options.now items.old.decoder.limit
             self.old.offset (known_by self.old) self.old.text.items (held_in items.old).bytes self.new.offset
             (known_by self.new) self.new.text.items rest
             × IsAfter items.old.decoder.version items.old.decoder.limit longer self.new.offset rest
             (held_in items.new)) }
-        ensures counted { IfOk result (λ longer. self.new.index ≤ self.new.offset) }
-        ensures lack { IfErr result (IsLack (IsLongIn (IsLong namer.now.options.now.version)
+        ensures counted { IfOk result (λ longer. AreCounted self.new) }
+        ensures lack { IfErr result (IsLack (IsLongIn (IsLong walk.now.options.now.version)
             items.old.decoder.version (held_in items.old).bytes)) }
     {
         loop {
             match items.take_with_word() {
-                Ok(Some((_, item))) => self.add(namer, &item)?,
+                Ok(Some((_, item))) => self.add(walk, &item)?,
                 Ok(None) => return Ok(None),
                 Err(ReadError::TooLong(message)) => return Ok(Some(message)),
                 Err(_) => return Err(PrintError::OutOfMemory),
@@ -167,46 +200,63 @@ impl Lines {
     }
 
     /// Adds the line of an item.
-    fn add<C: Canonicalizer>(
-        &mut self,
-        namer: &ItemNamer<'_, C>,
-        item: &Item,
-    ) -> Result<(), PrintError>
+    fn add<C: Canonicalizer>(&mut self, walk: &Walk<'_, C>, item: &Item) -> Result<(), PrintError>
         requires room { self.old.offset + item_size item.now < 2 ^ 128 }
-        requires counted { self.old.index ≤ self.old.offset }
+        requires counted { AreCounted self.old }
         ensures line { OnOk result (self.new.text.items
-            ≡ self.old.text.items ++ line_of namer.now.options.now (known_by self.old) item.now) }
+            ≡ self.old.text.items ++ line_of walk.now.options.now (known_by self.old) item.now) }
         ensures known { OnOk result (known_by self.new
-            ≡ then_known namer.now.options.now (known_by self.old) item.now) }
+            ≡ then_known walk.now.options.now (known_by self.old) item.now) }
         ensures place { OnOk result (self.new.offset ≡ self.old.offset + item_size item.now) }
-        ensures counted { OnOk result (self.new.index ≤ self.new.offset) }
-        ensures lack { IfErr result (IsLack (IsLong namer.now.options.now.version item.now)) }
+        ensures counted { OnOk result (AreCounted self.new) }
+        ensures lack { IfErr result (IsLack (IsLong walk.now.options.now.version item.now)) }
     {
+        let place = Place {
+            index: self.index,
+            command: self.commands,
+            offset: self.offset,
+        };
         let Scratch {
             name,
             canonical,
             ..
         } = &mut self.scratch;
-        let facts = namer.write_name(self.index, item, name, canonical)?;
-        self.join(namer.options, &facts)?;
-        if has_line(namer.options, self.index, &facts) {
+        let facts = write_name(&walk.payloads(), self.index, item, name, canonical)?;
+        let is_selected = walk.selects(place, item, canonical)?;
+        self.join(&facts, is_selected)?;
+        if has_line(walk.options, is_selected, &facts) {
             self.push_line()?;
         }
-        self.index += 1;
-        self.offset += item.size() as u128;
+        self.count(&facts, item.size() as u128);
         Ok(())
     }
 
+    /// Counts an item of this size.
+    fn count(&mut self, facts: &Facts, size: u128)
+        requires room { self.old.offset + size < 2 ^ 128 }
+        requires sized { 1 ≤ size }
+        requires counted { AreCounted self.old }
+        ensures place { place_of self.new ≡ place_after facts.now size (place_of self.old) }
+        ensures counted { AreCounted self.new }
+        ensures waiting { self.new.waiting ≡ self.old.waiting }
+        ensures text { self.new.text ≡ self.old.text }
+    {
+        if facts.is_command() {
+            self.commands += 1;
+        }
+        self.index += 1;
+        self.offset += size;
+    }
+
     /// Overwrites what the line says of the other halves of the item whose name is there.
-    fn join(&mut self, options: &Options, facts: &Facts) -> Result<(), AllocError>
+    fn join(&mut self, facts: &Facts, is_selected: bool) -> Result<(), AllocError>
         ensures joined { OnOk result (string_bytes self.new.scratch.joined
-            ≡ joins options.now (known_by self.old) facts.now (string_bytes self.old.scratch.name)) }
+            ≡ joins is_selected (waiting_of self.old) facts.now (string_bytes self.old.scratch.name)) }
         ensures waiting { OnOk result (waiting_of self.new
-            ≡ waiting_then options.now (known_by self.old) facts.now (string_bytes self.old.scratch.name)) }
+            ≡ waiting_then is_selected (waiting_of self.old) facts.now (string_bytes self.old.scratch.name)) }
         ensures name { self.new.scratch.name ≡ self.old.scratch.name }
         ensures text { self.new.text ≡ self.old.text }
-        ensures offset { self.new.offset ≡ self.old.offset }
-        ensures index { self.new.index ≡ self.old.index }
+        ensures place { place_of self.new ≡ place_of self.old }
     {
         let Scratch {
             name,
@@ -220,7 +270,7 @@ impl Lines {
         invocation.push_str(name.as_str())?;
         let half = Coming {
             is_command: facts.is_command(),
-            is_in_range: is_in_range(options, self.index),
+            is_selected,
             text: name.as_str(),
         };
         let first = Coming {
@@ -236,8 +286,7 @@ impl Lines {
         ensures text { OnOk result (self.new.text.items ≡ self.old.text.items
             ++ (string_bytes self.old.scratch.name ++ (string_bytes self.old.scratch.joined ++ codes "\n"))) }
         ensures waiting { self.new.waiting ≡ self.old.waiting }
-        ensures offset { self.new.offset ≡ self.old.offset }
-        ensures index { self.new.index ≡ self.old.index }
+        ensures place { place_of self.new ≡ place_of self.old }
     {
         self.text.extend_from_slice(self.scratch.name.as_bytes())?;
         self.text.extend_from_slice(self.scratch.joined.as_bytes())?;
@@ -245,7 +294,7 @@ impl Lines {
     }
 
     /// Adds the last lines.
-    fn add_last(&mut self, options: &Options) -> Result<(), AllocError>
+    fn add_last(&mut self, options: &Options<'_>) -> Result<(), AllocError>
         ensures text { OnOk result (self.new.text.items ≡ self.old.text.items
             ++ last_lines options.now (known_by self.old)) }
         ensures offset { self.new.offset ≡ self.old.offset }
@@ -258,17 +307,17 @@ impl Lines {
 }
 
 /// Whether an item of this index is one of those that may have lines.
-fn is_in_range(options: &Options, index: u128) -> bool
+fn is_in_range(options: &Options<'_>, index: u128) -> bool
     ensures { result ≡ is_in_range options.now index }
 {
     u128::from(options.from) <= index && index <= u128::from(options.to)
 }
 
-/// Whether an item of this index has a line.
-fn has_line(options: &Options, index: u128, facts: &Facts) -> bool
-    ensures { result ≡ has_line options.now index facts.now }
+/// Whether an item has a line, if it may have one.
+fn has_line(options: &Options<'_>, is_selected: bool, facts: &Facts) -> bool
+    ensures { result ≡ has_line options.now is_selected facts.now }
 {
-    is_in_range(options, index)
+    is_selected
         && (!options.commands || facts.is_command())
         && (!options.failures || facts.is_failure)
         && !options.open

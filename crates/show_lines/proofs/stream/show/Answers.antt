@@ -24,7 +24,7 @@ loop-init g c =
     let bytes = ap (λ (held : Unread). held.bytes) c.new-items.ensures in
     record {
       counted = omega (arith, c.new-lines.ensures.place);
-      ordered = omega (arith, c.new-lines.ensures.place, ap (λ (known : Known). known.index) c.new-lines.ensures.known);
+      ordered = c.new-lines.ensures.counted;
       state = c.new-items.ensures
           ∙ ap (λ (left : List ℕ). holding options.version options.limit 0 left) (sym bytes)
           ∙ ap (λ (n : ℕ). holding options.version options.limit n (held_in c.new-items.result).bytes)

@@ -2,7 +2,7 @@ use Rattle.std.proofs.Common.{◌≡◌, ◌++◌, ℕ, List, ap, ◌∙◌, str
 use Rattle.std.proofs.lemmas.Result.{on_ok_weaker}
 use Rattle.std.specs.Prelude.{codes}
 use Rattle.show_lines.specs.Lines.{invocation_name}
-use Rattle.show_lines.specs.Steps.{known_by}
+use Rattle.show_lines.specs.Steps.{waiting_of}
 use Rattle.show_lines.proofs.Joins.{joined_both, waiting_both}
 use Rattle.show_lines.proofs.stream.Lines.join.Goals as goal
 
@@ -14,8 +14,8 @@ returns-clause-joined c =
     ∙ ap (λ (l : List ℕ). l ++ c.as_str.result.now) (c.in_ok-push_str.ensures.bytes
     ∙ ap (λ (l : List ℕ). l ++ codes "the invocation id of ") c.clear-2.ensures.bytes)
     ∙ ap (λ (l : List ℕ). codes "the invocation id of " ++ l) c.as_str.ensures.value in
-    on_ok_weaker c.join-2.result (λ line. joined_both c.args.options.now (known_by c.args.self.now) c.args.facts.now
-    name c.is_command.result c.is_in_range.result _ _ _ c.is_command.ensures c.is_in_range.ensures named
+    on_ok_weaker c.join-2.result (λ line. joined_both (waiting_of c.args.self.now) c.args.facts.now
+    name c.is_command.result c.args.is_selected _ _ _ c.is_command.ensures named
     c.as_str-2.ensures.value c.in_ok-join.ensures.waiting _ _ _ c.clear.ensures.bytes c.in_ok-join.ensures.line line)
     c.join-2.ensures.line
 
@@ -27,6 +27,6 @@ returns-clause-waiting c =
     ∙ ap (λ (l : List ℕ). l ++ c.as_str.result.now) (c.in_ok-push_str.ensures.bytes
     ∙ ap (λ (l : List ℕ). l ++ codes "the invocation id of ") c.clear-2.ensures.bytes)
     ∙ ap (λ (l : List ℕ). codes "the invocation id of " ++ l) c.as_str.ensures.value in
-    on_ok_weaker c.join-2.result (λ waits. waiting_both c.args.options.now (known_by c.args.self.now)
-    c.args.facts.now name c.is_command.result c.is_in_range.result _ _ _ c.is_command.ensures c.is_in_range.ensures
+    on_ok_weaker c.join-2.result (λ waits. waiting_both (waiting_of c.args.self.now)
+    c.args.facts.now name c.is_command.result c.args.is_selected _ _ _ c.is_command.ensures
     named c.as_str-2.ensures.value c.in_ok-join.ensures.waiting _ waits) c.join-2.ensures.waiting
