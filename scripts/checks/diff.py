@@ -7,6 +7,7 @@ and outputs that fail; terminal.py has the program on a terminal.
 from __future__ import annotations
 
 import json
+import pathlib
 
 import checks
 from programs import STREAMS, Program, go_to_streams
@@ -215,6 +216,31 @@ MOVED: tuple[tuple[str, int, str], ...] = (
      "  1 the same, recorded 3 at offset 90, replayed 3 at offset 78\n"),
 )
 
+# Two values of a state, and how a line shows them if long values are short: whole, unless one of them has more than 80
+# bytes with its quotes, and otherwise around their difference.
+A20, Z20, XFF = "a" * 20, "z" * 20, r"\xff" * 4
+SHORT: tuple[tuple[str | bytes, str | bytes, str], ...] = (
+    ("a" * 78, "b", f": '{'a' * 78}' != 'b'"),
+    ("a" * 79, "b", f": at byte 0 of 79 and 1: '[{'a' * 40}..]' != '[b]'"),
+    ("a" * 100 + "one" + "z" * 100, "a" * 100 + "two" + "z" * 100,
+     f": at byte 100 of 203: ..{A20}[one]{Z20}.. != ..{A20}[two]{Z20}.."),
+    # one goes on where the other ends, and one has something more
+    ("a" * 100, "a" * 101, f": at byte 100 of 100 and 101: ..{A20}[]' != ..{A20}[a]'"),
+    ("a" * 90 + "z" * 19, "a" * 90 + "more" + "z" * 19,
+     f": at byte 90 of 109 and 113: ..{A20}[]{'z' * 19}' != ..{A20}[more]{'z' * 19}'"),
+    # what is common is taken once
+    ("a" * 90, "a" * 91 + "ba", f": at byte 90 of 90 and 93: ..{A20}[]' != ..{A20}[aba]'"),
+    # characters are whole: of two, of three and of four bytes
+    ("é" * 50 + "é!", "é" * 50 + "è!", f": at byte 100 of 103: ..{'é' * 10}[é]!' != ..{'é' * 10}[è]!'"),
+    ("a€" * 30 + "\u20a0", "a€" * 30 + "\u20e0",
+     f": at byte 120 of 123: ..{'a€' * 5}[\u20a0]' != ..{'a€' * 5}[\u20e0]'"),
+    ("x" + "😀" * 30, "y" + "😀" * 30, f": at byte 0 of 121: '[x]{'😀' * 5}.. != '[y]{'😀' * 5}.."),
+    ("😀" * 30 + "x", "😁" * 30 + "x", f": at byte 0 of 121: '[{'😀' * 10}..]x' != '[{'😁' * 10}..]x'"),
+    # bytes that are not UTF-8 are printed with escapes, and counted as they are printed
+    (b"\xff" * 40 + b"\x01", b"\xff" * 40 + b"\x02",
+     f": at byte 165 of 167: ..f{XFF}\\x0[1]\" != ..f{XFF}\\x0[2]\""),
+)
+
 # How many commands may move where the fewest of them are found.
 LIMIT = 1000
 
@@ -253,10 +279,39 @@ def aligned(check: checks.Check, diff: Program) -> None:
         check.case(f"{changed} commands changed", (run.status, first, count) == (1, said, changed), run)
 
 
-def state(key: str, value: str) -> bytes:
+def shortened(check: checks.Check, diff: Program) -> None:
+    """Long values around their difference, where that is wanted."""
+    paths = [str(check.work / side) for side in ("recorded", "replayed")]
+    for recorded, replayed, line in SHORT:
+        for path, value in zip(paths, (recorded, replayed)):
+            pathlib.Path(path).write_bytes(state("key", value))
+        for words in (("--all",), ("--verdict",)):
+            run = diff.run((*words, "--values", "short", *paths))
+            check.case(f"{words} of {line}", f"\n   value{line}\n" in run.out.decode() and run.status == 1, run)
+        # whole values otherwise, in all forms
+        whole = [diff.run((*words, *paths)).out for words in ((), ("--all",), ("--json",), ("--all", "--json"))]
+        for out, words in zip(whole, ((), ("--all",), ("--json",), ("--all", "--json"))):
+            for how in ("auto", "whole", *(["short"] if "--json" in words else [])):
+                diff.ends((*words, "--values", how, *paths), out.decode(), "", 1)
+        diff.ends(("--verdict", *paths), whole[0].decode(), "", 1)
+    # both values in their colors, and neither if one of them has ' != ' itself
+    for path, value in zip(paths, ("a" * 90 + "x", "a" * 90 + "y")):
+        pathlib.Path(path).write_bytes(state("key", value))
+    run = diff.run(("--color=always", "--values=short", *paths))
+    line = f"value: at byte 90 of 91: \x1b[31m..{A20}[x]'\x1b[0m != \x1b[32m..{A20}[y]'\x1b[0m\n"
+    check.case("short values in colors", run.out.decode().endswith(line), run)
+
+
+def sized(content: bytes) -> bytes:
+    """A content of at most 16,383 bytes after its length, a varint."""
+    low, high = len(content) & 0x7F, len(content) >> 7
+    return (bytes([low | 0x80, high]) if high else bytes([low])) + content
+
+
+def state(key: str, value: str | bytes) -> bytes:
     """A command that sets a state."""
-    held = b"\n" + bytes([len(value)]) + value.encode()
-    payload = b"\n" + bytes([len(key)]) + key.encode() + b"\x1a" + bytes([len(held)]) + held
+    held = b"\n" + sized(value.encode() if isinstance(value, str) else value)
+    payload = b"\n" + sized(key.encode()) + b"\x1a" + sized(held)
     return (0x403).to_bytes(2, "big") + len(payload).to_bytes(6, "big") + payload
 
 
@@ -279,6 +334,7 @@ def main(check: checks.Check) -> None:
     diff.ends("--max-message 1048576 - recorded", "", "journal_diff: the recorded journal, InputCommand at offset 0:"
               " 4294967295 bytes of payload, more than the limit of 1048576\n", 2, given=b"\x04\0\0\0\xff\xff\xff\xff")
     aligned(check, diff)
+    shortened(check, diff)
     # a value that has ' != ' itself
     run = diff.run("--color always unequal key")
     is_plain = run.status == 1 and run.out.endswith(b"\n   key: 'a != b' != 'c'\n")

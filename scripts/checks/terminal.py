@@ -174,7 +174,7 @@ class Programs(unittest.TestCase):
         replayed = journal("replayed", INPUT, call("x" + HOSTILE))
         piped, shown = self.compared(HOSTILE, "x" + HOSTILE)
         self.assertEqual(run(DIFF, recorded, replayed), (1, piped, ""))
-        self.assertEqual(run(DIFF, recorded, replayed, out=True), (1, shown, ""))
+        self.assertEqual(run(DIFF, "--verdict", recorded, replayed, out=True), (1, shown, ""))
         piped, shown = self.same_but_escaped(escaped_json, DIFF, "--json", recorded, replayed, status=1)
         self.assertEqual(json.loads(shown)["fields"], json.loads(piped)["fields"])
         self.assertEqual(json.loads(shown)["fields"][0]["recorded"], HOSTILE)
@@ -182,16 +182,44 @@ class Programs(unittest.TestCase):
     def test_diff_of_values(self):
         recorded = journal("value", INPUT, set_state("key", HOSTILE))
         replayed = journal("other_value", INPUT, set_state("key", "red"))
-        status, shown, _ = run(DIFF, recorded, replayed, out=True)
-        self.assertEqual(status, 1)
-        self.assertTrue(shown.endswith(f"\n   value: '{escaped(HOSTILE)}' != 'red'\n"), shown)
+        for words in ("--verdict",), ("--values=whole",):
+            status, shown, _ = run(DIFF, *words, recorded, replayed, out=True)
+            self.assertEqual(status, 1)
+            self.assertTrue(shown.endswith(f"\n   value: '{escaped(HOSTILE)}' != 'red'\n"), shown)
+
+    def test_what_moved(self):
+        """By default a terminal shows what moved, below the names of the journals, and long values in short."""
+        recorded = journal(f"recorded{HOSTILE[2:20]}", INPUT, set_state("key", "\x1b" * 90 + "one\x1b"))
+        replayed = journal("two", INPUT, set_state("key", "\x1b" * 90 + "two\x1b"))
+        around = "\\u{1b}" * 20
+        heading = f"--- recorded: {escaped(str(recorded))}\n+++ replayed: {replayed}\n"
+        shown = (
+            "the replay has one command changed, SetStateCommand 'key', command 1; none comes after it\n"
+            "  1 the same, recorded 0, replayed 0\n"
+            "! changed SetStateCommand, recorded 1 at offset 17, replayed 1 at offset 17\n"
+            f"   value: at byte 90 of 94: ..{around}[one]\\u{{1b}}' != ..{around}[two]\\u{{1b}}'\n"
+        )
+        for words in (), ("--all",), ("--values", "short"), ("--color=never",):
+            with self.subTest(words=words):
+                self.assertEqual(run(DIFF, *words, recorded, replayed, out=True), (1, heading + shown, ""))
+        same = "same, 2 commands\n  2 the same, recorded 0, replayed 0\n"
+        self.assertEqual(run(DIFF, recorded, recorded, out=True), (0, same, ""))
+        first, second, _ = heading.split("\n")
+        _, colored, _ = run(DIFF, recorded, replayed, out=True, term="xterm")
+        self.assertTrue(colored.startswith(f"\x1b[31m{first}\x1b[0m\n\x1b[32m{second}\x1b[0m\n\x1b[1mthe replay"))
+        # a pipe has the verdict, and no names with what moved
+        self.assertTrue(run(DIFF, recorded, replayed)[1].startswith("command 1: Found a mismatch"))
+        self.assertTrue(run(DIFF, "--all", recorded, replayed)[1].startswith("the replay has one command changed"))
+        # a line of JSON is the verdict everywhere
+        self.same_but_escaped(escaped_json, DIFF, "--json", recorded, replayed, status=1)
+        self.same_but_escaped(escaped_json, DIFF, "--json", "--all", recorded, replayed, status=1)
 
     def test_a_value_looks_like_no_line(self):
         forged = "greet != greet\n   service_name: A"
         recorded, replayed = journal("forged", INPUT, call(forged)), journal("greet", INPUT, call("greet"))
         piped, shown = self.compared(forged, "greet")
         self.assertEqual(run(DIFF, recorded, replayed)[1], piped)
-        self.assertEqual(run(DIFF, recorded, replayed, out=True)[1], shown)
+        self.assertEqual(run(DIFF, "--verdict", recorded, replayed, out=True)[1], shown)
         self.assertEqual(len(shown.splitlines()), len(piped.splitlines()) - 1)
 
     def test_colors(self):
@@ -203,7 +231,7 @@ class Programs(unittest.TestCase):
         colored = (
             f"\x1b[1mcommand 1\x1b[0m{before}\x1b[31ma\\u{{1b}}b\x1b[0m{between}\x1b[32ma\\u{{a}}b\x1b[0m{after}"
         )
-        words = DIFF, recorded, replayed
+        words = DIFF, "--verdict", recorded, replayed
         self.assertEqual(run(*words, out=True, term="xterm"), (1, colored, ""))
         self.assertEqual(run(*words, out=True, term="xterm", NO_COLOR=b""), (1, colored, ""))
         self.assertEqual(run(*words, "--color=always", out=True), (1, colored, ""))
@@ -213,7 +241,7 @@ class Programs(unittest.TestCase):
                 self.assertEqual(run(*words, out=True, term=term, **environment), (1, plain, ""))
         self.assertEqual(run(*words, "--color=never", out=True, term="xterm"), (1, plain, ""))
         same = "\x1b[32msame, 2 commands\x1b[0m\n"
-        self.assertEqual(run(DIFF, recorded, recorded, out=True, term="xterm"), (0, same, ""))
+        self.assertEqual(run(DIFF, "--verdict", recorded, recorded, out=True, term="xterm"), (0, same, ""))
 
     def test_make_writes_to_no_terminal(self):
         line = json.dumps(INPUT).encode() + b"\n"

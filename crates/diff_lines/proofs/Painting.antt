@@ -12,8 +12,8 @@ use Rattle.replay_bench.specs.declared.fields.FieldDifference.{FieldDifference}
 use Rattle.replay_bench.specs.declared.verdicts.Verdict.{Verdict}
 use Rattle.replay_bench.specs.declared.verdicts.Verdict.TheVariants.{Same, RecordedEnded, ReplayedEnded, TypeMismatch}
 use Rattle.replay_bench.specs.declared.verdicts.Verdict.TheVariants.{HeaderMismatch}
+use Rattle.diff_lines.specs.FieldLines.{field_line, has_colors, is_shortened, line_in, values_line}
 use Rattle.diff_lines.specs.Sentences.{same_sentence}
-use Rattle.diff_lines.specs.Shown.{field_line, has_colors, line_in, shown_value}
 use Rattle.diff_lines.specs.VerdictLines.{index_text, look_of, shown_verdict, type_text}
 
 -- a part in its style
@@ -42,22 +42,30 @@ then a b x y (before, a_is, x_is) (after, b_is, y_is) = (
 after : (a b y : List ℕ) → IsPainted b y → IsPainted (a ++ b) (a ++ y)
 after a b y is = then a b a y (as_it_is a) is
 
-module _ (is_escaped : Bool) where
-  painted_line : (is_colored : Bool) (field : FieldDifference)
-      → IsPainted (line_in false is_escaped field) (line_in is_colored is_escaped field)
-  painted_line false field = as_it_is (line_in false is_escaped field)
-  painted_line true field =
-      let recorded = shown_value is_escaped (string_bytes field.recorded) in
-      let replayed = shown_value is_escaped (string_bytes field.replayed) in
-      after (10 ∷ []) _ _ (after (codes "   ") _ _ (after field.name.now _ _ (after (codes ": ") _ _
-      (then recorded _ _ _ (in_style Red recorded) (after (codes " != ") _ _ (in_style Green replayed))))))
+-- the line of two values in colors or not
+painted_values : (is_colored : Bool) (name recorded replayed : List ℕ)
+    → IsPainted (values_line false name recorded replayed) (values_line is_colored name recorded replayed)
+painted_values false name recorded replayed = as_it_is (values_line false name recorded replayed)
+painted_values true name recorded replayed =
+    after (10 ∷ []) _ _ (after (codes "   ") _ _ (after name _ _ (after (codes ": ") _ _
+    (then recorded _ _ _ (in_style Red recorded) (after (codes " != ") _ _ (in_style Green replayed))))))
+
+module _ (is_short is_escaped : Bool) where
+  painted_line : (is_shortened is_colored : Bool) (name recorded replayed : List ℕ)
+      → IsPainted (line_in is_shortened false is_escaped name recorded replayed)
+      (line_in is_shortened is_colored is_escaped name recorded replayed)
+  painted_line true is_colored name recorded replayed = painted_values is_colored _ _ _
+  painted_line false is_colored name recorded replayed = painted_values is_colored _ _ _
 
   painted_lines : (fields : List FieldDifference)
-      → IsPainted (flat_map (field_line (look_of is_escaped false)) fields)
-      (flat_map (field_line (look_of is_escaped true)) fields)
+      → IsPainted (flat_map (field_line (look_of is_short is_escaped false)) fields)
+      (flat_map (field_line (look_of is_short is_escaped true)) fields)
   painted_lines [] = as_it_is []
   painted_lines (field ∷ fields) =
-      then _ _ _ _ (painted_line (has_colors (look_of is_escaped true) field) field) (painted_lines fields)
+      let look = look_of is_short is_escaped true in
+      then _ _ _ _
+      (painted_line (is_shortened look field) (has_colors look field) field.name.now (string_bytes field.recorded)
+      (string_bytes field.replayed)) (painted_lines fields)
 
   painted_index : (index : ℕ) → IsPainted (index_text false index) (index_text true index)
   painted_index index =
@@ -65,8 +73,8 @@ module _ (is_escaped : Bool) where
       (as_it_is (codes ": " ++ mismatch_head))
 
   painted_verdict : (verdict : Verdict) (recorded replayed : Option MessageType) (fields : List FieldDifference)
-      → IsPainted (shown_verdict (look_of is_escaped false) verdict recorded replayed fields)
-      (shown_verdict (look_of is_escaped true) verdict recorded replayed fields)
+      → IsPainted (shown_verdict (look_of is_short is_escaped false) verdict recorded replayed fields)
+      (shown_verdict (look_of is_short is_escaped true) verdict recorded replayed fields)
   painted_verdict (Same count) recorded replayed fields = in_style Green (same_sentence count)
   painted_verdict (RecordedEnded index) recorded replayed fields = in_style Bold _
   painted_verdict (ReplayedEnded index) recorded replayed fields = in_style Bold _
@@ -82,7 +90,7 @@ module _ (is_escaped : Bool) where
       then _ _ _ _ (painted_index index) (after head _ _ (painted_lines fields))
 
   pub painted_text_line : (verdict : Verdict) (recorded replayed : Option MessageType) (fields : List FieldDifference)
-      → IsPainted (shown_verdict (look_of is_escaped false) verdict recorded replayed fields ++ codes "\n")
-      (shown_verdict (look_of is_escaped true) verdict recorded replayed fields ++ codes "\n")
+      → IsPainted (shown_verdict (look_of is_short is_escaped false) verdict recorded replayed fields ++ codes "\n")
+      (shown_verdict (look_of is_short is_escaped true) verdict recorded replayed fields ++ codes "\n")
   painted_text_line verdict recorded replayed fields =
       then _ _ _ _ (painted_verdict verdict recorded replayed fields) (as_it_is (codes "\n"))

@@ -12,7 +12,7 @@ use Rattle.replay_bench.specs.declared.verdicts.Verdict.TheVariants.{Same, Recor
 use Rattle.replay_bench.specs.declared.verdicts.Verdict.TheVariants.{HeaderMismatch}
 use Rattle.replay_bench.specs.Fields.{lines_of}
 use Rattle.replay_bench.specs.Verdicts.{IsSaid}
-use Rattle.diff_lines.specs.Shown.{field_line}
+use Rattle.diff_lines.specs.FieldLines.{field_line}
 use Rattle.diff_lines.specs.VerdictLines.{difference_text, plain, shown_verdict, type_text, types_text, verdict_text}
 
 -- the lines of fields are those of the text

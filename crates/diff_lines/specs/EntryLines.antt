@@ -17,8 +17,9 @@ use Rattle.diff_lines.specs.declared.entries.EntryKind.{EntryKind}
 use Rattle.diff_lines.specs.declared.entries.EntryKind.TheVariants.{Same, Differs}
 use Rattle.diff_lines.specs.declared.look.Look.{Look}
 use Rattle.diff_lines.specs.Entries.{at_index, entries_of, entry_type}
+use Rattle.diff_lines.specs.FieldLines.{field_line}
 use Rattle.diff_lines.specs.Sentences.{IsSentence, name_text}
-use Rattle.diff_lines.specs.Shown.{field_line, shown_part}
+use Rattle.diff_lines.specs.Shown.{shown_part}
 
 -- What an entry is.
 abbrev pub head_text : EntryKind → List ℕ
@@ -121,9 +122,10 @@ sentence_line look found sentence =
     shown_part look.is_colored (style_of found.alignment.is_least found.alignment.differences.items) sentence
     ++ codes "\n"
 
--- This is the text of two journals that were aligned with this limit: their sentence, and the lines of their entries.
-pub record IsText (ignore : Ignored) (look : Look) (limit : ℕ) (found : AlignedComparison) (text : List ℕ) : Type 0
-  where
-    pub sentence : List ℕ
-    pub is_sentence : IsSentence look.is_escaped limit found sentence
-    pub goes_on : GoesOn ignore look found (entries_of found) (sentence_line look found sentence) text
+-- This is the text of two journals that were aligned with this limit: a heading, their sentence, and the lines of
+-- their entries.
+pub record IsText (ignore : Ignored) (look : Look) (limit : ℕ) (heading : List ℕ) (found : AlignedComparison)
+    (text : List ℕ) : Type 0 where
+  pub sentence : List ℕ
+  pub is_sentence : IsSentence look.is_escaped limit found sentence
+  pub goes_on : GoesOn ignore look found (entries_of found) (heading ++ sentence_line look found sentence) text

@@ -1,8 +1,12 @@
 pub mod Entries
 pub mod EntryLines
+pub mod Excerpts
+pub mod FieldLines
+pub mod Headings
 pub mod MovedJson
 pub mod Json
 pub mod Moved
+pub mod Parted
 pub mod PassedOver
 pub mod Sentences
 pub mod Shown

@@ -15,9 +15,10 @@ use Rattle.diff_lines.specs.declared.journals.Form.{Form}
 use Rattle.diff_lines.specs.declared.journals.Form.TheVariants.{Text, Json}
 use Rattle.diff_lines.specs.declared.passed_over.Trouble.{Trouble}
 use Rattle.diff_lines.specs.EntryLines.{IsText}
+use Rattle.diff_lines.specs.Headings.{heading_text}
 use Rattle.diff_lines.specs.MovedJson.{IsJsonText}
 use Rattle.diff_lines.specs.PassedOver.{found_trouble}
-use Rattle.diff_lines.specs.Verdicts.{findings_of, ReportsVerdict}
+use Rattle.diff_lines.specs.Verdicts.{findings_of, is_same, ReportsVerdict}
 
 -- How many commands may have moved where the fewest of them are found.
 abbrev pub alignment_limit : ℕ
@@ -30,20 +31,26 @@ pub record HasMoved (version : Version) (ignore : Ignored) (is_strict : Bool) (r
   pub trouble_is : found_trouble is_strict found.comparison.recorded found.comparison.replayed ≡ trouble
 
 -- This text tells what moved between two journals, in a form.
-abbrev pub IsMovedText : Ignored → Form → AlignedComparison → List ℕ → Type 0
-IsMovedText ignore (Text look) found text = IsText ignore look alignment_limit found text
-IsMovedText ignore Json found text = IsJsonText ignore alignment_limit found text
+abbrev pub IsMovedIn : Form → DiffOptions → AlignedComparison → List ℕ → Type 0
+IsMovedIn (Text look) options found text =
+    IsText options.comparison.ignored look alignment_limit
+    (heading_text (is_same found.comparison.verdict) look options.names) found text
+IsMovedIn Json options found text = IsJsonText options.comparison.ignored alignment_limit found text
+
+-- The same in the form that is wanted.
+abbrev pub IsMovedText : DiffOptions → AlignedComparison → List ℕ → Type 0
+IsMovedText options found text = IsMovedIn options.form options found text
 
 -- What is written and returned for two journals that are aligned: what moved, and the findings of their comparison;
 -- nothing, if an allocation fails; or a prefix of what moved, if the output failed.
 abbrev pub ReportsAligned : DiffOptions → AlignedComparison → Result Findings DiffError → List ℕ → Type 0
 ReportsAligned options found (Ok findings) written =
     (findings ≡ findings_of found.comparison)
-    × IsMovedText options.comparison.ignored options.form found written
+    × IsMovedText options found written
 ReportsAligned options found (Err (NoVerdict why)) written = (why ≡ Bench OutOfMemory) × (written ≡ [])
 ReportsAligned options found (Err (Faulty trouble)) written = ⊥
 ReportsAligned options found (Err Output) written =
-    (rest : List ℕ) × IsMovedText options.comparison.ignored options.form found (written ++ rest)
+    (rest : List ℕ) × IsMovedText options found (written ++ rest)
 
 -- What is written and returned of two sources' journals, where all that moved is wanted: it is reported, if nothing is
 -- wrong that is an error; or else nothing is written, and the error is what is wrong, or why there is no verdict.

@@ -11,16 +11,18 @@ use Rattle.replay_bench.specs.declared.verdicts.Verdict.{Verdict}
 use Rattle.replay_bench.specs.declared.verdicts.Verdict.TheVariants.{Same, RecordedEnded, ReplayedEnded, TypeMismatch}
 use Rattle.replay_bench.specs.declared.verdicts.Verdict.TheVariants.{HeaderMismatch}
 use Rattle.diff_lines.specs.declared.look.Look.{Look}
+use Rattle.diff_lines.specs.FieldLines.{field_line}
 use Rattle.diff_lines.specs.Sentences.{same_sentence}
-use Rattle.diff_lines.specs.Shown.{field_line, shown_part}
+use Rattle.diff_lines.specs.Shown.{shown_part}
 
 -- The look of these.
-abbrev pub look_of : Bool → Bool → Look
-look_of is_escaped is_colored = record { is_escaped = is_escaped; is_colored = is_colored }
+abbrev pub look_of : Bool → Bool → Bool → Look
+look_of is_short is_escaped is_colored =
+    record { is_escaped = is_escaped; is_colored = is_colored; is_short = is_short }
 
--- Nothing is escaped, and there are no colors.
+-- Nothing is escaped or shortened, and there are no colors.
 abbrev pub plain : Look
-plain = look_of false false
+plain = look_of false false false
 
 -- ---- by what was found
 

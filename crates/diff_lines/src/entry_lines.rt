@@ -4,9 +4,14 @@ ghost use Rattle.std.specs.Prelude.{◌≡◌, ◌++◌, IfOk, OnOk};
 ghost use Rattle.std.specs.String.{string_bytes};
 ghost use Rattle.diff_lines.specs.EntryLines.{entry_line, entry_text, head_text, IsEntryText, IsText};
 ghost use Rattle.diff_lines.specs.EntryLines.{place_text, recorded_label, replayed_label, style_of};
+ghost use Rattle.diff_lines.specs.Headings.{heading_text};
+ghost use Rattle.diff_lines.specs.Verdicts.{is_same};
 
 use crate::entries::{Entry, EntryKind, entries, entry_type, offset_at, stopped_index};
 use crate::entry_fields::{listed_fields, verdict_fields};
+use crate::field_lines::push_fields;
+use crate::heading::push_heading;
+use crate::journals::{DiffOptions, is_same};
 use crate::look::Pen;
 use crate::sentence::{push_name, sentence};
 use edit_script::{Change, Difference};
@@ -14,19 +19,23 @@ use replay_bench::{AlignedComparison, FieldDifference, Ignored};
 use std::alloc::AllocError;
 use terminal_text::Style;
 
-/// The sentence of two journals that were aligned, and one line per entry. An entry is a run of commands that are the
-/// same, or a command that was inserted, removed or changed, with one line per field in which it was. All of it is in
-/// the look of this pen.
+/// The names of two journals that were aligned, if they are given and the journals differ, their sentence, and one line
+/// per entry. An entry is a run of commands that are the same, or a command that was inserted, removed or changed, with
+/// one line per field in which it was. All of it is in the look of this pen.
 pub(crate) fn aligned_text(
     pen: Pen,
     found: &AlignedComparison,
-    ignore: Ignored,
+    options: &DiffOptions<'_>,
     limit: u32,
 ) -> Result<Vec<u8>, AllocError>
-    ensures { IfOk result (λ text. IsText ignore pen.look limit found.now text.items) }
+    ensures { IfOk result (λ text. IsText options.now.comparison.ignored pen.look limit
+        (heading_text (is_same found.now.comparison.verdict) pen.look options.now.names) found.now text.items) }
 {
+    let ignore = options.comparison.ignored;
     let sentence = sentence(pen.alloc, found, limit, pen.look.is_escaped)?;
     let mut text = Vec::new(pen.alloc);
+    let is_same = is_same(&found.comparison.verdict);
+    push_heading(pen, &mut text, is_same, &options.names)?;
     let style = style_of(
         found.alignment.is_least,
         found.alignment.differences.as_slice(),
@@ -85,7 +94,7 @@ fn push_with_fields(
     let mut line = String::new(pen.alloc);
     push_line(&mut line, found, entry)?;
     text.extend_from_slice(line.as_bytes())?;
-    pen.push_fields(text, fields)?;
+    push_fields(pen, text, fields)?;
     text.extend_from_slice(b"\n")
 }
 

@@ -9,6 +9,7 @@ ghost use Rattle.diff_lines.specs.Verdicts.{findings_of, found_line, is_same};
 
 use crate::entry_json::aligned_json;
 use crate::entry_lines::aligned_text;
+use crate::heading::Names;
 use crate::json_line::json_line;
 use crate::look::{Look, Pen};
 use crate::passed_over::{Trouble, found_trouble};
@@ -38,13 +39,15 @@ pub enum Form {
 
 /// What is compared, and what is written of it.
 #[derive(Debug, Clone, Copy, PartialEq, Eq, Drop)]
-pub struct DiffOptions {
+pub struct DiffOptions<'a> {
     /// How the journals are compared.
     pub comparison: ComparisonOptions,
     /// In which form the result is written.
     pub form: Form,
     /// Whether all that moved is written, and not only the verdict.
     pub is_all: bool,
+    /// The names of the journals, which are written above a text of what moved, if they differ.
+    pub names: Option<Names<'a>>,
 }
 
 /// Why the verdict on two journals was not printed, or not whole.
@@ -116,9 +119,10 @@ pub struct Findings {
 /// journals have and whether they are the same.
 ///
 /// That is their verdict, in one line or with the lines of a mismatch, or what moved between them. Then a sentence is
-/// first, and a line follows for each run of commands that are the same and for each command that was removed, inserted
-/// or changed. As JSON the first line is that of the whole alignment, and the sentence a member of it. Where more than
-/// `ALIGNMENT_LIMIT` commands moved the journals are compared index by index, and the sentence says so.
+/// first, below the names of the journals if they are given and the journals differ. A line follows for each run of
+/// commands that are the same and for each command that was removed, inserted or changed. As JSON the first line is
+/// that of the whole alignment, and the sentence a member of it. Where more than `ALIGNMENT_LIMIT` commands moved the
+/// journals are compared index by index, and the sentence says so.
 ///
 /// Both are read to their ends. The text is written only once all of it is made. A journal that has bytes and no
 /// complete item is an error: it may be something else. If the comparison is strict, an unknown header, a payload that
@@ -127,14 +131,15 @@ pub struct Findings {
 pub fn diff<A: Source, B: Source, W: Write>(
     alloc: Global,
     journals: Journals<A, B>,
-    options: DiffOptions,
+    options: &DiffOptions<'_>,
     output: &mut W,
 ) -> Result<Findings, DiffError>
     requires recorded { A.version journals.recorded ≡ journals.version }
     requires replayed { B.version journals.replayed ≡ journals.version }
     ensures reported { (written : List ℕ)
         × Appends (W.contents output.old) (W.contents output.new) written
-        × Reports journals.version options (A.coming journals.recorded) (B.coming journals.replayed) result written }
+        × Reports journals.version options.now (A.coming journals.recorded) (B.coming journals.replayed) result
+        written }
     ensures failed { MayFailFor A.may_fail (A.limit journals.recorded) B.may_fail (B.limit journals.replayed) result }
 {
     if options.is_all {
@@ -148,14 +153,14 @@ pub fn diff<A: Source, B: Source, W: Write>(
 fn diff_verdict<A: Source, B: Source, W: Write>(
     alloc: Global,
     journals: Journals<A, B>,
-    options: DiffOptions,
+    options: &DiffOptions<'_>,
     output: &mut W,
 ) -> Result<Findings, DiffError>
     requires recorded { A.version journals.recorded ≡ journals.version }
     requires replayed { B.version journals.replayed ≡ journals.version }
     ensures reported { (written : List ℕ)
         × Appends (W.contents output.old) (W.contents output.new) written
-        × ReportsVerdict journals.version options (A.coming journals.recorded) (B.coming journals.replayed) result
+        × ReportsVerdict journals.version options.now (A.coming journals.recorded) (B.coming journals.replayed) result
         written }
     ensures failed { MayFailFor A.may_fail (A.limit journals.recorded) B.may_fail (B.limit journals.replayed) result }
 {
@@ -169,14 +174,14 @@ fn diff_verdict<A: Source, B: Source, W: Write>(
 fn diff_all<A: Source, B: Source, W: Write>(
     alloc: Global,
     journals: Journals<A, B>,
-    options: DiffOptions,
+    options: &DiffOptions<'_>,
     output: &mut W,
 ) -> Result<Findings, DiffError>
     requires recorded { A.version journals.recorded ≡ journals.version }
     requires replayed { B.version journals.replayed ≡ journals.version }
     ensures reported { (written : List ℕ)
         × Appends (W.contents output.old) (W.contents output.new) written
-        × ReportsMoved journals.version options (A.coming journals.recorded) (B.coming journals.replayed) result
+        × ReportsMoved journals.version options.now (A.coming journals.recorded) (B.coming journals.replayed) result
         written }
     ensures failed { MayFailFor A.may_fail (A.limit journals.recorded) B.may_fail (B.limit journals.replayed) result }
 {
@@ -200,12 +205,12 @@ fn fail_if_faulty(is_strict: bool, found: &Comparison) -> Result<(), DiffError>
 fn report_moved<W: Write>(
     alloc: Global,
     found: &AlignedComparison,
-    options: DiffOptions,
+    options: &DiffOptions<'_>,
     output: &mut W,
 ) -> Result<Findings, DiffError>
     ensures { (written : List ℕ)
         × Appends (W.contents output.old) (W.contents output.new) written
-        × ReportsAligned options found.now result written }
+        × ReportsAligned options.now found.now result written }
 {
     let text = moved_text(alloc, found, options)?;
     write_text(output, text.as_slice())?;
@@ -216,15 +221,13 @@ fn report_moved<W: Write>(
 fn moved_text(
     alloc: Global,
     found: &AlignedComparison,
-    options: DiffOptions,
+    options: &DiffOptions<'_>,
 ) -> Result<Vec<u8>, AllocError>
-    ensures { IfOk result (λ text. IsMovedText options.comparison.ignored options.form found.now
-        text.items) }
+    ensures { IfOk result (λ text. IsMovedText options.now found.now text.items) }
 {
-    let ignore = options.comparison.ignored;
     match options.form {
-        Form::Text(look) => aligned_text(Pen { alloc, look }, found, ignore, ALIGNMENT_LIMIT),
-        Form::Json => aligned_json(alloc, found, ignore, ALIGNMENT_LIMIT),
+        Form::Text(look) => aligned_text(Pen { alloc, look }, found, options, ALIGNMENT_LIMIT),
+        Form::Json => aligned_json(alloc, found, options.comparison.ignored, ALIGNMENT_LIMIT),
     }
 }
 
@@ -266,7 +269,7 @@ fn findings_of(found: &Comparison) -> Findings
 }
 
 /// Whether a verdict is that the journals are the same.
-fn is_same(verdict: &Verdict) -> bool
+pub(crate) fn is_same(verdict: &Verdict) -> bool
     ensures { result ≡ is_same verdict.now }
 {
     matches!(verdict, Verdict::Same(_))

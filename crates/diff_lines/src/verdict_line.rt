@@ -6,6 +6,7 @@ ghost use Rattle.shared_core_errors.specs.Mismatch.{mismatch_head};
 ghost use Rattle.diff_lines.specs.VerdictLines.{difference_text, ended_text, index_text, shown_verdict, text_line};
 ghost use Rattle.diff_lines.specs.VerdictLines.{type_text, types_text};
 
+use crate::field_lines::push_fields;
 use crate::look::Pen;
 use crate::sentence::same_sentence;
 use replay_bench::{Comparison, Verdict};
@@ -103,7 +104,7 @@ fn push_difference(
     )?;
     push_index(pen, line, index)?;
     line.extend_from_slice(head.as_bytes())?;
-    pen.push_fields(line, found.fields.as_slice())
+    push_fields(pen, line, found.fields.as_slice())
 }
 
 /// The name of a type in the text of a mismatch, if there is a type.

@@ -9,7 +9,7 @@ returns-in_err-fail_if_faulty-clause-reported g c =
     c.from_residual-in_err-fail_if_faulty.ensures.1 in (
       [],
       search rules,
-      rw (from.1, from.2) (faulty _ c.args.options _ _ c.in_ok-found.found _ c.in_ok-found.ensures.compared
+      rw (from.1, from.2) (faulty _ c.args.options.now _ _ c.in_ok-found.found _ c.in_ok-found.ensures.compared
           c.in_err-fail_if_faulty.ensures.failed),
     )
 
@@ -18,5 +18,5 @@ returns-in_err-fail_if_faulty-clause-failed g c =
     let from = err_from_is_err_and c.from_residual-in_err-fail_if_faulty.result
     c.from_residual-in_err-fail_if_faulty.ensures.1 in
     rw (from.1, from.2)
-    (faulty_fails _ _ _ _ c.args.options.comparison.is_strict c.in_ok-found.found _
+    (faulty_fails _ _ _ _ c.args.options.now.comparison.is_strict c.in_ok-found.found _
     c.in_err-fail_if_faulty.ensures.failed)
