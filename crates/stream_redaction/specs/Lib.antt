@@ -1,0 +1,3 @@
+pub mod Redaction
+pub mod Replacement
+pub mod Streams
