@@ -77,6 +77,8 @@ REJECTED: tuple[tuple[str, Words, str], ...] = (
     ("journal_diff", "--protocol 4 recorded recorded", "invalid value '4' for '--protocol <VERSION>'"),
     ("journal_diff", "recorded recorded other", "unexpected argument 'other'"),
     ("journal_diff", "--color red recorded recorded", "invalid value 'red' for '--color <WHEN>'"),
+    ("journal_diff", "--values long recorded recorded", "invalid value 'long' for '--values <HOW>'"),
+    ("journal_diff", "--all --verdict recorded recorded", "--all prints what moved instead of the verdict"),
     ("journal_dump", "--protocol 4 replay", "invalid value '4' for '--protocol <VERSION>'"),
     ("journal_dump", "--protocol 4 replay", "[possible values: 5, 6, 7, 8, 9]"),
     ("journal_dump", "--type Nothing replay",

@@ -125,6 +125,18 @@ RUNS = {
         (("--help",), 0, ""),
         (("--version",), 0, ""),
     ),
+    "redact": (
+        ((), 0, ""),
+        (("--key", "k", "--protocol=9", "recorded"), 0, ""),
+        (("cut_short",), 0, ": offset 21: 8 bytes after the last whole item"),
+        (("replay.dump",), 1, ": no message in it; is it a journal of version 8?"),
+        (("--max-message=8", "recorded"), 1, ": InputCommand at offset 0: 9 bytes of payload, more than the limit"),
+        (("nothing",), 2, ": nothing: No such file or directory"),
+        (("replay", "3"), 2, "unexpected argument '3'"),
+        ((b"\xff",), 2, ": an argument is not UTF-8"),
+        (("--help",), 0, ""),
+        (("--version",), 0, ""),
+    ),
     "schema": (
         (("/dev/null",), 0, ""),
         (("nothing",), 2, ": nothing: No such file or directory"),
@@ -216,7 +228,7 @@ class Journal:
         self.check.case("journal --help in 80 columns", checks.is_narrow(ended.out), ended)
         named = re.findall(r"^  (\w+)  ", ended.out.decode(), re.M)
         linked = [name.removeprefix("journal_") for name in crates.LINKS]
-        unlinked = ["cut", "cat", "schema", "help"]
+        unlinked = ["cut", "cat", "redact", "schema", "help"]
         self.check.same("the subcommands, and the links to some", ["list", *linked, *unlinked], named)
         installed = checks.run(["sh", "-c", ". scripts/up_to_date.sh && echo $links"], cwd=checks.ROOT)
         self.check.same("the links that are installed", list(crates.LINKS), installed.out.decode().split())

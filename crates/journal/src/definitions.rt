@@ -78,6 +78,12 @@ pub fn dump<'a>(alloc: Global, name: &'a str) -> Result<Command<'a>, AllocError>
             .default_value("8")
             .hide_default_value(true),
         )?
+        .arg(option(
+            alloc,
+            "schema",
+            "FILE",
+            "Reads payloads by the messages of this descriptor\nset, which protoc -o writes",
+        ))?
         .arg(flag(
             alloc,
             "strict",
@@ -150,8 +156,21 @@ pub fn diff<'a>(alloc: Global, name: &'a str) -> Result<Command<'a>, AllocError>
         .arg(flag(
             alloc,
             "all",
-            "Shows what moved: commands inserted, removed or\nchanged",
+            "Shows what moved: commands inserted, removed or\nchanged [default on a terminal]",
         ))?
+        .arg(flag(alloc, "verdict", "Shows the verdict, on a terminal too"))?
+        .arg(
+            option(
+                alloc,
+                "values",
+                "HOW",
+                "How a text shows values of more than 80 bytes: short\nis around their difference, auto is short on a\nterminal\n[default: auto] [possible values: auto, short,\nwhole]",
+            )
+            .value_parser(&["auto", "short", "whole"][..])
+            .hide_possible_values(true)
+            .default_value("auto")
+            .hide_default_value(true),
+        )?
         .arg(flag(alloc, "ignore-ids", "Ignores completion ids"))?
         .arg(flag(alloc, "ignore-payloads", "Ignores payloads"))?
         .arg(option(
@@ -216,7 +235,7 @@ pub fn show<'a>(alloc: Global, name: &'a str) -> Result<Command<'a>, AllocError>
         .version(VERSION)
         .about("Shows a stream in readable lines, one per item.")
         .after_help(
-            "Examples:\n  journal show FILE\n  journal show --commands --from 100 --to 120 FILE\n  journal show --open FILE      what nothing completes\n  journal show --failures FILE  what failed, and of which command",
+            "Examples:\n  journal show FILE\n  journal show --commands --from 100 --to 120 FILE\n  journal show --open FILE      what nothing completes\n  journal show --failures FILE  what failed, and of which command\n  journal show --where 'type:call greeter -is:failure' FILE",
         )
         .arg(flag(alloc, "commands", "Shows only commands"))?
         .arg(flag(alloc, "failures", "Shows only failures"))?
@@ -236,6 +255,12 @@ pub fn show<'a>(alloc: Global, name: &'a str) -> Result<Command<'a>, AllocError>
             "to",
             "N",
             "Shows no item after the one of this index",
+        ))?
+        .arg(option(
+            alloc,
+            "where",
+            "WORDS",
+            "Shows only items that have each of these words, as\nthe filter of journal_view",
         ))?
         .arg(option(
             alloc,
@@ -352,6 +377,50 @@ pub fn cat<'a>(alloc: Global, name: &'a str) -> Result<Command<'a>, AllocError> 
         )
 }
 
+/// The definition of `journal redact`, which help and errors show by this name.
+pub fn redact<'a>(alloc: Global, name: &'a str) -> Result<Command<'a>, AllocError> {
+    Command::new(alloc, name)
+        .version(VERSION)
+        .about("Replaces the contents of a journal, for a bug report.")
+        .after_help(
+            "Texts and bytes of all payloads become as many characters. Types, numbers,\nlengths and the headers of messages stay. Equal contents become equal; a short\ncontent can be guessed by who knows the key.\n\nExamples:\n  journal redact FILE > redacted\n  journal redact --key TEXT FILE > redacted",
+        )
+        .arg(option(
+            alloc,
+            "key",
+            "TEXT",
+            "What the characters depend on, besides the content;\nthe default is random, and not kept",
+        ))?
+        .arg(option(
+            alloc,
+            "max-message",
+            "SIZE",
+            "Ends with an error at a message whose payload has\nmore than this number of bytes, as 4096 or 1MB",
+        ))?
+        .arg(
+            option(
+                alloc,
+                "protocol",
+                "VERSION",
+                "The version of the protocol of the stream\n[default: 8] [possible values: 5, 6, 7, 8, 9]",
+            )
+            .value_parser(Version::supported_numbers())
+            .hide_possible_values(true)
+            .default_value("8")
+            .hide_default_value(true),
+        )?
+        .arg(
+            operand(
+                alloc,
+                "file",
+                "FILE",
+                "The stream: a file, or - for the standard input [default: -]",
+            )
+            .default_value("-")
+            .hide_default_value(true),
+        )
+}
+
 /// The definition of `journal schema`, which help and errors show by this name.
 pub fn schema<'a>(alloc: Global, name: &'a str) -> Result<Command<'a>, AllocError> {
     Command::new(alloc, name)
@@ -376,7 +445,7 @@ pub fn schema<'a>(alloc: Global, name: &'a str) -> Result<Command<'a>, AllocErro
 pub fn journal<'a>(alloc: Global) -> Result<Command<'a>, AllocError> {
     Command::new(alloc, "journal")
         .version(VERSION)
-        .about("Lists, shows, prints, makes, compares, cuts and joins journals.")
+        .about("Lists, shows, prints, makes, compares, cuts, joins and redacts journals.")
         .after_help(
             "A journal as a page, or two side by side: the program journal_view, which needs\nPython 3.\n\nExamples:\n  journal list FILE                        one line per item\n  journal show FILE                        one readable line per item\n  journal dump --text FILE                 one line of JSON per item\n  journal diff --all RECORDED REPLAYED     what moved between two journals\n  journal cut --to N FILE > part           the journal up to command N",
         )
@@ -389,5 +458,6 @@ pub fn journal<'a>(alloc: Global) -> Result<Command<'a>, AllocError> {
         .subcommand(show(alloc, "show")?)?
         .subcommand(cut(alloc, "cut")?)?
         .subcommand(cat(alloc, "cat")?)?
+        .subcommand(redact(alloc, "redact")?)?
         .subcommand(schema(alloc, "schema")?)
 }

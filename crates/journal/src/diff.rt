@@ -8,11 +8,11 @@ mod inputs;
 
 use crate::beginning::{Beginning, Begun};
 use crate::call::Call;
-use crate::diff::arguments::{Arguments, parse_arguments};
+use crate::diff::arguments::{Arguments, ValuesChoice, parse_arguments};
 use crate::diff::inputs::{Inputs, closed_side, open_both};
 use command_line::{Pipe, Progress, Watched, has_color};
 use diff_lines::{
-    DiffError, DiffOptions, Findings, Form, Look, Trouble, diff, empty_note, no_item_note,
+    DiffError, DiffOptions, Findings, Form, Look, Names, Trouble, diff, empty_note, no_item_note,
     rest_note, unknown_note,
 };
 use replay_bench::{ComparisonOptions, Ignored, Journals, ReaderError, Side};
@@ -72,11 +72,32 @@ fn end_without(
     ExitCode::from(call.failure)
 }
 
-/// What is compared, and what is written of it, to a terminal or not.
-fn options_of(call: &Call<'_>, parsed: &Arguments<'_>, is_terminal: bool) -> DiffOptions {
+/// Whether what moved is written, and not only the verdict: where the arguments do not say it, a terminal shows what
+/// moved, and a pipe, a file or a line of JSON has the verdict.
+fn is_all(parsed: &Arguments<'_>, is_terminal: bool) -> bool {
+    parsed.is_all || (is_terminal && !parsed.is_verdict && !parsed.is_json)
+}
+
+/// Whether long values are shown around their difference. The verdict's text is that of the library's error, so it is
+/// only shortened on request.
+fn is_short(parsed: &Arguments<'_>, is_terminal: bool) -> bool {
+    match parsed.values {
+        ValuesChoice::Auto => is_terminal && is_all(parsed, is_terminal),
+        ValuesChoice::Short => true,
+        ValuesChoice::Whole => false,
+    }
+}
+
+/// What is compared, and what is written of it, to a terminal or not. A terminal shows the names of the journals too.
+fn options_of<'a>(call: &Call<'_>, parsed: &Arguments<'a>, is_terminal: bool) -> DiffOptions<'a> {
     let look = Look {
         is_escaped: is_terminal,
         is_colored: has_color(call.rt, parsed.color),
+        is_short: is_short(parsed, is_terminal),
+    };
+    let names = Names {
+        recorded: parsed.recorded,
+        replayed: parsed.replayed,
     };
     DiffOptions {
         comparison: ComparisonOptions {
@@ -91,7 +112,8 @@ fn options_of(call: &Call<'_>, parsed: &Arguments<'_>, is_terminal: bool) -> Dif
         } else {
             Form::Text(look)
         },
-        is_all: parsed.is_all,
+        is_all: is_all(parsed, is_terminal),
+        names: is_terminal.then_some(names),
     }
 }
 
@@ -134,7 +156,7 @@ fn run_parsed(call: &Call<'_>, parsed: &Arguments<'_>, inputs: Inputs) -> ExitCo
         Escapes::Json,
         is_terminal && parsed.is_json,
     ));
-    let found = diff(alloc, journals, options, &mut output);
+    let found = diff(alloc, journals, &options, &mut output);
     progress.clear();
     match found {
         Ok(found) => {

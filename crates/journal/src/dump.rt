@@ -9,10 +9,15 @@ mod suggestions;
 
 use crate::beginning::{Beginning, Begun};
 use crate::call::Call;
+use crate::descriptors::{fail_descriptors, read_descriptors};
 use crate::dump::arguments::{Arguments, parse_arguments};
 pub use crate::dump::canonical::Records;
 use command_line::{Input, Pipe, Progress, Watched, input_size, note};
-use dump_lines::{MOST_SHOWN, Options, dump, dump_on_terminal};
+use descriptor_set::named_table_of;
+use dump_lines::{
+    MOST_SHOWN, MessageTable, Options, OtherTable, ProtocolTable, dump, dump_on_terminal,
+};
+use schema_lines::schemas_of;
 use std::io::IsTerminal;
 use std::process::ExitCode;
 use stream_lines::{PrintError, Report, Trouble};
@@ -75,8 +80,13 @@ fn report_rest(call: &Call<'_>, options: &Options<'_>, found: &Report) {
     );
 }
 
-/// Dumps the input, and returns the status.
-fn run_parsed(call: &Call<'_>, parsed: &Arguments<'_>, input: Input) -> ExitCode
+/// Dumps the input, whose payloads are read by a table, and returns the status.
+fn run_parsed<M: MessageTable>(
+    call: &Call<'_>,
+    parsed: &Arguments<'_>,
+    messages: &M,
+    input: Input,
+) -> ExitCode
     requires { 5 ≤ version_number parsed.now.version }
 {
     let options = Options {
@@ -101,9 +111,9 @@ fn run_parsed(call: &Call<'_>, parsed: &Arguments<'_>, input: Input) -> ExitCode
         is_terminal,
     ));
     let dumped = if is_terminal {
-        dump_on_terminal(call.rt.alloc(), &options, &Records, &mut input, &mut output)
+        dump_on_terminal(call.rt.alloc(), &options, messages, &mut input, &mut output)
     } else {
-        dump(call.rt.alloc(), &options, &Records, &mut input, &mut output)
+        dump(call.rt.alloc(), &options, messages, &mut input, &mut output)
     };
     progress.clear();
     match dumped {
@@ -114,14 +124,54 @@ fn run_parsed(call: &Call<'_>, parsed: &Arguments<'_>, input: Input) -> ExitCode
     }
 }
 
+/// Opens the stream, dumps it by a table, and returns the status.
+fn run_by<M: MessageTable>(call: &Call<'_>, parsed: &Arguments<'_>, messages: &M) -> ExitCode
+    requires { 5 ≤ version_number parsed.now.version }
+{
+    match call.open(parsed.path) {
+        Ok(input) => run_parsed(call, parsed, messages, input),
+        Err(error) => call.fail(error, 2),
+    }
+}
+
+/// Dumps the stream by the descriptor set of a file, and returns the status.
+fn run_by_set(call: &Call<'_>, parsed: &Arguments<'_>, path: &str) -> ExitCode
+    requires { 5 ≤ version_number parsed.now.version }
+{
+    let alloc = call.rt.alloc();
+    let set = match read_descriptors(call, path) {
+        Ok(set) => set,
+        Err(status) => return status,
+    };
+    let table = match named_table_of(alloc, &set) {
+        Ok(table) => table,
+        Err(error) => return fail_descriptors(call, path, error),
+    };
+    let schemas = match schemas_of(alloc, &set) {
+        Ok(schemas) => schemas,
+        Err(error) => return call.fail(error, call.failure),
+    };
+    let messages = OtherTable {
+        table: &table,
+        schemas: schemas.as_slice(),
+    };
+    run_by(call, parsed, &messages)
+}
+
 /// Parses the arguments, dumps the stream, and returns the status.
 pub fn run(call: &Call<'_>) -> ExitCode {
     let parsed = match parse_arguments(call.rt.alloc(), call.name, call.words) {
         Ok(parsed) => parsed,
         Err(error) => return call.report(&error),
     };
-    match call.open(parsed.path) {
-        Ok(input) => run_parsed(call, &parsed, input),
-        Err(error) => call.fail(error, 2),
+    match parsed.schema {
+        Some(path) => run_by_set(call, &parsed, path),
+        None => run_by(
+            call,
+            &parsed,
+            &ProtocolTable {
+                canonicalizer: &Records,
+            },
+        ),
     }
 }

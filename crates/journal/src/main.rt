@@ -1,5 +1,5 @@
-//! Lists, shows, prints, makes, compares, cuts and joins journals: a program with a subcommand for each. If it is
-//! called by a subcommand's name, as `journal_dump`, it is only that subcommand.
+//! Lists, shows, prints, makes, compares, cuts, joins and redacts journals: a program with a subcommand for each. If it
+//! is called by a subcommand's name, as `journal_dump`, it is only that subcommand.
 #![tactic(auto)]
 
 mod beginning;
@@ -7,11 +7,13 @@ mod call;
 mod cat;
 mod cut;
 mod definitions;
+mod descriptors;
 mod diff;
 mod dump;
 mod list;
 mod make;
 mod parts;
+mod redact;
 mod schema;
 mod show;
 mod subcommand;
@@ -51,6 +53,7 @@ fn run(call: &Call<'_>, subcommand: Subcommand) -> ExitCode {
         Subcommand::Cut => cut::run(call),
         Subcommand::Cat => cat::run(call),
         Subcommand::Schema => schema::run(call),
+        Subcommand::Redact => redact::run(call),
     }
 }
 

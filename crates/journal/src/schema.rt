@@ -3,12 +3,12 @@
 
 use crate::call::Call;
 use crate::definitions;
+use crate::descriptors::{fail_descriptors, read_descriptors};
 use clap::Error;
-use command_line::{Input, Pipe, fail};
-use descriptor_set::{DescriptorError, MOST_BYTES};
+use command_line::Pipe;
 use schema_lines::{SchemaError, write_schema};
 use std::alloc::Global;
-use std::io::{self, Read, Stdout};
+use std::io::Stdout;
 use std::process::ExitCode;
 
 /// The parsed arguments.
@@ -31,44 +31,12 @@ fn parse_arguments<'a>(
     })
 }
 
-/// Reads an input as far as a set may be long, and a byte more.
-fn read(alloc: Global, input: Input) -> io::Result<Vec<u8>> {
-    let mut bytes = Vec::new(alloc);
-    input.take(MOST_BYTES as u64 + 1).read_to_end(&mut bytes)?;
-    Ok(bytes)
-}
-
-/// Whether bytes that were rejected as a set are a .proto file: a text that is not empty.
-fn is_proto(bytes: &[u8]) -> bool {
-    !bytes.is_empty() && str::from_utf8(bytes).is_ok()
-}
-
 /// Reports why there is no table, and returns the status.
-fn end(
-    call: &Call<'_>,
-    path: &str,
-    bytes: &[u8],
-    error: SchemaError,
-    output: &Pipe<Stdout>,
-) -> ExitCode {
+fn end(call: &Call<'_>, path: &str, error: SchemaError, output: &Pipe<Stdout>) -> ExitCode {
     match error {
         SchemaError::Output if output.is_broken() => ExitCode::from(call.failure),
-        SchemaError::Output | SchemaError::OutOfMemory => call.fail(error, call.failure),
-        SchemaError::Descriptor(DescriptorError::OutOfMemory) => call.fail(error, call.failure),
-        SchemaError::Descriptor(DescriptorError::Malformed(_)) if is_proto(bytes) => fail(
-            call.rt,
-            call.name,
-            format_args!(
-                "{path}: a text, and not a descriptor set, which this makes of a .proto file: protoc --include_imports -o schema.binpb {path}",
-            ),
-            2,
-        ),
-        SchemaError::Descriptor(error) => fail(
-            call.rt,
-            call.name,
-            format_args!("{path}: {error}"),
-            2,
-        ),
+        SchemaError::Descriptor(error) => fail_descriptors(call, path, error),
+        error => call.fail(error, call.failure),
     }
 }
 
@@ -79,17 +47,13 @@ pub fn run(call: &Call<'_>) -> ExitCode {
         Ok(parsed) => parsed,
         Err(error) => return call.report(&error),
     };
-    let input = match call.open(parsed.path) {
-        Ok(input) => input,
-        Err(error) => return call.fail(error, 2),
-    };
-    let bytes = match read(alloc, input) {
-        Ok(bytes) => bytes,
-        Err(error) => return call.fail(error, call.failure),
+    let set = match read_descriptors(call, parsed.path) {
+        Ok(set) => set,
+        Err(status) => return status,
     };
     let mut output = Pipe::new(call.rt.stdout());
-    match write_schema(alloc, bytes.as_slice(), &mut output) {
+    match write_schema(alloc, &set, &mut output) {
         Ok(()) => ExitCode::SUCCESS,
-        Err(error) => end(call, parsed.path, bytes.as_slice(), error, &output),
+        Err(error) => end(call, parsed.path, error, &output),
     }
 }

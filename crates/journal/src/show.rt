@@ -11,7 +11,7 @@ use clap::error::ErrorKind;
 use clap::{ArgMatches, Command, Error};
 use command_line::{Input, Pipe, Progress, Watched, input_size, max_message_of, note, protocol_of};
 use shared_core_base::version::Version;
-use show_lines::{Options, show};
+use show_lines::{Filter, Options, show};
 use std::alloc::Global;
 use std::process::ExitCode;
 use stream_lines::{PrintError, Report};
@@ -21,7 +21,34 @@ use stream_lines::{PrintError, Report};
 struct Arguments<'a> {
     /// The path of the stream, or `-` for the standard input.
     path: &'a str,
-    options: Options,
+    version: Version,
+    limit: u32,
+    /// The indices of the first and the last item that have lines.
+    from: u64,
+    to: u64,
+    commands: bool,
+    failures: bool,
+    open: bool,
+    filter: Filter,
+}
+
+impl<'a> Arguments<'a> {
+    /// How the stream is shown.
+    fn options(&self) -> Options<'_>
+        requires { 5 ≤ version_number self.now.version }
+        ensures { 5 ≤ version_number result.version }
+    {
+        Options {
+            version: self.version,
+            limit: self.limit,
+            from: self.from,
+            to: self.to,
+            commands: self.commands,
+            failures: self.failures,
+            open: self.open || self.filter.open,
+            words: self.filter.words.as_slice(),
+        }
+    }
 }
 
 /// Parses the arguments. The error is an invalid argument, or a request for the help or the version.
@@ -30,24 +57,30 @@ fn parse_arguments<'a>(
     name: &'static str,
     words: &'a [String],
 ) -> Result<Arguments<'a>, Error>
-    ensures { IfOk result (λ parsed. 5 ≤ version_number parsed.options.version) }
+    ensures { IfOk result (λ parsed. 5 ≤ version_number parsed.version) }
 {
     let mut command = definitions::show(alloc, name)?.no_binary_name(true);
     let matches = command.try_get_matches_from_mut(words)?;
     let limit = max_message_of(&mut command, &matches)?;
     let from = index_of(&mut command, &matches, "from", 0)?;
     let to = index_of(&mut command, &matches, "to", u64::MAX)?;
+    let filter = match Filter::parse(alloc, matches.get_str("where").unwrap_or("")) {
+        Ok(filter) => filter,
+        Err(error) => {
+            let why = format!(in alloc; "--where: {error}")?;
+            return Err(command.error(ErrorKind::InvalidValue, why.as_str())?);
+        }
+    };
     Ok(Arguments {
         path: matches.get_str("file").unwrap_or("-"),
-        options: Options {
-            version: protocol_of(&matches),
-            limit,
-            from,
-            to,
-            commands: matches.get_flag("commands"),
-            failures: matches.get_flag("failures"),
-            open: matches.get_flag("open"),
-        },
+        version: protocol_of(&matches),
+        limit,
+        from,
+        to,
+        commands: matches.get_flag("commands"),
+        failures: matches.get_flag("failures"),
+        open: matches.get_flag("open"),
+        filter,
     })
 }
 
@@ -88,7 +121,7 @@ fn end(call: &Call<'_>, version: Version, beginning: &Beginning, found: &Report)
 }
 
 /// Shows the input, and returns the status.
-fn run_parsed(call: &Call<'_>, options: &Options, input: Input) -> ExitCode
+fn run_parsed(call: &Call<'_>, options: &Options<'_>, input: Input) -> ExitCode
     requires { 5 ≤ version_number options.now.version }
 {
     let progress = Progress::beside_output(call.rt, call.name, input_size(&input));
@@ -112,7 +145,7 @@ pub fn run(call: &Call<'_>) -> ExitCode {
         Err(error) => return call.report(&error),
     };
     match call.open(parsed.path) {
-        Ok(input) => run_parsed(call, &parsed.options, input),
+        Ok(input) => run_parsed(call, &parsed.options(), input),
         Err(error) => call.fail(error, 2),
     }
 }

@@ -2,7 +2,7 @@
 _journal() {
     local word=${COMP_WORDS[COMP_CWORD]}
     if [ "$COMP_CWORD" -eq 1 ]; then
-        mapfile -t COMPREPLY < <(compgen -W 'list dump make diff show cut cat schema help --help --version' -- "$word")
+        mapfile -t COMPREPLY < <(compgen -W 'list dump make diff show cut cat redact schema help --help --version' -- "$word")
         return
     fi
     case ${COMP_WORDS[1]} in
@@ -13,8 +13,9 @@ _journal() {
         show) _journal_show ;;
         cut) _journal_command_cut ;;
         cat) _journal_command_cat ;;
+        redact) _journal_command_redact ;;
         schema) _journal_command_schema ;;
-        help) mapfile -t COMPREPLY < <(compgen -W 'list dump make diff show cut cat schema' -- "$word") ;;
+        help) mapfile -t COMPREPLY < <(compgen -W 'list dump make diff show cut cat redact schema' -- "$word") ;;
     esac
 }
 _journal_command_list() {
@@ -30,8 +31,9 @@ _journal_dump() {
     case ${COMP_WORDS[COMP_CWORD - 1]} in
         --max-message) mapfile -t COMPREPLY < <(compgen -W '' -- "$word") ;;
         --protocol) mapfile -t COMPREPLY < <(compgen -W '5 6 7 8 9' -- "$word") ;;
+        --schema) mapfile -t COMPREPLY < <(compgen -W '' -- "$word") ;;
         --type) mapfile -t COMPREPLY < <(compgen -W 'Start Suspension Error End ProposeRunCompletion AwaitingOn ProposeRunCompletionAck GetStateEphemeralCommand GetStateEphemeralNotification InputCommand OutputCommand GetLazyStateCommand SetStateCommand ClearStateCommand ClearAllStateCommand GetLazyStateKeysCommand GetEagerStateCommand GetEagerStateKeysCommand GetPromiseCommand PeekPromiseCommand CompletePromiseCommand SleepCommand CallCommand OneWayCallCommand SendSignalCommand RunCommand AttachInvocationCommand GetInvocationOutputCommand CompleteAwakeableCommand GetLazyStateCompletionNotification GetLazyStateKeysCompletionNotification GetPromiseCompletionNotification PeekPromiseCompletionNotification CompletePromiseCompletionNotification SleepCompletionNotification CallCompletionNotification CallInvocationIdCompletionNotification RunCompletionNotification AttachInvocationCompletionNotification GetInvocationOutputCompletionNotification SignalNotification' -- "$word") ;;
-        *) [[ $word != -* ]] || mapfile -t COMPREPLY < <(compgen -W '--max-message --no-payload --pretty --protocol --strict --text --type --help --version' -- "$word") ;;
+        *) [[ $word != -* ]] || mapfile -t COMPREPLY < <(compgen -W '--max-message --no-payload --pretty --protocol --schema --strict --text --type --help --version' -- "$word") ;;
     esac
 }
 _journal_make() {
@@ -44,10 +46,11 @@ _journal_make() {
 _journal_diff() {
     local word=${COMP_WORDS[COMP_CWORD]}
     case ${COMP_WORDS[COMP_CWORD - 1]} in
+        --values) mapfile -t COMPREPLY < <(compgen -W 'auto short whole' -- "$word") ;;
         --max-message) mapfile -t COMPREPLY < <(compgen -W '' -- "$word") ;;
         --color) mapfile -t COMPREPLY < <(compgen -W 'auto always never' -- "$word") ;;
         --protocol) mapfile -t COMPREPLY < <(compgen -W '5 6 7 8 9' -- "$word") ;;
-        *) [[ $word != -* ]] || mapfile -t COMPREPLY < <(compgen -W '--all --ignore-ids --ignore-payloads --max-message --strict --json --color --protocol --help --version' -- "$word") ;;
+        *) [[ $word != -* ]] || mapfile -t COMPREPLY < <(compgen -W '--all --verdict --values --ignore-ids --ignore-payloads --max-message --strict --json --color --protocol --help --version' -- "$word") ;;
     esac
 }
 _journal_show() {
@@ -55,9 +58,10 @@ _journal_show() {
     case ${COMP_WORDS[COMP_CWORD - 1]} in
         --from) mapfile -t COMPREPLY < <(compgen -W '' -- "$word") ;;
         --to) mapfile -t COMPREPLY < <(compgen -W '' -- "$word") ;;
+        --where) mapfile -t COMPREPLY < <(compgen -W '' -- "$word") ;;
         --max-message) mapfile -t COMPREPLY < <(compgen -W '' -- "$word") ;;
         --protocol) mapfile -t COMPREPLY < <(compgen -W '5 6 7 8 9' -- "$word") ;;
-        *) [[ $word != -* ]] || mapfile -t COMPREPLY < <(compgen -W '--commands --failures --open --from --to --max-message --protocol --help --version' -- "$word") ;;
+        *) [[ $word != -* ]] || mapfile -t COMPREPLY < <(compgen -W '--commands --failures --open --from --to --where --max-message --protocol --help --version' -- "$word") ;;
     esac
 }
 _journal_command_cut() {
@@ -76,6 +80,15 @@ _journal_command_cat() {
         --max-message) mapfile -t COMPREPLY < <(compgen -W '' -- "$word") ;;
         --protocol) mapfile -t COMPREPLY < <(compgen -W '5 6 7 8 9' -- "$word") ;;
         *) [[ $word != -* ]] || mapfile -t COMPREPLY < <(compgen -W '--max-message --protocol --help --version' -- "$word") ;;
+    esac
+}
+_journal_command_redact() {
+    local word=${COMP_WORDS[COMP_CWORD]}
+    case ${COMP_WORDS[COMP_CWORD - 1]} in
+        --key) mapfile -t COMPREPLY < <(compgen -W '' -- "$word") ;;
+        --max-message) mapfile -t COMPREPLY < <(compgen -W '' -- "$word") ;;
+        --protocol) mapfile -t COMPREPLY < <(compgen -W '5 6 7 8 9' -- "$word") ;;
+        *) [[ $word != -* ]] || mapfile -t COMPREPLY < <(compgen -W '--key --max-message --protocol --help --version' -- "$word") ;;
     esac
 }
 _journal_command_schema() {

@@ -10,6 +10,17 @@ use command_line::{ColorChoice, color_of, max_message_of, protocol_of};
 use shared_core_base::version::Version;
 use std::alloc::Global;
 
+/// How long values are shown, as `--values` says.
+#[derive(Debug, Clone, Copy, PartialEq, Eq, Drop)]
+pub enum ValuesChoice {
+    /// Around their difference where a terminal shows what moved, otherwise whole.
+    Auto,
+    /// Around their difference.
+    Short,
+    /// Whole.
+    Whole,
+}
+
 /// The parsed arguments.
 #[derive(Debug, Clone, Copy, Drop)]
 pub struct Arguments<'a> {
@@ -21,8 +32,12 @@ pub struct Arguments<'a> {
     pub version: Version,
     /// The greatest length of a payload that is taken.
     pub limit: u32,
-    /// Whether all that moved is printed.
+    /// Whether all that moved is printed, wherever the output goes.
     pub is_all: bool,
+    /// Whether the verdict is, wherever the output goes.
+    pub is_verdict: bool,
+    /// How long values are shown.
+    pub values: ValuesChoice,
     /// Whether payloads are left out of the comparison.
     pub ignore_payloads: bool,
     /// Whether completion ids are.
@@ -70,17 +85,36 @@ fn arguments_of<'a>(
             "only one journal can come from the standard input",
         )?);
     }
+    let is_all = matches.get_flag("all");
+    let is_verdict = matches.get_flag("verdict");
+    if is_all && is_verdict {
+        return Err(command.error(
+            ErrorKind::ArgumentConflict,
+            "--all prints what moved instead of the verdict, so --verdict cannot be there too",
+        )?);
+    }
     let limit = max_message_of(command, matches)?;
     Ok(Arguments {
         recorded,
         replayed,
         version: protocol_of(matches),
         limit,
-        is_all: matches.get_flag("all"),
+        is_all,
+        is_verdict,
+        values: values_of(matches),
         ignore_payloads: matches.get_flag("ignore-payloads"),
         ignore_ids: matches.get_flag("ignore-ids"),
         is_strict: matches.get_flag("strict"),
         is_json: matches.get_flag("json"),
         color: color_of(matches),
     })
+}
+
+/// What the option `--values` says: `short`, `whole`, or else `auto`.
+fn values_of(matches: &ArgMatches<'_>) -> ValuesChoice {
+    match matches.get_str("values") {
+        Some("short") => ValuesChoice::Short,
+        Some("whole") => ValuesChoice::Whole,
+        _ => ValuesChoice::Auto,
+    }
 }

@@ -17,6 +17,9 @@ use std::alloc::{AllocError, Global};
 pub struct Arguments<'a> {
     /// The path of the stream, or `-` for the standard input.
     pub path: &'a str,
+    /// The path of the descriptor set by which payloads are read, or `-` for the standard input; `None` for the
+    /// protocol's own description.
+    pub schema: Option<&'a str>,
     /// The version of the protocol.
     pub version: Version,
     /// The greatest length of a payload that is taken.
@@ -88,8 +91,17 @@ fn arguments_of<'a>(
 {
     let codes = codes_of(alloc, command, matches)?;
     let limit = max_message_of(command, matches)?;
+    let path = matches.get_str("file").unwrap_or("-");
+    let schema = matches.get_str("schema");
+    if path == "-" && schema == Some("-") {
+        return Err(command.error(
+            ErrorKind::ArgumentConflict,
+            "either the stream or the descriptor set can come from the standard input",
+        )?);
+    }
     Ok(Arguments {
-        path: matches.get_str("file").unwrap_or("-"),
+        path,
+        schema,
         version: protocol_of(matches),
         limit,
         codes,

@@ -1,0 +1,147 @@
+//! Writes a stream with its contents replaced, so that it can be shown to others.
+
+ghost use Rattle.std.specs.Prelude.{◌≤◌, IfOk};
+ghost use Rattle.shared_core_base.specs.Version.{version_number};
+
+use crate::beginning::{Beginning, Begun};
+use crate::call::Call;
+use crate::definitions;
+use clap::Error;
+use command_line::{
+    Input, Pipe, Progress, Watched, fail, input_size, max_message_of, note, protocol_of,
+};
+use shared_core_base::version::Version;
+use std::alloc::Global;
+use std::io::{IsTerminal, Read};
+use std::process::ExitCode;
+use std::{fs, io};
+use stream_lines::{PrintError, Report};
+use stream_redaction::{Key, Options, redact};
+
+/// The number of bytes that are read at a time.
+const CHUNK: usize = 65536;
+
+/// Where a secret comes from that is not kept.
+const RANDOM: &str = "/dev/urandom";
+
+/// The status if a stream has no message.
+const LACKING: u8 = 1;
+
+/// The parsed arguments.
+#[derive(Drop)]
+struct Arguments<'a> {
+    /// The path of the stream, or `-` for the standard input.
+    path: &'a str,
+    /// The secret; none if it is random.
+    secret: Option<&'a str>,
+    /// The version of the protocol.
+    version: Version,
+    /// The greatest length of a payload that is taken.
+    limit: u32,
+}
+
+/// Parses the arguments. The error is an invalid argument, or a request for the help or the version.
+fn parse_arguments<'a>(
+    alloc: Global,
+    name: &'static str,
+    words: &'a [String],
+) -> Result<Arguments<'a>, Error>
+    ensures { IfOk result (λ parsed. 5 ≤ version_number parsed.version) }
+{
+    let mut command = definitions::redact(alloc, name)?.no_binary_name(true);
+    let matches = command.try_get_matches_from_mut(words)?;
+    let limit = max_message_of(&mut command, &matches)?;
+    Ok(Arguments {
+        path: matches.get_str("file").unwrap_or("-"),
+        secret: matches.get_str("key"),
+        version: protocol_of(&matches),
+        limit,
+    })
+}
+
+/// A key of random bytes that are not kept.
+fn random_key(rt: &HostRuntime) -> io::Result<Key> {
+    let mut secret = [0; 32];
+    fs::open(rt, RANDOM)?.read_exact(&mut secret)?;
+    Ok(Key::new(&secret))
+}
+
+/// The key of the arguments. The error is the status, after what is wrong was reported.
+fn key_of(call: &Call<'_>, secret: Option<&str>) -> Result<Key, ExitCode> {
+    if let Some(secret) = secret {
+        return Ok(Key::new(secret.as_bytes()));
+    }
+    match random_key(call.rt) {
+        Ok(key) => Ok(key),
+        Err(error) => Err(fail(
+            call.rt,
+            call.name,
+            format_args!("{RANDOM}: {error}; --key TEXT gives a key"),
+            2,
+        )),
+    }
+}
+
+/// Reports the trailing bytes, and returns the status.
+fn end(call: &Call<'_>, version: Version, beginning: &Beginning, found: &Report) -> ExitCode {
+    let (offset, count) = (found.end, found.rest);
+    if count == 0 {
+        return ExitCode::SUCCESS;
+    }
+    let bytes = if count == 1 { "byte" } else { "bytes" };
+    note(
+        call.rt,
+        call.name,
+        format_args!("offset {offset}: {count} {bytes} after the last whole item"),
+    );
+    if offset > 0 {
+        return ExitCode::SUCCESS;
+    }
+    beginning.report_no_message(call, version);
+    ExitCode::from(LACKING)
+}
+
+/// Writes the input with its contents replaced, and returns the status.
+fn run_with(call: &Call<'_>, options: &Options, input: Input) -> ExitCode
+    requires version { 5 ≤ version_number options.now.version }
+    requires low { 1 ≤ options.now.chunk_size }
+    requires high { options.now.chunk_size ≤ 65536 }
+{
+    let progress = Progress::beside_output(call.rt, call.name, input_size(&input));
+    let beginning = Beginning::new();
+    let mut input = Begun::new(Watched::new(input, &progress), &beginning);
+    let mut output = Pipe::new(call.rt.stdout());
+    let written = redact(call.rt.alloc(), options, &mut input, &mut output);
+    progress.clear();
+    match written {
+        Ok(found) => end(call, options.version, &beginning, &found),
+        // the reader has closed the output, so nothing is reported
+        Err(PrintError::Output) if output.is_broken() => ExitCode::from(call.failure),
+        Err(error) => call.fail(error, call.failure),
+    }
+}
+
+/// Parses the arguments, writes the stream, and returns the status.
+pub fn run(call: &Call<'_>) -> ExitCode {
+    let parsed = match parse_arguments(call.rt.alloc(), call.name, call.words) {
+        Ok(parsed) => parsed,
+        Err(error) => return call.report(&error),
+    };
+    if call.rt.stdout().is_terminal() {
+        return call.fail("the stream is not written to a terminal: redirect it", 2);
+    }
+    let key = match key_of(call, parsed.secret) {
+        Ok(key) => key,
+        Err(status) => return status,
+    };
+    let options = Options {
+        version: parsed.version,
+        limit: parsed.limit,
+        chunk_size: CHUNK,
+        key,
+    };
+    match call.open(parsed.path) {
+        Ok(input) => run_with(call, &options, input),
+        Err(error) => call.fail(error, 2),
+    }
+}
