@@ -372,6 +372,51 @@ pub fn schema<'a>(alloc: Global, name: &'a str) -> Result<Command<'a>, AllocErro
         )
 }
 
+/// The definition of `journal explain`, which help and errors show by this name.
+pub fn explain<'a>(alloc: Global, name: &'a str) -> Result<Command<'a>, AllocError> {
+    Command::new(alloc, name)
+        .version(VERSION)
+        .about("Explains the bytes of a stream: headers, and the records of payloads.")
+        .after_help(
+            "A line has an offset, the first bytes at it in hexadecimal digits, and what they\nare. A malformed payload is explained up to the fault, which is named.\n\nExamples:\n  journal explain FILE\n  journal explain --item 3 FILE    the fourth item\n  journal explain --raw FILE       without schemas, as protoc --decode_raw",
+        )
+        .arg(option(
+            alloc,
+            "item",
+            "N",
+            "Explains only the item of this index, from 0",
+        ))?
+        .arg(option(
+            alloc,
+            "max-message",
+            "SIZE",
+            "Ends with an error at a message whose payload has\nmore than this number of bytes, as 4096 or 1MB",
+        ))?
+        .arg(
+            option(
+                alloc,
+                "protocol",
+                "VERSION",
+                "The version of the protocol of the stream\n[default: 8] [possible values: 5, 6, 7, 8, 9]",
+            )
+            .value_parser(Version::supported_numbers())
+            .hide_possible_values(true)
+            .default_value("8")
+            .hide_default_value(true),
+        )?
+        .arg(flag(alloc, "raw", "Explains payloads without their schemas"))?
+        .arg(
+            operand(
+                alloc,
+                "file",
+                "FILE",
+                "The stream: a file, or - for the standard input [default: -]",
+            )
+            .default_value("-")
+            .hide_default_value(true),
+        )
+}
+
 /// The definition of `journal`, with its subcommands.
 pub fn journal<'a>(alloc: Global) -> Result<Command<'a>, AllocError> {
     Command::new(alloc, "journal")
@@ -389,5 +434,6 @@ pub fn journal<'a>(alloc: Global) -> Result<Command<'a>, AllocError> {
         .subcommand(show(alloc, "show")?)?
         .subcommand(cut(alloc, "cut")?)?
         .subcommand(cat(alloc, "cat")?)?
-        .subcommand(schema(alloc, "schema")?)
+        .subcommand(schema(alloc, "schema")?)?
+        .subcommand(explain(alloc, "explain")?)
 }

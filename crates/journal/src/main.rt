@@ -9,6 +9,7 @@ mod cut;
 mod definitions;
 mod diff;
 mod dump;
+mod explain;
 mod list;
 mod make;
 mod parts;
@@ -51,6 +52,7 @@ fn run(call: &Call<'_>, subcommand: Subcommand) -> ExitCode {
         Subcommand::Cut => cut::run(call),
         Subcommand::Cat => cat::run(call),
         Subcommand::Schema => schema::run(call),
+        Subcommand::Explain => explain::run(call),
     }
 }
 

@@ -19,6 +19,8 @@ pub enum Subcommand {
     Cat,
     /// Compares a descriptor set with the protocol.
     Schema,
+    /// Explains the bytes of a stream.
+    Explain,
 }
 
 impl Subcommand {
@@ -40,6 +42,7 @@ impl Subcommand {
             "cut" => Some(Subcommand::Cut),
             "cat" => Some(Subcommand::Cat),
             "schema" => Some(Subcommand::Schema),
+            "explain" => Some(Subcommand::Explain),
             _ => None,
         }
     }
@@ -53,6 +56,7 @@ impl Subcommand {
         };
         match Subcommand::named(name.strip_prefix("journal_")?)? {
             Subcommand::List | Subcommand::Cut | Subcommand::Cat | Subcommand::Schema => None,
+            Subcommand::Explain => None,
             subcommand => Some(subcommand),
         }
     }
@@ -61,6 +65,7 @@ impl Subcommand {
     pub fn failure(self) -> u8 {
         match self {
             Subcommand::List | Subcommand::Dump | Subcommand::Show | Subcommand::Schema => 1,
+            Subcommand::Explain => 1,
             Subcommand::Make | Subcommand::Diff | Subcommand::Cut | Subcommand::Cat => 2,
         }
     }
@@ -105,6 +110,7 @@ impl Asked {
             (Subcommand::Cut, _) => "journal cut",
             (Subcommand::Cat, _) => "journal cat",
             (Subcommand::Schema, _) => "journal schema",
+            (Subcommand::Explain, _) => "journal explain",
         }
     }
 

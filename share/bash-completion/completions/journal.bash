@@ -2,7 +2,7 @@
 _journal() {
     local word=${COMP_WORDS[COMP_CWORD]}
     if [ "$COMP_CWORD" -eq 1 ]; then
-        mapfile -t COMPREPLY < <(compgen -W 'list dump make diff show cut cat schema help --help --version' -- "$word")
+        mapfile -t COMPREPLY < <(compgen -W 'list dump make diff show cut cat schema explain help --help --version' -- "$word")
         return
     fi
     case ${COMP_WORDS[1]} in
@@ -14,7 +14,8 @@ _journal() {
         cut) _journal_command_cut ;;
         cat) _journal_command_cat ;;
         schema) _journal_command_schema ;;
-        help) mapfile -t COMPREPLY < <(compgen -W 'list dump make diff show cut cat schema' -- "$word") ;;
+        explain) _journal_command_explain ;;
+        help) mapfile -t COMPREPLY < <(compgen -W 'list dump make diff show cut cat schema explain' -- "$word") ;;
     esac
 }
 _journal_command_list() {
@@ -82,6 +83,15 @@ _journal_command_schema() {
     local word=${COMP_WORDS[COMP_CWORD]}
     case ${COMP_WORDS[COMP_CWORD - 1]} in
         *) [[ $word != -* ]] || mapfile -t COMPREPLY < <(compgen -W '--help --version' -- "$word") ;;
+    esac
+}
+_journal_command_explain() {
+    local word=${COMP_WORDS[COMP_CWORD]}
+    case ${COMP_WORDS[COMP_CWORD - 1]} in
+        --item) mapfile -t COMPREPLY < <(compgen -W '' -- "$word") ;;
+        --max-message) mapfile -t COMPREPLY < <(compgen -W '' -- "$word") ;;
+        --protocol) mapfile -t COMPREPLY < <(compgen -W '5 6 7 8 9' -- "$word") ;;
+        *) [[ $word != -* ]] || mapfile -t COMPREPLY < <(compgen -W '--item --max-message --protocol --raw --help --version' -- "$word") ;;
     esac
 }
 complete -o default -F _journal journal
