@@ -3,14 +3,20 @@ use Rattle.std.proofs.Common.{◌≡◌, ℕ, zero, suc, ◌+◌, ◌-◌, ◌<�
 use Rattle.std.proofs.Common.{false, ◌&&◌, Option, Some, None, refl, sym, ap, subst, ◌∙◌, arith}
 use Rattle.std.specs.List.{list_all}
 use Rattle.std.proofs.lemmas.List.{length-append}
-use Rattle.shared_core_wire.specs.Grammar.{FieldRecord, RecordValue, Length, Group, IsGroupContent, IsRecordWithin}
+use Rattle.shared_core_wire.specs.Grammar.{FieldRecord, RecordValue, Length, Group, IsGroupContent, IsRecordBody}
+use Rattle.shared_core_wire.specs.Grammar.{IsRecordWithin}
 use Rattle.shared_core_wire.specs.Reader.{◌>>=◌, record_at, record_list}
 use Rattle.shared_core_wire.specs.Acceptance.{some_passes, accepts_record, accepts_message, accepts_payload}
+use Rattle.shared_core_wire.specs.Schema.{Row}
 use Rattle.shared_core_wire.proofs.Groups.{front_taken}
-use Rattle.shared_core_wire.proofs.Readers.{BeginsWith}
+use Rattle.shared_core_wire.proofs.ReadBack.{no_rows}
 use Rattle.shared_core_wire.proofs.RecordLists.{reader, records_again, records_empty}
 use Rattle.shared_core_wire.proofs.Sequences.{all_more, all_stop}
+use Rattle.shared_core_codec.specs.Checking.{accepts_found}
+use Rattle.shared_core_codec.specs.ProgramRows.{field_numbered}
 use Rattle.shared_core_codec.specs.Table.{table}
+use Rattle.shared_core_codec.specs.Tables.{protocol_is_table}
+use Rattle.shared_core_codec.proofs.Checked.{distinct_rows, field_accepts}
 
 -- ---- one record, and the rest
 
@@ -53,16 +59,56 @@ nothing left s bytes e = rw (e, records_empty left) refl
 
 -- ---- without a schema
 
-no_rows : table 4294967295 ≡ []
-no_rows = refl
+raw_rows : table 4294967295 ≡ []
+raw_rows = refl
 
 pub any_record : (left : ℕ) (r : FieldRecord) → accepts_record (accepts_message table left) (table 4294967295) r ≡ true
-any_record left r = rw no_rows refl
+any_record left r = rw raw_rows refl
 
 -- ---- the content of a record
 
+-- the bytes after the key of a record with this value
+body_of : (left : ℕ) (bytes : List ℕ) (r : FieldRecord) (w : RecordValue) → (is : IsRecordWithin left bytes r) → r.value ≡
+    w → IsRecordBody (IsGroupContent left) is.body r.number w
+body_of left bytes r w is e = subst (λ v. IsRecordBody (IsGroupContent left) is.body r.number v) e is.valued
+
 pub length_inside : (left : ℕ) (bytes : List ℕ) (r : FieldRecord) (content : List ℕ) → IsRecordWithin left bytes r →
     r.value ≡ Length content → length content ≤ length bytes
-length_inside left bytes (record { number = n; value = Length c }) content is refl =
-    let body = is.valued in
-    omega (arith, ap length is.parts, length-append is.key is.body, ap length body.2.1, length-append body.0 c)
+length_inside left bytes r content is e =
+    let body = body_of left bytes r (Length content) is e in
+    omega (arith, ap length is.parts, length-append is.key is.body, ap length body.2, length-append body.0 content)
+
+pub record GroupInside (left : ℕ) (bytes content : List ℕ) : Type 0 where
+  pub deep : 1 ≤ left
+  pub inside : length content ≤ length bytes
+  pub accepted : accepts_payload table (left - 1) 4294967295 content ≡ true
+
+group_records : (left : ℕ) (content : List ℕ) → IsGroupContent left content → (1 ≤ left)
+    × (accepts_payload table (left - 1) 4294967295 content ≡ true)
+unfolding IsGroupContent
+group_records zero content is = absurd is
+group_records (suc left) content is = (
+  omega arith,
+  rw (records_again left content is.0 is.1, raw_rows) (no_rows (accepts_message table left) is.0),
+)
+
+pub group_inside : (left : ℕ) (bytes : List ℕ) (r : FieldRecord) (content : List ℕ) → IsRecordWithin left bytes r →
+    r.value ≡ Group content → GroupInside left bytes content
+group_inside left bytes r content is e =
+    let body = body_of left bytes r (Group content) is e in
+    let read = group_records left content body.2 in
+    record {
+      deep = read.0;
+      inside = omega (arith, ap length is.parts, length-append is.key is.body, ap length body.3, length-append content
+          body.0);
+      accepted = read.1;
+    }
+
+-- ---- the field of a record
+
+pub found_accepts : (left s : ℕ) (rows : List Row) (r : FieldRecord) → rows ≡ table s → accepts_found
+    (accepts_message table left) (field_numbered rows r.number) r.value ≡ accepts_record (accepts_message table left)
+    (table s) r
+found_accepts left s rows r e =
+    field_accepts (accepts_message table left) r rows (distinct_rows table protocol_is_table s rows e)
+    ∙ ap (λ (rs : List Row). accepts_record (accepts_message table left) rs r) e

@@ -16,9 +16,6 @@ const ENOUGH: usize = 65536;
 /// The most bytes that a line shows.
 const MOST_BYTES: usize = 8;
 
-/// The width of the bytes of a line, with a space after each and two dots after the last.
-const WIDTH: usize = 27;
-
 /// The lines of the items of a stream, and the writer to which they go.
 #[derive(Drop)]
 pub struct Lines<W> {
@@ -137,8 +134,8 @@ impl<W: Write> Lines<W> {
         ensures { self.new.end ≡ self.old.end }
     {
         let offset = self.offset.saturating_add(self.end as u128);
-        push_offset(&mut self.text, offset)?;
-        push_bytes(&mut self.text, bytes)?;
+        write!(self.text, "{offset:>10}  ")?;
+        push_bytes(self.alloc, &mut self.text, bytes)?;
         for _ in self.path.iter() {
             self.text.push_str("  ")?;
         }
@@ -146,29 +143,14 @@ impl<W: Write> Lines<W> {
     }
 }
 
-/// Appends an offset, in ten columns or more, and two spaces.
-fn push_offset(text: &mut String, offset: u128) -> Result<(), AllocError> {
-    let mut least: u128 = 1_000_000_000;
-    while least > 1 && offset < least {
-        text.push_str(" ")?;
-        least /= 10;
-    }
-    write!(text, "{offset}  ")
-}
-
 /// Appends the first of some bytes, in as many columns as the most that are shown.
-fn push_bytes(text: &mut String, bytes: &[u8]) -> Result<(), AllocError> {
-    let mut width = 0;
+fn push_bytes(alloc: Global, text: &mut String, bytes: &[u8]) -> Result<(), AllocError> {
+    let mut digits = String::new(alloc);
     for byte in bytes.iter().take(MOST_BYTES) {
-        write!(text, "{byte:02x} ")?;
-        width += 3;
+        write!(digits, "{byte:02x} ")?;
     }
     if bytes.len() > MOST_BYTES {
-        text.push_str("..")?;
-        width += 2;
+        digits.push_str("..")?;
     }
-    for _ in width..WIDTH {
-        text.push_str(" ")?;
-    }
-    Ok(())
+    write!(text, "{digits:<27}")
 }

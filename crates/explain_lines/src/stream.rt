@@ -1,6 +1,6 @@
 //! A stream explained, from any reader to any writer.
 
-ghost use Rattle.std.specs.Prelude.{◌≤◌};
+ghost use Rattle.std.specs.Prelude.{◌≡◌, ◌≤◌};
 ghost use Rattle.shared_core_base.specs.Version.{version_number};
 
 use crate::lines::Lines;
@@ -112,7 +112,9 @@ fn explain_item<W: Write>(
     options: &Options,
     index: u64,
     next: (u64, &Item),
-) -> Result<(), PrintError> {
+) -> Result<(), PrintError>
+    requires begun { lines.old.end ≡ 0 }
+{
     let (word, item) = next;
     let header = word.to_be_bytes();
     match item {
@@ -141,7 +143,9 @@ fn explain_contents<W: Write>(
     options: &Options,
     ty: Option<MessageType>,
     payload: &[u8],
-) -> Result<(), PrintError> {
+) -> Result<(), PrintError>
+    requires after { lines.old.end ≡ 8 }
+{
     let schema = schema_of(options, ty);
     let found = match schema {
         Some(schema) => explain_payload(lines, schema, payload)?,
@@ -175,7 +179,9 @@ fn explain_rest<W: Write>(
     options: &Options,
     index: u64,
     bytes: &[u8],
-) -> Result<(), PrintError> {
+) -> Result<(), PrintError>
+    requires begun { lines.old.end ≡ 0 }
+{
     let Some((header, payload)) = bytes.split_first_chunk::<HEADER>() else {
         lines.add_title(index, None)?;
         return lines.add(bytes, Piece::CutHeader);
