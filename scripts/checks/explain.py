@@ -70,32 +70,32 @@ MESSAGES: tuple[tuple[int, bytes, tuple[Piece, ...]], ...] = (
     (STATE, b"\x0a", (Piece(1, 0, "field 1 key, wire type 2"),
                       Piece(0, 0, "malformed: the varint goes on after the last byte"))),
     (STATE, b"\x8a", (Piece(0, 0, "malformed: the varint goes on after the last byte"),
-                      Piece(1, 0, "1 bytes that are not explained"))),
+                      Piece(1, 0, "not explained"))),
     (STATE, b"\xff" * 10, (Piece(0, 0, "malformed: the varint has more than 64 bits"),
-                           Piece(10, 0, "10 bytes that are not explained"))),
+                           Piece(10, 0, "not explained"))),
     (STATE, b"\xff\xff\xff\xff\x1f\x01", (Piece(0, 0, "malformed: the key has more than 32 bits"),
-                                          Piece(6, 0, "6 bytes that are not explained"))),
+                                          Piece(6, 0, "not explained"))),
     (STATE, b"\x00\x01", (Piece(0, 0, "malformed: the key has the field number 0"),
-                          Piece(2, 0, "2 bytes that are not explained"))),
+                          Piece(2, 0, "not explained"))),
     (STATE, b"\x0a\x03abc\x0e", (KEY, Piece(3, 1, '"abc"'), Piece(0, 0, "malformed: there is no wire type 6"),
-                                 Piece(1, 0, "1 bytes that are not explained"))),
+                                 Piece(1, 0, "not explained"))),
     # values that are cut, of which one is in a nested message
     (STATE, b"\x0a\x05ab", (Piece(1, 0, "field 1 key, wire type 2"),
                             Piece(0, 0, "malformed: the value has 5 bytes, and 2 are left"),
-                            Piece(3, 0, "3 bytes that are not explained"))),
+                            Piece(3, 0, "not explained"))),
     (STATE, b"\x49abc", (Piece(1, 0, "field 9, wire type 1"),
                          Piece(0, 0, "malformed: the value has 8 bytes, and 3 are left"),
-                         Piece(3, 0, "3 bytes that are not explained"))),
+                         Piece(3, 0, "not explained"))),
     (STATE, b"\x1a\x04\x0a\x09ab\x62\x00", (
         Piece(2, 0, "field 3 value, wire type 2, length 4: a message"), Piece(1, 1, "field 1 content, wire type 2"),
         Piece(0, 1, "malformed: value: the value has 9 bytes, and 2 are left"),
-        Piece(5, 1, "5 bytes that are not explained"))),
+        Piece(5, 1, "not explained"))),
     # wire types that are not those of fields, and texts that are none
     (STATE, b"\x08\x01", (Piece(0, 1, "malformed: key: the field is bytes, which has wire type 2"),
-                          Piece(2, 1, "2 bytes that are not explained"))),
+                          Piece(2, 1, "not explained"))),
     (STATE, b"\x62\x03a\xffb", (
         Piece(2, 0, "field 12 name, wire type 2, length 3: a text"), Piece(1, 1, '"a"'),
-        Piece(0, 1, "malformed: name: the text is not UTF-8"), Piece(2, 1, "2 bytes that are not explained"))),
+        Piece(0, 1, "malformed: name: the text is not UTF-8"), Piece(2, 1, "not explained"))),
     # fields that the schema does not have: what can be read as a message, texts, bytes and groups
     (STATE, b"\x49abcdefgh\x4dabcd\x50\x96\x01", (
         Piece(9, 0, "field 9, wire type 1: 0x6867666564636261"), Piece(5, 0, "field 9, wire type 5: 0x64636261"),
@@ -112,7 +112,7 @@ MESSAGES: tuple[tuple[int, bytes, tuple[Piece, ...]], ...] = (
     (STATE, b"\x4b\x08\x01", (Piece(3, 0, "field 9, wire type 3"), Piece(0, 0, "malformed: group 9 does not end"))),
     (STATE, b"\x4b\x08\x01\x54", (Piece(3, 0, "field 9, wire type 3"),
                                   Piece(0, 0, "malformed: group 10 ends and did not begin"),
-                                  Piece(1, 0, "1 bytes that are not explained"))),
+                                  Piece(1, 0, "not explained"))),
     # numbers of a packed field, the last of which may be cut
     (SUSPENSION, b"\x22\x07\x0a\x03\x01\x96\x01\x08\x05", (
         Piece(2, 0, "field 4 awaitingOn, wire type 2, length 7: a message"),
@@ -122,7 +122,7 @@ MESSAGES: tuple[tuple[int, bytes, tuple[Piece, ...]], ...] = (
         Piece(2, 0, "field 4 awaitingOn, wire type 2, length 4: a message"),
         Piece(2, 1, "field 1 waitingCompletions, wire type 2, length 2: numbers"), Piece(1, 2, "1"),
         Piece(0, 2, "malformed: awaitingOn.waitingCompletions: the varint goes on after the last byte"),
-        Piece(1, 2, "1 bytes that are not explained"))),
+        Piece(1, 2, "not explained"))),
     # a long value, and one that is escaped
     (STATE, b"\x0a\x3c" + b"x" * 60, (Piece(2, 0, "field 1 key, wire type 2, length 60: bytes"),
                                       Piece(60, 1, f'"{"x" * 40}"..'))),

@@ -79,10 +79,7 @@ pub fn push_piece(
         Piece::Text(value) | Piece::ByteString(value) => push_quoted(alloc, text, value),
         Piece::Element(number) => write!(text, "{number}"),
         Piece::Part(schema) => push_part(text, schema, bytes),
-        Piece::Rest => {
-            let count = bytes.len();
-            write!(text, "{count} bytes that are not explained")
-        }
+        Piece::Rest => text.push_str("not explained"),
     }
 }
 
