@@ -1,5 +1,5 @@
 #!/usr/bin/env python3
-"""journal explain on streams: which bytes each line has, what it says of them, and where malformed payloads are at fault.
+"""journal explain on streams: which bytes each line has, what it says of them, and where payloads are malformed.
 
 Payloads that are explained without a schema are compared with what `protoc --decode_raw` prints, if protoc is there.
 """
@@ -21,7 +21,7 @@ RAW_FIELD = re.compile(r"(?P<indentation> *)(?P<number>\d+)(:| \{)")
 
 
 class Piece(typing.NamedTuple):
-    """What is said of so many bytes, in an indented line."""
+    """What is said of a number of bytes, in an indented line."""
 
     size: int
     depth: int
@@ -79,7 +79,7 @@ MESSAGES: tuple[tuple[int, bytes, tuple[Piece, ...]], ...] = (
                           Piece(2, 0, "not explained"))),
     (STATE, b"\x0a\x03abc\x0e", (KEY, Piece(3, 1, '"abc"'), Piece(0, 0, "malformed: there is no wire type 6"),
                                  Piece(1, 0, "not explained"))),
-    # values that are cut, of which one is in a nested message
+    # values that are cut, and one in a nested message
     (STATE, b"\x0a\x05ab", (Piece(1, 0, "field 1 key, wire type 2"),
                             Piece(0, 0, "malformed: the value has 5 bytes, and 2 are left"),
                             Piece(3, 0, "not explained"))),
@@ -113,7 +113,7 @@ MESSAGES: tuple[tuple[int, bytes, tuple[Piece, ...]], ...] = (
     (STATE, b"\x4b\x08\x01\x54", (Piece(3, 0, "field 9, wire type 3"),
                                   Piece(0, 0, "malformed: group 10 ends and did not begin"),
                                   Piece(1, 0, "not explained"))),
-    # numbers of a packed field, the last of which may be cut
+    # numbers of a packed field, and a cut one at its end
     (SUSPENSION, b"\x22\x07\x0a\x03\x01\x96\x01\x08\x05", (
         Piece(2, 0, "field 4 awaitingOn, wire type 2, length 7: a message"),
         Piece(2, 1, "field 1 waitingCompletions, wire type 2, length 3: numbers"), Piece(1, 2, "1"), Piece(2, 2, "150"),

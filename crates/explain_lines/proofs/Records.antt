@@ -99,8 +99,14 @@ group_inside left bytes r content is e =
     let read = group_records left content body.2 in
     record {
       deep = read.0;
-      inside = omega (arith, ap length is.parts, length-append is.key is.body, ap length body.3, length-append content
-          body.0);
+      inside = omega (
+        arith,
+        ap length is.parts,
+        length-append is.key is.body,
+        ap length body.3,
+        length-append content
+            body.0,
+      );
       accepted = read.1;
     }
 

@@ -2,9 +2,9 @@
 use Rattle.std.specs.Prelude.{◌≡◌, ◌+◌, ◌≤◌, ℕ, Bool, true, false, Option, Some, None}
 use Rattle.explain_lines.specs.declared.reason.Reason.{Reason}
 
--- The lines of so many bytes, the first of which has one offset: the next line is of the byte at another offset. Without
--- a fault the bytes are accepted, and the lines have all of them. With one they are not, and the lines have those before
--- the fault.
+-- The lines of a number of bytes, which begin at an offset, and the offset of the byte after those lines. Without a
+-- fault the bytes are accepted, and the lines have all of them. With one they are not accepted, and the lines have those
+-- before the fault.
 abbrev pub IsExplained : Option Reason → Bool → ℕ → ℕ → ℕ → Type 0
 IsExplained None accepted size from to = (accepted ≡ true) × (to ≡ from + size)
 IsExplained (Some reason) accepted size from to = (accepted ≡ false) × (from ≤ to) × (to ≤ from + size)

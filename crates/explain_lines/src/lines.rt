@@ -90,7 +90,11 @@ impl<W: Write> Lines<W> {
     }
 
     /// Adds the title of an item: its index and its type, if that is known.
-    pub(crate) fn add_title(&mut self, index: u64, ty: Option<MessageType>) -> Result<(), PrintError>
+    pub(crate) fn add_title(
+        &mut self,
+        index: u64,
+        ty: Option<MessageType>,
+    ) -> Result<(), PrintError>
         ensures { self.new.end ≡ self.old.end }
     {
         match ty {

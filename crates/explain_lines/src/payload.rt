@@ -235,7 +235,10 @@ fn explain_unknown<W: Write>(lines: &mut Lines<W>, known: &Known<'_>) -> Result<
     ensures { OnOk result (lines.new.end ≡ lines.old.end + length known.now.bytes.now) }
 {
     match known.value {
-        WireValue::Varint(number) => lines.add(known.bytes, Piece::Number(known.field, number, None)),
+        WireValue::Varint(number) => lines.add(
+            known.bytes,
+            Piece::Number(known.field, number, None),
+        ),
         WireValue::Fixed64(bytes) => lines.add(known.bytes, Piece::Fixed(known.field, bytes)),
         WireValue::Fixed32(bytes) => lines.add(known.bytes, Piece::Fixed(known.field, bytes)),
         WireValue::Length(bytes) => explain_guess(lines, known, bytes),

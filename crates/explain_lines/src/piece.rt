@@ -28,7 +28,7 @@ pub enum Piece<'a> {
     Number(FieldAt, u64, Option<Kind>),
     /// A record of four or eight bytes, which are these.
     Fixed(FieldAt, &'a [u8]),
-    /// The key and the length of a record, before so many bytes, and what these are.
+    /// The key and the length of a record, before a number of bytes, and what these are.
     Length(FieldAt, usize, &'static str),
     /// The key by which a group begins.
     GroupStart(FieldAt),
@@ -127,7 +127,7 @@ fn push_number(text: &mut String, number: u64, kind: Option<Kind>) -> Result<(),
         Some(Kind::Boolean) => text.push_str(if number == 0 { ", false" } else { ", true" }),
         Some(Kind::U32 | Kind::Enumeration) if number > 4_294_967_295 => {
             let low = low_32(number);
-            write!(text, ", of which 32 bits are taken: {low}")
+            write!(text, ", as 32 bits {low}")
         }
         _ => Ok(()),
     }

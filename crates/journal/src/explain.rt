@@ -63,7 +63,10 @@ fn end(call: &Call<'_>, options: &Options, found: &Explained) -> ExitCode {
         return ExitCode::SUCCESS;
     }
     let count = found.items;
-    call.fail(format_args!("no item {item}: the stream has {count}"), LACKING)
+    call.fail(
+        format_args!("no item {item}: the stream has {count}"),
+        LACKING,
+    )
 }
 
 /// Explains the input, and returns the status.
