@@ -9,7 +9,7 @@ set -u
 cd "$(dirname "$0")/.." || exit 1
 
 all='layout table calls pages words generated description reference tests'
-all="$all run list streams show schema diff dump make shown failures journal terminal waiting sweep wasm view"
+all="$all run list streams inputs show schema diff dump make shown failures journal terminal waiting sweep wasm view"
 all="$all conformance wireshark install package files c soak json python node rust go ruby refusals prost"
 before_release='arm64 release'
 

@@ -3,7 +3,10 @@
 
 mod arguments;
 mod colors;
+mod decoding;
 mod definitions;
+mod digits;
+mod form;
 mod input;
 mod max_message;
 mod pipe;
@@ -16,7 +19,9 @@ ghost use Rattle.std.specs.Process.{exit_status};
 
 pub use crate::arguments::{ArgumentsError, read_arguments};
 pub use crate::colors::{ColorChoice, color_of, has_color};
+pub use crate::decoding::{Decoding, Fault};
 pub use crate::definitions::{flag, operand, option};
+pub use crate::form::{InputForm, input_of};
 pub use crate::input::{Input, OpenError, input_size, is_stdin_open, note_terminal, open};
 pub use crate::max_message::max_message_of;
 pub use crate::pipe::Pipe;

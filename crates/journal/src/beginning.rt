@@ -1,12 +1,18 @@
-//! How an input begins, for a hint if it is not a stream: the lines of a dump, compressed, or the text of a stream.
+//! An input that is decoded if it is text, and how it begins, for a hint if it is not a stream: the lines of a dump,
+//! compressed, or text that was not to be decoded.
 //!
-//! It is found out by a reader around the input, in a cell. No contract can speak of a cell: it is tested.
+//! How it begins, and what is wrong with a text, is found out by a reader around the input, in cells. No contract can
+//! speak of a cell: it is tested.
+
+ghost use Rattle.command_line.specs.Digits.{decoded_known};
 
 use crate::call::Call;
-use command_line::note;
+use command_line::{Decoding, Fault, InputForm, note};
 use shared_core_base::version::Version;
 use std::cell::Cell;
+use std::fmt::Display;
 use std::io::{self, Read};
+use std::process::ExitCode;
 
 /// How many of the first bytes are kept: those of the first header.
 const SIZE: usize = 8;
@@ -23,6 +29,8 @@ pub struct Beginning {
     first: Cell<[u8; SIZE]>,
     /// How many of them are read.
     read: Cell<usize>,
+    /// What is wrong with the text that the input is.
+    fault: Cell<Option<Fault>>,
 }
 
 impl Beginning {
@@ -31,6 +39,7 @@ impl Beginning {
         Beginning {
             first: Cell::new([0; SIZE]),
             read: Cell::new(0),
+            fault: Cell::new(None),
         }
     }
 
@@ -50,6 +59,19 @@ impl Beginning {
         let first = self.first.get();
         if let Some(text) = hint(first.get(..self.read.get()).unwrap_or(&[])) {
             call.note(text);
+        }
+    }
+
+    /// What is wrong with the text that the input is, if a read failed for that.
+    pub fn fault(&self) -> Option<Fault> {
+        self.fault.get()
+    }
+
+    /// Prints why the program fails: what is wrong with the text, or else this. Returns the status.
+    pub fn fail<T: Display + Drop>(&self, call: &Call<'_>, why: T) -> ExitCode {
+        match self.fault() {
+            Some(fault) => call.fail(fault, call.failure),
+            None => call.fail(why, call.failure),
         }
     }
 
@@ -81,10 +103,10 @@ fn hint(first: &[u8]) -> Option<&'static str> {
     }
     // a header has zeros, which are the digit 0, and the letter A in base64
     if first.iter().all(|byte| byte.is_ascii_hexdigit()) && first.contains(&b'0') {
-        return Some("this looks like hexadecimal digits; xxd -r -p turns them into a stream");
+        return Some("this looks like hexadecimal digits; --input hex reads them");
     }
     if first.iter().all(|byte| is_base64(*byte)) {
-        return Some("this looks like base64; base64 -d turns it into a stream");
+        return Some("this looks like base64; --input base64 reads it");
     }
     None
 }
@@ -94,27 +116,31 @@ fn is_base64(byte: u8) -> bool {
     byte.is_ascii_alphanumeric() || byte == b'+' || byte == b'/'
 }
 
-/// A reader whose beginning is kept. It reads what the reader in it does.
+/// A reader of the stream that another one has, as bytes or as text. Its beginning is kept.
 #[derive(Drop)]
 pub struct Begun<'a, R> {
-    reader: R,
+    reader: Decoding<R>,
     beginning: &'a Beginning,
 }
 
 impl<'a, R> Begun<'a, R> {
-    /// Reads from this reader.
-    pub fn new(reader: R, beginning: &'a Beginning) -> Begun<'a, R> {
-        Begun { reader, beginning }
+    /// Reads from this reader, whose input has this form.
+    pub fn new(reader: R, form: InputForm, beginning: &'a Beginning) -> Begun<'a, R> {
+        Begun {
+            reader: Decoding::new(reader, form),
+            beginning,
+        }
     }
 }
 
 impl<'a, R: Read> Read for Begun<'a, R> {
-    ghost remaining = { λ begun. R.remaining begun.reader };
+    ghost remaining = { λ begun. decoded_known begun.reader.place begun.reader.rest (R.remaining begun.reader.reader) };
 
     fn read(&mut self, buf: &mut [u8]) -> io::Result<usize> {
         let read = self.reader.read(buf);
-        if let Ok(count) = &read {
-            self.beginning.note(buf.get(..*count).unwrap_or(&[]));
+        match &read {
+            Ok(count) => self.beginning.note(buf.get(..*count).unwrap_or(&[])),
+            Err(_) => self.beginning.fault.set(self.reader.fault()),
         }
         read
     }

@@ -8,7 +8,7 @@ use crate::call::Call;
 use crate::definitions;
 use crate::parts::File;
 use clap::Error;
-use command_line::{Pipe, max_message_of, protocol_of};
+use command_line::{InputForm, Pipe, input_of, max_message_of, protocol_of};
 use shared_core::encoding::RawMessage;
 use shared_core_base::version::Version;
 use std::alloc::{AllocError, Global};
@@ -25,6 +25,8 @@ struct Arguments<'a> {
     version: Version,
     /// The greatest length of a payload that is taken.
     limit: u32,
+    /// What the files are: streams, or their text.
+    form: InputForm,
 }
 
 impl<'a> Arguments<'a> {
@@ -37,6 +39,7 @@ impl<'a> Arguments<'a> {
             path,
             version: self.version,
             limit: self.limit,
+            form: self.form,
         }
     }
 }
@@ -60,6 +63,7 @@ fn parse_arguments<'a>(
         paths,
         version: protocol_of(&matches),
         limit,
+        form: input_of(&matches),
     })
 }
 

@@ -9,7 +9,7 @@ use crate::definitions;
 use crate::parts::{File, LACKING};
 use clap::error::ErrorKind;
 use clap::{ArgMatches, Command, Error};
-use command_line::{Pipe, fail, max_message_of, protocol_of};
+use command_line::{Pipe, fail, input_of, max_message_of, protocol_of};
 use std::alloc::Global;
 use std::io::IsTerminal;
 use std::process::ExitCode;
@@ -75,6 +75,7 @@ fn parse_arguments<'a>(
             path: matches.get_str("file").unwrap_or("-"),
             version: protocol_of(&matches),
             limit,
+            form: input_of(&matches),
         },
         range,
     })

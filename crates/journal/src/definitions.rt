@@ -16,6 +16,18 @@ pub fn list<'a>(alloc: Global, name: &'a str) -> Result<Command<'a>, AllocError>
         .after_help(
             "Examples:\n  journal list FILE | sort | uniq -c | sort -rn\n  journal list --max-message 1MB FILE",
         )
+        .arg(
+            option(
+                alloc,
+                "input",
+                "FORM",
+                "What the file is: a stream, or its text\n[default: bytes] [possible values: bytes, hex,\nbase64, auto]",
+            )
+            .value_parser(&["bytes", "hex", "base64", "auto"][..])
+            .hide_possible_values(true)
+            .default_value("bytes")
+            .hide_default_value(true),
+        )?
         .arg(option(
             alloc,
             "max-message",
@@ -54,6 +66,18 @@ pub fn dump<'a>(alloc: Global, name: &'a str) -> Result<Command<'a>, AllocError>
         .after_help(
             "Examples:\n  journal dump --text FILE\n  journal dump --text --pretty --type CallCommand FILE\n  journal dump FILE | jq -c 'select(.message.failure) | [.offset, .type]'",
         )
+        .arg(
+            option(
+                alloc,
+                "input",
+                "FORM",
+                "What the file is: a stream, or its text\n[default: bytes] [possible values: bytes, hex,\nbase64, auto]",
+            )
+            .value_parser(&["bytes", "hex", "base64", "auto"][..])
+            .hide_possible_values(true)
+            .default_value("bytes")
+            .hide_default_value(true),
+        )?
         .arg(option(
             alloc,
             "max-message",
@@ -154,6 +178,18 @@ pub fn diff<'a>(alloc: Global, name: &'a str) -> Result<Command<'a>, AllocError>
         ))?
         .arg(flag(alloc, "ignore-ids", "Ignores completion ids"))?
         .arg(flag(alloc, "ignore-payloads", "Ignores payloads"))?
+        .arg(
+            option(
+                alloc,
+                "input",
+                "FORM",
+                "What both files are: streams, or their texts\n[default: bytes] [possible values: bytes, hex,\nbase64, auto]",
+            )
+            .value_parser(&["bytes", "hex", "base64", "auto"][..])
+            .hide_possible_values(true)
+            .default_value("bytes")
+            .hide_default_value(true),
+        )?
         .arg(option(
             alloc,
             "max-message",
@@ -237,6 +273,18 @@ pub fn show<'a>(alloc: Global, name: &'a str) -> Result<Command<'a>, AllocError>
             "N",
             "Shows no item after the one of this index",
         ))?
+        .arg(
+            option(
+                alloc,
+                "input",
+                "FORM",
+                "What the file is: a stream, or its text\n[default: bytes] [possible values: bytes, hex,\nbase64, auto]",
+            )
+            .value_parser(&["bytes", "hex", "base64", "auto"][..])
+            .hide_possible_values(true)
+            .default_value("bytes")
+            .hide_default_value(true),
+        )?
         .arg(option(
             alloc,
             "max-message",
@@ -281,6 +329,18 @@ pub fn cut<'a>(alloc: Global, name: &'a str) -> Result<Command<'a>, AllocError> 
             "N",
             "The index of the first command, counted from 0\n[default: 0]",
         ))?
+        .arg(
+            option(
+                alloc,
+                "input",
+                "FORM",
+                "What the file is: a stream, or its text\n[default: bytes] [possible values: bytes, hex,\nbase64, auto]",
+            )
+            .value_parser(&["bytes", "hex", "base64", "auto"][..])
+            .hide_possible_values(true)
+            .default_value("bytes")
+            .hide_default_value(true),
+        )?
         .arg(option(
             alloc,
             "max-message",
@@ -322,6 +382,18 @@ pub fn cat<'a>(alloc: Global, name: &'a str) -> Result<Command<'a>, AllocError> 
         .after_help(
             "The start message is that of the first file, and announces the entries of all.\nStart messages and trailing bytes of the other files are left out.\n\nExamples:\n  journal cat FIRST SECOND > joined",
         )
+        .arg(
+            option(
+                alloc,
+                "input",
+                "FORM",
+                "What the files are: streams, or their texts\n[default: bytes] [possible values: bytes, hex,\nbase64, auto]",
+            )
+            .value_parser(&["bytes", "hex", "base64", "auto"][..])
+            .hide_possible_values(true)
+            .default_value("bytes")
+            .hide_default_value(true),
+        )?
         .arg(option(
             alloc,
             "max-message",

@@ -10,7 +10,7 @@ use crate::beginning::{Beginning, Begun};
 use crate::call::Call;
 use crate::diff::arguments::{Arguments, parse_arguments};
 use crate::diff::inputs::{Inputs, closed_side, open_both};
-use command_line::{Pipe, Progress, Watched, has_color};
+use command_line::{Pipe, Progress, Watched, has_color, note};
 use diff_lines::{
     DiffError, DiffOptions, Findings, Form, Look, Trouble, diff, empty_note, no_item_note,
     rest_note, unknown_note,
@@ -27,6 +27,16 @@ use terminal_text::{Escapes, Escaping};
 struct Beginnings {
     recorded: Beginning,
     replayed: Beginning,
+}
+
+impl Beginnings {
+    /// That of a journal.
+    fn of(&self, side: Side) -> &Beginning {
+        match side {
+            Side::Recorded => &self.recorded,
+            Side::Replayed => &self.replayed,
+        }
+    }
 }
 
 /// Reports what the comparison passed over.
@@ -51,11 +61,19 @@ fn tell_trouble(call: &Call<'_>, version: Version, trouble: &Trouble, beginnings
         return;
     };
     call.note(what);
-    let beginning = match trouble.side {
-        Side::Recorded => &beginnings.recorded,
-        Side::Replayed => &beginnings.replayed,
-    };
-    beginning.report_hint(call);
+    beginnings.of(trouble.side).report_hint(call);
+}
+
+/// Reports that a journal cannot be read, or what is wrong with the text that it is.
+fn tell_unread(call: &Call<'_>, side: Side, beginnings: &Beginnings) {
+    match beginnings.of(side).fault() {
+        Some(fault) => note(
+            call.rt,
+            call.name,
+            format_args!("the {side} journal, {fault}"),
+        ),
+        None => call.note(ReaderError::Read(side)),
+    }
 }
 
 /// Reports why there is no verdict, or none on the output, and returns the status.
@@ -67,6 +85,7 @@ fn end_without(
 ) -> ExitCode {
     match error {
         DiffError::Faulty(trouble) => tell_trouble(call, version, &trouble, beginnings),
+        DiffError::NoVerdict(ReaderError::Read(side)) => tell_unread(call, side, beginnings),
         DiffError::NoVerdict(_) | DiffError::Output => call.note(error),
     }
     ExitCode::from(call.failure)
@@ -113,6 +132,7 @@ fn run_parsed(call: &Call<'_>, parsed: &Arguments<'_>, inputs: Inputs) -> ExitCo
             parsed.limit,
             Begun::new(
                 Watched::new(inputs.recorded, &progress),
+                parsed.form,
                 &beginnings.recorded,
             ),
         ),
@@ -122,6 +142,7 @@ fn run_parsed(call: &Call<'_>, parsed: &Arguments<'_>, inputs: Inputs) -> ExitCo
             parsed.limit,
             Begun::new(
                 Watched::new(inputs.replayed, &progress),
+                parsed.form,
                 &beginnings.replayed,
             ),
         ),

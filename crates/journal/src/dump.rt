@@ -92,7 +92,7 @@ fn run_parsed(call: &Call<'_>, parsed: &Arguments<'_>, input: Input) -> ExitCode
     };
     let progress = Progress::beside_output(call.rt, call.name, input_size(&input));
     let beginning = Beginning::new();
-    let mut input = Begun::new(Watched::new(input, &progress), &beginning);
+    let mut input = Begun::new(Watched::new(input, &progress), parsed.form, &beginning);
     let is_terminal = call.rt.stdout().is_terminal();
     let mut output = Pipe::new(Escaping::new(
         call.rt.alloc(),
@@ -110,7 +110,7 @@ fn run_parsed(call: &Call<'_>, parsed: &Arguments<'_>, input: Input) -> ExitCode
         Ok(found) => end(call, &options, &beginning, &found),
         // the reader has closed the output, so nothing is reported
         Err(PrintError::Output) if output.is_broken() => ExitCode::from(call.failure),
-        Err(error) => call.fail(error, call.failure),
+        Err(error) => beginning.fail(call, error),
     }
 }
 

@@ -7,7 +7,9 @@ use crate::beginning::{Beginning, Begun};
 use crate::call::Call;
 use crate::definitions;
 use clap::Error;
-use command_line::{Input, Pipe, Progress, Watched, input_size, max_message_of, protocol_of};
+use command_line::{
+    Input, InputForm, Pipe, Progress, Watched, input_of, input_size, max_message_of, protocol_of,
+};
 use list_lines::{Options, list};
 use shared_core_base::version::Version;
 use std::alloc::Global;
@@ -26,6 +28,8 @@ struct Arguments<'a> {
     version: Version,
     /// The greatest length of a payload that is taken.
     limit: u32,
+    /// What the file is: a stream, or its text.
+    form: InputForm,
 }
 
 /// Parses the arguments. The error is an invalid argument, or a request for the help or the version.
@@ -43,6 +47,7 @@ fn parse_arguments<'a>(
         path: matches.get_str("file").unwrap_or("-"),
         version: protocol_of(&matches),
         limit,
+        form: input_of(&matches),
     })
 }
 
@@ -65,7 +70,7 @@ fn run_parsed(call: &Call<'_>, parsed: &Arguments<'_>, input: Input) -> ExitCode
     };
     let progress = Progress::beside_output(call.rt, call.name, input_size(&input));
     let beginning = Beginning::new();
-    let mut input = Begun::new(Watched::new(input, &progress), &beginning);
+    let mut input = Begun::new(Watched::new(input, &progress), parsed.form, &beginning);
     let mut output = Pipe::new(call.rt.stdout());
     let listed = list(call.rt.alloc(), &options, &mut input, &mut output);
     progress.clear();
@@ -73,7 +78,7 @@ fn run_parsed(call: &Call<'_>, parsed: &Arguments<'_>, input: Input) -> ExitCode
         Ok(found) => end(call, parsed.version, &beginning, &found),
         // the reader has closed the output, so nothing is reported
         Err(PrintError::Output) if output.is_broken() => ExitCode::from(call.failure),
-        Err(error) => call.fail(error, call.failure),
+        Err(error) => beginning.fail(call, error),
     }
 }
 

@@ -8,7 +8,9 @@ mod announcing;
 use crate::beginning::{Beginning, Begun};
 use crate::call::Call;
 use crate::parts::announcing::announcing;
-use command_line::{Input, Pipe, Progress, Watched, fail, input_size, note};
+use command_line::{
+    Decoding, Input, InputForm, Pipe, Progress, Watched, fail, input_size, note,
+};
 use shared_core::encoding::RawMessage;
 use shared_core_base::version::Version;
 use std::io::Stdout;
@@ -31,6 +33,8 @@ pub struct File<'a> {
     pub version: Version,
     /// The greatest length of a payload that is taken.
     pub limit: u32,
+    /// What it is: a stream, or its text.
+    pub form: InputForm,
 }
 
 impl<'a> File<'a> {
@@ -62,7 +66,7 @@ impl<'a> File<'a> {
         };
         let progress = Progress::beside_output(call.rt, call.name, input_size(&input));
         let beginning = Beginning::new();
-        let mut input = Begun::new(Watched::new(input, &progress), &beginning);
+        let mut input = Begun::new(Watched::new(input, &progress), self.form, &beginning);
         let located = locate(call.rt.alloc(), &options, range, &mut input);
         progress.clear();
         self.check(call, &beginning, located)
@@ -78,12 +82,20 @@ impl<'a> File<'a> {
         let path = self.path;
         let located = match located {
             Ok(located) => located,
-            Err(error) => return Err(fail(
-                call.rt,
-                call.name,
-                format_args!("{path}: {error}"),
-                call.failure,
-            )),
+            Err(error) => return Err(match beginning.fault() {
+                Some(fault) => fail(
+                    call.rt,
+                    call.name,
+                    format_args!("{path}: {fault}"),
+                    call.failure,
+                ),
+                None => fail(
+                    call.rt,
+                    call.name,
+                    format_args!("{path}: {error}"),
+                    call.failure,
+                ),
+            }),
         };
         let (offset, count) = (located.all.size, located.rest);
         if count > 0 {
@@ -134,7 +146,7 @@ impl<'a> File<'a> {
     ) -> Result<(), ExitCode> {
         let input = self.open(call)?;
         let progress = Progress::beside_output(call.rt, call.name, input_size(&input));
-        let mut input = Watched::new(input, &progress);
+        let mut input = Decoding::new(Watched::new(input, &progress), self.form);
         let copied = copy_part(call.rt.alloc(), part, &mut input, output);
         progress.clear();
         let path = self.path;

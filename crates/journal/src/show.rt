@@ -9,7 +9,9 @@ use crate::definitions;
 use crate::dump::Records;
 use clap::error::ErrorKind;
 use clap::{ArgMatches, Command, Error};
-use command_line::{Input, Pipe, Progress, Watched, input_size, max_message_of, note, protocol_of};
+use command_line::{
+    Input, InputForm, Pipe, Progress, Watched, input_of, input_size, max_message_of, note, protocol_of,
+};
 use shared_core_base::version::Version;
 use show_lines::{Options, show};
 use std::alloc::Global;
@@ -21,6 +23,8 @@ use stream_lines::{PrintError, Report};
 struct Arguments<'a> {
     /// The path of the stream, or `-` for the standard input.
     path: &'a str,
+    /// What the file is: a stream, or its text.
+    form: InputForm,
     options: Options,
 }
 
@@ -39,6 +43,7 @@ fn parse_arguments<'a>(
     let to = index_of(&mut command, &matches, "to", u64::MAX)?;
     Ok(Arguments {
         path: matches.get_str("file").unwrap_or("-"),
+        form: input_of(&matches),
         options: Options {
             version: protocol_of(&matches),
             limit,
@@ -88,12 +93,13 @@ fn end(call: &Call<'_>, version: Version, beginning: &Beginning, found: &Report)
 }
 
 /// Shows the input, and returns the status.
-fn run_parsed(call: &Call<'_>, options: &Options, input: Input) -> ExitCode
-    requires { 5 ≤ version_number options.now.version }
+fn run_parsed(call: &Call<'_>, parsed: &Arguments<'_>, input: Input) -> ExitCode
+    requires { 5 ≤ version_number parsed.now.options.version }
 {
+    let options = &parsed.options;
     let progress = Progress::beside_output(call.rt, call.name, input_size(&input));
     let beginning = Beginning::new();
-    let mut input = Begun::new(Watched::new(input, &progress), &beginning);
+    let mut input = Begun::new(Watched::new(input, &progress), parsed.form, &beginning);
     let mut output = Pipe::new(call.rt.stdout());
     let shown = show(call.rt.alloc(), options, &Records, &mut input, &mut output);
     progress.clear();
@@ -101,7 +107,7 @@ fn run_parsed(call: &Call<'_>, options: &Options, input: Input) -> ExitCode
         Ok(found) => end(call, options.version, &beginning, &found),
         // the reader has closed the output, so nothing is reported
         Err(PrintError::Output) if output.is_broken() => ExitCode::from(call.failure),
-        Err(error) => call.fail(error, call.failure),
+        Err(error) => beginning.fail(call, error),
     }
 }
 
@@ -112,7 +118,7 @@ pub fn run(call: &Call<'_>) -> ExitCode {
         Err(error) => return call.report(&error),
     };
     match call.open(parsed.path) {
-        Ok(input) => run_parsed(call, &parsed.options, input),
+        Ok(input) => run_parsed(call, &parsed, input),
         Err(error) => call.fail(error, 2),
     }
 }

@@ -20,18 +20,20 @@ _journal() {
 _journal_command_list() {
     local word=${COMP_WORDS[COMP_CWORD]}
     case ${COMP_WORDS[COMP_CWORD - 1]} in
+        --input) mapfile -t COMPREPLY < <(compgen -W 'bytes hex base64 auto' -- "$word") ;;
         --max-message) mapfile -t COMPREPLY < <(compgen -W '' -- "$word") ;;
         --protocol) mapfile -t COMPREPLY < <(compgen -W '5 6 7 8 9' -- "$word") ;;
-        *) [[ $word != -* ]] || mapfile -t COMPREPLY < <(compgen -W '--max-message --protocol --help --version' -- "$word") ;;
+        *) [[ $word != -* ]] || mapfile -t COMPREPLY < <(compgen -W '--input --max-message --protocol --help --version' -- "$word") ;;
     esac
 }
 _journal_dump() {
     local word=${COMP_WORDS[COMP_CWORD]}
     case ${COMP_WORDS[COMP_CWORD - 1]} in
+        --input) mapfile -t COMPREPLY < <(compgen -W 'bytes hex base64 auto' -- "$word") ;;
         --max-message) mapfile -t COMPREPLY < <(compgen -W '' -- "$word") ;;
         --protocol) mapfile -t COMPREPLY < <(compgen -W '5 6 7 8 9' -- "$word") ;;
         --type) mapfile -t COMPREPLY < <(compgen -W 'Start Suspension Error End ProposeRunCompletion AwaitingOn ProposeRunCompletionAck GetStateEphemeralCommand GetStateEphemeralNotification InputCommand OutputCommand GetLazyStateCommand SetStateCommand ClearStateCommand ClearAllStateCommand GetLazyStateKeysCommand GetEagerStateCommand GetEagerStateKeysCommand GetPromiseCommand PeekPromiseCommand CompletePromiseCommand SleepCommand CallCommand OneWayCallCommand SendSignalCommand RunCommand AttachInvocationCommand GetInvocationOutputCommand CompleteAwakeableCommand GetLazyStateCompletionNotification GetLazyStateKeysCompletionNotification GetPromiseCompletionNotification PeekPromiseCompletionNotification CompletePromiseCompletionNotification SleepCompletionNotification CallCompletionNotification CallInvocationIdCompletionNotification RunCompletionNotification AttachInvocationCompletionNotification GetInvocationOutputCompletionNotification SignalNotification' -- "$word") ;;
-        *) [[ $word != -* ]] || mapfile -t COMPREPLY < <(compgen -W '--max-message --no-payload --pretty --protocol --strict --text --type --help --version' -- "$word") ;;
+        *) [[ $word != -* ]] || mapfile -t COMPREPLY < <(compgen -W '--input --max-message --no-payload --pretty --protocol --strict --text --type --help --version' -- "$word") ;;
     esac
 }
 _journal_make() {
@@ -44,10 +46,11 @@ _journal_make() {
 _journal_diff() {
     local word=${COMP_WORDS[COMP_CWORD]}
     case ${COMP_WORDS[COMP_CWORD - 1]} in
+        --input) mapfile -t COMPREPLY < <(compgen -W 'bytes hex base64 auto' -- "$word") ;;
         --max-message) mapfile -t COMPREPLY < <(compgen -W '' -- "$word") ;;
         --color) mapfile -t COMPREPLY < <(compgen -W 'auto always never' -- "$word") ;;
         --protocol) mapfile -t COMPREPLY < <(compgen -W '5 6 7 8 9' -- "$word") ;;
-        *) [[ $word != -* ]] || mapfile -t COMPREPLY < <(compgen -W '--all --ignore-ids --ignore-payloads --max-message --strict --json --color --protocol --help --version' -- "$word") ;;
+        *) [[ $word != -* ]] || mapfile -t COMPREPLY < <(compgen -W '--all --ignore-ids --ignore-payloads --input --max-message --strict --json --color --protocol --help --version' -- "$word") ;;
     esac
 }
 _journal_show() {
@@ -55,27 +58,30 @@ _journal_show() {
     case ${COMP_WORDS[COMP_CWORD - 1]} in
         --from) mapfile -t COMPREPLY < <(compgen -W '' -- "$word") ;;
         --to) mapfile -t COMPREPLY < <(compgen -W '' -- "$word") ;;
+        --input) mapfile -t COMPREPLY < <(compgen -W 'bytes hex base64 auto' -- "$word") ;;
         --max-message) mapfile -t COMPREPLY < <(compgen -W '' -- "$word") ;;
         --protocol) mapfile -t COMPREPLY < <(compgen -W '5 6 7 8 9' -- "$word") ;;
-        *) [[ $word != -* ]] || mapfile -t COMPREPLY < <(compgen -W '--commands --failures --open --from --to --max-message --protocol --help --version' -- "$word") ;;
+        *) [[ $word != -* ]] || mapfile -t COMPREPLY < <(compgen -W '--commands --failures --open --from --to --input --max-message --protocol --help --version' -- "$word") ;;
     esac
 }
 _journal_command_cut() {
     local word=${COMP_WORDS[COMP_CWORD]}
     case ${COMP_WORDS[COMP_CWORD - 1]} in
         --from) mapfile -t COMPREPLY < <(compgen -W '' -- "$word") ;;
+        --input) mapfile -t COMPREPLY < <(compgen -W 'bytes hex base64 auto' -- "$word") ;;
         --max-message) mapfile -t COMPREPLY < <(compgen -W '' -- "$word") ;;
         --protocol) mapfile -t COMPREPLY < <(compgen -W '5 6 7 8 9' -- "$word") ;;
         --to) mapfile -t COMPREPLY < <(compgen -W '' -- "$word") ;;
-        *) [[ $word != -* ]] || mapfile -t COMPREPLY < <(compgen -W '--from --max-message --protocol --to --help --version' -- "$word") ;;
+        *) [[ $word != -* ]] || mapfile -t COMPREPLY < <(compgen -W '--from --input --max-message --protocol --to --help --version' -- "$word") ;;
     esac
 }
 _journal_command_cat() {
     local word=${COMP_WORDS[COMP_CWORD]}
     case ${COMP_WORDS[COMP_CWORD - 1]} in
+        --input) mapfile -t COMPREPLY < <(compgen -W 'bytes hex base64 auto' -- "$word") ;;
         --max-message) mapfile -t COMPREPLY < <(compgen -W '' -- "$word") ;;
         --protocol) mapfile -t COMPREPLY < <(compgen -W '5 6 7 8 9' -- "$word") ;;
-        *) [[ $word != -* ]] || mapfile -t COMPREPLY < <(compgen -W '--max-message --protocol --help --version' -- "$word") ;;
+        *) [[ $word != -* ]] || mapfile -t COMPREPLY < <(compgen -W '--input --max-message --protocol --help --version' -- "$word") ;;
     esac
 }
 _journal_command_schema() {

@@ -6,7 +6,7 @@ ghost use Rattle.shared_core_base.specs.Version.{version_number};
 use crate::definitions;
 use clap::error::ErrorKind;
 use clap::{ArgMatches, Command, Error};
-use command_line::{ColorChoice, color_of, max_message_of, protocol_of};
+use command_line::{ColorChoice, InputForm, color_of, input_of, max_message_of, protocol_of};
 use shared_core_base::version::Version;
 use std::alloc::Global;
 
@@ -21,6 +21,8 @@ pub struct Arguments<'a> {
     pub version: Version,
     /// The greatest length of a payload that is taken.
     pub limit: u32,
+    /// What both files are: streams, or their text.
+    pub form: InputForm,
     /// Whether all that moved is printed.
     pub is_all: bool,
     /// Whether payloads are left out of the comparison.
@@ -76,6 +78,7 @@ fn arguments_of<'a>(
         replayed,
         version: protocol_of(matches),
         limit,
+        form: input_of(matches),
         is_all: matches.get_flag("all"),
         ignore_payloads: matches.get_flag("ignore-payloads"),
         ignore_ids: matches.get_flag("ignore-ids"),

@@ -7,7 +7,7 @@ use crate::definitions;
 use crate::dump::suggestions::unknown_type;
 use clap::error::ErrorKind;
 use clap::{ArgMatches, Command, Error};
-use command_line::{max_message_of, protocol_of};
+use command_line::{InputForm, input_of, max_message_of, protocol_of};
 use shared_core_base::header::MessageType;
 use shared_core_base::version::Version;
 use std::alloc::{AllocError, Global};
@@ -21,6 +21,8 @@ pub struct Arguments<'a> {
     pub version: Version,
     /// The greatest length of a payload that is taken.
     pub limit: u32,
+    /// What the file is: a stream, or its text.
+    pub form: InputForm,
     /// The codes of the selected types; none for all.
     pub codes: Vec<u16>,
     /// Whether payloads are printed.
@@ -92,6 +94,7 @@ fn arguments_of<'a>(
         path: matches.get_str("file").unwrap_or("-"),
         version: protocol_of(matches),
         limit,
+        form: input_of(matches),
         codes,
         payloads: !matches.get_flag("no-payload"),
         texts: matches.get_flag("text"),
