@@ -1,13 +1,17 @@
-"""Passes a journal on from one connection to another, with each state one greater: proxy.py VERSION HOST PORT
+"""Passes a journal on from one connection to another, with each state one greater:
+proxy.py [--record FOLDER] VERSION HOST PORT
 
 It takes a connection at a port of this machine, which it prints, and opens one to HOST and PORT. All that it does not
-change it passes on byte for byte.
+change it passes on byte for byte. With --record it writes the items that it takes to FOLDER/received, and those that it
+passes on to FOLDER/passed_on.
 """
 
+import argparse
 import dataclasses
+import os
 import socket
 import sys
-from typing import List, Optional
+from typing import BinaryIO, List, Optional
 
 from pendratsoa import Incomplete, Item, Stream
 from pendratsoa.messages import SetStateCommandMessage, Value
@@ -22,21 +26,37 @@ def passed_on(item: Item) -> bytes:
     return dataclasses.replace(command, value=value).frame(item.version)
 
 
+def parsed(words: List[str]) -> argparse.Namespace:
+    """The arguments."""
+    parser = argparse.ArgumentParser(usage="proxy.py [--record FOLDER] 5..9 HOST PORT")
+    parser.add_argument("--record", metavar="FOLDER")
+    parser.add_argument("version", type=int, choices=range(5, 10))
+    parser.add_argument("host")
+    parser.add_argument("port", type=int)
+    return parser.parse_args(words)
+
+
+def record(folder: Optional[str], name: str) -> BinaryIO:
+    """A new file in the folder; without a folder what is written is dropped."""
+    return open(os.devnull if folder is None else os.path.join(folder, name), "wb")
+
+
 def main(words: List[str]) -> Optional[str]:
     """Passes one journal on, and returns why it is not whole, if it is not."""
-    if len(words) != 3 or words[0] not in "56789" or not words[2].isdigit():
-        print("usage: proxy.py 5..9 HOST PORT", file=sys.stderr)
-        sys.exit(2)
-    version, host, port = words
+    given = parsed(words)
     with socket.create_server(("127.0.0.1", 0)) as server:
         print(server.getsockname()[1], flush=True)
         source, _ = server.accept()
-    with source, socket.create_connection((host, int(port))) as target:
-        try:
-            for item in Stream(int(version)).read(source, strict=True):
-                target.sendall(passed_on(item))
-        except Incomplete as error:
-            return f"proxy.py: {error}"
+    with source, socket.create_connection((given.host, given.port)) as target:
+        with record(given.record, "received") as received, record(given.record, "passed_on") as passed:
+            try:
+                for item in Stream(given.version).read(source, strict=True):
+                    received.write(item.bytes)
+                    changed = passed_on(item)
+                    passed.write(changed)
+                    target.sendall(changed)
+            except Incomplete as error:
+                return f"proxy.py: {error}"
     return None
 
 

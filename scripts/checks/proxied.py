@@ -1,14 +1,17 @@
 #!/usr/bin/env python3
-"""proxied.py COMMAND..: a proxy passes journals on over sockets of this machine.
+"""proxied.py [--record] COMMAND..: a proxy passes journals on over sockets of this machine.
 
 The command is one of the examples named proxy, which takes a version, a host and a port after these words, prints the
 port at which it listens, and adds 1 to each state that is set. The journals have flags that no encoder sets, lengths
-longer than they need to be, custom entries and unknown types, and come in chunks of any size.
+longer than they need to be, custom entries and unknown types, and come in chunks of any size. With --record the proxy
+takes --record FOLDER before the version, and writes what it takes and what it passes on there.
 """
+import pathlib
 import random
 import socket
 import subprocess
 import sys
+import tempfile
 import threading
 
 # what is passed on as received: an input, a custom entry and a code that no type has, with all of their flags
@@ -58,11 +61,22 @@ def passed_on(command, version, journal):
     return bytes(found), process.returncode, said
 
 
+def is_recorded(folder, journal, wanted):
+    """Whether the folder has the items of a journal, and what was passed on."""
+    received, passed = (pathlib.Path(folder, name).read_bytes() for name in ("received", "passed_on"))
+    # the last item may be cut short
+    return journal.startswith(received) and len(journal) - len(received) < 17 and passed == wanted
+
+
 def main(command):
     passed = failed = 0
+    records = command[0] == "--record"
     for version, journal, wanted, is_whole in JOURNALS:
-        found, status, said = passed_on(command, version, journal)
-        if found == wanted and (status == 0) == is_whole and (said == "") == is_whole:
+        with tempfile.TemporaryDirectory() as folder:
+            words = [*command[1:], "--record", folder] if records else command
+            found, status, said = passed_on(words, version, journal)
+            is_right = not records or is_recorded(folder, journal, wanted)
+        if is_right and found == wanted and (status == 0) == is_whole and (said == "") == is_whole:
             passed += 1
         else:
             failed += 1

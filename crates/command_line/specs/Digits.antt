@@ -4,8 +4,9 @@ use Rattle.std.specs.Prelude.{List, [], ◌∷◌, Option, Some, None, option_ma
 use Rattle.std.specs.Int.{is_in_range}
 use Rattle.hex.specs.Hex.{hex_digit_value}
 use Rattle.command_line.specs.declared.digits.Place.{Place}
-use Rattle.command_line.specs.declared.digits.Place.TheVariants.{Beginning, Text, Bytes, Hex, Zero, Backslash, High, Low}
-use Rattle.command_line.specs.declared.digits.Place.TheVariants.{First, Second, Third, Fourth, Padding, End, Fault}
+use Rattle.command_line.specs.declared.digits.Place.TheVariants.{Beginning, Text, Bytes, Hex, Zero, Backslash, High}
+use Rattle.command_line.specs.declared.digits.Place.TheVariants.{Low, First, Second, Third, Fourth, Padding, End}
+use Rattle.command_line.specs.declared.digits.Place.TheVariants.{Fault}
 use Rattle.command_line.specs.declared.digits.Step.{Step}
 use Rattle.command_line.specs.declared.form.InputForm.{InputForm}
 use Rattle.command_line.specs.declared.form.InputForm.TheVariants as form

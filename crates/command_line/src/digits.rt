@@ -75,8 +75,7 @@ fn given(place: Place, rest: u8, byte: u8) -> Step
     }
 }
 
-/// The byte of bits before others, of which there are as many as `scale` has values. A place has no more bits than there
-/// is room for.
+/// The byte of bits before others, for which `scale` leaves room.
 fn joined(rest: u8, scale: u16, others: u8) -> u8
     requires { scale ≤ 64 }
     ensures { result ≡ (rest * scale + others) % 256 }

@@ -1,6 +1,6 @@
 -- What a text means, as it is read.
-use Rattle.std.proofs.Common.{◌≡◌, ◌∙◌, ℕ, ◌+◌, ◌<◌, ◌≤◌, List, [], ◌∷◌, ◌++◌, length, take, drop, get_or, set, refl, ap, sym, arith}
-use Rattle.std.proofs.Common.{Option, Some, None, append_assoc, add-one, drop-cons}
+use Rattle.std.proofs.Common.{◌≡◌, ◌∙◌, ℕ, ◌+◌, ◌<◌, List, [], ◌∷◌, ◌++◌, length, drop, get_or, refl, ap, sym}
+use Rattle.std.proofs.Common.{Option, Some, None, add-one, drop-cons}
 use Rattle.std.specs.Io.KnownBytes.{Consumes, Keeps}
 use Rattle.command_line.specs.Digits.{decoded_from, decoded_known, step_of, with_byte}
 use Rattle.command_line.specs.declared.digits.Place.{Place}
@@ -16,7 +16,8 @@ one_character place rest index text more within = rw (add-one, drop-cons text in
 -- what a text means that is read, and then the rest of it
 pub consumed : (place later : Place) (rest more : ℕ) (old new : Option (List ℕ)) (read given : List ℕ) →
     Consumes old new read → ((text : List ℕ) → decoded_from place rest (read ++ text) ≡
-    given ++ decoded_from later more text) → Consumes (decoded_known place rest old) (decoded_known later more new) given
+    given ++ decoded_from later more text) → Consumes (decoded_known place rest old) (decoded_known later more new)
+    given
 consumed place later rest more None new read given taken means = tt
 consumed place later rest more (Some text) None read given taken means = absurd taken
 consumed place later rest more (Some text) (Some left) read given taken means =
