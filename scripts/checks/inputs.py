@@ -1,8 +1,8 @@
 #!/usr/bin/env python3
 """Streams as text, in hexadecimal digits and in base64, by each subcommand of journal that reads a stream.
 
-A text has to do what the bytes do that it means: of each form, with blanks anywhere, and however long. What is no text
-ends at its offset. With --input auto the first message of a stream may be of any type, in bytes and in text.
+A text has to do what the bytes do that it means: of each form, with blanks anywhere, and however long. What is not a
+text ends at its offset. With --input auto the first message of a stream may be of any type, in bytes and in text.
 """
 from __future__ import annotations
 
@@ -21,40 +21,42 @@ BASE64 = b"AAMAAAAAAAA="
 
 # The form, a text, and what is wrong with it. The items before that are listed: whether there is the End.
 FAULTS = (
-    ("hex", HEX + b" g", True, "offset 17: this character is no digit"),
+    ("hex", HEX + b" g", True, "offset 17: this character is not a digit"),
     ("hex", HEX + b"\n0", True, "offset 18: the text ends within a byte"),
     ("hex", b"\\", False, "offset 1: the text ends within a byte"),
-    ("hex", b"\\ x" + HEX, False, "offset 1: this character is no digit"),
-    ("hex", b"\\0" + HEX, False, "offset 1: this character is no digit"),
-    ("hex", b"0x0x", False, "offset 3: this character is no digit"),
-    ("hex", b"x" + HEX, False, "offset 0: this character is no digit"),
-    ("hex", b"00" + b"\\x" + HEX, False, "offset 2: this character is no digit"),
+    ("hex", b"\\ x" + HEX, False, "offset 1: this character is not a digit"),
+    ("hex", b"\\0" + HEX, False, "offset 1: this character is not a digit"),
+    ("hex", b"0x0x", False, "offset 3: this character is not a digit"),
+    ("hex", b"x" + HEX, False, "offset 0: this character is not a digit"),
+    ("hex", b"00" + b"\\x" + HEX, False, "offset 2: this character is not a digit"),
     ("hex", b"0", False, "offset 1: the text ends within a byte"),
-    ("hex", BASE64, False, "offset 2: this character is no digit"),
-    ("base64", BASE64 + b"A", True, "offset 12: this character is no digit"),
-    ("base64", BASE64 + b"=", True, "offset 12: this character is no digit"),
-    ("base64", b"AAMAAAAAAAB=", True, "offset 11: this character is no digit"),
+    ("hex", BASE64, False, "offset 2: this character is not a digit"),
+    ("base64", BASE64 + b"A", True, "offset 12: this character is not a digit"),
+    ("base64", BASE64 + b"=", True, "offset 12: this character is not a digit"),
+    ("base64", b"AAMAAAAAAAB=", True, "offset 11: this character is not a digit"),
     ("base64", b"AAMAAAAAAAB", True, "offset 11: the text ends within a byte"),
     ("base64", b"AAMAAAAAAAAA\nA", True, "offset 14: the text ends within a byte"),
-    ("base64", b"A===", False, "offset 1: this character is no digit"),
-    ("base64", b"AA=A", False, "offset 3: this character is no digit"),
+    ("base64", b"A===", False, "offset 1: this character is not a digit"),
+    ("base64", b"AA=A", False, "offset 3: this character is not a digit"),
     ("base64", b"AA=", False, "offset 3: the text ends within a byte"),
-    ("base64", b"=", False, "offset 0: this character is no digit"),
-    ("base64", b"\\x" + HEX, False, "offset 0: this character is no digit"),
-    ("auto", b" \0", False, "offset 1: this character is no digit"),
+    ("base64", b"=", False, "offset 0: this character is not a digit"),
+    ("base64", b"\\x" + HEX, False, "offset 0: this character is not a digit"),
+    ("auto", b" \0", False, "offset 1: this character is not a digit"),
     ("auto", HEX + b"0", True, "offset 17: the text ends within a byte"),
 )
 
 # Words, and what the standard error says after the name; the standard input is a text in base64.
 SAID = (
-    ("list --input hex -", 1, "journal list: offset 10: this character is no digit"),
-    ("show --input=hex", 1, "journal show: offset 10: this character is no digit"),
-    ("dump --input hex", 1, "journal dump: offset 10: this character is no digit"),
-    ("diff --input hex - recorded.hex", 2, "journal diff: the recorded journal, offset 10: this character is no digit"),
-    ("diff --input hex recorded.hex -", 2, "journal diff: the replayed journal, offset 10: this character is no digit"),
-    ("cut --input hex recorded.base64", 2, "journal cut: recorded.base64: offset 10: this character is no digit"),
+    ("list --input hex -", 1, "journal list: offset 10: this character is not a digit"),
+    ("show --input=hex", 1, "journal show: offset 10: this character is not a digit"),
+    ("dump --input hex", 1, "journal dump: offset 10: this character is not a digit"),
+    ("diff --input hex - recorded.hex", 2,
+     "journal diff: the recorded journal, offset 10: this character is not a digit"),
+    ("diff --input hex recorded.hex -", 2,
+     "journal diff: the replayed journal, offset 10: this character is not a digit"),
+    ("cut --input hex recorded.base64", 2, "journal cut: recorded.base64: offset 10: this character is not a digit"),
     ("cat --input base64 recorded.base64 recorded.hex", 2,
-     "journal cat: recorded.hex: offset 0: this character is no digit"),
+     "journal cat: recorded.hex: offset 0: this character is not a digit"),
     ("dump --input octal", 2, "invalid value 'octal' for '--input <FORM>'"),
     ("make --input hex", 2, "unexpected argument '--input'"),
 )

@@ -91,7 +91,7 @@ first_place c =
     else if (((((c == 65 || c == 66) || c == 103) || c == 43) || c == 45) || c == 47) || c == 95 then Some First
     else None
 
--- What the first character of an input leads to, which is no blank.
+-- What the first character of an input leads to, which is not a blank.
 abbrev pub first_step : Step → ℕ → Option Place → Step
 first_step other c None = other
 first_step other c (Some place) = after_text place 0 c

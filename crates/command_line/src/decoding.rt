@@ -14,7 +14,7 @@ use std::fmt;
 /// What is wrong with a text.
 #[derive(Clone, Copy, Debug, PartialEq, Eq, Drop)]
 pub enum Fault {
-    /// After this many characters comes one that is no digit.
+    /// After this many characters comes one that is not a digit.
     NoDigit(u64),
     /// The text ends within a byte, or a group of base64, after this many characters.
     Cut(u64),
@@ -23,7 +23,7 @@ pub enum Fault {
 impl fmt::Display for Fault {
     fn fmt<W: fmt::Write>(&self, f: &mut fmt::Formatter<W>) -> fmt::Result {
         match self {
-            Fault::NoDigit(offset) => write!(f, "offset {offset}: this character is no digit"),
+            Fault::NoDigit(offset) => write!(f, "offset {offset}: this character is not a digit"),
             Fault::Cut(offset) => write!(f, "offset {offset}: the text ends within a byte"),
         }
     }
@@ -33,8 +33,8 @@ impl Error for Fault {}
 
 /// A reader before another one, which has a text: it gives the bytes that the text means.
 ///
-/// It decodes in the memory that a caller reads into, and holds at most the bits of three digits. The bytes before the
-/// first character that is no digit are given, and then each read fails. So it does where the text ends within a byte.
+/// It decodes in the memory that a caller reads into, and holds at most six bits. The bytes before the first character
+/// that is not a digit are given, and then each read fails. So it does where the text ends within a byte.
 #[derive(Drop)]
 pub struct Decoding<R> {
     reader: R,

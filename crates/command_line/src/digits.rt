@@ -1,6 +1,6 @@
 //! The digits of a text in hexadecimal or base64, character by character.
 //!
-//! A place says which characters may come next, and a character leads from one place to another and may complete a
+//! A place tells which characters may come next, and a character leads from one place to another and may complete a
 //! byte. So a text is decoded without a copy of it, however it is split.
 
 ghost use Rattle.std.specs.Prelude.{◌≡◌, ◌≤◌, ◌+◌, ◌*◌, ◌%◌, Some, None};
@@ -13,7 +13,7 @@ ghost use Rattle.command_line.specs.Digits.{is_blank, is_complete, step_of};
 /// Where in an input its next character is.
 #[derive(Clone, Copy, Drop)]
 pub enum Place {
-    /// At its beginning, and the first character says what the input is.
+    /// At its beginning, and the first character tells what the input is.
     Beginning,
     /// After blanks at its beginning: the input is a text.
     Text,
@@ -190,7 +190,7 @@ fn after_text(place: Place, rest: u8, c: u8) -> Step
     }
 }
 
-/// What the first character of an input leads to, which is no blank.
+/// What the first character of an input leads to, which is not a blank.
 fn after_first(c: u8) -> Step
     ensures { result ≡ first_step (given_at Bytes 0 c) c (first_place c) }
 {
@@ -200,7 +200,7 @@ fn after_first(c: u8) -> Step
     }
 }
 
-/// What the first character of a text leads to, which is no blank.
+/// What the first character of a text leads to, which is not a blank.
 fn after_blanks(c: u8) -> Step
     ensures { result ≡ first_step (place_at Fault 0) c (first_place c) }
 {
