@@ -8,8 +8,8 @@ ghost use Rattle.command_line.specs.Digits.{decoded_from, decoded_known, is_comp
 use crate::digits::{Place, is_complete, next_step};
 use crate::form::InputForm;
 use std::error::Error;
-use std::io::{self, ErrorKind, Read};
 use std::fmt;
+use std::io::{self, ErrorKind, Read};
 
 /// What is wrong with a text.
 #[derive(Clone, Copy, Debug, PartialEq, Eq, Drop)]

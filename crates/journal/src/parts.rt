@@ -8,9 +8,7 @@ mod announcing;
 use crate::beginning::{Beginning, Begun};
 use crate::call::Call;
 use crate::parts::announcing::announcing;
-use command_line::{
-    Decoding, Input, InputForm, Pipe, Progress, Watched, fail, input_size, note,
-};
+use command_line::{Decoding, Input, InputForm, Pipe, Progress, Watched, fail, input_size, note};
 use shared_core::encoding::RawMessage;
 use shared_core_base::version::Version;
 use std::io::Stdout;

@@ -10,7 +10,8 @@ use crate::dump::Records;
 use clap::error::ErrorKind;
 use clap::{ArgMatches, Command, Error};
 use command_line::{
-    Input, InputForm, Pipe, Progress, Watched, input_of, input_size, max_message_of, note, protocol_of,
+    Input, InputForm, Pipe, Progress, Watched, input_of, input_size, max_message_of, note,
+    protocol_of,
 };
 use shared_core_base::version::Version;
 use show_lines::{Options, show};
