@@ -1,9 +1,11 @@
 -- What a text means, as it is read.
-use Rattle.std.proofs.Common.{◌≡◌, ◌∙◌, ℕ, ◌+◌, ◌<◌, List, [], ◌∷◌, ◌++◌, length, drop, get_or, refl, ap, sym}
-use Rattle.std.proofs.Common.{Option, Some, None, add-one, drop-cons}
+use Rattle.std.proofs.Common.{◌≡◌, ◌∙◌, ℕ, ◌+◌, ◌<◌, List, [], ◌∷◌, ◌++◌, length, take, drop, refl, ap, sym}
+use Rattle.std.proofs.Common.{◌≤◌, get_or, Option, Some, None, add-one, drop-cons, drop_of_length-le, rules}
+use Rattle.std.proofs.Math.Seq.{take-length}
 use Rattle.std.specs.Io.KnownBytes.{Consumes, Keeps}
 use Rattle.command_line.specs.Digits.{decoded_from, decoded_known, step_of, with_byte}
 use Rattle.command_line.specs.declared.digits.Place.{Place}
+use Rattle.command_line.specs.declared.digits.Place.TheVariants.{Bytes}
 
 -- the character at an index, and the rest of the text
 pub one_character : (place : Place) (rest index : ℕ) (text more : List ℕ) → index < length text → decoded_from place
@@ -43,3 +45,31 @@ kept_consumed None middle new bytes same then = tt
 kept_consumed (Some text) None new bytes same then = absurd same
 kept_consumed (Some text) (Some left) None bytes same then = absurd then
 kept_consumed (Some text) (Some left) (Some last) bytes same then = sym same ∙ then
+
+-- bytes that are no text are what they are
+pub bytes_are : (rest : ℕ) (text : List ℕ) → decoded_from Bytes rest text ≡ text
+unfolding decoded_from
+bytes_are rest [] = refl
+bytes_are rest (c ∷ text) = ap (λ (bytes : List ℕ). c ∷ bytes) (bytes_are 0 text)
+
+pub as_they_are : (place : Place) (rest : ℕ) (text more : List ℕ) → place ≡ Bytes → decoded_from place rest
+    (text ++ more) ≡ take (length text) text ++ decoded_from place rest more
+as_they_are place rest text more is = rw (is, take-length) (bytes_are rest (text ++ more)
+    ∙ sym (ap (λ (bytes : List ℕ). text ++ bytes) (bytes_are rest more)))
+
+-- a character that completes no byte
+pub after_none : (place : Place) (rest index given : ℕ) (text more : List ℕ) → index < length text →
+    (step_of place rest (get_or text index 0)).byte ≡ None → take given text ++ decoded_from place rest
+    (drop index text ++ more) ≡ take given text ++ decoded_from (step_of place rest (get_or text index 0)).place
+    (step_of place rest (get_or text index 0)).rest (drop (index + 1) text ++ more)
+after_none place rest index given text more within none =
+    let step = step_of place rest (get_or text index 0) in
+    ap (λ (bytes : List ℕ). take given text ++ bytes) (one_character place rest index text more within
+    ∙ ap (λ (byte : Option ℕ). with_byte byte (decoded_from step.place step.rest (drop (index + 1) text ++ more))) none)
+
+-- the end of what was read
+pub all_read : (place : Place) (rest index given : ℕ) (text more : List ℕ) → length text ≤ index → take given text
+    ++ decoded_from place rest (drop index text ++ more) ≡ take given text ++ decoded_from place rest more
+all_read place rest index given text more over =
+    let none : drop index text ≡ [] = search (rules, drop_of_length-le) in
+    ap (λ (left : List ℕ). take given text ++ decoded_from place rest (left ++ more)) none

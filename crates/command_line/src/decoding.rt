@@ -1,6 +1,6 @@
 //! An input that is text in hexadecimal digits or in base64, as databases, logs and browsers print bytes.
 
-ghost use Rattle.std.specs.Prelude.{◌≡◌, ◌<◌, ◌≤◌, ◌++◌, ℕ, List, length, take, true, Ok};
+ghost use Rattle.std.specs.Prelude.{◌≡◌, ◌+◌, ◌<◌, ◌≤◌, ◌++◌, ℕ, List, length, take, drop, true, Ok};
 ghost use Rattle.std.specs.Io.{ReadsAtMost};
 ghost use Rattle.std.specs.Io.KnownBytes.{ReadConsumes, IsAtEnd};
 ghost use Rattle.command_line.specs.Digits.{decoded_from, decoded_known, is_complete, place_of, step_of};
@@ -107,12 +107,27 @@ impl<R> Decoding<R> {
         }
         let mut given = 0;
         for index in 0..text.len() {
-            if let Some(byte) = self.take(text[index]) {
-                text[given] = byte;
-                given += 1;
-            }
+            given = self.decode_one(text, index, given);
         }
         given
+    }
+
+    /// Decodes the character at an index, after this many bytes, and returns how many there are then.
+    fn decode_one(&mut self, text: &mut [u8], index: usize, given: usize) -> usize
+        requires within { index < length text.old }
+        requires before { given ≤ index }
+        ensures few { result ≤ index + 1 }
+        ensures same { length text.new ≡ length text.old }
+        ensures bytes { (more : List ℕ) → take given text.old
+            ++ decoded_from self.old.place self.old.rest (drop index text.old ++ more)
+            ≡ take result text.new ++ decoded_from self.new.place self.new.rest (drop (index + 1) text.new ++ more) }
+        ensures reader { self.new.reader ≡ self.old.reader }
+    {
+        let Some(byte) = self.take(text[index]) else {
+            return given;
+        };
+        text[given] = byte;
+        given + 1
     }
 
     /// The end of the text: an error if it may not end here.
