@@ -9,8 +9,8 @@ returns-in-Bytes-clause-bytes g c more =
 pub loop-index-preserved : goal.loop-index-preserved
 loop-index-preserved g c = record {
   few = omega arith;
-  reader = c.decode_one.ensures.reader ∙ c.loop-index.invariant.reader;
-  bytes = λ more. c.loop-index.invariant.bytes more ∙ c.decode_one.ensures.bytes more;
+  reader = c.decode_one-given.ensures.reader ∙ c.loop-index.invariant.reader;
+  bytes = λ more. c.loop-index.invariant.bytes more ∙ c.decode_one-given.ensures.bytes more;
 }
 
 pub returns-clause-bytes : goal.returns-clause-bytes
