@@ -2,7 +2,7 @@
 use Rattle.std.specs.Prelude.{List, ℕ, codes}
 use Rattle.journal.specs.declared.subcommand.Subcommand.{Subcommand}
 use Rattle.journal.specs.declared.subcommand.Subcommand.TheVariants.{List as Listing, Dump, Make, Diff, Show}
-use Rattle.journal.specs.declared.subcommand.Subcommand.TheVariants.{Cut, Cat, Schema}
+use Rattle.journal.specs.declared.subcommand.Subcommand.TheVariants.{Cut, Cat, Schema, Describe}
 
 -- The name of a subcommand.
 abbrev pub subcommand_name : Subcommand → List ℕ
@@ -14,3 +14,4 @@ subcommand_name Show = codes "show"
 subcommand_name Cut = codes "cut"
 subcommand_name Cat = codes "cat"
 subcommand_name Schema = codes "schema"
+subcommand_name Describe = codes "describe"

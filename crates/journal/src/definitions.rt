@@ -216,7 +216,7 @@ pub fn show<'a>(alloc: Global, name: &'a str) -> Result<Command<'a>, AllocError>
         .version(VERSION)
         .about("Shows a stream in readable lines, one per item.")
         .after_help(
-            "Examples:\n  journal show FILE\n  journal show --commands --from 100 --to 120 FILE\n  journal show --open FILE      what nothing completes\n  journal show --failures FILE  what failed, and of which command",
+            "Examples:\n  journal show FILE\n  journal show --commands --from 100 --to 120 FILE\n  journal show --open FILE      what nothing completes\n  journal show --failures FILE  what failed, and of which command\n  journal show --where 'type:call greeter -is:failure' FILE",
         )
         .arg(flag(alloc, "commands", "Shows only commands"))?
         .arg(flag(alloc, "failures", "Shows only failures"))?
@@ -236,6 +236,12 @@ pub fn show<'a>(alloc: Global, name: &'a str) -> Result<Command<'a>, AllocError>
             "to",
             "N",
             "Shows no item after the one of this index",
+        ))?
+        .arg(option(
+            alloc,
+            "where",
+            "WORDS",
+            "Shows only items that have each of these words, as\nthe filter of journal_view",
         ))?
         .arg(option(
             alloc,
@@ -352,6 +358,47 @@ pub fn cat<'a>(alloc: Global, name: &'a str) -> Result<Command<'a>, AllocError> 
         )
 }
 
+/// The definition of `journal describe`, which help and errors show by this name.
+pub fn describe<'a>(alloc: Global, name: &'a str) -> Result<Command<'a>, AllocError> {
+    Command::new(alloc, name)
+        .version(VERSION)
+        .about(
+            "Describes journals: the invocation, its state, counts, what failed and what is open.",
+        )
+        .after_help(
+            "Examples:\n  journal describe FILE\n  journal describe *.journal | grep -e '^==>' -e ^state",
+        )
+        .arg(option(
+            alloc,
+            "max-message",
+            "SIZE",
+            "Ends with an error at a message whose payload has\nmore than this number of bytes, as 4096 or 1MB",
+        ))?
+        .arg(
+            option(
+                alloc,
+                "protocol",
+                "VERSION",
+                "The version of the protocol of the streams\n[default: 8] [possible values: 5, 6, 7, 8, 9]",
+            )
+            .value_parser(Version::supported_numbers())
+            .hide_possible_values(true)
+            .default_value("8")
+            .hide_default_value(true),
+        )?
+        .arg(
+            operand(
+                alloc,
+                "file",
+                "FILE",
+                "The streams: files, or - for the standard input [default: -]",
+            )
+            .action(ArgAction::Append)
+            .default_value("-")
+            .hide_default_value(true),
+        )
+}
+
 /// The definition of `journal schema`, which help and errors show by this name.
 pub fn schema<'a>(alloc: Global, name: &'a str) -> Result<Command<'a>, AllocError> {
     Command::new(alloc, name)
@@ -389,5 +436,6 @@ pub fn journal<'a>(alloc: Global) -> Result<Command<'a>, AllocError> {
         .subcommand(show(alloc, "show")?)?
         .subcommand(cut(alloc, "cut")?)?
         .subcommand(cat(alloc, "cat")?)?
+        .subcommand(describe(alloc, "describe")?)?
         .subcommand(schema(alloc, "schema")?)
 }

@@ -7,6 +7,7 @@ mod call;
 mod cat;
 mod cut;
 mod definitions;
+mod describe;
 mod diff;
 mod dump;
 mod list;
@@ -51,6 +52,7 @@ fn run(call: &Call<'_>, subcommand: Subcommand) -> ExitCode {
         Subcommand::Cut => cut::run(call),
         Subcommand::Cat => cat::run(call),
         Subcommand::Schema => schema::run(call),
+        Subcommand::Describe => describe::run(call),
     }
 }
 

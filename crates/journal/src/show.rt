@@ -11,7 +11,7 @@ use clap::error::ErrorKind;
 use clap::{ArgMatches, Command, Error};
 use command_line::{Input, Pipe, Progress, Watched, input_size, max_message_of, note, protocol_of};
 use shared_core_base::version::Version;
-use show_lines::{Options, show};
+use show_lines::{Filter, Options, show};
 use std::alloc::Global;
 use std::process::ExitCode;
 use stream_lines::{PrintError, Report};
@@ -21,7 +21,35 @@ use stream_lines::{PrintError, Report};
 struct Arguments<'a> {
     /// The path of the stream, or `-` for the standard input.
     path: &'a str,
-    options: Options,
+    version: Version,
+    limit: u32,
+    /// The indices of the first and the last item that have lines.
+    from: u64,
+    to: u64,
+    commands: bool,
+    failures: bool,
+    open: bool,
+    filter: Filter,
+}
+
+impl<'a> Arguments<'a> {
+    /// How the stream is shown.
+    fn options(&self) -> Options<'_>
+        requires { 5 ≤ version_number self.now.version }
+        ensures { 5 ≤ version_number result.version }
+    {
+        Options {
+            version: self.version,
+            limit: self.limit,
+            from: self.from,
+            to: self.to,
+            commands: self.commands,
+            failures: self.failures,
+            open: self.open || self.filter.open,
+            words: self.filter.words.as_slice(),
+            describes: false,
+        }
+    }
 }
 
 /// Parses the arguments. The error is an invalid argument, or a request for the help or the version.
@@ -30,24 +58,30 @@ fn parse_arguments<'a>(
     name: &'static str,
     words: &'a [String],
 ) -> Result<Arguments<'a>, Error>
-    ensures { IfOk result (λ parsed. 5 ≤ version_number parsed.options.version) }
+    ensures { IfOk result (λ parsed. 5 ≤ version_number parsed.version) }
 {
     let mut command = definitions::show(alloc, name)?.no_binary_name(true);
     let matches = command.try_get_matches_from_mut(words)?;
     let limit = max_message_of(&mut command, &matches)?;
     let from = index_of(&mut command, &matches, "from", 0)?;
     let to = index_of(&mut command, &matches, "to", u64::MAX)?;
+    let filter = match Filter::parse(alloc, matches.get_str("where").unwrap_or("")) {
+        Ok(filter) => filter,
+        Err(error) => {
+            let why = format!(in alloc; "--where: {error}")?;
+            return Err(command.error(ErrorKind::InvalidValue, why.as_str())?);
+        }
+    };
     Ok(Arguments {
         path: matches.get_str("file").unwrap_or("-"),
-        options: Options {
-            version: protocol_of(&matches),
-            limit,
-            from,
-            to,
-            commands: matches.get_flag("commands"),
-            failures: matches.get_flag("failures"),
-            open: matches.get_flag("open"),
-        },
+        version: protocol_of(&matches),
+        limit,
+        from,
+        to,
+        commands: matches.get_flag("commands"),
+        failures: matches.get_flag("failures"),
+        open: matches.get_flag("open"),
+        filter,
     })
 }
 
@@ -70,25 +104,46 @@ fn index_of(
     }
 }
 
-/// Reports the trailing bytes, and returns the status.
-fn end(call: &Call<'_>, version: Version, beginning: &Beginning, found: &Report) -> ExitCode {
-    let (offset, count) = (found.end, found.rest);
-    if count > 0 {
-        let bytes = if count == 1 { "byte" } else { "bytes" };
-        note(
-            call.rt,
-            call.name,
-            format_args!("offset {offset}: {count} {bytes} after the last whole item"),
-        );
-        if offset == 0 {
-            beginning.report_no_message(call, version);
-        }
-    }
-    ExitCode::SUCCESS
+/// How the showing of an input ended, after what is wrong was reported.
+pub enum Shown {
+    /// All is written.
+    All,
+    /// The input, an allocation or the output failed.
+    Failed(ExitCode),
+    /// The reader has closed the output.
+    Closed(ExitCode),
 }
 
-/// Shows the input, and returns the status.
-fn run_parsed(call: &Call<'_>, options: &Options, input: Input) -> ExitCode
+impl Shown {
+    /// The status of the program.
+    fn status(self) -> ExitCode {
+        match self {
+            Shown::All => ExitCode::SUCCESS,
+            Shown::Failed(status) => status,
+            Shown::Closed(status) => status,
+        }
+    }
+}
+
+/// Reports the trailing bytes.
+fn report_rest(call: &Call<'_>, version: Version, beginning: &Beginning, found: &Report) {
+    let (offset, count) = (found.end, found.rest);
+    if count == 0 {
+        return;
+    }
+    let bytes = if count == 1 { "byte" } else { "bytes" };
+    note(
+        call.rt,
+        call.name,
+        format_args!("offset {offset}: {count} {bytes} after the last whole item"),
+    );
+    if offset == 0 {
+        beginning.report_no_message(call, version);
+    }
+}
+
+/// Shows an input.
+pub fn show_input(call: &Call<'_>, options: &Options<'_>, input: Input) -> Shown
     requires { 5 ≤ version_number options.now.version }
 {
     let progress = Progress::beside_output(call.rt, call.name, input_size(&input));
@@ -98,10 +153,13 @@ fn run_parsed(call: &Call<'_>, options: &Options, input: Input) -> ExitCode
     let shown = show(call.rt.alloc(), options, &Records, &mut input, &mut output);
     progress.clear();
     match shown {
-        Ok(found) => end(call, options.version, &beginning, &found),
+        Ok(found) => {
+            report_rest(call, options.version, &beginning, &found);
+            Shown::All
+        }
         // the reader has closed the output, so nothing is reported
-        Err(PrintError::Output) if output.is_broken() => ExitCode::from(call.failure),
-        Err(error) => call.fail(error, call.failure),
+        Err(PrintError::Output) if output.is_broken() => Shown::Closed(ExitCode::from(call.failure)),
+        Err(error) => Shown::Failed(call.fail(error, call.failure)),
     }
 }
 
@@ -112,7 +170,7 @@ pub fn run(call: &Call<'_>) -> ExitCode {
         Err(error) => return call.report(&error),
     };
     match call.open(parsed.path) {
-        Ok(input) => run_parsed(call, &parsed.options, input),
+        Ok(input) => show_input(call, &parsed.options(), input).status(),
         Err(error) => call.fail(error, 2),
     }
 }

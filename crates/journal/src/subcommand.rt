@@ -19,6 +19,8 @@ pub enum Subcommand {
     Cat,
     /// Compares a descriptor set with the protocol.
     Schema,
+    /// Describes journals.
+    Describe,
 }
 
 impl Subcommand {
@@ -40,6 +42,7 @@ impl Subcommand {
             "cut" => Some(Subcommand::Cut),
             "cat" => Some(Subcommand::Cat),
             "schema" => Some(Subcommand::Schema),
+            "describe" => Some(Subcommand::Describe),
             _ => None,
         }
     }
@@ -52,7 +55,11 @@ impl Subcommand {
             None => path,
         };
         match Subcommand::named(name.strip_prefix("journal_")?)? {
-            Subcommand::List | Subcommand::Cut | Subcommand::Cat | Subcommand::Schema => None,
+            Subcommand::List
+            | Subcommand::Cut
+            | Subcommand::Cat
+            | Subcommand::Schema
+            | Subcommand::Describe => None,
             subcommand => Some(subcommand),
         }
     }
@@ -60,7 +67,11 @@ impl Subcommand {
     /// The status if an allocation, the input or the output fails.
     pub fn failure(self) -> u8 {
         match self {
-            Subcommand::List | Subcommand::Dump | Subcommand::Show | Subcommand::Schema => 1,
+            Subcommand::List
+            | Subcommand::Dump
+            | Subcommand::Show
+            | Subcommand::Schema
+            | Subcommand::Describe => 1,
             Subcommand::Make | Subcommand::Diff | Subcommand::Cut | Subcommand::Cat => 2,
         }
     }
@@ -105,6 +116,7 @@ impl Asked {
             (Subcommand::Cut, _) => "journal cut",
             (Subcommand::Cat, _) => "journal cat",
             (Subcommand::Schema, _) => "journal schema",
+            (Subcommand::Describe, _) => "journal describe",
         }
     }
 

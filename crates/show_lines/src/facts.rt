@@ -8,6 +8,7 @@ ghost use Rattle.shared_core_fields.specs.Views.{field_part};
 
 use shared_core_base::header::MessageType;
 use shared_core_fields::fields::{CanonicalPayload, Field, FieldValue};
+use shared_core_stream::encoding::Item;
 
 /// The number of the schema of failures.
 pub const FAILURE: u32 = 2;
@@ -117,7 +118,7 @@ fn number_of(field: &Field<'_>) -> Option<u32>
 }
 
 /// Whether one of the fields is a failure.
-fn has_failure(payload: CanonicalPayload<'_>) -> bool
+pub fn has_failure(payload: CanonicalPayload<'_>) -> bool
     ensures { result ≡ has_failure
         (value_fields payload.entry.schema (payload_meaning payload.entry.schema payload.entry.bytes.now)) }
 {
@@ -135,6 +136,14 @@ fn is_failure(field: &Field<'_>) -> bool
 {
     match field.value {
         FieldValue::Message(message) => message.schema == FAILURE,
+        _ => false,
+    }
+}
+
+/// Whether an item is an error message.
+pub fn is_error(item: &Item) -> bool {
+    match item {
+        Item::Message(message) => matches!(message.ty(), MessageType::Error),
         _ => false,
     }
 }

@@ -16,9 +16,14 @@ ghost use Rattle.show_lines.specs.Lines.{nothing_known, then_known, waiting_then
 ghost use Rattle.show_lines.specs.Showing.{AreShown, IsLong};
 ghost use Rattle.show_lines.specs.Steps.{Added, known_by, waiting_of};
 
-use crate::facts::Facts;
-use crate::line::ItemNamer;
+use crate::facts::{Facts, Role};
+use crate::held::Payloads;
+use crate::line::write_name;
+use crate::matching::Matcher;
 use crate::options::Options;
+use crate::place::Place;
+use crate::scratch::Scratch;
+use crate::summary::{Count, Summary};
 use crate::waiting::{Coming, Waiting};
 use dump_lines::Canonicalizer;
 use shared_core_io::{ItemBuffer, ReadError};
@@ -46,7 +51,7 @@ const CHUNK: usize = 65536;
 /// the limit, as soon as its header is read. The canonicalizer is called for each payload that is not canonical.
 pub fn show<C: Canonicalizer, R: Read, W: Write>(
     alloc: Global,
-    options: &Options,
+    options: &Options<'_>,
     canonicalizer: &C,
     input: &mut R,
     output: &mut W,
@@ -57,10 +62,13 @@ pub fn show<C: Canonicalizer, R: Read, W: Write>(
         × Appends (W.contents output.old) (W.contents output.new) written
         × AreShown options.now result read written (R.remaining input.new) }
 {
-    let namer = ItemNamer {
-        alloc,
+    let walk = Walk {
         options,
-        canonicalizer,
+        payloads: Payloads {
+            alloc,
+            version: options.version,
+            canonicalizer,
+        },
     };
     let mut items = ItemBuffer::new(alloc, options.version, options.limit, CHUNK);
     let mut lines = Lines::new(alloc);
@@ -81,13 +89,43 @@ pub fn show<C: Canonicalizer, R: Read, W: Write>(
             Err(_) => return Err(PrintError::OutOfMemory),
         }
         lines.text.clear();
-        let longer = lines.add_held(&namer, &mut items)?;
+        let longer = lines.add_held(&walk, &mut items)?;
         write_whole(output, lines.text.as_slice())?;
         if let Some(message) = longer {
             return Err(PrintError::MessageTooLong(message));
         }
     }
     Err(PrintError::Input)
+}
+
+/// How a stream is shown.
+#[derive(Drop)]
+struct Walk<'a, C> {
+    options: &'a Options<'a>,
+    payloads: Payloads<'a, C>,
+}
+
+impl<'a, C: Canonicalizer> Walk<'a, C> {
+    /// Whether an item at a place is one of those that may have lines. `canonical` is a buffer that may be overwritten.
+    fn selects(
+        &self,
+        place: Place,
+        item: &Item,
+        canonical: &mut Vec<u8>,
+    ) -> Result<bool, PrintError>
+        ensures selected { IfOk result (λ selected. selected
+            ≡ is_selected self.now.options.now self.now.payloads.version place item.now) }
+        ensures lack { IfErr result (IsLack (IsLong self.now.payloads.version item.now)) }
+    {
+        if !is_in_range(self.options, place.index) {
+            return Ok(false);
+        }
+        let matcher = Matcher {
+            payloads: &self.payloads,
+            words: self.options.words,
+        };
+        matcher.matches(place, item, canonical)
+    }
 }
 
 /// The lines of items, and what all items so far have given.
@@ -98,22 +136,12 @@ struct Lines {
     offset: u128,
     /// The index of the next item.
     index: u128,
+    commands: Count,
+    notifications: Count,
     waiting: Waiting,
+    summary: Summary,
     /// Buffers that are reused for each item.
     scratch: Scratch,
-}
-
-/// The buffers in which the parts of a line are made.
-#[derive(Drop)]
-struct Scratch {
-    /// The name of an item.
-    name: String,
-    /// What names the id of the invocation that it calls.
-    invocation: String,
-    /// What it completes, or what completes it.
-    joined: String,
-    /// The canonical payload of a message.
-    canonical: Vec<u8>,
 }
 
 impl Lines {
@@ -126,39 +154,37 @@ impl Lines {
             text: Vec::new(alloc),
             offset: 0,
             index: 0,
+            commands: Count { items: 0, bytes: 0 },
+            notifications: Count { items: 0, bytes: 0 },
             waiting: Waiting::new(alloc),
-            scratch: Scratch {
-                name: String::new(alloc),
-                invocation: String::new(alloc),
-                joined: String::new(alloc),
-                canonical: Vec::new(alloc),
-            },
+            summary: Summary::new(alloc),
+            scratch: Scratch::new(alloc),
         }
     }
 
     /// Adds the lines of the items that were read. Returns the message after them, if it is longer than the limit.
     fn add_held<C: Canonicalizer>(
         &mut self,
-        namer: &ItemNamer<'_, C>,
+        walk: &Walk<'_, C>,
         items: &mut ItemBuffer,
     ) -> Result<Option<MessageTooLong>, PrintError>
-        requires version { items.old.decoder.version ≡ namer.now.options.now.version }
+        requires version { items.old.decoder.version ≡ walk.now.options.now.version }
         requires accepted { items.old.decoder.rejected ≡ None }
         requires placed { items.old.decoder.offset ≡ offset_after 0 self.old.offset }
         requires room { self.old.offset + length (held_in items.old).bytes < 2 ^ 128 }
         requires counted { self.old.index ≤ self.old.offset }
-        ensures added { IfOk result (λ longer. (rest : List ℕ) × Added namer.now.options.now items.old.decoder.limit
+        ensures added { IfOk result (λ longer. (rest : List ℕ) × Added walk.now.options.now items.old.decoder.limit
             self.old.offset (known_by self.old) self.old.text.items (held_in items.old).bytes self.new.offset
             (known_by self.new) self.new.text.items rest
             × IsAfter items.old.decoder.version items.old.decoder.limit longer self.new.offset rest
             (held_in items.new)) }
         ensures counted { IfOk result (λ longer. self.new.index ≤ self.new.offset) }
-        ensures lack { IfErr result (IsLack (IsLongIn (IsLong namer.now.options.now.version)
+        ensures lack { IfErr result (IsLack (IsLongIn (IsLong walk.now.options.now.version)
             items.old.decoder.version (held_in items.old).bytes)) }
     {
         loop {
             match items.take_with_word() {
-                Ok(Some((_, item))) => self.add(namer, &item)?,
+                Ok(Some((_, item))) => self.add(walk, &item)?,
                 Ok(None) => return Ok(None),
                 Err(ReadError::TooLong(message)) => return Ok(Some(message)),
                 Err(_) => return Err(PrintError::OutOfMemory),
@@ -169,36 +195,55 @@ impl Lines {
     /// Adds the line of an item.
     fn add<C: Canonicalizer>(
         &mut self,
-        namer: &ItemNamer<'_, C>,
+        walk: &Walk<'_, C>,
         item: &Item,
     ) -> Result<(), PrintError>
         requires room { self.old.offset + item_size item.now < 2 ^ 128 }
         requires counted { self.old.index ≤ self.old.offset }
         ensures line { OnOk result (self.new.text.items
-            ≡ self.old.text.items ++ line_of namer.now.options.now (known_by self.old) item.now) }
+            ≡ self.old.text.items ++ line_of walk.now.options.now (known_by self.old) item.now) }
         ensures known { OnOk result (known_by self.new
-            ≡ then_known namer.now.options.now (known_by self.old) item.now) }
+            ≡ then_known walk.now.options.now (known_by self.old) item.now) }
         ensures place { OnOk result (self.new.offset ≡ self.old.offset + item_size item.now) }
         ensures counted { OnOk result (self.new.index ≤ self.new.offset) }
-        ensures lack { IfErr result (IsLack (IsLong namer.now.options.now.version item.now)) }
+        ensures lack { IfErr result (IsLack (IsLong walk.now.options.now.version item.now)) }
     {
+        let place = Place {
+            index: self.index,
+            command: self.commands.items,
+            offset: self.offset,
+        };
         let Scratch {
             name,
             canonical,
             ..
         } = &mut self.scratch;
-        let facts = namer.write_name(self.index, item, name, canonical)?;
-        self.join(namer.options, &facts)?;
-        if has_line(namer.options, self.index, &facts) {
+        let facts = write_name(&walk.payloads, self.index, item, name, canonical)?;
+        let is_selected = walk.selects(place, item, canonical)?;
+        self.join(&facts, is_selected)?;
+        if walk.options.describes {
+            self.summary.note(&walk.payloads, item, &facts, &mut self.scratch)?;
+        }
+        if has_line(walk.options, is_selected, &facts) {
             self.push_line()?;
         }
-        self.index += 1;
-        self.offset += item.size() as u128;
+        self.count(&facts, item.size() as u128);
         Ok(())
     }
 
+    /// Counts an item of this size.
+    fn count(&mut self, facts: &Facts, size: u128) {
+        match facts.role {
+            Role::Command => self.commands.add(size),
+            Role::Notification => self.notifications.add(size),
+            Role::Other => {}
+        }
+        self.index += 1;
+        self.offset += size;
+    }
+
     /// Overwrites what the line says of the other halves of the item whose name is there.
-    fn join(&mut self, options: &Options, facts: &Facts) -> Result<(), AllocError>
+    fn join(&mut self, facts: &Facts, is_selected: bool) -> Result<(), AllocError>
         ensures joined { OnOk result (string_bytes self.new.scratch.joined
             ≡ joins options.now (known_by self.old) facts.now (string_bytes self.old.scratch.name)) }
         ensures waiting { OnOk result (waiting_of self.new
@@ -220,7 +265,7 @@ impl Lines {
         invocation.push_str(name.as_str())?;
         let half = Coming {
             is_command: facts.is_command(),
-            is_in_range: is_in_range(options, self.index),
+            is_selected,
             text: name.as_str(),
         };
         let first = Coming {
@@ -245,31 +290,62 @@ impl Lines {
     }
 
     /// Adds the last lines.
-    fn add_last(&mut self, options: &Options) -> Result<(), AllocError>
+    fn add_last(&mut self, options: &Options<'_>) -> Result<(), AllocError>
         ensures text { OnOk result (self.new.text.items ≡ self.old.text.items
             ++ last_lines options.now (known_by self.old)) }
         ensures offset { self.new.offset ≡ self.old.offset }
     {
+        if options.describes {
+            self.push_description()?;
+        }
         if options.failures {
             return Ok(());
         }
         self.waiting.push_open(&mut self.text)
     }
+
+    /// Adds what a description has before the commands that nothing has completed.
+    fn push_description(&mut self) -> Result<(), AllocError> {
+        let about = &mut self.scratch.name;
+        about.clear();
+        self.summary.push_first(about)?;
+        push_count(about, "commands", self.commands)?;
+        push_count(about, "notifications", self.notifications)?;
+        push_count(about, "other items", self.others())?;
+        self.summary.push_last(about)?;
+        self.text.extend_from_slice(about.as_bytes())
+    }
+
+    /// The items that are neither commands nor notifications.
+    fn others(&self) -> Count {
+        let (commands, notifications) = (self.commands, self.notifications);
+        Count {
+            items: self.index - commands.items - notifications.items,
+            bytes: self.offset - commands.bytes - notifications.bytes,
+        }
+    }
+}
+
+/// Appends the line of the items of a kind.
+fn push_count(text: &mut String, name: &str, count: Count) -> Result<(), AllocError> {
+    let Count { items, bytes } = count;
+    write!(text, "{name}: {items}, {bytes} bytes\n")
 }
 
 /// Whether an item of this index is one of those that may have lines.
-fn is_in_range(options: &Options, index: u128) -> bool
+fn is_in_range(options: &Options<'_>, index: u128) -> bool
     ensures { result ≡ is_in_range options.now index }
 {
     u128::from(options.from) <= index && index <= u128::from(options.to)
 }
 
 /// Whether an item of this index has a line.
-fn has_line(options: &Options, index: u128, facts: &Facts) -> bool
+fn has_line(options: &Options<'_>, is_selected: bool, facts: &Facts) -> bool
     ensures { result ≡ has_line options.now index facts.now }
 {
-    is_in_range(options, index)
+    is_selected
         && (!options.commands || facts.is_command())
         && (!options.failures || facts.is_failure)
         && !options.open
+        && !options.describes
 }

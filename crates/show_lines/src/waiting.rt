@@ -18,7 +18,7 @@ pub struct Half {
     /// Whether it is the command.
     is_command: bool,
     /// Whether its item is one of those that may have lines.
-    is_in_range: bool,
+    is_selected: bool,
     /// The text by which the line of the other half names it.
     text: String,
 }
@@ -29,7 +29,7 @@ pub struct Coming<'a> {
     /// Whether it is the command.
     pub is_command: bool,
     /// Whether its item is one of those that may have lines.
-    pub is_in_range: bool,
+    pub is_selected: bool,
     /// The text by which lines name it.
     pub text: &'a str,
 }
@@ -114,7 +114,7 @@ impl Waiting {
         let text = String::from_str(self.alloc, half.text)?;
         let half = Half {
             is_command: half.is_command,
-            is_in_range: half.is_in_range,
+            is_selected: half.is_selected,
             text,
         };
         self.halves.insert(id, half)?;
@@ -145,7 +145,7 @@ impl Waiting {
 fn push_open_line(lines: &mut Vec<u8>, half: &Half) -> Result<(), AllocError>
     ensures { OnOk result (lines.new.items ≡ lines.old.items ++ open_line (half_view half.now)) }
 {
-    if half.is_command && half.is_in_range {
+    if half.is_command && half.is_selected {
         lines.extend_from_slice(b"open ")?;
         lines.extend_from_slice(half.text.as_bytes())?;
         lines.extend_from_slice(b"\n")?;

@@ -2,7 +2,7 @@
 _journal() {
     local word=${COMP_WORDS[COMP_CWORD]}
     if [ "$COMP_CWORD" -eq 1 ]; then
-        mapfile -t COMPREPLY < <(compgen -W 'list dump make diff show cut cat schema help --help --version' -- "$word")
+        mapfile -t COMPREPLY < <(compgen -W 'list dump make diff show cut cat describe schema help --help --version' -- "$word")
         return
     fi
     case ${COMP_WORDS[1]} in
@@ -13,8 +13,9 @@ _journal() {
         show) _journal_show ;;
         cut) _journal_command_cut ;;
         cat) _journal_command_cat ;;
+        describe) _journal_command_describe ;;
         schema) _journal_command_schema ;;
-        help) mapfile -t COMPREPLY < <(compgen -W 'list dump make diff show cut cat schema' -- "$word") ;;
+        help) mapfile -t COMPREPLY < <(compgen -W 'list dump make diff show cut cat describe schema' -- "$word") ;;
     esac
 }
 _journal_command_list() {
@@ -55,9 +56,10 @@ _journal_show() {
     case ${COMP_WORDS[COMP_CWORD - 1]} in
         --from) mapfile -t COMPREPLY < <(compgen -W '' -- "$word") ;;
         --to) mapfile -t COMPREPLY < <(compgen -W '' -- "$word") ;;
+        --where) mapfile -t COMPREPLY < <(compgen -W '' -- "$word") ;;
         --max-message) mapfile -t COMPREPLY < <(compgen -W '' -- "$word") ;;
         --protocol) mapfile -t COMPREPLY < <(compgen -W '5 6 7 8 9' -- "$word") ;;
-        *) [[ $word != -* ]] || mapfile -t COMPREPLY < <(compgen -W '--commands --failures --open --from --to --max-message --protocol --help --version' -- "$word") ;;
+        *) [[ $word != -* ]] || mapfile -t COMPREPLY < <(compgen -W '--commands --failures --open --from --to --where --max-message --protocol --help --version' -- "$word") ;;
     esac
 }
 _journal_command_cut() {
@@ -71,6 +73,14 @@ _journal_command_cut() {
     esac
 }
 _journal_command_cat() {
+    local word=${COMP_WORDS[COMP_CWORD]}
+    case ${COMP_WORDS[COMP_CWORD - 1]} in
+        --max-message) mapfile -t COMPREPLY < <(compgen -W '' -- "$word") ;;
+        --protocol) mapfile -t COMPREPLY < <(compgen -W '5 6 7 8 9' -- "$word") ;;
+        *) [[ $word != -* ]] || mapfile -t COMPREPLY < <(compgen -W '--max-message --protocol --help --version' -- "$word") ;;
+    esac
+}
+_journal_command_describe() {
     local word=${COMP_WORDS[COMP_CWORD]}
     case ${COMP_WORDS[COMP_CWORD - 1]} in
         --max-message) mapfile -t COMPREPLY < <(compgen -W '' -- "$word") ;;
