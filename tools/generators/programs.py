@@ -2,6 +2,7 @@
 description of the programs."""
 import functools
 import pathlib
+import re
 import textwrap
 import tomllib
 
@@ -25,7 +26,7 @@ WIDTH = 80
 # The versions of the protocol that a program takes.
 VERSIONS = [str(number) for number in range(5, LAST_VERSION + 1)]
 
-KEYS = {"help", "page", "value", "values", "completed", "default", "repeated", "required"}
+KEYS = {"help", "page", "value", "values", "completed", "default", "repeated", "required", "hyphen"}
 
 
 class Argument:
@@ -44,6 +45,7 @@ class Argument:
         self.default = entry.get("default")
         self.is_repeated = entry.get("repeated", False)
         self.is_required = entry.get("required", False)
+        self.may_begin_with_hyphen = entry.get("hyphen", False)
         completed = entry.get("completed", self.values)
         # what completion offers; nothing for the name of a file
         self.completed = [message.type_name() for message in typed()] if completed == "types" else completed
@@ -68,25 +70,24 @@ class Argument:
         return "\n".join([*lines, *more])
 
     def definition(self, taken):
-        """The call that defines it for clap, next to arguments that take so many columns."""
-        help = self.help_lines(taken)
+        """It as data, next to arguments that the help shows in so many columns."""
         if not self.is_option:
-            code = call("operand", "alloc", self.name, self.value, help)
+            form = f"Form::Operand({quoted(self.value)})"
         elif self.value is None:
-            code = call("flag", "alloc", self.name, help)
+            form = "Form::Flag"
         else:
-            code = call("option", "alloc", self.name, self.value, help)
+            form = f"Form::Option({quoted(self.value)})"
+        values = "Values::Any"
         if self.values:
-            parser = f"&[{', '.join(map(quoted, self.values))}][..]"
-            code += f".value_parser({'Version::supported_numbers()' if self.has_versions else parser})"
-            code += ".hide_possible_values(true)"
-        if self.is_repeated:
-            code += ".action(ArgAction::Append)"
-        if self.default is not None:
-            code += f".default_value({quoted(self.default)}).hide_default_value(true)"
-        if self.is_required:
-            code += ".required(true)"
-        return code
+            among = f"Values::Among(&[{', '.join(map(quoted, self.values))}])"
+            values = "Values::Versions" if self.has_versions else among
+        default = "None" if self.default is None else f"Some({quoted(self.default)})"
+        return (
+            f"Argument {{ name: {quoted(self.name)}, form: {form}, help: {quoted(self.help_lines(taken))}, "
+            f"values: {values}, default: {default}, is_repeated: {str(self.is_repeated).lower()}, "
+            f"is_required: {str(self.is_required).lower()}, "
+            f"may_begin_with_hyphen: {str(self.may_begin_with_hyphen).lower()} }}"
+        )
 
     def shown_value(self, is_whole):
         """Its value as a page shows it; where it is said whole, by all that it may be."""
@@ -177,32 +178,27 @@ class Program:
             ("`--help`, `--version`", common()["page"]),
         ]
 
-    def texts(self):
-        """The calls that give its definition the texts around the arguments."""
+    def after_help(self):
+        """What the help ends with."""
         parts = [textwrap.fill(self.more, WIDTH)] if self.more else []
         parts += ["\n  ".join(["Examples:", *self.examples])] if self.examples else []
-        after = f".after_help({quoted(f'{chr(10)}{chr(10)}'.join(parts))})" if parts else ""
-        return f".version(VERSION).about({quoted(self.about)}){after}"
+        return "\n\n".join(parts)
 
-    def definition(self):
-        """The function that defines it for clap."""
-        if self.name == JOURNAL:
-            return self.definition_of_subcommands()
-        arguments = "?".join(f".arg({code})" for part in (self.options, self.operands) for code in definitions_of(part))
-        return (
-            f"/// The definition of `{self.called}`, which help and errors show by this name.\n"
-            f"pub fn {self.command}<'a>(alloc: Global, name: &'a str) -> Result<Command<'a>, AllocError> {{\n"
-            f"Command::new(alloc, name){self.texts()}{arguments}\n}}\n"
-        )
+    def arguments_as_data(self):
+        return [code for part in (self.options, self.operands) for code in definitions_of(part)]
 
-    def definition_of_subcommands(self):
-        """The function that defines the program with its subcommands."""
-        added = "?".join(f".subcommand({each.command}(alloc, {quoted(each.command)})?)" for each in subcommands())
+    @property
+    def constant(self):
+        """What its definition is called in the sources."""
+        return self.command.upper()
+
+    def definition(self, shared):
+        """Its definition as data. Arguments that other programs have too are constants."""
+        arguments = ", ".join(shared.get(code, code) for code in self.arguments_as_data())
         return (
-            f"/// The definition of `{JOURNAL}`, with its subcommands.\n"
-            f"pub fn {JOURNAL}<'a>(alloc: Global) -> Result<Command<'a>, AllocError> {{\n"
-            f"Command::new(alloc, {quoted(JOURNAL)}){self.texts()}"
-            f".subcommand_required(true).arg_required_else_help(true){added}\n}}\n"
+            f"/// The definition of `{self.called}`.\n"
+            f"pub static {self.constant}: Definition = Definition {{ version: VERSION, about: {quoted(self.about)}, "
+            f"after_help: {quoted(self.after_help())}, arguments: &[{arguments}] }};\n"
         )
 
 
@@ -212,13 +208,9 @@ def quoted(text):
 
 
 def definitions_of(arguments):
-    """The calls that define options, or operands, whose texts begin in one column."""
+    """Options, or operands, whose texts begin in one column, as data."""
     taken = max((argument.shown_width() for argument in arguments), default=0) + 4
     return [argument.definition(taken) for argument in arguments]
-
-
-def call(function, first, *texts):
-    return f"{function}({first}, {', '.join(map(quoted, texts))})"
 
 
 def heading(program):
@@ -252,19 +244,31 @@ def program(name):
     return next(each for each in programs() if each.name == name)
 
 
+def shared_arguments(own):
+    """The names of the constants for the arguments that more than one of these programs have, by their data."""
+    users = {}
+    for each in own:
+        for code in each.arguments_as_data():
+            users.setdefault(code, []).append(each)
+    names = {}
+    for code, each in users.items():
+        if len(each) > 1:
+            name = re.search('name: "(.*?)"', code)[1].upper().replace("-", "_")
+            names[code] = name if name not in names.values() else f"{name}_OF_{each[0].constant}"
+    return names
+
+
 def definitions(crate):
     """The file with the definitions of a crate's command lines."""
     own = [each for each in programs() if each.crate == crate]
-    # that with subcommands comes after them
-    code = "\n".join(each.definition() for each in sorted(own, key=lambda each: each.name == JOURNAL))
-    clap = ["ArgAction", "Command"] if "ArgAction" in code else ["Command"]
-    helpers = [name for name in ("flag", "operand", "option") if f"{name}(alloc, " in code]
+    shared = shared_arguments(own)
+    code = [f"const {name}: Argument = {code};\n" for code, name in shared.items()]
+    code += [each.definition(shared) for each in own]
     return (
         "//! The definitions of the command lines.\n\n"
-        f"use clap::{{{', '.join(clap)}}};\nuse command_line::{{{', '.join(helpers)}}};\n"
-        "use shared_core_base::version::Version;\nuse std::alloc::{AllocError, Global};\n\n"
-        f"const VERSION: &str = {quoted(library_version())};\n\n{code}"
-    ).replace("use clap::{Command};", "use clap::Command;")
+        "use command_line::{Argument, Definition, Form, Values};\n\n"
+        f"const VERSION: &str = {quoted(library_version())};\n\n{chr(10).join(code)}"
+    )
 
 
 def paths():

@@ -3,3 +3,5 @@ pub mod MaxMessage
 pub mod Pipe
 pub mod Protocol
 pub mod Colors
+pub mod Input
+pub mod Decoding

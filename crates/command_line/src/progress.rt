@@ -3,8 +3,10 @@
 //! It is counted by a reader around the input; the engines of programs know nothing of it. Two inputs of a program have
 //! one count, in a cell. No contract can speak of a cell, a clock or a terminal: the line is tested.
 
+use crate::note;
 use crate::terminal::takes_sequences;
 use std::cell::Cell;
+use std::fmt::Display;
 use std::io::{self, IsTerminal, Read};
 use std::time::Instant;
 
@@ -105,6 +107,12 @@ impl<'a> Progress<'a> {
             self.is_shown.set(false);
             let _ = eprint!(self.rt; "\r\x1b[K");
         }
+    }
+
+    /// Reports what is wrong with the input, in place of the line.
+    pub fn report<T: Display + Drop>(&self, what: T) {
+        self.clear();
+        note(self.rt, self.program, what);
     }
 }
 

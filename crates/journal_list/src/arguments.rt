@@ -80,7 +80,7 @@ fn read_words(words: &[String]) -> Option<Words>
 pub fn parse_arguments<'a>(alloc: Global, arguments: &'a [String]) -> Result<Arguments<'a>, Error>
     ensures { IfOk result (λ parsed. IsAccepted parsed.version parsed.chunk_size) }
 {
-    let mut command = definitions::list(alloc, "journal_list")?;
+    let mut command = definitions::LIST.command(alloc, "journal_list")?;
     let matches = command.try_get_matches_from_mut(arguments)?;
     let mut words = Vec::new(alloc);
     for id in ["file", "bytes", "v9"] {
