@@ -6,7 +6,8 @@
     protobuf_dumps.py --random SEED COUNT PROGRAM [WORD..]
         COUNT random payloads of each message type in one stream, dumped by the program and printed by protobuf
     protobuf_dumps.py --other PROTO SEED COUNT PROGRAM [WORD..]
-        the same by the messages of another .proto file, of whose payloads the program prints the canonical ones
+        the same by the messages of another .proto file, of whose payloads the program prints the canonical ones; its
+        subcommand make makes the dump again
 
 It needs protoc and python3's protobuf (Debian's protobuf-compiler and python3-protobuf). Nothing of this project's own
 code takes part: payloads are those of conformance/records.txt, which protoc made, and what protobuf makes of random
@@ -276,6 +277,12 @@ def dump_random(stream, seed, count, command):
     if run.returncode != 0 or len(lines) != len(stream.lines) or run.stderr.decode() != told:
         failed += 1
         print(f"failed: status {run.returncode}, {len(lines)} lines, standard error: {run.stderr.decode()}")
+    if not stream.reads_all:
+        made = subprocess.run([command[0], "make", *command[2:]], input=run.stdout, capture_output=True, check=False)
+        is_again = made.returncode == 0 and made.stdout == given
+        passed, failed = passed + is_again, failed + (not is_again)
+        if not is_again:
+            print(f"failed: made again: status {made.returncode}, standard error: {made.stderr.decode()}")
     print(f"{passed} passed, {failed} failed")
     return 1 if failed else 0
 

@@ -48,6 +48,8 @@ pub enum DescriptorError {
     UnknownMessage(Place, String),
     /// No table may have a field.
     InvalidField(Place, TableFault),
+    /// A key in JSON is a name of two fields of a message.
+    SharedName(Place),
     OutOfMemory,
 }
 
@@ -76,6 +78,10 @@ impl fmt::Display for DescriptorError {
                 "{place}: the set has no message {name}; --include_imports adds what a file imports",
             ),
             DescriptorError::InvalidField(place, fault) => write!(f, "{place}: {fault}"),
+            DescriptorError::SharedName(place) => write!(
+                f,
+                "{place}: a key in JSON is a name of two fields"
+            ),
             DescriptorError::OutOfMemory => write!(f, "out of memory"),
         }
     }

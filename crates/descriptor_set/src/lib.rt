@@ -15,4 +15,4 @@ pub use error::{DescriptorError, Place};
 pub use field::{FieldDescriptor, FieldKind, Presence};
 pub use read::{MOST_BYTES, MOST_FIELDS, MOST_NAME_BYTES, read_set};
 pub use set::{DescriptorSet, EnumDescriptor, EnumValue, MessageDescriptor};
-pub use table::{NoForm, PassedOver, named_table_of, passed_over, table_of};
+pub use table::{NoForm, PassedOver, named_table_of, passed_over, readable_table_of, table_of};

@@ -10,6 +10,7 @@ use shared_core_codec::rows::{Field, Kind};
 use shared_core_codec::table_error::{TableError, TableFault};
 use shared_core_json::loaded_names::LoadedName;
 use shared_core_json::named_table::NamedTable;
+use shared_core_json_reader::{ReadableError, ReadableTable, readable_table};
 use std::alloc::{AllocError, Global};
 
 /// Why a table has no row for a field.
@@ -201,14 +202,19 @@ fn named(
     Ok(DescriptorError::InvalidField(place, error.fault))
 }
 
-/// The table of the messages of a set, whose index of a schema is the index of its message. A field for which the
-/// engine has no form is passed over. Errors: `UnknownMessage`, `InvalidField`, `OutOfMemory`.
-pub fn table_of(alloc: Global, set: &DescriptorSet) -> Result<LoadedSchemas, DescriptorError> {
+/// The rows of each message of a set.
+fn all_rows_of(alloc: Global, set: &DescriptorSet) -> Result<Vec<Vec<LoadedRow>>, DescriptorError> {
     let mut schemas = Vec::new(alloc);
     for message in &set.messages {
         schemas.push(rows_of(alloc, set, message)?)?;
     }
-    match LoadedSchemas::new(schemas) {
+    Ok(schemas)
+}
+
+/// The table of the messages of a set, whose index of a schema is the index of its message. A field for which the
+/// engine has no form is passed over. Errors: `UnknownMessage`, `InvalidField`, `OutOfMemory`.
+pub fn table_of(alloc: Global, set: &DescriptorSet) -> Result<LoadedSchemas, DescriptorError> {
+    match LoadedSchemas::new(all_rows_of(alloc, set)?) {
         Ok(loaded) => Ok(loaded),
         Err(error) => Err(named(alloc, set, &error)?),
     }
@@ -248,6 +254,27 @@ pub fn named_table_of(
             };
             Err(named(alloc, set, &error)?)
         }
+    }
+}
+
+/// `table_of`, with the names by which JSON is read. Another error: `SharedName`, of the first message in which two
+/// fields have one name in JSON.
+pub fn readable_table_of(
+    alloc: Global,
+    set: &DescriptorSet,
+) -> Result<ReadableTable<LoadedSchemas>, DescriptorError> {
+    match readable_table(alloc, all_rows_of(alloc, set)?, names_of(alloc, set)?) {
+        Ok(readable) => Ok(readable),
+        Err(ReadableError::Field(error)) => Err(named(alloc, set, &error)?),
+        Err(ReadableError::Names(schema)) => {
+            // a number that two fields share says more
+            table_of(alloc, set)?;
+            match set.messages.get(schema) {
+                Some(message) => Err(DescriptorError::SharedName(place_of(alloc, set, message)?)),
+                None => Err(DescriptorError::OutOfMemory),
+            }
+        }
+        Err(ReadableError::OutOfMemory) => Err(DescriptorError::OutOfMemory),
     }
 }
 

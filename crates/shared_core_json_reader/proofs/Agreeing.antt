@@ -20,8 +20,6 @@ use Rattle.shared_core_wire.specs.Canonical.{packed_values, row_records, part_va
 use Rattle.shared_core_wire.specs.Canonical.{canonical_payload}
 use Rattle.shared_core_wire.proofs.ReadBack.{includes-append, distinct_back, or_split}
 use Rattle.shared_core_wire.proofs.Runs.{and_split}
-use Rattle.shared_core_codec.specs.Table.{table}
-use Rattle.shared_core_codec.proofs.Tables.{are_schemas}
 use Rattle.shared_core_json_reader.specs.Rows.{NamedField, NamedRow, Plain, Optional, Repeated, OneOf, named_field}
 use Rattle.shared_core_json_reader.specs.Rows.{named_row, named_rows}
 use Rattle.shared_core_json_reader.specs.Scalars.{unsigned_read, boolean_read, enum_read, text_read, bytes_read}
@@ -33,14 +31,17 @@ use Rattle.shared_core_json_reader.specs.Appended.{both, single_bytes, field_byt
 use Rattle.shared_core_json_reader.specs.Appended.{items_bytes, run_bytes, array_bytes, list_bytes, member_bytes}
 use Rattle.shared_core_json_reader.specs.Appended.{held_after, oneof_bytes, given_bytes, row_bytes, rows_bytes}
 use Rattle.shared_core_json_reader.specs.Appended.{members_bytes, object_bytes, message_bytes}
+use Rattle.shared_core_json_reader.proofs.FormatRows.{schemas_of}
+use Rattle.shared_core_json_reader.specs.Readable.{IsReadable}
+use Rattle.shared_core_json_reader.specs.Rows.{Format}
 
 -- the records of a field that has these values
 abbrev pub out_of : ℕ → List RecordValue → List ℕ
 out_of n ws = record_list_bytes (map (λ w. record { number = n; value = w }) ws)
 
 -- those of a plain field without its default
-abbrev pub single_out : Bool → ℕ → Kind → Part → List ℕ
-single_out plain n k p = out_of n (cond (plain && is_default p) [] (part_values table p k))
+abbrev pub single_out : (format : Format) → Bool → ℕ → Kind → Part → List ℕ
+single_out format plain n k p = out_of n (cond (plain && is_default p) [] (part_values format.table p k))
 
 varint_out : (b : Bool) (n value : ℕ) → cond b [] (key_bytes n 0 ++ shortest_varint value) ≡ out_of n
     (cond b [] (Varint value ∷ []))
@@ -99,11 +100,13 @@ abbrev pub RowsKnow : List NamedRow → Type 0
 RowsKnow [] = Unit {0}
 RowsKnow (row ∷ rows) = RowKnows row × RowsKnow rows
 
-module _ (nested_r : ℕ → Json → Option Parts) (nested_b : ℕ → Json → Option (List ℕ))
-    (same : (s : ℕ) (j : Json) → nested_b s j ≡ option_map (canonical_payload table s) (nested_r s j)) where
+module _ (format : Format) (nested_r : ℕ → Json → Option Parts) (nested_b : ℕ → Json → Option (List ℕ))
+    (same : (s : ℕ) (j : Json) → nested_b s j ≡ option_map (canonical_payload format.table s) (nested_r s j)) where
   numbers_same : (plain : Bool) (n : ℕ) (k : Kind) (written : ℕ → ℕ) (o : Option ℕ) →
-      ((m : ℕ) → part_values table (Number m) k ≡ Varint (written m) ∷ []) → ((m : ℕ) → eqb (written m) 0 ≡ eqb m 0)
-      → option_map (λ m. number_record plain n (written m)) o ≡ option_map (single_out plain n k) (option_map Number o)
+      ((m : ℕ) → part_values format.table (Number m) k ≡ Varint (written m) ∷ [])
+      → ((m : ℕ) → eqb (written m) 0 ≡ eqb m 0)
+      → option_map (λ m. number_record plain n (written m)) o
+      ≡ option_map (single_out format plain n k) (option_map Number o)
   numbers_same plain n k written None is zeros = refl
   numbers_same plain n k written (Some m) is zeros =
       ap (λ (xs : List ℕ). Some xs)
@@ -112,24 +115,25 @@ module _ (nested_r : ℕ → Json → Option Parts) (nested_b : ℕ → Json →
       ∙ ap (λ (ws : List RecordValue). out_of n (cond (plain && eqb m 0) [] ws)) (sym (is m)))
 
   bytes_same : (plain : Bool) (n : ℕ) (k : Kind) (o : Option (List ℕ)) →
-      ((b : List ℕ) → part_values table (Bytes b) k ≡ Length b ∷ [])
-      → option_map (content_record plain n) o ≡ option_map (single_out plain n k) (option_map Bytes o)
+      ((b : List ℕ) → part_values format.table (Bytes b) k ≡ Length b ∷ [])
+      → option_map (content_record plain n) o ≡ option_map (single_out format plain n k) (option_map Bytes o)
   bytes_same plain n k None is = refl
   bytes_same plain n k (Some b) is =
       ap (λ (xs : List ℕ). Some xs) (length_out (plain && eqb (length b) 0) n b ∙ ap
       (λ (ws : List RecordValue). out_of n (cond (plain && eqb (length b) 0) [] ws)) (sym (is b)))
 
   message_same : (plain : Bool) (n s : ℕ) (o : Option Parts) → option_map (content_record false n)
-      (option_map (canonical_payload table s) o) ≡ option_map (single_out plain n (Message s)) (option_map Nested o)
+      (option_map (canonical_payload format.table s) o)
+      ≡ option_map (single_out format plain n (Message s)) (option_map Nested o)
   unfolding part_values
   message_same plain n s None = refl
   message_same plain n s (Some ps) =
       ap (λ (xs : List ℕ). Some xs)
-      (length_out false n (canonical_payload table s ps) ∙ ap
-      (λ (b : Bool). out_of n (cond b [] (Length (canonical_payload table s ps) ∷ []))) (sym (no_default plain)))
+      (length_out false n (canonical_payload format.table s ps) ∙ ap
+      (λ (b : Bool). out_of n (cond b [] (Length (canonical_payload format.table s ps) ∷ []))) (sym (no_default plain)))
 
   single_same : (plain : Bool) (n : ℕ) (k : Kind) (values : List (List ℕ × ℕ)) (j : Json) → single_bytes nested_b plain
-      n k values j ≡ option_map (single_out plain n k) (single_read nested_r k values j)
+      n k values j ≡ option_map (single_out format plain n k) (single_read nested_r k values j)
   unfolding part_values
   single_same plain n U32 values j = numbers_same plain n U32 (λ m. m) (unsigned_read 4294967296 j) (λ m. refl)
       (λ m. refl)
@@ -145,7 +149,7 @@ module _ (nested_r : ℕ → Json → Option Parts) (nested_b : ℕ → Json →
       (nested_r s j)
 
   field_same : (plain : Bool) (f : NamedField) (j : Json) → field_bytes nested_b plain f j ≡ option_map
-      (single_out plain f.number f.kind) (field_read nested_r f j)
+      (single_out format plain f.number f.kind) (field_read nested_r f j)
   field_same plain f j = single_same plain f.number f.kind f.values j
 
   -- if both lists exist, each does
@@ -164,18 +168,19 @@ module _ (nested_r : ℕ → Json → Option Parts) (nested_b : ℕ → Json →
       (sym (map-append (λ w. record { number = n; value = w }) us ws))
 
   items_same : (f : NamedField) (js : Items) → items_bytes nested_b f js ≡ option_map
-      (λ ps. out_of f.number (element_values table ps f.kind)) (elements_read nested_r f js)
+      (λ ps. out_of f.number (element_values format.table ps f.kind)) (elements_read nested_r f js)
   unfolding part_values
   items_same f no_items = refl
   items_same f (item j js) =
       ap₂ both (field_same false f j) (items_same f js)
-      ∙ both_same (single_out false f.number f.kind) (λ ps. out_of f.number (element_values table ps f.kind))
-      (λ ps. out_of f.number (element_values table ps f.kind)) cons
+      ∙ both_same (single_out format false f.number f.kind)
+      (λ ps. out_of f.number (element_values format.table ps f.kind))
+      (λ ps. out_of f.number (element_values format.table ps f.kind)) cons
       (field_read nested_r f j) (elements_read nested_r f js)
-      (λ p ps. out_append f.number (part_values table p f.kind) (element_values table ps f.kind))
+      (λ p ps. out_append f.number (part_values format.table p f.kind) (element_values format.table ps f.kind))
 
   abbrev run_part : Part → List ℕ
-  run_part p = flat_map number_bytes (part_values table p U32)
+  run_part p = flat_map number_bytes (part_values format.table p U32)
 
   run_number : (o : Option ℕ) → option_map shortest_varint o ≡ option_map run_part (option_map Number o)
   unfolding part_values
@@ -183,23 +188,23 @@ module _ (nested_r : ℕ → Json → Option Parts) (nested_b : ℕ → Json →
   run_number (Some m) = ap (λ (xs : List ℕ). Some xs) (sym (append-nil (shortest_varint m)))
 
   run_same : (n : ℕ) (name : List ℕ) (values : List (List ℕ × ℕ)) (js : Items)
-      → run_bytes js ≡ option_map (λ ps. flat_map number_bytes (element_values table ps U32))
+      → run_bytes js ≡ option_map (λ ps. flat_map number_bytes (element_values format.table ps U32))
       (elements_read nested_r (record { number = n; name = name; kind = U32; values = values }) js)
   unfolding part_values
   run_same n name values no_items = refl
   run_same n name values (item j js) =
       ap₂ both (run_number (unsigned_read 4294967296 j)) (run_same n name values js)
-      ∙ both_same run_part (λ ps. flat_map number_bytes (element_values table ps U32))
-      (λ ps. flat_map number_bytes (element_values table ps U32)) cons
+      ∙ both_same run_part (λ ps. flat_map number_bytes (element_values format.table ps U32))
+      (λ ps. flat_map number_bytes (element_values format.table ps U32)) cons
       (option_map Number (unsigned_read 4294967296 j)) (elements_read nested_r
       (record { number = n; name = name; kind = U32; values = values }) js)
-      (λ p ps. sym (flat_map-append number_bytes (part_values table p U32) (element_values table ps U32)))
+      (λ p ps. sym (flat_map-append number_bytes (part_values format.table p U32) (element_values format.table ps U32)))
 
   -- a packed run is there exactly if it has elements
   run_out : (n : ℕ) (name : List ℕ) (values : List (List ℕ × ℕ)) (js : Items) (ps : Parts) → elements_read nested_r
       (record { number = n; name = name; kind = U32; values = values }) js ≡ Some ps
-      → content_record true n (flat_map number_bytes (element_values table ps U32)) ≡ out_of n
-      (packed_values U32 (element_values table ps U32))
+      → content_record true n (flat_map number_bytes (element_values format.table ps U32)) ≡ out_of n
+      (packed_values U32 (element_values format.table ps U32))
   unfolding part_values
   run_out n name values no_items ps e = let q : nil ≡ ps = cc in rw (← q) refl
   run_out n name values (item j js) ps e = by_first (unsigned_read 4294967296 j)
@@ -207,19 +212,19 @@ module _ (nested_r : ℕ → Json → Option Parts) (nested_b : ℕ → Json →
     where
       by_first : (o : Option ℕ) (rest : Option Parts) → option_and_then (λ p. option_map (cons p) rest)
           (option_map Number o) ≡ Some ps
-          → content_record true n (flat_map number_bytes (element_values table ps U32)) ≡ out_of n
-          (packed_values U32 (element_values table ps U32))
+          → content_record true n (flat_map number_bytes (element_values format.table ps U32)) ≡ out_of n
+          (packed_values U32 (element_values format.table ps U32))
       by_first None rest h = absurd cc
       by_first (Some m) None h = absurd cc
       by_first (Some m) (Some qs) h =
           let q : cons (Number m) qs ≡ ps = cc in
-          let run = shortest_varint m ++ flat_map number_bytes (element_values table qs U32) in
+          let run = shortest_varint m ++ flat_map number_bytes (element_values format.table qs U32) in
           let there : eqb (length run) 0 ≡ false = ne_eqb (length run) 0
           (λ z. omega (
             arith,
             varint_there m,
             length-append (shortest_varint m)
-                (flat_map number_bytes (element_values table qs U32)),
+                (flat_map number_bytes (element_values format.table qs U32)),
           )) in
           rw (← q) (ap (λ (b : Bool). cond b [] (key_bytes n 2 ++ (shortest_varint (length run) ++ run))) there ∙
           length_out false n run)
@@ -235,7 +240,7 @@ module _ (nested_r : ℕ → Json → Option Parts) (nested_b : ℕ → Json →
   map_map F G (Some x) = refl
 
   abbrev list_out : ℕ → Kind → Part → List ℕ
-  list_out n k p = out_of n (packed_values k (part_values table p k))
+  list_out n k p = out_of n (packed_values k (part_values format.table p k))
 
   array_same : (n : ℕ) (name : List ℕ) (k : Kind) (values : List (List ℕ × ℕ)) (js : Items) → let f : NamedField =
       record { number = n; name = name; kind = k; values = values } in
@@ -244,7 +249,7 @@ module _ (nested_r : ℕ → Json → Option Parts) (nested_b : ℕ → Json →
   array_same n name U32 values js =
       let f : NamedField = record { number = n; name = name; kind = U32; values = values } in
       ap (option_map (content_record true n)) (run_same n name values js) ∙ map_map (content_record true n)
-      (λ ps. flat_map number_bytes (element_values table ps U32)) (elements_read nested_r f js)
+      (λ ps. flat_map number_bytes (element_values format.table ps U32)) (elements_read nested_r f js)
       ∙ map_some _ (λ ps. list_out n U32 (Elements ps)) (elements_read nested_r f js) (run_out n name values js) ∙ sym
       (map_map (list_out n U32) Elements (elements_read nested_r f js))
   array_same n name U64 values js = let f : NamedField = record { number = n; name = name; kind = U64; values = values }
@@ -282,7 +287,7 @@ module _ (nested_r : ℕ → Json → Option Parts) (nested_b : ℕ → Json →
   given_same read_b read_r empty F (Some None) a e = ap (λ (xs : List ℕ). Some xs) (sym a)
   given_same read_b read_r empty F (Some (Some j)) a e = e j
 
-  default_out : (n : ℕ) (k : Kind) → single_out true n k (default_of k) ≡ []
+  default_out : (n : ℕ) (k : Kind) → single_out format true n k (default_of k) ≡ []
   unfolding part_values
   default_out n U32 = refl
   default_out n U64 = refl
@@ -332,7 +337,7 @@ module _ (nested_r : ℕ → Json → Option Parts) (nested_b : ℕ → Json →
   both_nothing (Some xs) = refl
 
   abbrev oneof_out : List (ℕ × Kind) → Part → List ℕ
-  oneof_out members p = out_of (member_number p) (part_values table p (member_kind members (member_number p)))
+  oneof_out members p = out_of (member_number p) (part_values format.table p (member_kind members (member_number p)))
 
   oneof_same : (ms : Members) (members : List (ℕ × Kind)) (fs : List NamedField) → Knows members fs → oneof_bytes
       nested_b ms false fs ≡ option_map (oneof_out members) (oneof_read nested_r ms Absent fs)
@@ -341,17 +346,17 @@ module _ (nested_r : ℕ → Json → Option Parts) (nested_b : ℕ → Json →
   oneof_same ms members (f ∷ fs) k = by_given (given f ms) (oneof_same ms members fs k.2)
     where
       by_rest : (p : Part) → both_or_none ms f.number p fs
-          → both (Some (single_out false f.number f.kind p)) (oneof_bytes nested_b ms true fs) ≡ option_map
+          → both (Some (single_out format false f.number f.kind p)) (oneof_bytes nested_b ms true fs) ≡ option_map
           (oneof_out members) (oneof_read nested_r ms (Member f.number p) fs)
-      by_rest p (inl h) = ap (both (Some (single_out false f.number f.kind p))) h.0 ∙ sym
+      by_rest p (inl h) = ap (both (Some (single_out format false f.number f.kind p))) h.0 ∙ sym
           (ap (option_map (oneof_out members)) h.1)
       by_rest p (inr h) =
-          ap (both (Some (single_out false f.number f.kind p))) h.0
-          ∙ ap (λ (xs : List ℕ). Some xs) (append-nil (single_out false f.number f.kind p) ∙ ap
-          (λ (x : Kind). out_of f.number (part_values table p x)) (sym k.0))
+          ap (both (Some (single_out format false f.number f.kind p))) h.0
+          ∙ ap (λ (xs : List ℕ). Some xs) (append-nil (single_out format false f.number f.kind p) ∙ ap
+          (λ (x : Kind). out_of f.number (part_values format.table p x)) (sym k.0))
           ∙ sym (ap (option_map (oneof_out members)) h.1)
 
-      by_part : (o : Option Part) → both (option_map (single_out false f.number f.kind) o)
+      by_part : (o : Option Part) → both (option_map (single_out format false f.number f.kind) o)
           (oneof_bytes nested_b ms true fs)
           ≡ option_map (oneof_out members) (option_and_then (λ now. oneof_read nested_r ms now fs)
           (option_map (Member f.number) o))
@@ -372,21 +377,22 @@ module _ (nested_r : ℕ → Json → Option Parts) (nested_b : ℕ → Json →
   -- ---- rows
 
   abbrev row_out : NamedRow → Part → List ℕ
-  row_out row p = record_list_bytes (row_records (plain_row row) p (part_values table p (kind_of (plain_row row) p)))
+  row_out row p = record_list_bytes (row_records (plain_row row) p
+      (part_values format.table p (kind_of (plain_row row) p)))
 
   row_same : (ms : Members) (row : NamedRow) → RowKnows row → row_bytes nested_b ms row ≡ option_map (row_out row)
       (row_read nested_r ms row)
   unfolding part_values
   row_same ms (Plain f) k = given_same (field_bytes nested_b true f) (field_read nested_r f) (default_of f.kind)
-      (single_out true f.number f.kind) (given f ms) (default_out f.number f.kind) (field_same true f)
+      (single_out format true f.number f.kind) (given f ms) (default_out f.number f.kind) (field_same true f)
   row_same ms (Optional f) k = given_same (field_bytes nested_b false f) (field_read nested_r f) Absent
-      (single_out false f.number f.kind) (given f ms) refl (field_same false f)
+      (single_out format false f.number f.kind) (given f ms) refl (field_same false f)
   row_same ms (Repeated f) k = given_same (list_bytes nested_b f) (list_read nested_r f) (Elements nil)
       (list_out f.number f.kind) (given f ms) (empty_list f.number f.kind) (list_same f)
   row_same ms (OneOf fs) k = oneof_same ms (map (λ f. (f.number, f.kind)) fs) fs k
 
   abbrev rows_out : List NamedRow → Parts → List ℕ
-  rows_out rows ps = record_list_bytes (message_records table ps (map plain_row rows))
+  rows_out rows ps = record_list_bytes (message_records format.table ps (map plain_row rows))
 
   rows_same : (ms : Members) (rows : List NamedRow) → RowsKnow rows → rows_bytes nested_b ms rows ≡ option_map
       (rows_out rows) (rows_read nested_r ms rows)
@@ -397,7 +403,7 @@ module _ (nested_r : ℕ → Json → Option Parts) (nested_b : ℕ → Json →
       ∙ both_same (row_out row) (rows_out rows) (rows_out (row ∷ rows)) cons (row_read nested_r ms row)
       (rows_read nested_r ms rows)
       (λ p ps. sym (flat_map-append record_bytes (row_records (plain_row row) p
-      (part_values table p (kind_of (plain_row row) p))) (message_records table ps (map plain_row rows))))
+      (part_values format.table p (kind_of (plain_row row) p))) (message_records format.table ps (map plain_row rows))))
 
   members_same : (rows : List NamedRow) (ms : Members) → RowsKnow rows → members_bytes nested_b rows ms ≡ option_map
       (rows_out rows) (members_read nested_r rows ms)
@@ -419,20 +425,21 @@ module _ (nested_r : ℕ → Json → Option Parts) (nested_b : ℕ → Json →
 
 -- ---- the rows of the schemas
 
-plain_members : (s : ℕ) (members : List (ℕ × Kind)) → map (λ f. (f.number, f.kind))
-    (map (λ m. named_field s m.0 m.1) members) ≡ members
-plain_members s [] = refl
-plain_members s (m ∷ members) = ap (λ (ms : List (ℕ × Kind)). m ∷ ms) (plain_members s members)
+plain_members : (format : Format) (s : ℕ) (members : List (ℕ × Kind)) → map (λ f. (f.number, f.kind))
+    (map (λ m. named_field format s m.0 m.1) members) ≡ members
+plain_members format s [] = refl
+plain_members format s (m ∷ members) = ap (λ (ms : List (ℕ × Kind)). m ∷ ms) (plain_members format s members)
 
-plain_named : (s : ℕ) (row : Row) → plain_row (named_row s row) ≡ row
-plain_named s (schema.Plain n k) = refl
-plain_named s (schema.Optional n k) = refl
-plain_named s (schema.Repeated n k) = refl
-plain_named s (schema.OneOf members) = ap schema.OneOf (plain_members s members)
+plain_named : (format : Format) (s : ℕ) (row : Row) → plain_row (named_row format s row) ≡ row
+plain_named format s (schema.Plain n k) = refl
+plain_named format s (schema.Optional n k) = refl
+plain_named format s (schema.Repeated n k) = refl
+plain_named format s (schema.OneOf members) = ap schema.OneOf (plain_members format s members)
 
-pub plain_rows : (s : ℕ) (rows : List Row) → map plain_row (map (named_row s) rows) ≡ rows
-plain_rows s [] = refl
-plain_rows s (row ∷ rows) = ap₂ (λ (r : Row) (rs : List Row). r ∷ rs) (plain_named s row) (plain_rows s rows)
+pub plain_rows : (format : Format) (s : ℕ) (rows : List Row) → map plain_row (map (named_row format s) rows) ≡ rows
+plain_rows format s [] = refl
+plain_rows format s (row ∷ rows) = ap₂ (λ (r : Row) (rs : List Row). r ∷ rs) (plain_named format s row)
+    (plain_rows format s rows)
 
 not_false : (b : Bool) → not b ≡ true → b ≡ false
 not_false true e = absurd cc
@@ -450,56 +457,62 @@ distinct_front (x ∷ xs) ys d =
 other_way : (a b : ℕ) → eqb a b ≡ false → eqb b a ≡ false
 other_way a b e = ne_eqb b a (λ q. eqb-false a b e (sym q))
 
-knows_more : (s : ℕ) (m : ℕ × Kind) (members : List (ℕ × Kind)) (others : List (ℕ × Kind)) → includes
+knows_more : (format : Format) (s : ℕ) (m : ℕ × Kind) (members : List (ℕ × Kind)) (others : List (ℕ × Kind)) → includes
     (map (λ o. o.0) others) m.0 ≡ false
-    → Knows members (map (λ o. named_field s o.0 o.1) others) → Knows (m ∷ members)
-    (map (λ o. named_field s o.0 o.1) others)
-knows_more s m members [] h k = tt
-knows_more s m members (o ∷ others) h k =
+    → Knows members (map (λ o. named_field format s o.0 o.1) others) → Knows (m ∷ members)
+    (map (λ o. named_field format s o.0 o.1) others)
+knows_more format s m members [] h k = tt
+knows_more format s m members (o ∷ others) h k =
     let e = or_split _ _ h in
     let first = other_way m.0 o.0 e.0 in (
       ap (λ (b : Bool). cond b m.1 (member_kind members o.0)) first ∙ k.0,
       ap
           (λ (b : Bool). b || includes (map (λ o. o.0) members) o.0) first ∙ k.1,
-      knows_more s m members others e.1 k.2,
+      knows_more format s m members others e.1 k.2,
     )
 
-knows_members : (s : ℕ) (members : List (ℕ × Kind)) → are_distinct (map (λ m. m.0) members) ≡ true → Knows members
-    (map (λ m. named_field s m.0 m.1) members)
-knows_members s [] d = tt
-knows_members s (m ∷ members) d =
+knows_members : (format : Format) (s : ℕ) (members : List (ℕ × Kind)) → are_distinct (map (λ m. m.0) members) ≡ true
+    → Knows members
+    (map (λ m. named_field format s m.0 m.1) members)
+knows_members format s [] d = tt
+knows_members format s (m ∷ members) d =
     let e = and_split _ _ d in
     let own = eq-eqb m.0 m.0 refl in (
       ap (λ (b : Bool). cond b m.1 (member_kind members m.0)) own,
       ap
           (λ (b : Bool). b || includes (map (λ o. o.0) members) m.0) own,
-      knows_more s m members members (not_false _ e.0)
-          (knows_members s members e.1),
+      knows_more format s m members members (not_false _ e.0)
+          (knows_members format s members e.1),
     )
 
-row_knows : (s : ℕ) (row : Row) → are_distinct (numbers row) ≡ true → RowKnows (named_row s row)
-row_knows s (schema.Plain n k) d = tt
-row_knows s (schema.Optional n k) d = tt
-row_knows s (schema.Repeated n k) d = tt
-row_knows s (schema.OneOf members) d = subst (λ (ms : List (ℕ × Kind)). Knows ms
-    (map (λ m. named_field s m.0 m.1) members)) (sym (plain_members s members)) (knows_members s members d)
+row_knows : (format : Format) (s : ℕ) (row : Row) → are_distinct (numbers row) ≡ true
+    → RowKnows (named_row format s row)
+row_knows format s (schema.Plain n k) d = tt
+row_knows format s (schema.Optional n k) d = tt
+row_knows format s (schema.Repeated n k) d = tt
+row_knows format s (schema.OneOf members) d = subst (λ (ms : List (ℕ × Kind)). Knows ms
+    (map (λ m. named_field format s m.0 m.1) members)) (sym (plain_members format s members))
+    (knows_members format s members d)
 
-pub rows_know : (s : ℕ) (rows : List Row) → are_distinct (all_numbers rows) ≡ true → RowsKnow (map (named_row s) rows)
-rows_know s [] d = tt
-rows_know s (row ∷ rows) d = (
-  row_knows s row (distinct_front (numbers row) (all_numbers rows) d),
-  rows_know s rows
+pub rows_know : (format : Format) (s : ℕ) (rows : List Row) → are_distinct (all_numbers rows) ≡ true
+    → RowsKnow (map (named_row format s) rows)
+rows_know format s [] d = tt
+rows_know format s (row ∷ rows) d = (
+  row_knows format s row (distinct_front (numbers row) (all_numbers rows) d),
+  rows_know format s rows
       (distinct_back (numbers row) (all_numbers rows) d),
 )
 
 -- ---- messages
 
-pub message_agrees : (levels s : ℕ) (j : Json) → message_bytes levels s j ≡ option_map (canonical_payload table s)
-    (message_read levels s j)
+pub message_agrees : (format : Format) (law : IsReadable format) (levels s : ℕ) (j : Json)
+    → message_bytes format levels s j ≡ option_map (canonical_payload format.table s)
+    (message_read format levels s j)
 unfolding message_bytes message_read named_rows
-message_agrees zero s j = refl
-message_agrees (suc levels) s j =
-    object_same (message_read levels) (message_bytes levels) (message_agrees levels) (named_rows s) j
-    (rows_know s (table s) (and_split _ _ (are_schemas s)).1)
-    ∙ ap (λ (rows : List Row). option_map (λ ps. record_list_bytes (message_records table ps rows))
-    (object_read (message_read levels) (named_rows s) j)) (plain_rows s (table s))
+message_agrees format law zero s j = refl
+message_agrees format law (suc levels) s j =
+    object_same format (message_read format levels) (message_bytes format levels) (message_agrees format law levels)
+    (named_rows format s) j
+    (rows_know format s (format.table s) (and_split _ _ (schemas_of format law s)).1)
+    ∙ ap (λ (rows : List Row). option_map (λ ps. record_list_bytes (message_records format.table ps rows))
+    (object_read (message_read format levels) (named_rows format s) j)) (plain_rows format s (format.table s))

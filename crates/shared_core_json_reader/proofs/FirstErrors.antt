@@ -15,21 +15,24 @@ use Rattle.shared_core_json_reader.specs.FirstError.{Step, Member, Element, Path
 use Rattle.shared_core_json_reader.specs.FirstError.{given_error, member_error, holds_after, oneof_error, object_error}
 use Rattle.shared_core_json_reader.specs.FirstError.{message_error, offset_of, IsPlace, step_view, trail_view}
 use Rattle.shared_core_json_reader.specs.FirstError.{step_text, path_text}
+use Rattle.shared_core_json_reader.specs.Rows.{Format}
 
-pub no_level_error : (levels : ℕ) (s : ℕ) (j : Json) (trail : List program.Step) → levels ≡ 0 → trail ≡ [] →
-    message_error levels s j ≡ Some (TooDeep, trail_view trail)
+pub no_level_error : (format : Format) (levels : ℕ) (s : ℕ) (j : Json) (trail : List program.Step) → levels ≡ 0 → trail
+    ≡ [] →
+    message_error format levels s j ≡ Some (TooDeep, trail_view trail)
 unfolding message_error
-no_level_error levels s j trail e t = rw e (ap (λ (steps : List program.Step). Some (TooDeep, trail_view steps))
+no_level_error format levels s j trail e t = rw e (ap (λ (steps : List program.Step). Some (TooDeep, trail_view steps))
     (sym t))
 
 less_one : (n : ℕ) → suc n - 1 ≡ n
 less_one n = omega arith
 
-pub at_level_error : (levels s : ℕ) (j : Json) → 0 < levels → object_error (message_error (levels - 1)) (named_rows s) j
-    ≡ message_error levels s j
+pub at_level_error : (format : Format) (levels s : ℕ) (j : Json) → 0 < levels
+    → object_error (message_error format (levels - 1)) (named_rows format s) j
+    ≡ message_error format levels s j
 unfolding message_error
-at_level_error zero s j h = absurd (omega arith)
-at_level_error (suc left) s j h = rw (less_one left) refl
+at_level_error format zero s j h = absurd (omega arith)
+at_level_error format (suc left) s j h = rw (less_one left) refl
 
 -- one more step is noted
 pub trail_more : (steps : List program.Step) (step : program.Step) → trail_view (steps ++ step ∷ []) ≡ step_view step ∷
@@ -89,29 +92,34 @@ one_error nested ms f fs j g =
     ap (λ (o : Option (Option Json)). option_or (given_error (member_error nested false f) f o)
     (oneof_error nested ms (holds_after false o) fs)) g
 
-pub oneof_error_turn : (nested : ℕ → Json → Option PathError) (ms : Members) (s : ℕ) (xs : List Field) (i : ℕ)
+pub oneof_error_turn : (format : Format) (nested : ℕ → Json → Option PathError) (ms : Members) (s : ℕ) (xs : List Field)
+    (i : ℕ)
     (x : Field) (j : Json) (held : Bool) (all : Option PathError) → drop i xs ≡ x ∷ drop (i + 1) xs → given
-    (in_schema s x) ms ≡ Some (Some j) → held ≡ false → field_error nested (in_schema s x) j ≡ None → oneof_error nested
-    ms held (named_members s (drop i xs)) ≡ all → oneof_error nested ms true (named_members s (drop (i + 1) xs)) ≡ all
-oneof_error_turn nested ms s xs i x j held all next found none ok h =
-    let rest = named_members s (drop (i + 1) xs) in
-    let f = in_schema s x in
+    (in_schema format s x) ms ≡ Some (Some j) → held ≡ false → field_error nested (in_schema format s x) j ≡ None
+    → oneof_error nested
+    ms held (named_members format s (drop i xs)) ≡ all
+    → oneof_error nested ms true (named_members format s (drop (i + 1) xs)) ≡ all
+oneof_error_turn format nested ms s xs i x j held all next found none ok h =
+    let rest = named_members format s (drop (i + 1) xs) in
+    let f = in_schema format s x in
     sym (ap (λ (o : Option PathError). option_or (within (Member f.name) o) (oneof_error nested ms true rest)) ok)
     ∙ sym (one_error nested ms f rest j found)
-    ∙ sym (ap (λ (ys : List Field). oneof_error nested ms false (named_members s ys)) next)
-    ∙ sym (ap (λ (b : Bool). oneof_error nested ms b (named_members s (drop i xs))) none)
+    ∙ sym (ap (λ (ys : List Field). oneof_error nested ms false (named_members format s ys)) next)
+    ∙ sym (ap (λ (b : Bool). oneof_error nested ms b (named_members format s (drop i xs))) none)
     ∙ h
 
-pub oneof_error_skip : (nested : ℕ → Json → Option PathError) (ms : Members) (s : ℕ) (xs : List Field) (i : ℕ)
-    (x : Field) (held : Bool) (all : Option PathError) → drop i xs ≡ x ∷ drop (i + 1) xs → given (in_schema s x) ms ≡
-    Some None → oneof_error nested ms held (named_members s (drop i xs)) ≡ all → oneof_error nested ms held
-    (named_members s (drop (i + 1) xs)) ≡ all
-oneof_error_skip nested ms s xs i x held all next found h =
-    let rest = named_members s (drop (i + 1) xs) in
-    let f = in_schema s x in
+pub oneof_error_skip : (format : Format) (nested : ℕ → Json → Option PathError) (ms : Members) (s : ℕ) (xs : List Field)
+    (i : ℕ)
+    (x : Field) (held : Bool) (all : Option PathError) → drop i xs ≡ x ∷ drop (i + 1) xs
+    → given (in_schema format s x) ms ≡
+    Some None → oneof_error nested ms held (named_members format s (drop i xs)) ≡ all → oneof_error nested ms held
+    (named_members format s (drop (i + 1) xs)) ≡ all
+oneof_error_skip format nested ms s xs i x held all next found h =
+    let rest = named_members format s (drop (i + 1) xs) in
+    let f = in_schema format s x in
     sym (ap (λ (o : Option (Option Json)). option_or (given_error (member_error nested held f) f o)
     (oneof_error nested ms (holds_after held o) rest)) found)
-    ∙ sym (ap (λ (ys : List Field). oneof_error nested ms held (named_members s ys)) next)
+    ∙ sym (ap (λ (ys : List Field). oneof_error nested ms held (named_members format s ys)) next)
     ∙ h
 
 pub not_json_at : (text : List ℕ) (reason : Reason) (offset : Option ℕ) (n : ℕ) → offset ≡ offset_of reason n → reason ≡

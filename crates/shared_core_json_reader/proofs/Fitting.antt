@@ -3,7 +3,6 @@ use Rattle.std.proofs.Common.{◌≡◌, ℕ, zero, suc, ◌-◌, ◌%◌, ◌^�
 use Rattle.std.proofs.Common.{not, ◌&&◌, ◌||◌, Option, Some, None, option_map, option_and_then, refl, sym, ap, subst}
 use Rattle.std.proofs.Common.{◌∙◌, arith, eqb, ltb, leb}
 use Rattle.std.specs.Option.{option_or}
-use Rattle.std.specs.List.{list_all}
 use Rattle.std.specs.Str.{is_utf8, bytes_eq}
 use Rattle.std.proofs.lemmas.Bool.{ltb-true}
 use Rattle.std.proofs.lemmas.Str.{is_utf8-from_IsUtf8, IsUtf8-nil}
@@ -16,12 +15,9 @@ use Rattle.shared_core_wire.specs.Value.{default_of}
 use Rattle.shared_core_wire.specs.Canonical.{kind_of, part_levels, levels}
 use Rattle.shared_core_wire.specs.Fitting.{is_single, has_shape, NumberFits, PartFits, ElementsFit, Fits}
 use Rattle.shared_core_wire.proofs.Runs.{and_split, and_join}
-use Rattle.shared_core_codec.specs.Table.{table}
-use Rattle.shared_core_codec.proofs.Tables.{are_schemas}
-use Rattle.shared_core_json.proofs.PlainScalars.{is_scalar, plain_scalars, have_scalars}
-use Rattle.shared_core_json_reader.specs.EnumValues.{EnumField, enum_fields}
+use Rattle.shared_core_json.proofs.PlainScalars.{is_scalar, plain_scalars}
 use Rattle.shared_core_json_reader.specs.Rows.{NamedField, NamedRow, Plain, Optional, Repeated, OneOf, named_field}
-use Rattle.shared_core_json_reader.specs.Rows.{named_row, named_rows, enum_values, values_in}
+use Rattle.shared_core_json_reader.specs.Rows.{named_row, named_rows}
 use Rattle.shared_core_json_reader.specs.Scalars.{Whole, whole_read, unsigned_below, signed_bits, unsigned_read}
 use Rattle.shared_core_json_reader.specs.Scalars.{boolean_read, value_named, enum_read, utf8_text, text_read}
 use Rattle.shared_core_json_reader.specs.Scalars.{bytes_read}
@@ -29,6 +25,9 @@ use Rattle.shared_core_json_reader.specs.Reading.{are_known, given, single_read,
 use Rattle.shared_core_json_reader.specs.Reading.{or_absent, member_read, oneof_read, row_read, rows_read, object_read}
 use Rattle.shared_core_json_reader.specs.Reading.{message_read}
 use Rattle.shared_core_json_reader.proofs.Agreeing.{plain_row, plain_rows, Knows, RowKnows, RowsKnow, rows_know}
+use Rattle.shared_core_json_reader.proofs.FormatRows.{schemas_of, scalars_of}
+use Rattle.shared_core_json_reader.specs.Readable.{IsReadable, are_low}
+use Rattle.shared_core_json_reader.specs.Rows.{Format}
 
 -- ---- what an option holds
 
@@ -79,10 +78,6 @@ boolean_fits (string s) m e = absurd cc
 boolean_fits (array js) m e = absurd cc
 boolean_fits (object ms) m e = absurd cc
 
--- each number is one of 32 bits
-abbrev pub are_low : List (List ℕ × ℕ) → Bool
-are_low values = list_all (λ v. ltb v.1 (2 ^ 32)) values
-
 named_fits : (values : List (List ℕ × ℕ)) (s : List ℕ) (m : ℕ) → are_low values ≡ true → value_named values s ≡ Some m →
     m < 2 ^ 32
 named_fits [] s m low e = absurd cc
@@ -117,11 +112,12 @@ abbrev pub RowsLow : List NamedRow → Type 0
 RowsLow [] = Unit {0}
 RowsLow (row ∷ rows) = RowLow row × RowsLow rows
 
-module _ (nested : ℕ → Json → Option Parts) (bound : ℕ) (fit : (s : ℕ) (j : Json) (v : Parts) → nested s j ≡ Some v →
-    Fits table v (table s) × (suc (levels v) ≤ bound)) where
+module _ (format : Format) (nested : ℕ → Json → Option Parts) (bound : ℕ)
+    (fit : (s : ℕ) (j : Json) (v : Parts) → nested s j ≡ Some v →
+    Fits format.table v (format.table s) × (suc (levels v) ≤ bound)) where
   record Single (p : Part) (k : Kind) : Type 0 where
     single : is_single p ≡ true
-    fits : PartFits table p k
+    fits : PartFits format.table p k
     low : part_levels p ≤ bound
 
   number_single : (k : Kind) (p : Part) (m : ℕ) → Number m ≡ p → NumberFits k m → Single p k
@@ -161,20 +157,20 @@ module _ (nested : ℕ → Json → Option Parts) (bound : ℕ) (fit : (s : ℕ)
 
   record RowFits (row : NamedRow) (p : Part) : Type 0 where
     shape : has_shape (plain_row row) p ≡ true
-    fits : PartFits table p (kind_of (plain_row row) p)
+    fits : PartFits format.table p (kind_of (plain_row row) p)
     low : part_levels p ≤ bound
 
   elements_fit : (f : NamedField) (js : Items) (ps : Parts) → are_low f.values ≡ true → elements_read nested f js ≡ Some
-      ps → ElementsFit table ps f.kind × (levels ps ≤ bound)
+      ps → ElementsFit format.table ps f.kind × (levels ps ≤ bound)
   unfolding PartFits part_levels
   elements_fit f no_items ps low e = let q : nil ≡ ps = cc in subst
-      (λ (qs : Parts). ElementsFit table qs f.kind × (levels qs ≤ bound)) q (tt, omega arith)
+      (λ (qs : Parts). ElementsFit format.table qs f.kind × (levels qs ≤ bound)) q (tt, omega arith)
   elements_fit f (item j js) ps low e =
       let x = some_then (λ p. option_map (cons p) (elements_read nested f js)) (field_read nested f j) ps e in
       let y = some_map (cons x.0) (elements_read nested f js) ps x.2 in
       let one = single_fits f.kind f.values j x.0 low x.1 in
       let more = elements_fit f js y.0 low y.1 in
-      subst (λ (qs : Parts). ElementsFit table qs f.kind × (levels qs ≤ bound)) y.2
+      subst (λ (qs : Parts). ElementsFit format.table qs f.kind × (levels qs ≤ bound)) y.2
       ((one.single, one.fits, more.0), omega (arith, one.low, more.1))
 
   list_fits : (f : NamedField) (j : Json) (p : Part) → are_low f.values ≡ true → list_read nested f j ≡ Some p → RowFits
@@ -237,7 +233,7 @@ module _ (nested : ℕ → Json → Option Parts) (bound : ℕ) (fit : (s : ℕ)
 
   record HeldFits (members : List (ℕ × Kind)) (p : Part) : Type 0 where
     shape : has_shape (schema.OneOf members) p ≡ true
-    fits : PartFits table p (kind_of (schema.OneOf members) p)
+    fits : PartFits format.table p (kind_of (schema.OneOf members) p)
     low : part_levels p ≤ bound
 
   oneof_fits : (ms : Members) (members : List (ℕ × Kind)) (fs : List NamedField) (q : Part) → FieldsLow fs → Knows
@@ -260,7 +256,7 @@ module _ (nested : ℕ → Json → Option Parts) (bound : ℕ) (fit : (s : ℕ)
           let stays = member_stays ms f.number y.0 q fs (ap (λ (now : Part). oneof_read nested ms now fs) y.2 ∙ x.2) in
           subst (HeldFits members) stays (record {
             shape = and_join _ _ k.1 one.single;
-            fits = subst (PartFits table y.0) (sym k.0) one.fits;
+            fits = subst (PartFits format.table y.0) (sym k.0) one.fits;
             low = one.low;
           })
 
@@ -282,20 +278,21 @@ module _ (nested : ℕ → Json → Option Parts) (bound : ℕ) (fit : (s : ℕ)
       { shape = h.shape; fits = h.fits; low = h.low }
 
   rows_fit : (ms : Members) (rows : List NamedRow) (ps : Parts) → RowsLow rows → RowsKnow rows → rows_read nested ms
-      rows ≡ Some ps → Fits table ps (map plain_row rows) × (levels ps ≤ bound)
+      rows ≡ Some ps → Fits format.table ps (map plain_row rows) × (levels ps ≤ bound)
   unfolding PartFits part_levels
-  rows_fit ms [] ps low k e = let q : nil ≡ ps = cc in subst (λ (qs : Parts). Fits table qs [] × (levels qs ≤ bound)) q
+  rows_fit ms [] ps low k e = let q : nil ≡ ps = cc in subst
+      (λ (qs : Parts). Fits format.table qs [] × (levels qs ≤ bound)) q
       (tt, omega arith)
   rows_fit ms (row ∷ rows) ps low k e =
       let x = some_then (λ p. option_map (cons p) (rows_read nested ms rows)) (row_read nested ms row) ps e in
       let y = some_map (cons x.0) (rows_read nested ms rows) ps x.2 in
       let one = row_fits ms row x.0 low.0 k.0 x.1 in
       let more = rows_fit ms rows y.0 low.1 k.1 y.1 in
-      subst (λ (qs : Parts). Fits table qs (map plain_row (row ∷ rows)) × (levels qs ≤ bound)) y.2
+      subst (λ (qs : Parts). Fits format.table qs (map plain_row (row ∷ rows)) × (levels qs ≤ bound)) y.2
       ((one.shape, one.fits, more.0), omega (arith, one.low, more.1))
 
   object_fits : (rows : List NamedRow) (j : Json) (ps : Parts) → RowsLow rows → RowsKnow rows → object_read nested rows
-      j ≡ Some ps → Fits table ps (map plain_row rows) × (levels ps ≤ bound)
+      j ≡ Some ps → Fits format.table ps (map plain_row rows) × (levels ps ≤ bound)
   object_fits rows null ps low k e = absurd cc
   object_fits rows (boolean b) ps low k e = absurd cc
   object_fits rows (number s) ps low k e = absurd cc
@@ -306,39 +303,35 @@ module _ (nested : ℕ → Json → Option Parts) (bound : ℕ) (fit : (s : ℕ)
 
 -- ---- the rows of the schemas
 
-low_in : (fields : List EnumField) → list_all (λ f. are_low f.values) fields ≡ true → (s n : ℕ) → are_low
-    (values_in fields s n) ≡ true
-low_in [] h s n = refl
-low_in (f ∷ fs) h s n = by_test (low_in fs (and_split _ _ h).1 s n) ((eqb s f.schema) && (eqb n f.number))
-  where
-    by_test : are_low (values_in fs s n) ≡ true → (b : Bool) → are_low (cond b f.values (values_in fs s n)) ≡ true
-    by_test later true = (and_split _ _ h).0
-    by_test later false = later
+low_members : (format : Format) (law : IsReadable format) (s : ℕ) (members : List (ℕ × Kind))
+    → FieldsLow (map (λ m. named_field format s m.0 m.1) members)
+low_members format law s [] = tt
+low_members format law s (m ∷ members) = (law.low s m.0, low_members format law s members)
 
--- each value of each enum
-low_values : (s n : ℕ) → are_low (enum_values s n) ≡ true
-low_values s n = low_in enum_fields refl s n
-
-low_members : (s : ℕ) (members : List (ℕ × Kind)) → FieldsLow (map (λ m. named_field s m.0 m.1) members)
-low_members s [] = tt
-low_members s (m ∷ members) = (low_values s m.0, low_members s members)
-
-rows_low : (s : ℕ) (rows : List Row) → plain_scalars rows ≡ true → RowsLow (map (named_row s) rows)
+rows_low : (format : Format) (law : IsReadable format) (s : ℕ) (rows : List Row) → plain_scalars rows ≡ true
+    → RowsLow (map (named_row format s) rows)
 unfolding plain_scalars
-rows_low s [] h = tt
-rows_low s (schema.Plain n k ∷ rows) h = let e = and_split _ _ h in ((e.0, low_values s n), rows_low s rows e.1)
-rows_low s (schema.Optional n k ∷ rows) h = (low_values s n, rows_low s rows h)
-rows_low s (schema.Repeated n k ∷ rows) h = (low_values s n, rows_low s rows h)
-rows_low s (schema.OneOf members ∷ rows) h = (low_members s members, rows_low s rows h)
+rows_low format law s [] h = tt
+rows_low format law s (schema.Plain n k ∷ rows) h = let e = and_split _ _ h in
+    ((e.0, law.low s n), rows_low format law s rows e.1)
+rows_low format law s (schema.Optional n k ∷ rows) h = (law.low s n, rows_low format law s rows h)
+rows_low format law s (schema.Repeated n k ∷ rows) h = (law.low s n, rows_low format law s rows h)
+rows_low format law s (schema.OneOf members ∷ rows) h = (low_members format law s members, rows_low format law s rows h)
 
 -- ---- messages
 
-pub message_fits : (n s : ℕ) (j : Json) (v : Parts) → message_read n s j ≡ Some v → Fits table v (table s) ×
+pub message_fits : (format : Format) (law : IsReadable format) (n s : ℕ) (j : Json) (v : Parts)
+    → message_read format n s j ≡ Some v → Fits format.table v (format.table s) ×
     (suc (levels v) ≤ n)
 unfolding message_read named_rows
-message_fits zero s j v e = absurd cc
-message_fits (suc n) s j v e =
-    let h : Fits table v (map plain_row (named_rows s)) × (levels v ≤ n) = object_fits (message_read n) n
-    (message_fits n) (named_rows s) j v (rows_low s (table s) (have_scalars s))
-    (rows_know s (table s) (and_split _ _ (are_schemas s)).1) e in
-    (subst (λ (rows : List Row). Fits table v rows) (plain_rows s (table s)) h.0, omega (arith, h.1))
+message_fits format law zero s j v e = absurd cc
+message_fits format law (suc n) s j v e =
+    let h : Fits format.table v (map plain_row (named_rows format s))
+    × (levels v ≤ n) = object_fits format (message_read format n) n
+    (message_fits format law n) (named_rows format s) j v
+    (rows_low format law s (format.table s) (scalars_of format law s))
+    (rows_know format s (format.table s) (and_split _ _ (schemas_of format law s)).1) e in (
+      subst (λ (rows : List Row). Fits format.table v rows) (plain_rows format s (format.table s)) h.0,
+      omega
+          (arith, h.1),
+    )

@@ -23,17 +23,19 @@ use Rattle.shared_core_wire.specs.Canonical.{kind_of, number_of, is_default, row
 use Rattle.shared_core_wire.specs.Canonical.{message_records, canonical_payload, part_levels, levels}
 use Rattle.shared_core_wire.specs.Fitting.{is_single, has_shape, PartFits, ElementsFit, Fits}
 use Rattle.shared_core_wire.proofs.Runs.{and_split}
-use Rattle.shared_core_codec.specs.Table.{table}
-use Rattle.shared_core_json.specs.Fields.{names_of, name_of}
-use Rattle.shared_core_json.specs.Form.{is_present, member_if, number_json, byte_string_json, bytes_json, part_json}
+use Rattle.shared_core_json.specs.Fields.{name_of}
+use Rattle.shared_core_json.specs.Form.{is_present, member_if, number_json, byte_string_json, bytes_json}
 use Rattle.shared_core_json.specs.Form.{part_json_in}
-use Rattle.shared_core_json.specs.Form.{items_json, members_json, json_with}
 use Rattle.shared_core_json_reader.specs.Laws.{JsonIsReadBack}
-use Rattle.shared_core_json_reader.specs.Reading.{only_value, text_payload}
+use Rattle.shared_core_json_reader.specs.Reading.{only_value}
 use Rattle.shared_core_json_reader.proofs.Agreeing.{out_of}
 use Rattle.shared_core_json.proofs.Meanings.{PartBytes, PartsBytes, back_bytes}
 use Rattle.shared_core_json_reader.proofs.TreeBack.{message_back}
 use Rattle.shared_core_json_reader.proofs.Whole.{IsText, of_tokens, text_of_value}
+use Rattle.shared_core_json.specs.Form.{items_json_in, members_json_in, json_with_in}
+use Rattle.shared_core_json_reader.specs.Readable.{IsReadable, protocol_is_readable}
+use Rattle.shared_core_json_reader.specs.Reading.{text_payload_in}
+use Rattle.shared_core_json_reader.specs.Rows.{Format, protocol}
 
 -- ---- how deep the JSON of a value is
 
@@ -91,9 +93,9 @@ shape_holds (schema.Optional n k) (Member m p) h = absurd cc
 shape_holds (schema.Repeated n k) (Member m p) h = absurd cc
 shape_holds (schema.OneOf members) (Member m p) h = (and_split _ _ h).1
 
-record Low (texts : Bool) (p : Part) (k : Kind) : Type 0 where
-  low : depth (part_json texts p k) ≤ 2 * part_levels p + 2
-  lower : is_single p ≡ true → depth (part_json texts p k) ≤ 2 * part_levels p + 1
+record Low (format : Format) (texts : Bool) (p : Part) (k : Kind) : Type 0 where
+  low : depth (part_json_in format.table format.names texts p k) ≤ 2 * part_levels p + 2
+  lower : is_single p ≡ true → depth (part_json_in format.table format.names texts p k) ≤ 2 * part_levels p + 1
 
 member_low : (b : Bool) (name : List ℕ) (j : Json) (others : Members) (bound : ℕ) → depth j ≤ bound → members_depth
     others ≤ bound → members_depth (member_if b name j others) ≤ bound
@@ -103,46 +105,53 @@ member_low false name j others bound h g = g
 mutual
   unfolding PartFits part_levels part_json_in
 
-  part_low : (texts : Bool) (p : Part) (k : Kind) → PartFits table p k → HoldsSingle p → Low texts p k
-  part_low texts Absent k f h = record { low = omega arith; lower = λ e. omega arith }
-  part_low texts (Number n) k f h = record {
+  part_low : (format : Format) (texts : Bool) (p : Part) (k : Kind) → PartFits format.table p k → HoldsSingle p
+      → Low format texts p k
+  part_low format texts Absent k f h = record { low = omega arith; lower = λ e. omega arith }
+  part_low format texts (Number n) k f h = record {
     low = omega (arith, number_depth k n);
     lower = λ e. omega
         (arith, number_depth k n);
   }
-  part_low texts (Bytes b) k f h = record {
+  part_low format texts (Bytes b) k f h = record {
     low = omega (arith, bytes_depth texts k b);
     lower = λ e. omega
         (arith, bytes_depth texts k b);
   }
-  part_low texts (Nested ps) (Message t) f h = let m = members_low texts (names_of t) ps (table t) f in record
+  part_low format texts (Nested ps) (Message t) f h = let m = members_low format texts (format.names t) ps
+      (format.table t) f in record
       { low = omega (arith, m); lower = λ e. omega (arith, m) }
-  part_low texts (Nested ps) U32 f h = absurd f
-  part_low texts (Nested ps) U64 f h = absurd f
-  part_low texts (Nested ps) Boolean f h = absurd f
-  part_low texts (Nested ps) Enumeration f h = absurd f
-  part_low texts (Nested ps) Text f h = absurd f
-  part_low texts (Nested ps) ByteString f h = absurd f
-  part_low texts (Elements ps) k f h = let m = items_low texts ps k f in record
+  part_low format texts (Nested ps) U32 f h = absurd f
+  part_low format texts (Nested ps) U64 f h = absurd f
+  part_low format texts (Nested ps) Boolean f h = absurd f
+  part_low format texts (Nested ps) Enumeration f h = absurd f
+  part_low format texts (Nested ps) Text f h = absurd f
+  part_low format texts (Nested ps) ByteString f h = absurd f
+  part_low format texts (Elements ps) k f h = let m = items_low format texts ps k f in record
       { low = omega (arith, m); lower = λ e. absurd cc }
-  part_low texts (Member n p) k f h = let m = part_low texts p k f (single_holds p h) in record
+  part_low format texts (Member n p) k f h = let m = part_low format texts p k f (single_holds p h) in record
       { low = m.low; lower = λ e. absurd cc }
 
-  items_low : (texts : Bool) (ps : Parts) (k : Kind) → ElementsFit table ps k → items_depth (items_json texts ps k) ≤ 2
+  items_low : (format : Format) (texts : Bool) (ps : Parts) (k : Kind) → ElementsFit format.table ps k
+      → items_depth (items_json_in format.table format.names texts ps k) ≤ 2
       * levels ps + 1
-  items_low texts nil k f = omega arith
-  items_low texts (cons p ps) k f = let one = (part_low texts p k f.1 (single_holds p f.0)).lower f.0 in omega
-      (arith, one, items_low texts ps k f.2)
+  items_low format texts nil k f = omega arith
+  items_low format texts (cons p ps) k f = let one = (part_low format texts p k f.1 (single_holds p f.0)).lower f.0 in
+      omega
+      (arith, one, items_low format texts ps k f.2)
 
-  members_low : (texts : Bool) (ns : List (ℕ × List ℕ)) (v : Parts) (rows : List Row) → Fits table v rows →
-      members_depth (members_json texts ns v rows) ≤ 2 * levels v + 2
-  members_low texts ns nil rows f = omega arith
-  members_low texts ns (cons p ps) [] f = absurd f
-  members_low texts ns (cons p ps) (row ∷ rows) f =
-      let one = (part_low texts p (kind_of row p) f.1 (shape_holds row p f.0)).low in
-      member_low (is_present row p) (name_of ns (number_of row p)) (part_json texts p (kind_of row p))
-      (members_json texts ns ps rows) (2 * max (part_levels p) (levels ps) + 2) (omega (arith, one))
-      (omega (arith, members_low texts ns ps rows f.2))
+  members_low : (format : Format) (texts : Bool) (ns : List (ℕ × List ℕ)) (v : Parts) (rows : List Row)
+      → Fits format.table v rows →
+      members_depth (members_json_in format.table format.names texts ns v rows) ≤ 2 * levels v + 2
+  members_low format texts ns nil rows f = omega arith
+  members_low format texts ns (cons p ps) [] f = absurd f
+  members_low format texts ns (cons p ps) (row ∷ rows) f =
+      let one = (part_low format texts p (kind_of row p) f.1 (shape_holds row p f.0)).low in
+      member_low (is_present row p) (name_of ns (number_of row p))
+      (part_json_in format.table format.names texts p (kind_of row p))
+      (members_json_in format.table format.names texts ns ps rows) (2 * max (part_levels p) (levels ps) + 2)
+      (omega (arith, one))
+      (omega (arith, members_low format texts ns ps rows f.2))
 
 -- ---- the bytes of a value are those of its payload
 
@@ -198,35 +207,37 @@ default_bytes (Nested ps) e = absurd cc
 default_bytes (Elements ps) e = absurd cc
 default_bytes (Member n p) e = absurd cc
 
-number_elements : (ps : Parts) → ElementsFit table ps U32 → PartsBytes ps
+number_elements : (format : Format) (ps : Parts) → ElementsFit format.table ps U32 → PartsBytes ps
 unfolding PartFits
-number_elements nil f = tt
-number_elements (cons (Number n) ps) f = (tt, number_elements ps f.2)
-number_elements (cons Absent ps) f = absurd (cc f.0)
-number_elements (cons (Bytes b) ps) f = absurd f.1
-number_elements (cons (Nested qs) ps) f = absurd f.1
-number_elements (cons (Elements qs) ps) f = absurd (cc f.0)
-number_elements (cons (Member n q) ps) f = absurd (cc f.0)
+number_elements format nil f = tt
+number_elements format (cons (Number n) ps) f = (tt, number_elements format ps f.2)
+number_elements format (cons Absent ps) f = absurd (cc f.0)
+number_elements format (cons (Bytes b) ps) f = absurd f.1
+number_elements format (cons (Nested qs) ps) f = absurd f.1
+number_elements format (cons (Elements qs) ps) f = absurd (cc f.0)
+number_elements format (cons (Member n q) ps) f = absurd (cc f.0)
 
-run_bytes : (p : Part) → has_shape (schema.Repeated 0 U32) p ≡ true → PartFits table p U32 → PartBytes p
+run_bytes : (format : Format) (p : Part) → has_shape (schema.Repeated 0 U32) p ≡ true → PartFits format.table p U32
+    → PartBytes p
 unfolding PartFits
-run_bytes (Elements ps) h f = number_elements ps f
-run_bytes Absent h f = absurd cc
-run_bytes (Number n) h f = absurd cc
-run_bytes (Bytes b) h f = absurd cc
-run_bytes (Nested ps) h f = absurd cc
-run_bytes (Member n p) h f = absurd cc
+run_bytes format (Elements ps) h f = number_elements format ps f
+run_bytes format Absent h f = absurd cc
+run_bytes format (Number n) h f = absurd cc
+run_bytes format (Bytes b) h f = absurd cc
+run_bytes format (Nested ps) h f = absurd cc
+run_bytes format (Member n p) h f = absurd cc
 
 plain_bytes : (p : Part) (n : ℕ) (ws : List RecordValue) (b : Bool) → is_default p ≡ b → IsBytes
     (out_of n (cond b [] ws)) → (WsBytes ws → PartBytes p) → PartBytes p
 plain_bytes p n ws true e h hold = default_bytes p e
 plain_bytes p n ws false e h hold = hold (ws_bytes n ws h)
 
-row_bytes : (row : Row) (p : Part) (ws : List RecordValue) → has_shape row p ≡ true → PartFits table p (kind_of row p) →
+row_bytes : (format : Format) (row : Row) (p : Part) (ws : List RecordValue) → has_shape row p ≡ true
+    → PartFits format.table p (kind_of row p) →
     IsBytes (record_list_bytes (row_records row p ws)) → (WsBytes ws → PartBytes p) → PartBytes p
-row_bytes (schema.Plain n k) p ws i f h hold = plain_bytes p n ws (is_default p) refl h hold
-row_bytes (schema.Optional n k) p ws i f h hold = hold (ws_bytes n ws h)
-row_bytes (schema.Repeated n U32) p ws i f h hold = run_bytes p (shape_again p i) f
+row_bytes format (schema.Plain n k) p ws i f h hold = plain_bytes p n ws (is_default p) refl h hold
+row_bytes format (schema.Optional n k) p ws i f h hold = hold (ws_bytes n ws h)
+row_bytes format (schema.Repeated n U32) p ws i f h hold = run_bytes format p (shape_again p i) f
   where
     shape_again : (p : Part) → has_shape (schema.Repeated n U32) p ≡ true → has_shape (schema.Repeated 0 U32) p ≡ true
     shape_again (Elements ps) g = refl
@@ -235,52 +246,55 @@ row_bytes (schema.Repeated n U32) p ws i f h hold = run_bytes p (shape_again p i
     shape_again (Bytes b) g = g
     shape_again (Nested ps) g = g
     shape_again (Member m q) g = g
-row_bytes (schema.Repeated n U64) p ws i f h hold = hold (ws_bytes n ws h)
-row_bytes (schema.Repeated n Boolean) p ws i f h hold = hold (ws_bytes n ws h)
-row_bytes (schema.Repeated n Enumeration) p ws i f h hold = hold (ws_bytes n ws h)
-row_bytes (schema.Repeated n Text) p ws i f h hold = hold (ws_bytes n ws h)
-row_bytes (schema.Repeated n ByteString) p ws i f h hold = hold (ws_bytes n ws h)
-row_bytes (schema.Repeated n (Message s)) p ws i f h hold = hold (ws_bytes n ws h)
-row_bytes (schema.OneOf members) p ws i f h hold = hold (ws_bytes _ ws h)
+row_bytes format (schema.Repeated n U64) p ws i f h hold = hold (ws_bytes n ws h)
+row_bytes format (schema.Repeated n Boolean) p ws i f h hold = hold (ws_bytes n ws h)
+row_bytes format (schema.Repeated n Enumeration) p ws i f h hold = hold (ws_bytes n ws h)
+row_bytes format (schema.Repeated n Text) p ws i f h hold = hold (ws_bytes n ws h)
+row_bytes format (schema.Repeated n ByteString) p ws i f h hold = hold (ws_bytes n ws h)
+row_bytes format (schema.Repeated n (Message s)) p ws i f h hold = hold (ws_bytes n ws h)
+row_bytes format (schema.OneOf members) p ws i f h hold = hold (ws_bytes _ ws h)
 
 mutual
   unfolding PartFits part_values
 
-  part_bytes : (p : Part) (k : Kind) → PartFits table p k → WsBytes (part_values table p k) → PartBytes p
-  part_bytes Absent k f h = tt
-  part_bytes (Number n) k f h = tt
-  part_bytes (Bytes b) k f h = h.0
-  part_bytes (Nested ps) (Message t) f h = message_bytes_of ps (table t) f h.0
-  part_bytes (Nested ps) U32 f h = absurd f
-  part_bytes (Nested ps) U64 f h = absurd f
-  part_bytes (Nested ps) Boolean f h = absurd f
-  part_bytes (Nested ps) Enumeration f h = absurd f
-  part_bytes (Nested ps) Text f h = absurd f
-  part_bytes (Nested ps) ByteString f h = absurd f
-  part_bytes (Elements ps) k f h = elements_bytes ps k f h
-  part_bytes (Member n p) k f h = part_bytes p k f h
+  part_bytes : (format : Format) (p : Part) (k : Kind) → PartFits format.table p k
+      → WsBytes (part_values format.table p k) → PartBytes p
+  part_bytes format Absent k f h = tt
+  part_bytes format (Number n) k f h = tt
+  part_bytes format (Bytes b) k f h = h.0
+  part_bytes format (Nested ps) (Message t) f h = message_bytes_of format ps (format.table t) f h.0
+  part_bytes format (Nested ps) U32 f h = absurd f
+  part_bytes format (Nested ps) U64 f h = absurd f
+  part_bytes format (Nested ps) Boolean f h = absurd f
+  part_bytes format (Nested ps) Enumeration f h = absurd f
+  part_bytes format (Nested ps) Text f h = absurd f
+  part_bytes format (Nested ps) ByteString f h = absurd f
+  part_bytes format (Elements ps) k f h = elements_bytes format ps k f h
+  part_bytes format (Member n p) k f h = part_bytes format p k f h
 
-  elements_bytes : (ps : Parts) (k : Kind) → ElementsFit table ps k → WsBytes (element_values table ps k) → PartsBytes
+  elements_bytes : (format : Format) (ps : Parts) (k : Kind) → ElementsFit format.table ps k
+      → WsBytes (element_values format.table ps k) → PartsBytes
       ps
-  elements_bytes nil k f h = tt
-  elements_bytes (cons p ps) k f h = (
-    part_bytes p k f.1 (ws_front (part_values table p k) (element_values table ps k) h),
-    elements_bytes ps k f.2
-        (ws_back (part_values table p k) (element_values table ps k) h),
+  elements_bytes format nil k f h = tt
+  elements_bytes format (cons p ps) k f h = (
+    part_bytes format p k f.1 (ws_front (part_values format.table p k) (element_values format.table ps k) h),
+    elements_bytes format ps k f.2
+        (ws_back (part_values format.table p k) (element_values format.table ps k) h),
   )
 
-  message_bytes_of : (v : Parts) (rows : List Row) → Fits table v rows → IsBytes
-      (record_list_bytes (message_records table v rows)) → PartsBytes v
-  message_bytes_of nil rows f h = tt
-  message_bytes_of (cons p ps) [] f h = absurd f
-  message_bytes_of (cons p ps) (row ∷ rows) f h =
-      let ws = part_values table p (kind_of row p) in
-      let split = subst IsBytes (flat_map-append record_bytes (row_records row p ws) (message_records table ps rows)) h
+  pub message_bytes_of : (format : Format) (v : Parts) (rows : List Row) → Fits format.table v rows → IsBytes
+      (record_list_bytes (message_records format.table v rows)) → PartsBytes v
+  message_bytes_of format nil rows f h = tt
+  message_bytes_of format (cons p ps) [] f h = absurd f
+  message_bytes_of format (cons p ps) (row ∷ rows) f h =
+      let ws = part_values format.table p (kind_of row p) in
+      let split = subst IsBytes (flat_map-append record_bytes (row_records row p ws)
+      (message_records format.table ps rows)) h
       in (
-        row_bytes row p ws f.0 f.1 (front_bytes (record_list_bytes (row_records row p ws))
-            (record_list_bytes (message_records table ps rows)) split) (part_bytes p (kind_of row p) f.1),
-        message_bytes_of ps rows f.2 (back_bytes (record_list_bytes (row_records row p ws))
-            (record_list_bytes (message_records table ps rows)) split),
+        row_bytes format row p ws f.0 f.1 (front_bytes (record_list_bytes (row_records row p ws))
+            (record_list_bytes (message_records format.table ps rows)) split) (part_bytes format p (kind_of row p) f.1),
+        message_bytes_of format ps rows f.2 (back_bytes (record_list_bytes (row_records row p ws))
+            (record_list_bytes (message_records format.table ps rows)) split),
       )
 
 -- ---- the law
@@ -290,23 +304,29 @@ unfolding only_value
 whole_value j h = ap (option_and_then (λ p. if_last p.0 p.1))
     (ap (value 1000) (sym (append-nil (json_tokens j))) ∙ value-json_tokens j 1000 [] h)
 
-pub value_low : (texts : Bool) (s : ℕ) (v : Parts) → Fits table v (table s) → depth (json_with texts s v) ≤ 2 * levels v
+pub value_low : (format : Format) (texts : Bool) (s : ℕ) (v : Parts) → Fits format.table v (format.table s)
+    → depth (json_with_in format.table format.names texts s v) ≤ 2 * levels v
     + 3
-value_low texts s v fits = omega (arith, members_low texts (names_of s) v (table s) fits)
+value_low format texts s v fits = omega (arith, members_low format texts (format.names s) v (format.table s) fits)
 
 -- a value whose bytes are bytes, whatever its encoding
-pub value_back : (texts : Bool) (s : ℕ) (v : Parts) (text : List ℕ) → Fits table v (table s) → levels v ≤ 100 →
-    PartsBytes v → IsUtf8 text → tokens text ≡ json_tokens (json_with texts s v)
-    → text_payload s text ≡ Some (canonical_payload table s v)
-value_back texts s v text fits low held utf8 lexed =
-    let deep : depth (json_with texts s v) ≤ 1000 = omega (arith, value_low texts s v fits) in
-    let is : IsText text (json_tokens (json_with texts s v)) = record
+pub value_back : (format : Format) (law : IsReadable format) (texts : Bool) (s : ℕ) (v : Parts) (text : List ℕ)
+    → Fits format.table v (format.table s) → levels v ≤ 100 →
+    PartsBytes v → IsUtf8 text → tokens text ≡ json_tokens (json_with_in format.table format.names texts s v)
+    → text_payload_in format s text ≡ Some (canonical_payload format.table s v)
+value_back format law texts s v text fits low held utf8 lexed =
+    let deep : depth (json_with_in format.table format.names texts s v) ≤ 1000 = omega
+    (arith, value_low format texts s v fits) in
+    let is : IsText text (json_tokens (json_with_in format.table format.names texts s v)) = record
     { utf8 = is_utf8-from_IsUtf8 text utf8; lexed = sym lexed } in
-    text_of_value s text (json_with texts s v) (of_tokens text (json_tokens (json_with texts s v))
-    (Some (json_with texts s v)) is (whole_value (json_with texts s v) deep))
-    ∙ ap (option_map (canonical_payload table s)) (message_back texts 100 s v fits low held)
+    text_of_value format s text (json_with_in format.table format.names texts s v)
+    (of_tokens text (json_tokens (json_with_in format.table format.names texts s v))
+    (Some (json_with_in format.table format.names texts s v)) is
+    (whole_value (json_with_in format.table format.names texts s v) deep))
+    ∙ ap (option_map (canonical_payload format.table s)) (message_back format law texts 100 s v fits low held)
 
 pub json_back : (texts : Bool) (s : ℕ) → JsonIsReadBack texts s
 json_back texts s v bytes text encoding small low utf8 lexed =
-    let held = message_bytes_of v (table s) encoding.fits (subst IsBytes encoding.canonical small) in
-    value_back texts s v text encoding.fits low held utf8 lexed ∙ ap (λ (b : List ℕ). Some b) (sym encoding.canonical)
+    let held = message_bytes_of protocol v (protocol.table s) encoding.fits (subst IsBytes encoding.canonical small) in
+    value_back protocol protocol_is_readable texts s v text encoding.fits low held utf8 lexed
+    ∙ ap (λ (b : List ℕ). Some b) (sym encoding.canonical)

@@ -6,30 +6,32 @@ use Rattle.json.specs.Token.{Token}
 use Rattle.json.specs.Json.{Json, Items, no_items, item, Members, if_last, value}
 use Rattle.json_table.specs.Counts.{items_count}
 use Rattle.shared_core_wire.specs.Schema.{Row}
-use Rattle.shared_core_codec.specs.Table.{table}
 use Rattle.shared_core_codec.specs.declared.rows.Field.{Field}
 use Rattle.shared_core_json_reader.specs.Rows.{NamedField, in_schema, named_members, named_row, named_rows}
 use Rattle.shared_core_json_reader.specs.Reading.{given, only_value, or_absent}
 use Rattle.shared_core_json_reader.specs.Appended.{both, field_bytes, items_bytes, run_bytes, member_bytes, held_after}
 use Rattle.shared_core_json_reader.specs.Appended.{oneof_bytes, object_bytes, message_bytes, after}
+use Rattle.shared_core_json_reader.specs.Rows.{Format}
 
-pub no_level : (levels s : ℕ) (j : Json) → levels ≡ 0 → message_bytes levels s j ≡ None
+pub no_level : (format : Format) (levels s : ℕ) (j : Json) → levels ≡ 0 → message_bytes format levels s j ≡ None
 unfolding message_bytes
-no_level levels s j e = rw e refl
+no_level format levels s j e = rw e refl
 
 less_one : (n : ℕ) → suc n - 1 ≡ n
 less_one n = omega arith
 
-pub at_level : (levels s : ℕ) (j : Json) → 0 < levels → object_bytes (message_bytes (levels - 1)) (named_rows s) j ≡
-    message_bytes levels s j
+pub at_level : (format : Format) (levels s : ℕ) (j : Json) → 0 < levels
+    → object_bytes (message_bytes format (levels - 1)) (named_rows format s) j ≡
+    message_bytes format levels s j
 unfolding message_bytes
-at_level zero s j h = absurd (omega arith)
-at_level (suc left) s j h = rw (less_one left) refl
+at_level format zero s j h = absurd (omega arith)
+at_level format (suc left) s j h = rw (less_one left) refl
 
 -- the rows of the table, with names
-pub with_names : (s : ℕ) (rows : List Row) → rows ≡ table s → map (named_row s) rows ≡ named_rows s
+pub with_names : (format : Format) (s : ℕ) (rows : List Row) → rows ≡ format.table s → map (named_row format s) rows
+    ≡ named_rows format s
 unfolding named_rows
-with_names s rows e = ap (map (named_row s)) e
+with_names format s rows e = ap (map (named_row format s)) e
 
 -- what is appended first, and then more
 pub after_both : (old new : List ℕ) (a b : Option (List ℕ)) → after old a ≡ Some new → after old (both a b) ≡ after new
@@ -68,19 +70,20 @@ one_held : (nested : ℕ → Json → Option (List ℕ)) (ms : Members) (f : Nam
 one_held nested ms f fs j g = ap (option_and_then (λ o. both (or_absent [] (member_bytes nested false f) o)
     (oneof_bytes nested ms (held_after false o) fs))) g
 
-pub oneof_turn : (nested : ℕ → Json → Option (List ℕ)) (ms : Members) (s : ℕ) (xs : List Field) (i : ℕ) (x : Field)
+pub oneof_turn : (format : Format) (nested : ℕ → Json → Option (List ℕ)) (ms : Members) (s : ℕ) (xs : List Field)
+    (i : ℕ) (x : Field)
     (j : Json) (held : Bool) (old new : List ℕ) (all : Option (List ℕ))
-    → drop i xs ≡ x ∷ drop (i + 1) xs → given (in_schema s x) ms ≡ Some (Some j) → held ≡ false
-    → after old (field_bytes nested false (in_schema s x) j) ≡ Some new → after old
-    (oneof_bytes nested ms held (named_members s (drop i xs))) ≡ all
-    → after new (oneof_bytes nested ms true (named_members s (drop (i + 1) xs))) ≡ all
-oneof_turn nested ms s xs i x j held old new all here found none e h =
-    let rest = named_members s (drop (i + 1) xs) in
-    let f = in_schema s x in
+    → drop i xs ≡ x ∷ drop (i + 1) xs → given (in_schema format s x) ms ≡ Some (Some j) → held ≡ false
+    → after old (field_bytes nested false (in_schema format s x) j) ≡ Some new → after old
+    (oneof_bytes nested ms held (named_members format s (drop i xs))) ≡ all
+    → after new (oneof_bytes nested ms true (named_members format s (drop (i + 1) xs))) ≡ all
+oneof_turn format nested ms s xs i x j held old new all here found none e h =
+    let rest = named_members format s (drop (i + 1) xs) in
+    let f = in_schema format s x in
     sym (after_both old new (field_bytes nested false f j) (oneof_bytes nested ms true rest) e)
     ∙ ap (after old) (sym (one_held nested ms f rest j found))
-    ∙ sym (ap (λ (ys : List Field). after old (oneof_bytes nested ms false (named_members s ys))) here)
-    ∙ sym (ap (λ (b : Bool). after old (oneof_bytes nested ms b (named_members s (drop i xs)))) none)
+    ∙ sym (ap (λ (ys : List Field). after old (oneof_bytes nested ms false (named_members format s ys))) here)
+    ∙ sym (ap (λ (b : Bool). after old (oneof_bytes nested ms b (named_members format s (drop i xs)))) none)
     ∙ h
 
 -- ---- what has an error
@@ -94,16 +97,18 @@ with_none None = refl
 with_none (Some xs) = refl
 
 -- a member of a oneof that is not there
-pub oneof_skip : (nested : ℕ → Json → Option (List ℕ)) (ms : Members) (s : ℕ) (xs : List Field) (i : ℕ) (x : Field)
-    (held : Bool) (out : List ℕ) (all : Option (List ℕ)) → drop i xs ≡ x ∷ drop (i + 1) xs → given (in_schema s x) ms ≡
-    Some None → after out (oneof_bytes nested ms held (named_members s (drop i xs))) ≡ all → after out
-    (oneof_bytes nested ms held (named_members s (drop (i + 1) xs))) ≡ all
-oneof_skip nested ms s xs i x held out all here found h =
-    let rest = named_members s (drop (i + 1) xs) in
-    let f = in_schema s x in
+pub oneof_skip : (format : Format) (nested : ℕ → Json → Option (List ℕ)) (ms : Members) (s : ℕ) (xs : List Field)
+    (i : ℕ) (x : Field)
+    (held : Bool) (out : List ℕ) (all : Option (List ℕ)) → drop i xs ≡ x ∷ drop (i + 1) xs
+    → given (in_schema format s x) ms ≡
+    Some None → after out (oneof_bytes nested ms held (named_members format s (drop i xs))) ≡ all → after out
+    (oneof_bytes nested ms held (named_members format s (drop (i + 1) xs))) ≡ all
+oneof_skip format nested ms s xs i x held out all here found h =
+    let rest = named_members format s (drop (i + 1) xs) in
+    let f = in_schema format s x in
     sym (ap (after out) (ap (option_and_then (λ o. both (or_absent [] (member_bytes nested held f) o)
     (oneof_bytes nested ms (held_after held o) rest))) found ∙ with_none (oneof_bytes nested ms held rest)))
-    ∙ sym (ap (λ (ys : List Field). after out (oneof_bytes nested ms held (named_members s ys))) here)
+    ∙ sym (ap (λ (ys : List Field). after out (oneof_bytes nested ms held (named_members format s ys))) here)
     ∙ h
 
 -- ---- one value and no more

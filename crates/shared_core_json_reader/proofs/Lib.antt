@@ -3,6 +3,7 @@ mod Varints
 pub mod Contents
 pub mod Numbers
 pub mod Texts
+pub mod FormatRows
 pub mod NamesApart
 pub mod Givens
 pub mod Placed

@@ -17,11 +17,11 @@ use Rattle.shared_core_wire.specs.Value.{Part, Parts, Absent, Number, Bytes, Nes
 use Rattle.shared_core_wire.specs.Canonical.{kind_of, number_of}
 use Rattle.shared_core_wire.specs.Fitting.{NumberFits, BytesFit, PartFits, ElementsFit, Fits}
 use Rattle.shared_core_wire.proofs.Runs.{and_split}
-use Rattle.shared_core_codec.specs.Table.{table}
+use Rattle.shared_core_json_reader.specs.Rows.{Format, protocol}
 use Rattle.shared_core_json.specs.Names.{names}
 use Rattle.shared_core_json.specs.Fields.{names_at, names_of, name_of}
 use Rattle.shared_core_json.specs.Form.{is_present, member_if, enum_digits, number_json, byte_string_json, bytes_json}
-use Rattle.shared_core_json.specs.Form.{part_json, part_json_in, items_json, members_json, json_with}
+use Rattle.shared_core_json.specs.Form.{part_json_in, items_json_in, members_json_in, json_with, json_with_in}
 use Rattle.shared_core_json_reader.proofs.Printed.{visible_decimal, MayPrint, ItemsMay, MembersMay}
 
 -- ---- numbers and bytes
@@ -105,6 +105,10 @@ name_utf8 (name ∷ ns) n h = let e = and_split (are_ascii name.1) (names_ascii 
     by_test later one true = IsUtf8-are_ascii name.1 one
     by_test later one false = later
 
+-- the names of the protocol's fields are UTF-8
+pub names_utf8 : (s n : ℕ) → IsUtf8 (name_of (names_of s) n)
+names_utf8 s n = name_utf8 (names_of s) n (ascii_at names s are_all_ascii)
+
 -- ---- values
 
 member_may : (b : Bool) (name : List ℕ) (j : Json) (others : Members) → IsUtf8 name → MayPrint j → MembersMay others →
@@ -112,36 +116,47 @@ member_may : (b : Bool) (name : List ℕ) (j : Json) (others : Members) → IsUt
 member_may true name j others u h g = (u, h, g)
 member_may false name j others u h g = g
 
-mutual
-  unfolding PartFits part_json_in
+module _ (format : Format) (utf8 : (s n : ℕ) → IsUtf8 (name_of (format.names s) n)) where
+  mutual
+    unfolding PartFits part_json_in
 
-  part_may : (texts : Bool) (p : Part) (k : Kind) → PartFits table p k → MayPrint (part_json texts p k)
-  part_may texts Absent k f = tt
-  part_may texts (Number n) k f = number_may k n f
-  part_may texts (Bytes b) k f = bytes_may texts k b f
-  part_may texts (Nested ps) (Message t) f = members_may texts (names_of t) ps (table t)
-      (ascii_at names t are_all_ascii) f
-  part_may texts (Nested ps) U32 f = absurd f
-  part_may texts (Nested ps) U64 f = absurd f
-  part_may texts (Nested ps) Boolean f = absurd f
-  part_may texts (Nested ps) Enumeration f = absurd f
-  part_may texts (Nested ps) Text f = absurd f
-  part_may texts (Nested ps) ByteString f = absurd f
-  part_may texts (Elements ps) k f = items_may texts ps k f
-  part_may texts (Member n p) k f = part_may texts p k f
+    part_may : (texts : Bool) (p : Part) (k : Kind) → PartFits format.table p k
+        → MayPrint (part_json_in format.table format.names texts p k)
+    part_may texts Absent k f = tt
+    part_may texts (Number n) k f = number_may k n f
+    part_may texts (Bytes b) k f = bytes_may texts k b f
+    part_may texts (Nested ps) (Message t) f = members_may texts (format.names t) ps (format.table t)
+        (utf8 t) f
+    part_may texts (Nested ps) U32 f = absurd f
+    part_may texts (Nested ps) U64 f = absurd f
+    part_may texts (Nested ps) Boolean f = absurd f
+    part_may texts (Nested ps) Enumeration f = absurd f
+    part_may texts (Nested ps) Text f = absurd f
+    part_may texts (Nested ps) ByteString f = absurd f
+    part_may texts (Elements ps) k f = items_may texts ps k f
+    part_may texts (Member n p) k f = part_may texts p k f
 
-  items_may : (texts : Bool) (ps : Parts) (k : Kind) → ElementsFit table ps k → ItemsMay (items_json texts ps k)
-  items_may texts nil k f = tt
-  items_may texts (cons p ps) k f = (part_may texts p k f.1, items_may texts ps k f.2)
+    items_may : (texts : Bool) (ps : Parts) (k : Kind) → ElementsFit format.table ps k
+        → ItemsMay (items_json_in format.table format.names texts ps k)
+    items_may texts nil k f = tt
+    items_may texts (cons p ps) k f = (part_may texts p k f.1, items_may texts ps k f.2)
 
-  members_may : (texts : Bool) (ns : List (ℕ × List ℕ)) (v : Parts) (rows : List Row) → names_ascii ns ≡ true → Fits
-      table v rows → MembersMay (members_json texts ns v rows)
-  members_may texts ns nil rows a f = tt
-  members_may texts ns (cons p ps) [] a f = absurd f
-  members_may texts ns (cons p ps) (row ∷ rows) a f =
-      member_may (is_present row p) (name_of ns (number_of row p)) (part_json texts p (kind_of row p))
-      (members_json texts ns ps rows) (name_utf8 ns (number_of row p) a) (part_may texts p (kind_of row p) f.1)
-      (members_may texts ns ps rows a f.2)
+    members_may : (texts : Bool) (ns : List (ℕ × List ℕ)) (v : Parts) (rows : List Row)
+        → ((n : ℕ) → IsUtf8 (name_of ns n)) → Fits
+        format.table v rows → MembersMay (members_json_in format.table format.names texts ns v rows)
+    members_may texts ns nil rows a f = tt
+    members_may texts ns (cons p ps) [] a f = absurd f
+    members_may texts ns (cons p ps) (row ∷ rows) a f =
+        member_may (is_present row p) (name_of ns (number_of row p))
+        (part_json_in format.table format.names texts p (kind_of row p))
+        (members_json_in format.table format.names texts ns ps rows) (a (number_of row p))
+        (part_may texts p (kind_of row p) f.1)
+        (members_may texts ns ps rows a f.2)
 
-pub value_may : (texts : Bool) (s : ℕ) (v : Parts) → Fits table v (table s) → MayPrint (json_with texts s v)
-value_may texts s v f = members_may texts (names_of s) v (table s) (ascii_at names s are_all_ascii) f
+  pub value_may_in : (texts : Bool) (s : ℕ) (v : Parts) → Fits format.table v (format.table s) → MayPrint
+      (json_with_in format.table format.names texts s v)
+  value_may_in texts s v f = members_may texts (format.names s) v (format.table s) (utf8 s) f
+
+pub value_may : (texts : Bool) (s : ℕ) (v : Parts) → Fits protocol.table v (protocol.table s) → MayPrint
+    (json_with texts s v)
+value_may texts s v f = value_may_in protocol names_utf8 texts s v f

@@ -15,11 +15,8 @@ use Rattle.shared_core_wire.specs.Canonical.{kind_of, number_of, is_default, par
 use Rattle.shared_core_wire.specs.Fitting.{is_single, has_shape, NumberFits, BytesFit, PartFits, ElementsFit, Fits}
 use Rattle.shared_core_wire.proofs.ReadBack.{or_split, includes-append, distinct_back, distinct_other}
 use Rattle.shared_core_wire.proofs.Runs.{and_split}
-use Rattle.shared_core_codec.specs.Table.{table}
-use Rattle.shared_core_codec.proofs.Tables.{are_schemas}
-use Rattle.shared_core_json.specs.Fields.{names_of, name_of}
-use Rattle.shared_core_json.specs.Form.{is_present, member_if, part_json, part_json_in, items_json, members_json}
-use Rattle.shared_core_json.specs.Form.{json_with}
+use Rattle.shared_core_json.specs.Fields.{name_of}
+use Rattle.shared_core_json.specs.Form.{is_present, member_if, part_json_in}
 use Rattle.shared_core_json.proofs.Meanings.{PartBytes, PartsBytes}
 use Rattle.shared_core_json_reader.specs.Rows.{NamedField, NamedRow, Plain, Optional, Repeated, named_field, named_row}
 use Rattle.shared_core_json_reader.specs.Rows.{named_rows}
@@ -29,9 +26,13 @@ use Rattle.shared_core_json_reader.specs.Reading.{values_named, the_only, given,
 use Rattle.shared_core_json_reader.specs.Reading.{elements_read, list_read, or_absent, member_read, oneof_read}
 use Rattle.shared_core_json_reader.specs.Reading.{row_read, rows_read, object_read, message_read}
 use Rattle.shared_core_json_reader.proofs.Agreeing.{distinct_front}
-use Rattle.shared_core_json_reader.proofs.NamesApart.{names_key, names_apart, same_bytes}
+use Rattle.shared_core_json_reader.proofs.NamesApart.{names_apart, same_bytes}
 use Rattle.shared_core_json_reader.proofs.ScalarsBack.{u32_back, u64_back, boolean_back, enum_back, text_back}
 use Rattle.shared_core_json_reader.proofs.ScalarsBack.{byte_string_back, byte_string_there}
+use Rattle.shared_core_json.specs.Form.{items_json_in, members_json_in, json_with_in}
+use Rattle.shared_core_json_reader.proofs.FormatRows.{schemas_of}
+use Rattle.shared_core_json_reader.specs.Readable.{IsReadable, names_key}
+use Rattle.shared_core_json_reader.specs.Rows.{Format}
 
 -- ---- the members of an object
 
@@ -59,18 +60,20 @@ number_within (schema.OneOf members) (Elements ps) h g = absurd cc
 number_within (schema.OneOf members) (Member n p) h g = (and_split _ _ h).0
 
 -- the value that a part gives the field of a number
-abbrev pub mine : Bool → ℕ → Row → Part → List Json
-mine texts n row p = cond (is_present row p) (cond (eqb n (number_of row p)) (part_json texts p (kind_of row p) ∷ [])
+abbrev pub mine : (format : Format) → Bool → ℕ → Row → Part → List Json
+mine format texts n row p = cond (is_present row p)
+    (cond (eqb n (number_of row p)) (part_json_in format.table format.names texts p (kind_of row p) ∷ [])
     []) []
 
-abbrev pub all_mine : Bool → ℕ → Parts → List Row → List Json
-all_mine texts n nil rows = []
-all_mine texts n (cons p ps) [] = []
-all_mine texts n (cons p ps) (row ∷ rows) = mine texts n row p ++ all_mine texts n ps rows
+abbrev pub all_mine : (format : Format) → Bool → ℕ → Parts → List Row → List Json
+all_mine format texts n nil rows = []
+all_mine format texts n (cons p ps) [] = []
+all_mine format texts n (cons p ps) (row ∷ rows) = mine format texts n row p ++ all_mine format texts n ps rows
 
-mine_none : (texts : Bool) (n : ℕ) (row : Row) (p : Part) → has_shape row p ≡ true → includes (numbers row) n ≡ false →
-    mine texts n row p ≡ []
-mine_none texts n row p h g = by_test (is_present row p) refl
+mine_none : (format : Format) (texts : Bool) (n : ℕ) (row : Row) (p : Part) → has_shape row p ≡ true
+    → includes (numbers row) n ≡ false →
+    mine format texts n row p ≡ []
+mine_none format texts n row p h g = by_test (is_present row p) refl
   where
     other : is_present row p ≡ true → eqb n (number_of row p) ≡ false
     other e = ne_eqb n (number_of row p) (λ q. absurd (let k : includes (numbers row) (number_of row p) ≡ true =
@@ -78,20 +81,23 @@ mine_none texts n row p h g = by_test (is_present row p) refl
         (includes (numbers row)) q in cc))
 
     by_test : (b : Bool) → is_present row p ≡ b → cond b (cond (eqb n (number_of row p))
-        (part_json texts p (kind_of row p) ∷ []) []) [] ≡ []
-    by_test true e = ap (λ (c : Bool). cond c (part_json texts p (kind_of row p) ∷ []) []) (other e)
+        (part_json_in format.table format.names texts p (kind_of row p) ∷ []) []) [] ≡ []
+    by_test true e = ap (λ (c : Bool). cond c (part_json_in format.table format.names texts p (kind_of row p) ∷ []) [])
+        (other e)
     by_test false e = refl
 
-all_mine_none : (texts : Bool) (n : ℕ) (v : Parts) (rows : List Row) → Fits table v rows → includes (all_numbers rows) n
-    ≡ false → all_mine texts n v rows ≡ []
+all_mine_none : (format : Format) (texts : Bool) (n : ℕ) (v : Parts) (rows : List Row) → Fits format.table v rows
+    → includes (all_numbers rows) n
+    ≡ false → all_mine format texts n v rows ≡ []
 unfolding PartFits
-all_mine_none texts n nil [] f h = refl
-all_mine_none texts n nil (row ∷ rows) f h = absurd f
-all_mine_none texts n (cons p ps) [] f h = absurd f
-all_mine_none texts n (cons p ps) (row ∷ rows) f h =
+all_mine_none format texts n nil [] f h = refl
+all_mine_none format texts n nil (row ∷ rows) f h = absurd f
+all_mine_none format texts n (cons p ps) [] f h = absurd f
+all_mine_none format texts n (cons p ps) (row ∷ rows) f h =
     let e = or_split (includes (numbers row) n) (includes (all_numbers rows) n)
     (sym (includes-append (numbers row) (all_numbers rows) n) ∙ h) in
-    ap₂ (λ (a b : List Json). a ++ b) (mine_none texts n row p f.0 e.0) (all_mine_none texts n ps rows f.2 e.1)
+    ap₂ (λ (a b : List Json). a ++ b) (mine_none format texts n row p f.0 e.0)
+    (all_mine_none format texts n ps rows f.2 e.1)
 
 or_true : (b : Bool) → (b || true) ≡ true
 or_true true = refl
@@ -108,126 +114,143 @@ within_rest row rows n h = includes-append (numbers row) (all_numbers rows) n �
     h ∙ or_true (includes (numbers row) n)
 
 -- the values of a field in the object of a value
-values_are : (texts : Bool) (s n : ℕ) (k : Kind) (v : Parts) (rows : List Row) → Fits table v rows → includes
-    (all_numbers (table s)) n ≡ true
-    → ((m : ℕ) → includes (all_numbers rows) m ≡ true → includes (all_numbers (table s)) m ≡ true)
-    → values_named (named_field s n k) (members_json texts (names_of s) v rows) ≡ all_mine texts n v rows
+values_are : (format : Format) (law : IsReadable format) (texts : Bool) (s n : ℕ) (k : Kind) (v : Parts)
+    (rows : List Row) → Fits format.table v rows → includes
+    (all_numbers (format.table s)) n ≡ true
+    → ((m : ℕ) → includes (all_numbers rows) m ≡ true → includes (all_numbers (format.table s)) m ≡ true)
+    → values_named (named_field format s n k) (members_json_in format.table format.names texts (format.names s) v rows)
+    ≡ all_mine format texts n v rows
 unfolding PartFits part_json_in
-values_are texts s n k nil [] f h w = refl
-values_are texts s n k nil (row ∷ rows) f h w = absurd f
-values_are texts s n k (cons p ps) [] f h w = absurd f
-values_are texts s n k (cons p ps) (row ∷ rows) f h w =
-    by_test (values_are texts s n k ps rows f.2 h (λ m g. w m (within_rest row rows m g))) (is_present row p) refl
+values_are format law texts s n k nil [] f h w = refl
+values_are format law texts s n k nil (row ∷ rows) f h w = absurd f
+values_are format law texts s n k (cons p ps) [] f h w = absurd f
+values_are format law texts s n k (cons p ps) (row ∷ rows) f h w =
+    by_test (values_are format law texts s n k ps rows f.2 h (λ m g. w m (within_rest row rows m g))) (is_present row p)
+    refl
   where
     others : Members
-    others = members_json texts (names_of s) ps rows
+    others = members_json_in format.table format.names texts (format.names s) ps rows
 
     key : List ℕ
-    key = name_of (names_of s) (number_of row p)
+    key = name_of (format.names s) (number_of row p)
 
     j : Json
-    j = part_json texts p (kind_of row p)
+    j = part_json_in format.table format.names texts p (kind_of row p)
 
-    by_name : values_named (named_field s n k) others ≡ all_mine texts n ps rows → (b : Bool) → b ≡ eqb n
+    by_name : values_named (named_field format s n k) others ≡ all_mine format texts n ps rows → (b : Bool) → b ≡ eqb n
         (number_of row p)
-        → cond b (j ∷ values_named (named_field s n k) others) (values_named (named_field s n k) others) ≡ cond
-        (eqb n (number_of row p)) (j ∷ []) [] ++ all_mine texts n ps rows
+        → cond b (j ∷ values_named (named_field format s n k) others) (values_named (named_field format s n k) others)
+        ≡ cond
+        (eqb n (number_of row p)) (j ∷ []) [] ++ all_mine format texts n ps rows
     by_name later true e = ap (λ (js : List Json). j ∷ js) later ∙ ap
-        (λ (b : Bool). cond b (j ∷ []) [] ++ all_mine texts n ps rows) e
-    by_name later false e = later ∙ ap (λ (b : Bool). cond b (j ∷ []) [] ++ all_mine texts n ps rows) e
+        (λ (b : Bool). cond b (j ∷ []) [] ++ all_mine format texts n ps rows) e
+    by_name later false e = later ∙ ap (λ (b : Bool). cond b (j ∷ []) [] ++ all_mine format texts n ps rows) e
 
-    by_test : values_named (named_field s n k) others ≡ all_mine texts n ps rows → (b : Bool) → is_present row p ≡ b
-        → values_named (named_field s n k) (member_if b key j others) ≡ cond b
-        (cond (eqb n (number_of row p)) (j ∷ []) []) [] ++ all_mine texts n ps rows
+    by_test : values_named (named_field format s n k) others ≡ all_mine format texts n ps rows → (b : Bool)
+        → is_present row p ≡ b
+        → values_named (named_field format s n k) (member_if b key j others) ≡ cond b
+        (cond (eqb n (number_of row p)) (j ∷ []) []) [] ++ all_mine format texts n ps rows
     by_test later true e =
-        by_name later (is_named (named_field s n k) key) (names_apart s n (number_of row p) h
+        by_name later (is_named (named_field format s n k) key) (names_apart format law s n (number_of row p) h
         (w (number_of row p) (within_row row rows (number_of row p) (number_within row p f.0 e))))
     by_test later false e = later
 
 -- each key is known
-names_one : (s : ℕ) (members : List (ℕ × Kind)) (m : ℕ) → includes (map (λ o. o.0) members) m ≡ true → names_field
-    (map (λ o. named_field s o.0 o.1) members) (name_of (names_of s) m) ≡ true
-names_one s [] m h = absurd cc
-names_one s (o ∷ members) m h = by_test (λ k. names_one s members m k) (eqb m o.0) refl h
+names_one : (format : Format) (s : ℕ) (members : List (ℕ × Kind)) (m : ℕ) → includes (map (λ o. o.0) members) m ≡ true
+    → names_field
+    (map (λ o. named_field format s o.0 o.1) members) (name_of (format.names s) m) ≡ true
+names_one format s [] m h = absurd cc
+names_one format s (o ∷ members) m h = by_test (λ k. names_one format s members m k) (eqb m o.0) refl h
   where
     key : List ℕ
-    key = name_of (names_of s) m
+    key = name_of (format.names s) m
 
-    by_test : (includes (map (λ o. o.0) members) m ≡ true → names_field (map (λ o. named_field s o.0 o.1) members) key ≡
+    by_test : (includes (map (λ o. o.0) members) m ≡ true
+        → names_field (map (λ o. named_field format s o.0 o.1) members) key ≡
         true) → (b : Bool) → eqb m o.0 ≡ b → (b || includes (map (λ o. o.0) members) m) ≡ true
-        → ((bytes_eq key (name_of (names_of s) o.0) || bytes_eq key (original_name (name_of (names_of s) o.0))) ||
-        names_field (map (λ o. named_field s o.0 o.1) members) key) ≡ true
+        → ((bytes_eq key (name_of (format.names s) o.0) || bytes_eq key (original_name (name_of (format.names s) o.0)))
+        ||
+        names_field (map (λ o. named_field format s o.0 o.1) members) key) ≡ true
     by_test later true e k =
-        ap (λ (b : Bool). (b || bytes_eq key (original_name (name_of (names_of s) o.0))) || names_field
-        (map (λ o. named_field s o.0 o.1) members) key)
-        (ap (λ (x : ℕ). bytes_eq key (name_of (names_of s) x)) (sym (eqb-true m o.0 e)) ∙ same_bytes key)
+        ap (λ (b : Bool). (b || bytes_eq key (original_name (name_of (format.names s) o.0))) || names_field
+        (map (λ o. named_field format s o.0 o.1) members) key)
+        (ap (λ (x : ℕ). bytes_eq key (name_of (format.names s) x)) (sym (eqb-true m o.0 e)) ∙ same_bytes key)
     by_test later false e k =
-        ap (λ (b : Bool). (bytes_eq key (name_of (names_of s) o.0) || bytes_eq key
-        (original_name (name_of (names_of s) o.0))) || b) (later k)
-        ∙ or_true (bytes_eq key (name_of (names_of s) o.0) || bytes_eq key (original_name (name_of (names_of s) o.0)))
+        ap (λ (b : Bool). (bytes_eq key (name_of (format.names s) o.0) || bytes_eq key
+        (original_name (name_of (format.names s) o.0))) || b) (later k)
+        ∙ or_true (bytes_eq key (name_of (format.names s) o.0) || bytes_eq key
+        (original_name (name_of (format.names s) o.0)))
 
-single_name : (s n m : ℕ) → includes (n ∷ []) m ≡ true → names_key (name_of (names_of s) n) (name_of (names_of s) m) ≡
+single_name : (format : Format) (s n m : ℕ) → includes (n ∷ []) m ≡ true
+    → names_key (name_of (format.names s) n) (name_of (format.names s) m) ≡
     true
-single_name s n m h =
+single_name format s n m h =
     let q : m ≡ n = by_test (eqb m n) refl h in
-    ap (λ (x : ℕ). names_key (name_of (names_of s) n) (name_of (names_of s) x)) q ∙ ap
-    (λ (b : Bool). b || bytes_eq (name_of (names_of s) n) (original_name (name_of (names_of s) n)))
-    (same_bytes (name_of (names_of s) n))
+    ap (λ (x : ℕ). names_key (name_of (format.names s) n) (name_of (format.names s) x)) q ∙ ap
+    (λ (b : Bool). b || bytes_eq (name_of (format.names s) n) (original_name (name_of (format.names s) n)))
+    (same_bytes (name_of (format.names s) n))
   where
     by_test : (b : Bool) → eqb m n ≡ b → (b || false) ≡ true → m ≡ n
     by_test true e k = eqb-true m n e
     by_test false e k = absurd cc
 
-row_known : (s : ℕ) (row : Row) (m : ℕ) → includes (numbers row) m ≡ true → row_names (named_row s row)
-    (name_of (names_of s) m) ≡ true
-row_known s (schema.Plain n k) m h = single_name s n m h
-row_known s (schema.Optional n k) m h = single_name s n m h
-row_known s (schema.Repeated n k) m h = single_name s n m h
-row_known s (schema.OneOf members) m h = names_one s members m h
+row_known : (format : Format) (s : ℕ) (row : Row) (m : ℕ) → includes (numbers row) m ≡ true
+    → row_names (named_row format s row)
+    (name_of (format.names s) m) ≡ true
+row_known format s (schema.Plain n k) m h = single_name format s n m h
+row_known format s (schema.Optional n k) m h = single_name format s n m h
+row_known format s (schema.Repeated n k) m h = single_name format s n m h
+row_known format s (schema.OneOf members) m h = names_one format s members m h
 
-rows_known : (s : ℕ) (rows : List Row) (m : ℕ) → includes (all_numbers rows) m ≡ true → names_row
-    (map (named_row s) rows) (name_of (names_of s) m) ≡ true
-rows_known s [] m h = absurd cc
-rows_known s (row ∷ rows) m h = by_test (λ k. rows_known s rows m k) (includes (numbers row) m) refl
+rows_known : (format : Format) (s : ℕ) (rows : List Row) (m : ℕ) → includes (all_numbers rows) m ≡ true → names_row
+    (map (named_row format s) rows) (name_of (format.names s) m) ≡ true
+rows_known format s [] m h = absurd cc
+rows_known format s (row ∷ rows) m h = by_test (λ k. rows_known format s rows m k) (includes (numbers row) m) refl
     (sym (includes-append (numbers row) (all_numbers rows) m) ∙ h)
   where
     key : List ℕ
-    key = name_of (names_of s) m
+    key = name_of (format.names s) m
 
-    by_test : (includes (all_numbers rows) m ≡ true → names_row (map (named_row s) rows) key ≡ true) → (b : Bool) →
+    by_test : (includes (all_numbers rows) m ≡ true → names_row (map (named_row format s) rows) key ≡ true) → (b : Bool)
+        →
         includes (numbers row) m ≡ b → (b || includes (all_numbers rows) m) ≡ true →
-        (row_names (named_row s row) key || names_row (map (named_row s) rows) key) ≡ true
-    by_test later true e k = ap (λ (b : Bool). b || names_row (map (named_row s) rows) key) (row_known s row m e)
-    by_test later false e k = ap (λ (b : Bool). row_names (named_row s row) key || b) (later k) ∙ or_true
-        (row_names (named_row s row) key)
+        (row_names (named_row format s row) key || names_row (map (named_row format s) rows) key) ≡ true
+    by_test later true e k = ap (λ (b : Bool). b || names_row (map (named_row format s) rows) key)
+        (row_known format s row m e)
+    by_test later false e k = ap (λ (b : Bool). row_names (named_row format s row) key || b) (later k) ∙ or_true
+        (row_names (named_row format s row) key)
 
-all_known : (texts : Bool) (s : ℕ) (all : List NamedRow) (v : Parts) (rows : List Row) → Fits table v rows →
-    ((m : ℕ) → includes (all_numbers rows) m ≡ true → names_row all (name_of (names_of s) m) ≡ true)
-    → are_known all (members_json texts (names_of s) v rows) ≡ true
+all_known : (format : Format) (texts : Bool) (s : ℕ) (all : List NamedRow) (v : Parts) (rows : List Row)
+    → Fits format.table v rows →
+    ((m : ℕ) → includes (all_numbers rows) m ≡ true → names_row all (name_of (format.names s) m) ≡ true)
+    → are_known all (members_json_in format.table format.names texts (format.names s) v rows) ≡ true
 unfolding PartFits part_json_in
-all_known texts s all nil [] f w = refl
-all_known texts s all nil (row ∷ rows) f w = absurd f
-all_known texts s all (cons p ps) [] f w = absurd f
-all_known texts s all (cons p ps) (row ∷ rows) f w = by_test
-    (all_known texts s all ps rows f.2 (λ m g. w m (within_rest row rows m g))) (is_present row p) refl
+all_known format texts s all nil [] f w = refl
+all_known format texts s all nil (row ∷ rows) f w = absurd f
+all_known format texts s all (cons p ps) [] f w = absurd f
+all_known format texts s all (cons p ps) (row ∷ rows) f w = by_test
+    (all_known format texts s all ps rows f.2 (λ m g. w m (within_rest row rows m g))) (is_present row p) refl
   where
     others : Members
-    others = members_json texts (names_of s) ps rows
+    others = members_json_in format.table format.names texts (format.names s) ps rows
 
     by_test : are_known all others ≡ true → (b : Bool) → is_present row p ≡ b → are_known all
-        (member_if b (name_of (names_of s) (number_of row p)) (part_json texts p (kind_of row p)) others) ≡ true
+        (member_if b (name_of (format.names s) (number_of row p))
+        (part_json_in format.table format.names texts p (kind_of row p)) others) ≡ true
     by_test later true e = ap₂ (λ (a b : Bool). a && b) (w (number_of row p)
         (within_row row rows (number_of row p) (number_within row p f.0 e))) later
     by_test later false e = later
 
 -- ---- one level
 
-module _ (texts : Bool) (s : ℕ) (ms : Members) (nested : ℕ → Json → Option Parts) (bound : ℕ)
-    (back : (t : ℕ) (ps : Parts) → Fits table ps (table t) → suc (levels ps) ≤ bound → PartsBytes ps → nested t
-    (json_with texts t ps) ≡ Some ps) where
+module _ (format : Format) (texts : Bool) (s : ℕ) (ms : Members) (nested : ℕ → Json → Option Parts) (bound : ℕ)
+    (back : (t : ℕ) (ps : Parts) → Fits format.table ps (format.table t) → suc (levels ps) ≤ bound → PartsBytes ps
+    → nested t
+    (json_with_in format.table format.names texts t ps) ≡ Some ps) where
   record Back (k : Kind) (values : List (List ℕ × ℕ)) (p : Part) : Type 0 where
-    read : single_read nested k values (part_json texts p k) ≡ Some p
-    there : present (part_json texts p k) ≡ Some (part_json texts p k)
+    read : single_read nested k values (part_json_in format.table format.names texts p k) ≡ Some p
+    there : present (part_json_in format.table format.names texts p k)
+        ≡ Some (part_json_in format.table format.names texts p k)
 
   number_back : (k : Kind) (values : List (List ℕ × ℕ)) (n : ℕ) → NumberFits k n → Back k values (Number n)
   unfolding part_json_in
@@ -254,7 +277,8 @@ module _ (texts : Bool) (s : ℕ) (ms : Members) (nested : ℕ → Json → Opti
   content_back Enumeration values b h g = absurd h
   content_back (Message t) values b h g = absurd h
 
-  nested_back : (k : Kind) (values : List (List ℕ × ℕ)) (ps : Parts) → PartFits table (Nested ps) k → suc (levels ps) ≤
+  nested_back : (k : Kind) (values : List (List ℕ × ℕ)) (ps : Parts) → PartFits format.table (Nested ps) k
+      → suc (levels ps) ≤
       bound → PartsBytes ps → Back k values (Nested ps)
   unfolding PartFits part_json_in
   nested_back (Message t) values ps h l g = record { read = ap (option_map Nested) (back t ps h l g); there = refl }
@@ -265,7 +289,7 @@ module _ (texts : Bool) (s : ℕ) (ms : Members) (nested : ℕ → Json → Opti
   nested_back Text values ps h l g = absurd h
   nested_back ByteString values ps h l g = absurd h
 
-  single_back : (k : Kind) (values : List (List ℕ × ℕ)) (p : Part) → is_single p ≡ true → PartFits table p k →
+  single_back : (k : Kind) (values : List (List ℕ × ℕ)) (p : Part) → is_single p ≡ true → PartFits format.table p k →
       part_levels p ≤ bound → PartBytes p → Back k values p
   unfolding PartFits part_levels
   single_back k values (Number n) i h l g = number_back k values n h
@@ -275,14 +299,16 @@ module _ (texts : Bool) (s : ℕ) (ms : Members) (nested : ℕ → Json → Opti
   single_back k values (Elements ps) i h l g = absurd cc
   single_back k values (Member n p) i h l g = absurd cc
 
-  elements_back : (f : NamedField) (ps : Parts) → ElementsFit table ps f.kind → levels ps ≤ bound → PartsBytes ps →
-      elements_read nested f (items_json texts ps f.kind) ≡ Some ps
+  elements_back : (f : NamedField) (ps : Parts) → ElementsFit format.table ps f.kind → levels ps ≤ bound → PartsBytes ps
+      →
+      elements_read nested f (items_json_in format.table format.names texts ps f.kind) ≡ Some ps
   unfolding PartFits part_levels part_json_in
   elements_back f nil h l g = refl
   elements_back f (cons p ps) h l g =
       let one = single_back f.kind f.values p h.0 h.1 (omega arith) g.0 in
       let more = elements_back f ps h.2 (omega arith) g.1 in
-      ap (option_and_then (λ q. option_map (cons q) (elements_read nested f (items_json texts ps f.kind)))) one.read ∙
+      ap (option_and_then (λ q. option_map (cons q)
+      (elements_read nested f (items_json_in format.table format.names texts ps f.kind)))) one.read ∙
       ap (option_map (cons p)) more
 
   -- ---- rows
@@ -321,7 +347,8 @@ module _ (texts : Bool) (s : ℕ) (ms : Members) (nested : ℕ → Json → Opti
   empty_default Enumeration b h e = absurd h
   empty_default (Message t) b h e = absurd h
 
-  default_back : (k : Kind) (p : Part) → is_single p ≡ true → PartFits table p k → is_default p ≡ true → default_of k ≡
+  default_back : (k : Kind) (p : Part) → is_single p ≡ true → PartFits format.table p k → is_default p ≡ true
+      → default_of k ≡
       p
   unfolding PartFits
   default_back k (Number m) i h e = zero_default k m h (eqb-true m 0 e)
@@ -340,20 +367,22 @@ module _ (texts : Bool) (s : ℕ) (ms : Members) (nested : ℕ → Json → Opti
   plain_present n k (Elements ps) i = absurd cc
   plain_present n k (Member m p) i = absurd cc
 
-  plain_back : (f : NamedField) (p : Part) → is_single p ≡ true → PartFits table p f.kind → Back f.kind f.values p →
-      given f ms ≡ given_one (not (is_default p)) (part_json texts p f.kind)
+  plain_back : (f : NamedField) (p : Part) → is_single p ≡ true → PartFits format.table p f.kind
+      → Back f.kind f.values p →
+      given f ms ≡ given_one (not (is_default p)) (part_json_in format.table format.names texts p f.kind)
       → row_read nested ms (Plain f) ≡ Some p
   plain_back f p i h b e = ap (option_and_then (or_absent (default_of f.kind) (field_read nested f))) e ∙ by_test
       (is_default p) refl
     where
       by_test : (d : Bool) → is_default p ≡ d → option_and_then (or_absent (default_of f.kind) (field_read nested f))
-          (given_one (not d) (part_json texts p f.kind)) ≡ Some p
+          (given_one (not d) (part_json_in format.table format.names texts p f.kind)) ≡ Some p
       by_test true q = ap (λ (x : Part). Some x) (default_back f.kind p i h q)
       by_test false q = b.read
 
   optional_back : (f : NamedField) (p : Part) → has_shape (schema.Optional f.number f.kind) p ≡ true →
       (is_single p ≡ true → Back f.kind f.values p)
-      → given f ms ≡ given_one (is_present (schema.Optional f.number f.kind) p) (part_json texts p f.kind) → row_read
+      → given f ms ≡ given_one (is_present (schema.Optional f.number f.kind) p)
+      (part_json_in format.table format.names texts p f.kind) → row_read
       nested ms (Optional f) ≡ Some p
   optional_back f Absent h b e = ap (option_and_then (or_absent Absent (field_read nested f))) e
   optional_back f (Number m) h b e = ap (option_and_then (or_absent Absent (field_read nested f))) e ∙ (b refl).read
@@ -362,9 +391,11 @@ module _ (texts : Bool) (s : ℕ) (ms : Members) (nested : ℕ → Json → Opti
   optional_back f (Elements ps) h b e = absurd cc
   optional_back f (Member m p) h b e = absurd cc
 
-  list_back : (f : NamedField) (ps : Parts) → elements_read nested f (items_json texts ps f.kind) ≡ Some ps
+  list_back : (f : NamedField) (ps : Parts)
+      → elements_read nested f (items_json_in format.table format.names texts ps f.kind) ≡ Some ps
       → given f ms ≡ given_one (is_present (schema.Repeated f.number f.kind) (Elements ps))
-      (part_json texts (Elements ps) f.kind) → row_read nested ms (Repeated f) ≡ Some (Elements ps)
+      (part_json_in format.table format.names texts (Elements ps) f.kind) → row_read nested ms (Repeated f)
+      ≡ Some (Elements ps)
   unfolding part_json_in
   list_back f nil b e = ap (option_and_then (or_absent (Elements nil) (list_read nested f))) e
   list_back f (cons p ps) b e = ap (option_and_then (or_absent (Elements nil) (list_read nested f))) e ∙ ap
@@ -374,7 +405,7 @@ module _ (texts : Bool) (s : ℕ) (ms : Members) (nested : ℕ → Json → Opti
 
   abbrev none_given : List (ℕ × Kind) → Type 0
   none_given members = (n : ℕ) (k : Kind) → includes (map (λ m. m.0) members) n ≡ true → values_named
-      (named_field s n k) ms ≡ []
+      (named_field format s n k) ms ≡ []
 
   first_within : (m : ℕ × Kind) (members : List (ℕ × Kind)) → includes (map (λ o. o.0) (m ∷ members)) m.0 ≡ true
   first_within m members = ap (λ (b : Bool). b || includes (map (λ o. o.0) members) m.0) (eq-eqb m.0 m.0 refl)
@@ -384,12 +415,12 @@ module _ (texts : Bool) (s : ℕ) (ms : Members) (nested : ℕ → Json → Opti
   later_within m members n h = ap (λ (b : Bool). eqb n m.0 || b) h ∙ or_true (eqb n m.0)
 
   oneof_stays : (held : Part) (members : List (ℕ × Kind)) → none_given members → oneof_read nested ms held
-      (map (λ m. named_field s m.0 m.1) members) ≡ Some held
+      (map (λ m. named_field format s m.0 m.1) members) ≡ Some held
   oneof_stays held [] h = refl
   oneof_stays held (m ∷ members) h =
-      let f = named_field s m.0 m.1 in
+      let f = named_field format s m.0 m.1 in
       ap (λ (xs : List Json). option_and_then (λ o. option_and_then
-      (λ now. oneof_read nested ms now (map (λ m. named_field s m.0 m.1) members))
+      (λ now. oneof_read nested ms now (map (λ m. named_field format s m.0 m.1) members))
       (or_absent held (member_read nested held f) o)) (the_only xs))
       (h m.0 m.1 (first_within m members))
       ∙ oneof_stays held members (λ n k g. h n k (later_within m members n g))
@@ -401,18 +432,19 @@ module _ (texts : Bool) (s : ℕ) (ms : Members) (nested : ℕ → Json → Opti
   oneof_back : (q : ℕ) (p : Part) (x : Kind) (members : List (ℕ × Kind)) → are_distinct (map (λ m. m.0) members) ≡ true
       → includes (map (λ m. m.0) members) q ≡ true → member_kind members q ≡ x
       → ((values : List (List ℕ × ℕ)) → Back x values p)
-      → ((n : ℕ) (k : Kind) → includes (map (λ m. m.0) members) n ≡ true → values_named (named_field s n k) ms ≡ cond
-      (eqb n q) (part_json texts p x ∷ []) [])
-      → oneof_read nested ms Absent (map (λ m. named_field s m.0 m.1) members) ≡ Some (Member q p)
+      → ((n : ℕ) (k : Kind) → includes (map (λ m. m.0) members) n ≡ true → values_named (named_field format s n k) ms
+      ≡ cond
+      (eqb n q) (part_json_in format.table format.names texts p x ∷ []) [])
+      → oneof_read nested ms Absent (map (λ m. named_field format s m.0 m.1) members) ≡ Some (Member q p)
   oneof_back q p x [] d h y b e = absurd cc
   oneof_back q p x (m ∷ members) d h y b e =
       by_test (λ g z w. oneof_back q p x members (and_split _ _ d).1 g z b w) (eqb q m.0) refl h y
     where
       fields : List NamedField
-      fields = map (λ o. named_field s o.0 o.1) members
+      fields = map (λ o. named_field format s o.0 o.1) members
 
       f : NamedField
-      f = named_field s m.0 m.1
+      f = named_field format s m.0 m.1
 
       step : List Json → Option Part
       step xs = option_and_then (λ o. option_and_then (λ now. oneof_read nested ms now fields)
@@ -428,73 +460,86 @@ module _ (texts : Bool) (s : ℕ) (ms : Members) (nested : ℕ → Json → Opti
           ))
 
       by_test : (includes (map (λ o. o.0) members) q ≡ true → member_kind members q ≡ x
-          → ((n : ℕ) (k : Kind) → includes (map (λ o. o.0) members) n ≡ true → values_named (named_field s n k) ms ≡
-          cond (eqb n q) (part_json texts p x ∷ []) [])
+          → ((n : ℕ) (k : Kind) → includes (map (λ o. o.0) members) n ≡ true
+          → values_named (named_field format s n k) ms ≡
+          cond (eqb n q) (part_json_in format.table format.names texts p x ∷ []) [])
           → oneof_read nested ms Absent fields ≡ Some (Member q p))
           → (t : Bool) → eqb q m.0 ≡ t → (t || includes (map (λ o. o.0) members) q) ≡ true → cond t m.1
           (member_kind members q) ≡ x
           → step (values_named f ms) ≡ Some (Member q p)
       by_test later true z h y =
           let same : q ≡ m.0 = eqb-true q m.0 z in
-          let given_here = e m.0 m.1 (first_within m members) ∙ ap (λ (b : Bool). cond b (part_json texts p x ∷ []) [])
+          let given_here = e m.0 m.1 (first_within m members)
+          ∙ ap (λ (b : Bool). cond b (part_json_in format.table format.names texts p x ∷ []) [])
           (eq-eqb m.0 q (sym same)) in
-          let read : field_read nested f (part_json texts p x) ≡ Some p = ap
-          (λ (k : Kind). single_read nested k f.values (part_json texts p x)) y ∙ (b f.values).read in
+          let read : field_read nested f (part_json_in format.table format.names texts p x) ≡ Some p = ap
+          (λ (k : Kind). single_read nested k f.values (part_json_in format.table format.names texts p x)) y
+          ∙ (b f.values).read in
           ap step given_here
           ∙ ap (λ (o : Option Json). option_and_then (λ o. option_and_then (λ now. oneof_read nested ms now fields)
           (or_absent Absent (member_read nested Absent f) o)) (Some o)) (b f.values).there
           ∙ ap (λ (o : Option Part). option_and_then (λ now. oneof_read nested ms now fields)
           (option_map (Member m.0) o)) read
           ∙ oneof_stays (Member m.0 p) members (λ n k g. e n k (later_within m members n g) ∙ ap
-          (λ (b : Bool). cond b (part_json texts p x ∷ []) [])
+          (λ (b : Bool). cond b (part_json_in format.table format.names texts p x ∷ []) [])
           (ne_eqb n q (λ w. eqb-false n m.0 (other n g) (w ∙ same))))
           ∙ ap (λ (n : ℕ). Some (Member n p)) (sym same)
       by_test later false z h y =
-          let none = e m.0 m.1 (first_within m members) ∙ ap (λ (b : Bool). cond b (part_json texts p x ∷ []) [])
+          let none = e m.0 m.1 (first_within m members)
+          ∙ ap (λ (b : Bool). cond b (part_json_in format.table format.names texts p x ∷ []) [])
           (ne_eqb m.0 q (λ w. eqb-false q m.0 z (sym w))) in
           ap step none ∙ later h y (λ n k g. e n k (later_within m members n g))
 
   -- ---- a row, and all of them
 
-  row_back : (row : Row) (p : Part) → has_shape row p ≡ true → PartFits table p (kind_of row p) → part_levels p ≤ bound
+  row_back : (row : Row) (p : Part) → has_shape row p ≡ true → PartFits format.table p (kind_of row p)
+      → part_levels p ≤ bound
       → PartBytes p → are_distinct (numbers row) ≡ true
-      → ((n : ℕ) (k : Kind) → includes (numbers row) n ≡ true → values_named (named_field s n k) ms ≡ mine texts n row
-      p) → row_read nested ms (named_row s row) ≡ Some p
+      → ((n : ℕ) (k : Kind) → includes (numbers row) n ≡ true → values_named (named_field format s n k) ms
+      ≡ mine format texts n row
+      p) → row_read nested ms (named_row format s row) ≡ Some p
   unfolding PartFits part_levels part_json_in
   row_back (schema.Plain n k) p i h l g d e =
-      let f = named_field s n k in
+      let f = named_field format s n k in
       let b = single_back k f.values p i h l g in
-      let shown = ap (λ (c : Bool). cond c (part_json texts p k ∷ []) []) (plain_present n k p i) in
-      plain_back f p i h b (only_one (values_named f ms) (not (is_default p)) (part_json texts p k)
-      (e n k (own_number n) ∙ own_mine n (is_present (schema.Plain n k) p) (part_json texts p k) ∙ shown) b.there)
+      let shown = ap (λ (c : Bool). cond c (part_json_in format.table format.names texts p k ∷ []) [])
+      (plain_present n k p i) in
+      plain_back f p i h b (only_one (values_named f ms) (not (is_default p))
+      (part_json_in format.table format.names texts p k)
+      (e n k (own_number n) ∙ own_mine n (is_present (schema.Plain n k) p)
+      (part_json_in format.table format.names texts p k) ∙ shown) b.there)
   row_back (schema.Optional n k) Absent i h l g d e =
-      let f = named_field s n k in
+      let f = named_field format s n k in
       optional_back f Absent refl (λ j. absurd cc) (ap the_only (e n k (own_number n)))
   row_back (schema.Optional n k) (Number m) i h l g d e =
-      let f = named_field s n k in
+      let f = named_field format s n k in
       let b = single_back k f.values (Number m) refl h l g in
-      optional_back f (Number m) refl (λ j. b) (only_one (values_named f ms) true (part_json texts (Number m) k)
-      (e n k (own_number n) ∙ own_mine n true (part_json texts (Number m) k)) b.there)
+      optional_back f (Number m) refl (λ j. b) (only_one (values_named f ms) true
+      (part_json_in format.table format.names texts (Number m) k)
+      (e n k (own_number n) ∙ own_mine n true (part_json_in format.table format.names texts (Number m) k)) b.there)
   row_back (schema.Optional n k) (Bytes c) i h l g d e =
-      let f = named_field s n k in
+      let f = named_field format s n k in
       let b = single_back k f.values (Bytes c) refl h l g in
-      optional_back f (Bytes c) refl (λ j. b) (only_one (values_named f ms) true (part_json texts (Bytes c) k)
-      (e n k (own_number n) ∙ own_mine n true (part_json texts (Bytes c) k)) b.there)
+      optional_back f (Bytes c) refl (λ j. b) (only_one (values_named f ms) true
+      (part_json_in format.table format.names texts (Bytes c) k)
+      (e n k (own_number n) ∙ own_mine n true (part_json_in format.table format.names texts (Bytes c) k)) b.there)
   row_back (schema.Optional n k) (Nested ps) i h l g d e =
-      let f = named_field s n k in
+      let f = named_field format s n k in
       let b = single_back k f.values (Nested ps) refl h l g in
-      optional_back f (Nested ps) refl (λ j. b) (only_one (values_named f ms) true (part_json texts (Nested ps) k)
-      (e n k (own_number n) ∙ own_mine n true (part_json texts (Nested ps) k)) b.there)
+      optional_back f (Nested ps) refl (λ j. b)
+      (only_one (values_named f ms) true (part_json_in format.table format.names texts (Nested ps) k)
+      (e n k (own_number n) ∙ own_mine n true (part_json_in format.table format.names texts (Nested ps) k)) b.there)
   row_back (schema.Optional n k) (Elements ps) i h l g d e = absurd cc
   row_back (schema.Optional n k) (Member m p) i h l g d e = absurd cc
   row_back (schema.Repeated n k) (Elements nil) i h l g d e =
-      let f = named_field s n k in
+      let f = named_field format s n k in
       list_back f nil refl (ap the_only (e n k (own_number n)))
   row_back (schema.Repeated n k) (Elements (cons p ps)) i h l g d e =
-      let f = named_field s n k in
+      let f = named_field format s n k in
       list_back f (cons p ps) (elements_back f (cons p ps) h l g)
-      (only_one (values_named f ms) true (part_json texts (Elements (cons p ps)) k)
-      (e n k (own_number n) ∙ own_mine n true (part_json texts (Elements (cons p ps)) k)) refl)
+      (only_one (values_named f ms) true (part_json_in format.table format.names texts (Elements (cons p ps)) k)
+      (e n k (own_number n) ∙ own_mine n true (part_json_in format.table format.names texts (Elements (cons p ps)) k))
+      refl)
   row_back (schema.Repeated n k) Absent i h l g d e = absurd cc
   row_back (schema.Repeated n k) (Number m) i h l g d e = absurd cc
   row_back (schema.Repeated n k) (Bytes c) i h l g d e = absurd cc
@@ -510,45 +555,50 @@ module _ (texts : Bool) (s : ℕ) (ms : Members) (nested : ℕ → Json → Opti
   row_back (schema.OneOf members) (Nested ps) i h l g d e = absurd cc
   row_back (schema.OneOf members) (Elements ps) i h l g d e = absurd cc
 
-  rows_back : (rows : List Row) (v : Parts) → Fits table v rows → levels v ≤ bound → PartsBytes v → are_distinct
+  rows_back : (rows : List Row) (v : Parts) → Fits format.table v rows → levels v ≤ bound → PartsBytes v → are_distinct
       (all_numbers rows) ≡ true
-      → ((n : ℕ) (k : Kind) → includes (all_numbers rows) n ≡ true → values_named (named_field s n k) ms ≡ all_mine
-      texts n v rows) → rows_read nested ms (map (named_row s) rows) ≡ Some v
+      → ((n : ℕ) (k : Kind) → includes (all_numbers rows) n ≡ true → values_named (named_field format s n k) ms
+      ≡ all_mine format
+      texts n v rows) → rows_read nested ms (map (named_row format s) rows) ≡ Some v
   unfolding PartFits part_levels
   rows_back [] nil f l g d e = refl
   rows_back [] (cons p ps) f l g d e = absurd f
   rows_back (row ∷ rows) nil f l g d e = absurd f
   rows_back (row ∷ rows) (cons p ps) f l g d e =
       let one = row_back row p f.0 f.1 (omega arith) g.0 (distinct_front (numbers row) (all_numbers rows) d)
-      (λ n k h. e n k (within_row row rows n h) ∙ ap (λ (js : List Json). mine texts n row p ++ js)
-      (all_mine_none texts n ps rows f.2 (distinct_other (numbers row) (all_numbers rows) n d h)) ∙ append-nil
-      (mine texts n row p)) in
+      (λ n k h. e n k (within_row row rows n h) ∙ ap (λ (js : List Json). mine format texts n row p ++ js)
+      (all_mine_none format texts n ps rows f.2 (distinct_other (numbers row) (all_numbers rows) n d h)) ∙ append-nil
+      (mine format texts n row p)) in
       let more = rows_back rows ps f.2 (omega arith) g.1 (distinct_back (numbers row) (all_numbers rows) d)
-      (λ n k h. e n k (within_rest row rows n h) ∙ ap (λ (js : List Json). js ++ all_mine texts n ps rows)
-      (mine_none texts n row p f.0 (not_before (numbers row) (all_numbers rows) n d h))) in
-      ap (option_and_then (λ q. option_map (cons q) (rows_read nested ms (map (named_row s) rows)))) one ∙ ap
+      (λ n k h. e n k (within_rest row rows n h) ∙ ap (λ (js : List Json). js ++ all_mine format texts n ps rows)
+      (mine_none format texts n row p f.0 (not_before (numbers row) (all_numbers rows) n d h))) in
+      ap (option_and_then (λ q. option_map (cons q) (rows_read nested ms (map (named_row format s) rows)))) one ∙ ap
       (option_map (cons p)) more
 
 -- ---- messages
 
-level_back : (texts : Bool) (nested : ℕ → Json → Option Parts) (bound s : ℕ) (v : Parts) →
-    ((t : ℕ) (ps : Parts) → Fits table ps (table t) → suc (levels ps) ≤ bound → PartsBytes ps → nested t
-    (json_with texts t ps) ≡ Some ps)
-    → Fits table v (table s) → levels v ≤ bound → PartsBytes v → object_read nested (named_rows s) (json_with texts s v)
+level_back : (format : Format) (law : IsReadable format) (texts : Bool) (nested : ℕ → Json → Option Parts) (bound s : ℕ)
+    (v : Parts) →
+    ((t : ℕ) (ps : Parts) → Fits format.table ps (format.table t) → suc (levels ps) ≤ bound → PartsBytes ps → nested t
+    (json_with_in format.table format.names texts t ps) ≡ Some ps)
+    → Fits format.table v (format.table s) → levels v ≤ bound → PartsBytes v
+    → object_read nested (named_rows format s) (json_with_in format.table format.names texts s v)
     ≡ Some v
 unfolding named_rows
-level_back texts nested bound s v back f l g =
-    let rows = table s in
-    let ms = members_json texts (names_of s) v rows in
-    let known = all_known texts s (map (named_row s) rows) v rows f (rows_known s rows) in
-    ap (λ (b : Bool). cond b (rows_read nested ms (map (named_row s) rows)) None) known
-    ∙ rows_back texts s ms nested bound back rows v f l g (and_split _ _ (are_schemas s)).1
-    (λ n k h. values_are texts s n k v rows f h (λ m w. w))
+level_back format law texts nested bound s v back f l g =
+    let rows = format.table s in
+    let ms = members_json_in format.table format.names texts (format.names s) v rows in
+    let known = all_known format texts s (map (named_row format s) rows) v rows f (rows_known format s rows) in
+    ap (λ (b : Bool). cond b (rows_read nested ms (map (named_row format s) rows)) None) known
+    ∙ rows_back format texts s ms nested bound back rows v f l g (and_split _ _ (schemas_of format law s)).1
+    (λ n k h. values_are format law texts s n k v rows f h (λ m w. w))
 
-pub message_back : (texts : Bool) (n s : ℕ) (v : Parts) → Fits table v (table s) → levels v ≤ n → PartsBytes v →
-    message_read (suc n) s (json_with texts s v) ≡ Some v
+pub message_back : (format : Format) (law : IsReadable format) (texts : Bool) (n s : ℕ) (v : Parts)
+    → Fits format.table v (format.table s) → levels v ≤ n → PartsBytes v →
+    message_read format (suc n) s (json_with_in format.table format.names texts s v) ≡ Some v
 unfolding message_read
-message_back texts zero s v f l g = level_back texts (message_read zero) zero s v (λ t ps h k b. absurd (omega arith)) f
+message_back format law texts zero s v f l g = level_back format law texts (message_read format zero) zero s v
+    (λ t ps h k b. absurd (omega arith)) f
     l g
-message_back texts (suc n) s v f l g = level_back texts (message_read (suc n)) (suc n) s v
-    (λ t ps h k b. message_back texts n t ps h (omega arith) b) f l g
+message_back format law texts (suc n) s v f l g = level_back format law texts (message_read format (suc n)) (suc n) s v
+    (λ t ps h k b. message_back format law texts n t ps h (omega arith) b) f l g

@@ -8,16 +8,21 @@ use Rattle.json.specs.Json.{Json, if_last, document}
 use Rattle.json_table.proofs.Spelled.{document_deeper}
 use Rattle.shared_core_wire.specs.Canonical.{canonical_payload}
 use Rattle.shared_core_wire.specs.Value.{Parts}
-use Rattle.shared_core_codec.specs.Table.{table}
-use Rattle.shared_core_codec.specs.Payloads.{IsAccepted, payload_meaning}
-use Rattle.shared_core_codec.proofs.PayloadLaws.{canonical_is_read_back}
-use Rattle.shared_core_json_reader.specs.Reading.{only_value, json_of_text, message_read, value_payload}
-use Rattle.shared_core_json_reader.specs.Reading.{max_depth, text_payload}
+use Rattle.shared_core_wire.proofs.ReadBackLevels.{canonical_back}
+use Rattle.shared_core_json_reader.proofs.FormatRows.{schemas_of}
+use Rattle.shared_core_json_reader.specs.Reading.{only_value, json_of_text, message_read}
+use Rattle.shared_core_json_reader.specs.Reading.{max_depth}
 use Rattle.shared_core_json_reader.specs.Appended.{message_bytes, after}
-use Rattle.shared_core_json_reader.specs.FirstError.{Step, PathError, message_error, path_text, value_error}
+use Rattle.shared_core_json_reader.specs.FirstError.{Step, PathError, message_error, path_text}
 use Rattle.shared_core_json_reader.specs.declared.error.Reason.{Reason}
 use Rattle.shared_core_json_reader.proofs.Agreeing.{message_agrees}
 use Rattle.shared_core_json_reader.proofs.Fitting.{some_map, message_fits}
+use Rattle.shared_core_codec.specs.Tables.{IsAcceptedIn}
+use Rattle.shared_core_json_reader.specs.FirstError.{value_error_in}
+use Rattle.shared_core_json_reader.specs.Readable.{IsReadable}
+use Rattle.shared_core_json_reader.specs.Reading.{value_payload_in, text_payload_in}
+use Rattle.shared_core_json_reader.specs.Rows.{Format}
+use Rattle.shared_core_wire.specs.Overlay.{meaning}
 
 -- ---- the value that a text is
 
@@ -49,35 +54,41 @@ nothing_before : (o : Option (List ℕ)) → after [] o ≡ o
 nothing_before None = refl
 nothing_before (Some xs) = refl
 
-pub appended_payload : (s : ℕ) (j : Json) (old out : List ℕ) → old ≡ [] → after old (message_bytes 101 s j) ≡ Some out →
-    value_payload s j ≡ Some out
-appended_payload s j old out n a =
-    sym (message_agrees 101 s j) ∙ sym (nothing_before (message_bytes 101 s j)) ∙ ap
-    (λ (xs : List ℕ). after xs (message_bytes 101 s j)) (sym n) ∙ a
+pub appended_payload : (format : Format) (law : IsReadable format) (s : ℕ) (j : Json) (old out : List ℕ) → old ≡ []
+    → after old (message_bytes format 101 s j) ≡ Some out →
+    value_payload_in format s j ≡ Some out
+appended_payload format law s j old out n a =
+    sym (message_agrees format law 101 s j) ∙ sym (nothing_before (message_bytes format 101 s j)) ∙ ap
+    (λ (xs : List ℕ). after xs (message_bytes format 101 s j)) (sym n) ∙ a
 
-pub no_payload : (s : ℕ) (j : Json) → message_bytes 101 s j ≡ None → value_payload s j ≡ None
-no_payload s j a = sym (message_agrees 101 s j) ∙ a
+pub no_payload : (format : Format) (law : IsReadable format) (s : ℕ) (j : Json) → message_bytes format 101 s j ≡ None
+    → value_payload_in format s j ≡ None
+no_payload format law s j a = sym (message_agrees format law 101 s j) ∙ a
 
 -- a payload that a value means is accepted, and means what the value means
-pub payload_means : (s : ℕ) (j : Json) (out : List ℕ) → value_payload s j ≡ Some out → length out < 2 ^ 64 → IsAccepted
-    s out × (message_read 101 s j ≡ Some (payload_meaning s out))
-payload_means s j out e z =
-    let x = some_map (canonical_payload table s) (message_read 101 s j) out e in
-    let f = message_fits 101 s j x.0 x.1 in
-    let back = canonical_is_read_back s x.0 f.0 (subst (λ (bs : List ℕ). length bs < 2 ^ 64) (sym x.2) z)
-    (omega (arith, f.1)) in
-    subst (λ (bs : List ℕ). IsAccepted s bs × (message_read 101 s j ≡ Some (payload_meaning s bs))) x.2
+pub payload_means : (format : Format) (law : IsReadable format) (s : ℕ) (j : Json) (out : List ℕ)
+    → value_payload_in format s j ≡ Some out → length out < 2 ^ 64 → IsAcceptedIn format.table
+    s out × (message_read format 101 s j ≡ Some (meaning format.table 100 s out))
+payload_means format law s j out e z =
+    let x = some_map (canonical_payload format.table s) (message_read format 101 s j) out e in
+    let f = message_fits format law 101 s j x.0 x.1 in
+    let back = canonical_back format.table (schemas_of format law) 100 s x.0 f.0 (omega (arith, f.1))
+    (subst (λ (bs : List ℕ). length bs < 2 ^ 64) (sym x.2) z) in
+    subst (λ (bs : List ℕ). IsAcceptedIn format.table s bs
+    × (message_read format 101 s j ≡ Some (meaning format.table 100 s bs))) x.2
     (back.0, x.1 ∙ ap (λ (v : Parts). Some v) (sym back.1))
 
 -- the first error of a value is that of its message, with the path as text
-pub error_of_value : (s : ℕ) (j : Json) (reason : Reason) (path : List Step) →
-    message_error 101 s j ≡ Some (reason, path) → (text : List ℕ) × (value_error s j ≡ Some (reason, text))
-error_of_value s j reason path e =
+pub error_of_value : (format : Format) (s : ℕ) (j : Json) (reason : Reason) (path : List Step) →
+    message_error format 101 s j ≡ Some (reason, path) → (text : List ℕ)
+    × (value_error_in format s j ≡ Some (reason, text))
+error_of_value format s j reason path e =
     (path_text true path, ap (λ (o : Option PathError). option_map (λ (r : PathError). (r.0, path_text true r.1)) o) e)
 
 -- ---- the payload of a text
 
-pub text_of_value : (s : ℕ) (text : List ℕ) (j : Json) → json_of_text text ≡ Some j → text_payload s text ≡
-    value_payload s j
-text_of_value s text j e = ap (λ (o : Option Json). option_map (canonical_payload table s)
-    (option_and_then (message_read 101 s) o)) e
+pub text_of_value : (format : Format) (s : ℕ) (text : List ℕ) (j : Json) → json_of_text text ≡ Some j
+    → text_payload_in format s text ≡
+    value_payload_in format s j
+text_of_value format s text j e = ap (λ (o : Option Json). option_map (canonical_payload format.table s)
+    (option_and_then (message_read format 101 s) o)) e

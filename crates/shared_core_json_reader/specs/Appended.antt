@@ -9,6 +9,7 @@ use Rattle.shared_core_wire.specs.WrittenRecords.{number_record, content_record}
 use Rattle.shared_core_json_reader.specs.declared.error.Reason.{Reason}
 use Rattle.shared_core_json_reader.specs.declared.error.Reason.TheVariants.{OutOfMemory}
 use Rattle.shared_core_json_reader.specs.Rows.{NamedField, NamedRow, Plain, Optional, Repeated, OneOf, named_rows}
+use Rattle.shared_core_json_reader.specs.Rows.{Format}
 use Rattle.shared_core_json_reader.specs.Scalars.{unsigned_read, boolean_read, enum_read, text_read, bytes_read}
 use Rattle.shared_core_json_reader.specs.Reading.{are_known, given, or_absent}
 
@@ -107,9 +108,9 @@ object_bytes nested rows (array js) = None
 object_bytes nested rows (object ms) = members_bytes nested rows ms
 
 -- The payload of a message that may be nested this deep, itself included.
-unfoldable pub message_bytes : ℕ → ℕ → Json → Option (List ℕ)
-message_bytes zero s j = None
-message_bytes (suc levels) s j = object_bytes (message_bytes levels) (named_rows s) j
+unfoldable pub message_bytes : Format → ℕ → ℕ → Json → Option (List ℕ)
+message_bytes d zero s j = None
+message_bytes d (suc levels) s j = object_bytes (message_bytes d levels) (named_rows d s) j
 
 -- The bytes with what is appended to them.
 abbrev pub after : List ℕ → Option (List ℕ) → Option (List ℕ)

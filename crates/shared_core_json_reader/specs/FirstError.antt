@@ -19,6 +19,7 @@ use Rattle.shared_core_json_reader.specs.declared.error.JsonReadError.{JsonReadE
 use Rattle.shared_core_json_reader.specs.declared.payload.Step as program
 use Rattle.shared_core_json_reader.specs.declared.payload.Step.TheVariants as variants
 use Rattle.shared_core_json_reader.specs.Rows.{NamedField, NamedRow, Plain, Optional, Repeated, OneOf, named_rows}
+use Rattle.shared_core_json_reader.specs.Rows.{Format, protocol}
 use Rattle.shared_core_json_reader.specs.Scalars.{ends_there, number_text, unsigned_read, boolean_read, enum_read}
 use Rattle.shared_core_json_reader.specs.Scalars.{text_read, bytes_read}
 use Rattle.shared_core_json_reader.specs.Reading.{names_row, given}
@@ -173,9 +174,9 @@ object_error nested rows (object ms) = members_error nested rows ms
 
 -- The error of a value that should be a message of the schema s, if messages are nested at most this deep, itself
 -- included; its path begins in the value.
-unfoldable pub message_error : ℕ → ℕ → Json → Option PathError
-message_error zero s j = Some (TooDeep, [])
-message_error (suc levels) s j = object_error (message_error levels) (named_rows s) j
+unfoldable pub message_error : Format → ℕ → ℕ → Json → Option PathError
+message_error d zero s j = Some (TooDeep, [])
+message_error d (suc levels) s j = object_error (message_error d levels) (named_rows d s) j
 
 -- ---- errors
 
@@ -192,8 +193,12 @@ path_text first (step ∷ steps) = step_text first step ++ path_text false steps
 
 -- The error of a value that should be a message of the schema s: its reason, and the text of the path to the rejected
 -- value.
+abbrev pub value_error_in : Format → ℕ → Json → Option (Reason × List ℕ)
+value_error_in d s j = option_map (λ r. (r.0, path_text true r.1)) (message_error d 101 s j)
+
+-- The same for a schema of the protocol.
 abbrev pub value_error : ℕ → Json → Option (Reason × List ℕ)
-value_error s j = option_map (λ r. (r.0, path_text true r.1)) (message_error 101 s j)
+value_error = value_error_in protocol
 
 -- What an error says of a value that has this first one.
 abbrev pub SaysError : JsonReadError → Option (Reason × List ℕ) → Type 0

@@ -7,5 +7,7 @@ pub mod Errors
 pub mod Views
 pub mod Original
 pub mod Places
+pub mod Readable
 pub mod FirstError
 pub mod Laws
+pub mod Loaded

@@ -1,14 +1,12 @@
 -- The members of an object by the numbers of their fields.
-use Rattle.std.specs.Prelude.{◌≡◌, ◌<◌, ℕ, true, List, [], ◌∷◌, get_or, if◌then◌else◌, Option, Some, None}
+use Rattle.std.specs.Prelude.{◌≡◌, ◌<◌, ℕ, true, List, [], ◌∷◌, length, get_or, if◌then◌else◌, Option, Some, None}
 use Rattle.std.specs.Option.{option_or}
 use Rattle.std.specs.Str.{bytes_eq}
 use Rattle.json.specs.Json.{Members, no_members}
 use Rattle.json_table.specs.Places.{Say}
 use Rattle.json_table.specs.declared.places.Place.TheVariants.{Absent}
 use Rattle.shared_core_wire.specs.Schema.{Row, Plain, Optional, Repeated, OneOf, includes, numbers, all_numbers}
-use Rattle.shared_core_codec.specs.Table.{table}
-use Rattle.shared_core_json.specs.Fields.{names_of}
-use Rattle.shared_core_json_reader.specs.Rows.{NamedField, named_field}
+use Rattle.shared_core_json_reader.specs.Rows.{Format, NamedField, named_field}
 use Rattle.shared_core_json_reader.specs.Reading.{original_name}
 use Rattle.shared_core_json_reader.specs.declared.members.Places.{Places}
 
@@ -23,25 +21,30 @@ abbrev pub as_it_is : List ℕ → List ℕ
 as_it_is name = name
 
 -- The number of the field of the schema s of which a key is a name: the one in lower camel case, or the original one.
-unfoldable pub number_of : ℕ → List ℕ → Option ℕ
-number_of s k = option_or (number_by as_it_is (names_of s) k) (number_by original_name (names_of s) k)
+unfoldable pub number_of : Format → ℕ → List ℕ → Option ℕ
+number_of d s k = option_or (number_by as_it_is (d.names s) k) (number_by original_name (d.names s) k)
+
+-- Each of these names finds the number that it is listed with.
+abbrev pub AreLikely : Format → ℕ → List (ℕ × List ℕ) → Type 0
+AreLikely d s names = (i : ℕ) → i < length names → number_of d s (get_or names i (0, [])).1 ≡ Some
+    (get_or names i (0, [])).0
 
 -- How many places there are: for the fields of these numbers.
 abbrev pub place_count : ℕ
 place_count = 20
 
 -- The places are those of the values of these members.
-pub record ArePlaces (ms : Members) (places : Places) : Type 0 where
-  pub say : Say (number_of places.schema) place_count ms no_members places.numbered
+pub record ArePlaces (d : Format) (ms : Members) (places : Places) : Type 0 where
+  pub say : Say (number_of d places.schema) place_count ms no_members places.numbered
 
 -- A field is one of the schema s, with its names.
-pub record IsOf (s : ℕ) (f : NamedField) : Type 0 where
-  pub named : f ≡ named_field s f.number f.kind
-  pub listed : includes (all_numbers (table s)) f.number ≡ true
+pub record IsOf (d : Format) (s : ℕ) (f : NamedField) : Type 0 where
+  pub named : f ≡ named_field d s f.number f.kind
+  pub listed : includes (all_numbers (d.table s)) f.number ≡ true
 
 -- The numbers of a row's fields are those of fields of the schema s.
-pub record IsRowOf (s : ℕ) (row : Row) : Type 0 where
-  pub listed : (n : ℕ) → includes (numbers row) n ≡ true → includes (all_numbers (table s)) n ≡ true
+pub record IsRowOf (d : Format) (s : ℕ) (row : Row) : Type 0 where
+  pub listed : (n : ℕ) → includes (numbers row) n ≡ true → includes (all_numbers (d.table s)) n ≡ true
 
 -- The place of the field that has a number says that there is no value.
 abbrev pub IsAbsent : Places → ℕ → Type 0

@@ -1,5 +1,5 @@
 -- Which value of a schema a JSON text means.
-use Rattle.std.specs.Prelude.{ℕ, zero, suc, ◌+◌, Bool, true, false, ◌&&◌, ◌||◌, List, [], ◌∷◌, nat_le, flat_map}
+use Rattle.std.specs.Prelude.{◌≡◌, ℕ, zero, suc, ◌+◌, Bool, true, false, ◌&&◌, ◌||◌, List, [], ◌∷◌, nat_le, flat_map}
 use Rattle.std.specs.Prelude.{if◌then◌else◌, Option, Some, None, option_map, option_and_then}
 use Rattle.std.specs.Str.{is_utf8, bytes_eq}
 use Rattle.json.specs.Json.{Json, null, boolean, number, string, array, object, Items, no_items, item, Members}
@@ -12,8 +12,10 @@ use Rattle.shared_core_wire.specs.Schema.{Kind, U32, U64, Boolean, Enumeration, 
 use Rattle.shared_core_wire.specs.Value.{Part, Parts, Absent, Number, Bytes, Nested, Elements, Member, nil, cons}
 use Rattle.shared_core_wire.specs.Value.{default_of}
 use Rattle.shared_core_wire.specs.Canonical.{canonical_payload}
-use Rattle.shared_core_codec.specs.Table.{table}
+use Rattle.shared_core_wire.specs.Overlay.{meaning}
+use Rattle.shared_core_codec.specs.Tables.{IsAcceptedIn}
 use Rattle.shared_core_json_reader.specs.Rows.{NamedField, NamedRow, Plain, Optional, Repeated, OneOf, named_rows}
+use Rattle.shared_core_json_reader.specs.Rows.{Format, protocol}
 use Rattle.shared_core_json_reader.specs.Scalars.{unsigned_read, boolean_read, enum_read, text_read, bytes_read}
 
 -- ---- members
@@ -147,13 +149,17 @@ object_read nested rows (array js) = None
 object_read nested rows (object ms) = members_read nested rows ms
 
 -- The value of the schema s that a JSON value means, if messages are nested at most this deep, itself included.
-unfoldable pub message_read : ℕ → ℕ → Json → Option Parts
-message_read zero s j = None
-message_read (suc levels) s j = object_read (message_read levels) (named_rows s) j
+unfoldable pub message_read : Format → ℕ → ℕ → Json → Option Parts
+message_read d zero s j = None
+message_read d (suc levels) s j = object_read (message_read d levels) (named_rows d s) j
 
 -- The canonical payload of the value of the schema s that a JSON value means.
-abbrev pub value_payload : ℕ → Json → Option (List ℕ)
-value_payload s j = option_map (canonical_payload table s) (message_read 101 s j)
+abbrev pub value_payload_in : Format → ℕ → Json → Option (List ℕ)
+value_payload_in d s j = option_map (canonical_payload d.table s) (message_read d 101 s j)
+
+-- A payload is accepted for the schema s, and means what a JSON value means.
+abbrev pub Means : Format → ℕ → Json → List ℕ → Type 0
+Means d s j payload = IsAcceptedIn d.table s payload × (message_read d 101 s j ≡ Some (meaning d.table 100 s payload))
 
 -- ---- texts
 
@@ -170,9 +176,23 @@ abbrev pub json_of_text : List ℕ → Option Json
 json_of_text text = if is_utf8 text then only_value (tokens text) else None
 
 -- The value of the schema s that a text means.
+abbrev pub text_meaning_in : Format → ℕ → List ℕ → Option Parts
+text_meaning_in d s text = option_and_then (message_read d 101 s) (json_of_text text)
+
+-- The canonical payload of the value that a text means.
+abbrev pub text_payload_in : Format → ℕ → List ℕ → Option (List ℕ)
+text_payload_in d s text = option_map (canonical_payload d.table s) (text_meaning_in d s text)
+
+-- ---- for the messages of the protocol
+
+-- The canonical payload of the value of the schema s that a JSON value means.
+abbrev pub value_payload : ℕ → Json → Option (List ℕ)
+value_payload = value_payload_in protocol
+
+-- The value of the schema s that a text means.
 abbrev pub text_meaning : ℕ → List ℕ → Option Parts
-text_meaning s text = option_and_then (message_read 101 s) (json_of_text text)
+text_meaning = text_meaning_in protocol
 
 -- The canonical payload of the value that a text means.
 abbrev pub text_payload : ℕ → List ℕ → Option (List ℕ)
-text_payload s text = option_map (canonical_payload table s) (text_meaning s text)
+text_payload = text_payload_in protocol

@@ -1,11 +1,10 @@
 -- The rows of a schema, with the names that JSON may have for its fields.
 use Rattle.std.specs.Prelude.{ℕ, List, [], ◌∷◌, map, ◌&&◌, ◌==◌, if◌then◌else◌}
 use Rattle.shared_core_wire.specs.Schema as schema
-use Rattle.shared_core_codec.specs.Table.{table}
+use Rattle.shared_core_codec.specs.Table.{table as protocol_table}
 use Rattle.shared_core_codec.specs.ProgramRows as codec
 use Rattle.shared_core_codec.specs.declared.rows.Field as codec_field
-use Rattle.shared_core_codec.specs.declared.rows.Row.{Row}
-use Rattle.shared_core_json.specs.Fields.{names_of, name_of}
+use Rattle.shared_core_json.specs.Fields.{Names, names_of, name_of}
 use Rattle.shared_core_json_reader.specs.EnumValues.{EnumField, enum_fields}
 use Rattle.shared_core_json_reader.specs.declared.rows.EnumField as program
 use Rattle.shared_core_json_reader.specs.declared.rows.EnumValue.{EnumValue}
@@ -34,22 +33,36 @@ values_in (field ∷ fields) s n = if (s == field.schema) && (n == field.number)
 abbrev pub enum_values : ℕ → ℕ → List (List ℕ × ℕ)
 enum_values s n = values_in enum_fields s n
 
+-- The names and the numbers of the values of enums, by the schema and the number of a field.
+abbrev pub EnumValues : Type 0
+EnumValues = ℕ → ℕ → List (List ℕ × ℕ)
+
+-- What JSON is read by: a table of schemas, the names of their fields, and those of the values of their enums.
+pub record Format : Type 0 where
+  pub table : schema.Table
+  pub names : Names
+  pub values : EnumValues
+
+-- That of the protocol's messages.
+abbrev pub protocol : Format
+protocol = record { table = protocol_table; names = names_of; values = enum_values }
+
 -- The field of the schema s that has a number and a kind.
-abbrev pub named_field : ℕ → ℕ → schema.Kind → NamedField
-named_field s n k = record { number = n; name = name_of (names_of s) n; kind = k; values = enum_values s n }
+abbrev pub named_field : Format → ℕ → ℕ → schema.Kind → NamedField
+named_field d s n k = record { number = n; name = name_of (d.names s) n; kind = k; values = d.values s n }
 
 -- A row of the schema s, with names.
-abbrev pub named_row : ℕ → schema.Row → NamedRow
-named_row s (schema.Plain n k) = Plain (named_field s n k)
-named_row s (schema.Optional n k) = Optional (named_field s n k)
-named_row s (schema.Repeated n k) = Repeated (named_field s n k)
-named_row s (schema.OneOf members) = OneOf (map (λ m. named_field s m.0 m.1) members)
+abbrev pub named_row : Format → ℕ → schema.Row → NamedRow
+named_row d s (schema.Plain n k) = Plain (named_field d s n k)
+named_row d s (schema.Optional n k) = Optional (named_field d s n k)
+named_row d s (schema.Repeated n k) = Repeated (named_field d s n k)
+named_row d s (schema.OneOf members) = OneOf (map (λ m. named_field d s m.0 m.1) members)
 
 -- The rows of a schema, with names.
-unfoldable pub named_rows : ℕ → List NamedRow
-named_rows s = map (named_row s) (table s)
+unfoldable pub named_rows : Format → ℕ → List NamedRow
+named_rows d s = map (named_row d s) (d.table s)
 
--- ---- what the program goes by: the rows of the codec, and two tables of names
+-- ---- what the program goes by: the fields of the codec, and names of values
 
 -- The name and the number of a value of an enum.
 abbrev pub value_view : EnumValue → List ℕ × ℕ
@@ -60,17 +73,9 @@ abbrev pub enum_field_view : program.EnumField → EnumField
 enum_field_view f = record { schema = f.schema; number = f.number; values = map value_view f.values.now }
 
 -- The field of the schema s that a field of the codec is, with its name.
-abbrev pub in_schema : ℕ → codec_field.Field → NamedField
-in_schema s f = named_field s f.number (codec.kind_view f.kind)
+abbrev pub in_schema : Format → ℕ → codec_field.Field → NamedField
+in_schema d s f = named_field d s f.number (codec.kind_view f.kind)
 
 -- The members of a oneof of the schema s, with their names.
-abbrev pub named_members : ℕ → List codec_field.Field → List NamedField
-named_members s fields = map (λ m. named_field s m.0 m.1) (map codec.field_view fields)
-
--- The row of the schema s that a row of the codec is, with names.
-abbrev pub row_view : ℕ → Row → NamedRow
-row_view s row = named_row s (codec.row_view row)
-
--- The rows of the schema s that rows of the codec are, with names.
-abbrev pub rows_view : ℕ → List Row → List NamedRow
-rows_view s rows = map (named_row s) (map codec.row_view rows)
+abbrev pub named_members : Format → ℕ → List codec_field.Field → List NamedField
+named_members d s fields = map (λ m. named_field d s m.0 m.1) (map codec.field_view fields)

@@ -10,10 +10,14 @@ mod enum_values;
 mod error;
 pub mod laws;
 mod lengths;
+mod loaded_table;
 mod measure;
 mod members;
+mod name_checks;
 mod payload;
 mod read;
+pub mod readable;
+mod readable_error;
 mod records;
 mod rows;
 mod scalars;
@@ -21,5 +25,10 @@ mod short;
 
 pub use bytes::read_bytes;
 pub use error::{JsonReadError, Reason};
-pub use read::{payload_into, payload_of, payload_of_node, short_table, table_of_text};
+pub use loaded_table::{ReadableTable, readable_table};
+pub use read::{
+    payload_into, payload_into_in, payload_of, payload_of_node, payload_of_node_in, short_table,
+    table_of_text,
+};
+pub use readable_error::ReadableError;
 pub use scalars::{read_u32, read_u64};

@@ -12,10 +12,11 @@ ghost use Rattle.shared_core_json_reader.specs.Places.{ArePlaces};
 use crate::bytes::decoded_len;
 use crate::lengths::{content_len, number_len};
 use crate::members::{PLACES, Places, find_places, likely};
-use crate::rows::{rows_of, values_of};
+use crate::readable::ReadableSchemas;
 use crate::scalars::{extended, marked_text, read_boolean, read_enumeration, read_u32, read_u64};
 use json_table::{Items, Members, Node, Place, Shape};
-use shared_core_codec::rows::{Field, Kind, Row};
+use shared_core_codec::any_table::{RowShape, SchemaRow};
+use shared_core_codec::rows::{Field, Kind};
 use shared_core_wire::records::LEVELS;
 use shared_core_wire::varint::varint_len;
 use std::alloc::{AllocError, Global};
@@ -42,8 +43,9 @@ impl Lengths {
 
     /// Returns how long the content of the message that is written next is likely to be: 0, if it is not nested deep.
     /// Messages may be nested `left` deep, itself included.
-    pub fn next<'t, 'a>(
+    pub fn next<'t, 'a, T: ReadableSchemas>(
         &mut self,
+        schemas: &T,
         schema: u32,
         value: &Node<'t, 'a>,
         left: u32,
@@ -54,7 +56,7 @@ impl Lengths {
         if left == LEVELS - SHALLOW {
             self.measured.clear();
             self.used = 0;
-            measure_message(&mut self.measured, schema, value, left)?;
+            measure_message(&mut self.measured, schemas, schema, value, left)?;
         }
         if self.used >= self.measured.len() {
             return Ok(0);
@@ -67,8 +69,9 @@ impl Lengths {
 
 /// Measures a message and those within it. Returns the length of its content.
 #[cycle(measure)]
-fn measure_message<'t, 'a>(
+fn measure_message<'t, 'a, T: ReadableSchemas>(
     lengths: &mut Vec<u64>,
+    schemas: &T,
     schema: u32,
     value: &Node<'t, 'a>,
     levels: u32,
@@ -81,7 +84,7 @@ fn measure_message<'t, 'a>(
     let Shape::Object(members) = value.shape() else {
         return Ok(0);
     };
-    let length = measure_members(lengths, schema, &members, levels - 1)?;
+    let length = measure_members(lengths, schemas, schema, &members, levels - 1)?;
     if index < lengths.len() {
         lengths[index] = length;
     }
@@ -90,8 +93,9 @@ fn measure_message<'t, 'a>(
 
 /// Measures the members of an object of a schema.
 #[cycle(measure)]
-fn measure_members<'t, 'a>(
+fn measure_members<'t, 'a, T: ReadableSchemas>(
     lengths: &mut Vec<u64>,
+    schemas: &T,
     schema: u32,
     members: &Members<'t, 'a>,
     left: u32,
@@ -100,50 +104,54 @@ fn measure_members<'t, 'a>(
         schema,
         numbered: [Place::Absent; PLACES],
     };
-    let Ok(()) = find_places(schema, members, &mut places.numbered) else {
+    let Ok(()) = find_places(schemas, schema, members, &mut places.numbered) else {
         return Ok(0);
     };
     let mut length: u64 = 0;
-    for row in rows_of(schema) {
-        length = length.saturating_add(measure_row(lengths, row, members, &places, left)?);
+    for row in schemas.rows_of(schema) {
+        length = length.saturating_add(measure_row(lengths, schemas, row, members, &places, left)?);
     }
     Ok(length)
 }
 
 /// Measures what an object gives a row of its schema.
 #[cycle(measure)]
-fn measure_row<'t, 'a>(
+fn measure_row<'t, 'a, T: ReadableSchemas>(
     lengths: &mut Vec<u64>,
-    row: &Row,
+    schemas: &T,
+    row: &T::Row,
     members: &Members<'t, 'a>,
     places: &Places,
     left: u32,
 ) -> Result<u64, AllocError>
-    requires { ArePlaces members.now places.now }
+    requires { ArePlaces (T.format schemas.now) members.now places.now }
 {
-    match row {
-        Row::Plain(field) => measure_given(lengths, true, field, members, places, left),
-        Row::Optional(field) | Row::Repeated(field) => {
-            measure_given(lengths, false, field, members, places, left)
+    match row.shape() {
+        RowShape::Plain(field) => {
+            measure_given(lengths, schemas, true, field, members, places, left)
         }
-        Row::OneOf(fields) => measure_oneof(lengths, fields, members, places, left),
+        RowShape::Optional(field) | RowShape::Repeated(field) => {
+            measure_given(lengths, schemas, false, field, members, places, left)
+        }
+        RowShape::OneOf(fields) => measure_oneof(lengths, schemas, fields, members, places, left),
     }
 }
 
 /// Measures what an object gives a oneof of its schema.
 #[cycle(measure)]
-fn measure_oneof<'t, 'a>(
+fn measure_oneof<'t, 'a, T: ReadableSchemas>(
     lengths: &mut Vec<u64>,
+    schemas: &T,
     fields: &[Field],
     members: &Members<'t, 'a>,
     places: &Places,
     left: u32,
 ) -> Result<u64, AllocError>
-    requires { ArePlaces members.now places.now }
+    requires { ArePlaces (T.format schemas.now) members.now places.now }
 {
     let mut length: u64 = 0;
     for field in fields {
-        let own = measure_given(lengths, false, field, members, places, left)?;
+        let own = measure_given(lengths, schemas, false, field, members, places, left)?;
         length = length.saturating_add(own);
     }
     Ok(length)
@@ -151,28 +159,29 @@ fn measure_oneof<'t, 'a>(
 
 /// Measures what an object gives a field.
 #[cycle(measure)]
-fn measure_given<'t, 'a>(
+fn measure_given<'t, 'a, T: ReadableSchemas>(
     lengths: &mut Vec<u64>,
+    schemas: &T,
     plain: bool,
     field: &Field,
     members: &Members<'t, 'a>,
     places: &Places,
     left: u32,
 ) -> Result<u64, AllocError>
-    requires { ArePlaces members.now places.now }
+    requires { ArePlaces (T.format schemas.now) members.now places.now }
 {
-    let Some(value) = likely(members, places, field) else {
+    let Some(value) = likely(schemas, members, places, field) else {
         return Ok(0);
     };
     let Shape::Array(mut items) = value.shape() else {
-        return measure_value(lengths, plain, places.schema, field, &value, left);
+        return measure_value(lengths, schemas, plain, places.schema, field, &value, left);
     };
     if let Kind::U32 = field.kind {
         return Ok(content_len(true, field.number, run_len(&mut items)));
     }
     let mut length: u64 = 0;
     while let Some(item) = items.next() {
-        let own = measure_value(lengths, false, places.schema, field, &item, left)?;
+        let own = measure_value(lengths, schemas, false, places.schema, field, &item, left)?;
         length = length.saturating_add(own);
     }
     Ok(length)
@@ -180,8 +189,9 @@ fn measure_given<'t, 'a>(
 
 /// Measures the record of a value of a field of a schema.
 #[cycle(measure)]
-fn measure_value<'t, 'a>(
+fn measure_value<'t, 'a, T: ReadableSchemas>(
     lengths: &mut Vec<u64>,
+    schemas: &T,
     plain: bool,
     schema: u32,
     field: &Field,
@@ -189,18 +199,24 @@ fn measure_value<'t, 'a>(
     left: u32,
 ) -> Result<u64, AllocError> {
     if let Kind::Message(nested) = field.kind {
-        let length = measure_message(lengths, nested, value, left)?;
+        let length = measure_message(lengths, schemas, nested, value, left)?;
         return Ok(content_len(false, field.number, length));
     }
-    Ok(single_len(plain, schema, field, value))
+    Ok(single_len(schemas, plain, schema, field, value))
 }
 
 /// The length of the record of a value that is not a message.
-fn single_len<'t, 'a>(plain: bool, schema: u32, field: &Field, value: &Node<'t, 'a>) -> u64 {
+fn single_len<'t, 'a, T: ReadableSchemas>(
+    schemas: &T,
+    plain: bool,
+    schema: u32,
+    field: &Field,
+    value: &Node<'t, 'a>,
+) -> u64 {
     match field.kind {
         Kind::Text => content_len(plain, field.number, text_len(value)),
         Kind::ByteString => content_len(plain, field.number, bytes_len(value)),
-        _ => match read_number(schema, field, value) {
+        _ => match read_number(schemas, schema, field, value) {
             Some(number) => number_len(plain, field.number, number),
             None => 0,
         },
@@ -208,13 +224,20 @@ fn single_len<'t, 'a>(plain: bool, schema: u32, field: &Field, value: &Node<'t, 
 }
 
 /// The number that is written for a value.
-fn read_number<'t, 'a>(schema: u32, field: &Field, value: &Node<'t, 'a>) -> Option<u64> {
+fn read_number<'t, 'a, T: ReadableSchemas>(
+    schemas: &T,
+    schema: u32,
+    field: &Field,
+    value: &Node<'t, 'a>,
+) -> Option<u64> {
     match field.kind {
         Kind::U32 => Some(u64::from(read_u32(value).ok()?)),
         Kind::U64 => read_u64(value).ok(),
         Kind::Boolean => read_boolean(value).ok(),
         Kind::Enumeration => Some(extended(read_enumeration(
-            values_of(schema, field.number),
+            schemas,
+            schema,
+            field.number,
             value,
         ).ok()?)),
         _ => None,

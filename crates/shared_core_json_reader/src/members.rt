@@ -7,25 +7,25 @@
 //! small letter. So one table of names serves for both.
 
 ghost use Rattle.std.specs.Prelude.{◌≡◌, true, false, Some, None, map, option_map, IfErr, IsTrue, OnOk};
-ghost use Rattle.std.specs.Prelude.{MatchResult, replicate};
+ghost use Rattle.std.specs.Prelude.{MatchResult, length, replicate};
 ghost use Rattle.std.specs.Str.{bytes_eq};
 ghost use Rattle.json.specs.Json.{no_members};
 ghost use Rattle.json_table.specs.Places.{Say};
 ghost use Rattle.json_table.specs.declared.places.Place.TheVariants.{Absent};
-ghost use Rattle.shared_core_codec.specs.ProgramRows as codec;
-ghost use Rattle.shared_core_json.specs.Fields.{name_view, names_of};
-ghost use Rattle.shared_core_json_reader.specs.Rows.{in_schema, named_rows};
+ghost use Rattle.shared_core_json.specs.Fields.{name_view};
+ghost use Rattle.shared_core_json_reader.specs.Rows.{in_schema, named_rows, protocol};
 ghost use Rattle.shared_core_json_reader.specs.Original.{after_byte, after_original};
 ghost use Rattle.shared_core_json_reader.specs.Reading.{original_name, is_named, are_known, given};
 ghost use Rattle.shared_core_json_reader.specs.Places.{number_by, as_it_is, number_of, place_count, ArePlaces, IsOf};
-ghost use Rattle.shared_core_json_reader.specs.Places.{IsAbsent, Lacks};
+ghost use Rattle.shared_core_json_reader.specs.Places.{AreLikely, IsAbsent, Lacks};
 ghost use Rattle.shared_core_json_reader.specs.FirstError.{first_unknown};
 
 use crate::error::Reason;
+use crate::readable::ReadableSchemas;
 use json_table::{Members, Names, Node, Place, first_present, present};
-use shared_core_codec::rows::{Field, Row};
-use shared_core_json::names::{Name, name_of, names_of};
-use std::marker::Model;
+use shared_core_codec::any_table::{RowShape, SchemaRow};
+use shared_core_codec::rows::Field;
+use shared_core_json::names::{Name, names_of};
 
 /// How many numbers of fields have a place: those below it.
 pub const PLACES: usize = 20;
@@ -59,7 +59,7 @@ fn after_original(text: &[u8], byte: u8) -> Option<&[u8]>
 }
 
 /// Whether a key is the original name of the field that has this name in lower camel case.
-fn is_original(key: &[u8], name: &[u8]) -> bool
+pub fn is_original(key: &[u8], name: &[u8]) -> bool
     ensures { result ≡ bytes_eq key.now (original_name name.now) }
 {
     let mut rest = key;
@@ -73,10 +73,10 @@ fn is_original(key: &[u8], name: &[u8]) -> bool
 }
 
 /// Whether a key is one of the two names of a field of a schema.
-fn is_named(schema: u32, field: &Field, key: &str) -> bool
-    ensures { result ≡ is_named (in_schema schema field.now) key.now }
+fn is_named<T: ReadableSchemas>(schemas: &T, schema: u32, field: &Field, key: &str) -> bool
+    ensures { result ≡ is_named (in_schema (T.format schemas.now) schema field.now) key.now }
 {
-    let name = name_of(schema, field.number);
+    let name = schemas.name_of(schema, field.number);
     key == name || is_original(key.as_bytes(), name.as_bytes())
 }
 
@@ -104,10 +104,10 @@ fn number_of_original(names: &[Name], key: &str) -> Option<u32>
     None
 }
 
-/// The number of the field of a schema of which a key is a name.
+/// The number of the field of a schema of the protocol of which a key is a name.
 #[tactic(auto, unfolding(crate::specs::Places::number_of))]
-fn number_of(schema: u32, key: &str) -> Option<u32>
-    ensures { result ≡ number_of schema key.now }
+pub fn number_of(schema: u32, key: &str) -> Option<u32>
+    ensures { result ≡ number_of protocol schema key.now }
 {
     let names = names_of(schema);
     match number_named(names, key) {
@@ -116,60 +116,48 @@ fn number_of(schema: u32, key: &str) -> Option<u32>
     }
 }
 
-/// The names of the fields of a schema. A contract sees the schema.
+/// The names of the fields of a schema of a table.
 #[derive(Drop)]
-struct FieldNames {
+struct FieldNames<'t, T: ReadableSchemas> {
+    schemas: &'t T,
     schema: u32,
-    names: &'static [Name],
+    likely: &'static [Name],
+    ghost finding: { AreLikely (T.format schemas.now) schema (map name_view likely.now) },
 }
 
-impl Model for FieldNames {
-    ghost use Rattle.std.specs.Prelude.{◌≡◌, ℕ, map};
-    ghost use Rattle.shared_core_json.specs.Fields.{name_view, names_of};
-
-    ghost Value = { ℕ };
-
-    ghost view = { λ f. f.schema };
-
-    ghost invariant = { λ f. map name_view f.names.now ≡ names_of f.schema };
-}
-
-impl FieldNames {
+impl<'t, T: ReadableSchemas> FieldNames<'t, T> {
     /// The names of a schema's fields.
     #[inline(always)]
-    fn of(schema: u32) -> FieldNames
-        ensures { result ≡ schema }
+    fn of(schemas: &'t T, schema: u32) -> FieldNames<'t, T>
+        ensures { (result.schemas.now ≡ schemas.now) × (result.schema ≡ schema) }
     {
         FieldNames {
+            schemas,
             schema,
-            names: names_of(schema),
+            likely: schemas.likely_names(schema),
         }
     }
 }
 
-impl Names for FieldNames {
-    ghost use Rattle.std.specs.Prelude.{length};
-    ghost use Rattle.shared_core_json.specs.Fields.{names_of};
-    ghost use Rattle.shared_core_json_reader.specs.Places.{number_of};
+impl<'t, T: ReadableSchemas> Names for FieldNames<'t, T> {
+    ghost finds = { λ names. number_of (T.format names.schemas.now) names.schema };
 
-    ghost finds = { number_of };
-
-    ghost count = { λ schema. length (names_of schema) };
+    ghost count = { λ names. length names.likely.now };
 
     #[inline(always)]
     fn len(&self) -> usize {
-        self.names.len()
+        self.likely.len()
     }
 
     #[inline(always)]
     fn name_at(&self, index: usize) -> (&'static str, usize) {
-        let names = self.names;
+        let names = self.likely;
         let Name(number, name) = names[index];
         (name, number as usize)
     }
 
     fn place_of(&self, key: &str) -> Option<usize> {
-        match number_of(self.schema, key) {
+        match self.schemas.number_of(self.schema, key) {
             Some(number) => Some(number as usize),
             None => None,
         }
@@ -179,42 +167,46 @@ impl Names for FieldNames {
 /// Finds where an object of a schema has the values of its fields. The error is the first key that is not a name of a
 /// field.
 #[inline(always)]
-pub fn find_places<'a>(
+pub fn find_places<'a, T: ReadableSchemas>(
+    schemas: &T,
     schema: u32,
     members: &Members<'_, 'a>,
     numbered: &mut [Place; PLACES],
 ) -> Result<(), &'a str>
     requires { numbered.old ≡ replicate place_count Absent }
-    ensures places { OnOk result (Say (number_of schema) place_count members.now no_members numbered.new) }
+    ensures places { OnOk result (Say (number_of (T.format schemas.now) schema) place_count members.now no_members
+        numbered.new) }
     ensures known { MatchResult result
-        (λ _. are_known (named_rows schema) members.now ≡ true)
-        (λ _. are_known (named_rows schema) members.now ≡ false) }
+        (λ _. are_known (named_rows (T.format schemas.now) schema) members.now ≡ true)
+        (λ _. are_known (named_rows (T.format schemas.now) schema) members.now ≡ false) }
     ensures unknown { MatchResult result
-        (λ _. first_unknown (named_rows schema) members.now ≡ None)
-        (λ key. first_unknown (named_rows schema) members.now ≡ Some key.now) }
+        (λ _. first_unknown (named_rows (T.format schemas.now) schema) members.now ≡ None)
+        (λ key. first_unknown (named_rows (T.format schemas.now) schema) members.now ≡ Some key.now) }
 {
-    match json_table::find_places(&FieldNames::of(schema), members, numbered) {
+    match json_table::find_places(&FieldNames::of(schemas, schema), members, numbered) {
         Ok(_) => Ok(()),
         Err(key) => Err(key),
     }
 }
 
 /// The value that an object gives a field of its schema, if it is there and not null. An error if it comes twice.
-pub fn given<'t, 'a>(
+pub fn given<'t, 'a, T: ReadableSchemas>(
+    schemas: &T,
     members: &Members<'t, 'a>,
     places: &Places,
     field: &Field,
 ) -> Result<Option<Node<'t, 'a>>, Reason>
-    requires places { ArePlaces members.now places.now }
-    requires field { IsOf places.now.schema (in_schema places.now.schema field.now) }
+    requires places { ArePlaces (T.format schemas.now) members.now places.now }
+    requires field { IsOf (T.format schemas.now) places.now.schema
+        (in_schema (T.format schemas.now) places.now.schema field.now) }
     ensures given { MatchResult result
-        (λ found. given (in_schema places.now.schema field.now) members.now ≡ Some found)
-        (λ _. given (in_schema places.now.schema field.now) members.now ≡ None) }
+        (λ found. given (in_schema (T.format schemas.now) places.now.schema field.now) members.now ≡ Some found)
+        (λ _. given (in_schema (T.format schemas.now) places.now.schema field.now) members.now ≡ None) }
     ensures repeated { IfErr result (λ reason. reason ≡ Reason.RepeatedMember) }
 {
     let number = field.number as usize;
     if number >= PLACES {
-        return given_by_name(members, places.schema, field);
+        return given_by_name(schemas, members, places.schema, field);
     }
     match places.numbered[number] {
         Place::Absent => Ok(None),
@@ -225,12 +217,14 @@ pub fn given<'t, 'a>(
 
 /// Whether an object gives a row of its schema nothing, as can be seen without the names of its fields.
 #[inline(always)]
-pub fn lacks(places: &Places, row: &Row) -> bool
-    ensures { IsTrue result → Lacks places.now (codec.row_view row.now) }
+pub fn lacks<R: SchemaRow>(places: &Places, row: &R) -> bool
+    ensures { IsTrue result → Lacks places.now (R.view row.now) }
 {
-    match row {
-        Row::Plain(field) | Row::Optional(field) | Row::Repeated(field) => is_absent(places, field),
-        Row::OneOf(_) => false,
+    match row.shape() {
+        RowShape::Plain(field) | RowShape::Optional(field) | RowShape::Repeated(field) => {
+            is_absent(places, field)
+        }
+        RowShape::OneOf(_) => false,
     }
 }
 
@@ -244,16 +238,17 @@ pub fn is_absent(places: &Places, field: &Field) -> bool
 }
 
 /// The value that an object most likely gives a field, for one that only wants to know how long it is.
-pub fn likely<'t, 'a>(
+pub fn likely<'t, 'a, T: ReadableSchemas>(
+    schemas: &T,
     members: &Members<'t, 'a>,
     places: &Places,
     field: &Field,
 ) -> Option<Node<'t, 'a>>
-    requires { ArePlaces members.now places.now }
+    requires { ArePlaces (T.format schemas.now) members.now places.now }
 {
     let number = field.number as usize;
     if number >= PLACES {
-        return match given_by_name(members, places.schema, field) {
+        return match given_by_name(schemas, members, places.schema, field) {
             Ok(found) => found,
             Err(_) => None,
         };
@@ -266,20 +261,21 @@ pub fn likely<'t, 'a>(
 
 /// The value that members give a field of a schema, by its names, if it is there and not null. An error if it comes
 /// twice.
-fn given_by_name<'t, 'a>(
+fn given_by_name<'t, 'a, T: ReadableSchemas>(
+    schemas: &T,
     members: &Members<'t, 'a>,
     schema: u32,
     field: &Field,
 ) -> Result<Option<Node<'t, 'a>>, Reason>
     ensures given { MatchResult result
-        (λ found. given (in_schema schema field.now) members.now ≡ Some found)
-        (λ _. given (in_schema schema field.now) members.now ≡ None) }
+        (λ found. given (in_schema (T.format schemas.now) schema field.now) members.now ≡ Some found)
+        (λ _. given (in_schema (T.format schemas.now) schema field.now) members.now ≡ None) }
     ensures repeated { IfErr result (λ reason. reason ≡ Reason.RepeatedMember) }
 {
     let mut found: Option<Node<'t, 'a>> = None;
     let mut rest = members.copy();
     while let Some((key, value)) = rest.next() {
-        if is_named(schema, field, key) {
+        if is_named(schemas, schema, field, key) {
             if found.is_some() {
                 return Err(Reason::RepeatedMember);
             }

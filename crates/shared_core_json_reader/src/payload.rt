@@ -9,7 +9,7 @@
 ghost use Rattle.std.specs.Prelude.{◌≡◌, ◌≢◌, ◌++◌, [], ◌∷◌, Some, None, true, false, option_map, map, MatchResult};
 ghost use Rattle.shared_core_wire.specs.Schema.{OneOf};
 ghost use Rattle.shared_core_codec.specs.ProgramRows as codec;
-ghost use Rattle.shared_core_json_reader.specs.Rows.{in_schema, row_view, named_members, named_rows};
+ghost use Rattle.shared_core_json_reader.specs.Rows.{in_schema, named_row, named_members, named_rows};
 ghost use Rattle.shared_core_json_reader.specs.Reading.{given};
 ghost use Rattle.shared_core_json_reader.specs.Places.{ArePlaces, IsOf, IsRowOf};
 ghost use Rattle.shared_core_wire.specs.WrittenRecords.{content_record};
@@ -25,13 +25,14 @@ use crate::bytes::append_bytes;
 use crate::error::Reason;
 use crate::measure::Lengths;
 use crate::members::{PLACES, Places, find_places, given, is_absent, lacks};
+use crate::readable::ReadableSchemas;
 use crate::records::append_varint;
-use crate::rows::{rows_of, values_of};
+use crate::rows::rows_of;
 use crate::scalars::{extended, read_boolean, read_enumeration, read_text, read_u32, read_u64};
 use crate::short::{append_content, append_number, append_prefix, put_length};
 use json_table::{Items, Members, Node, Place, Shape};
-use shared_core_codec::rows::{Field, Kind, Row};
-use shared_core_json::names::name_of;
+use shared_core_codec::any_table::{RowShape, SchemaRow};
+use shared_core_codec::rows::{Field, Kind};
 use std::alloc::Global;
 
 /// A step of the path to a value: a member by its name, or an element by its index.
@@ -74,166 +75,193 @@ impl<'a> Walk<'a> {
     /// Notes that an error is in the value of a field of a schema, and returns its reason.
     #[cold]
     #[tactic(auto, using(crate::proofs::FirstErrors::trail_more))]
-    fn note_field(&mut self, schema: u32, field: &Field, reason: Reason) -> Reason
+    fn note_field<T: ReadableSchemas>(
+        &mut self,
+        schemas: &'a T,
+        schema: u32,
+        field: &Field,
+        reason: Reason,
+    ) -> Reason
         ensures { result ≢ Reason.OutOfMemory → (result ≡ reason)
             × (trail_view self.new.trail.items
-            ≡ Member (in_schema schema field.now).name ∷ trail_view self.old.trail.items) }
+            ≡ Member (in_schema (T.format schemas.now) schema field.now).name ∷ trail_view self.old.trail.items) }
     {
-        self.note(Step::Member(name_of(schema, field.number)), reason)
+        self.note(Step::Member(schemas.name_of(schema, field.number)), reason)
     }
 }
 
 /// Appends the payload of a message that may be nested this deep, itself included.
 #[cycle(message)]
 #[inline(always)]
-pub fn append_message<'a>(
+pub fn append_message<'a, T: ReadableSchemas>(
     walk: &mut Walk<'a>,
     out: &mut Vec<u8>,
+    schemas: &'a T,
     schema: u32,
     value: &Node<'_, 'a>,
     levels: u32,
 ) -> Result<(), Reason>
     requires trail { walk.old.trail.items ≡ [] }
-    ensures appended { Appends result (message_bytes levels schema value.now) out.old.items out.new.items }
-    ensures error { HasError result (message_error levels schema value.now) walk.new.trail.items }
+    ensures appended { Appends result (message_bytes (T.format schemas.now) levels schema value.now) out.old.items
+        out.new.items }
+    ensures error { HasError result (message_error (T.format schemas.now) levels schema value.now)
+        walk.new.trail.items }
 {
     if levels == 0 {
         return Err(Reason::TooDeep);
     }
-    append_object(walk, out, schema, value, levels - 1)
+    append_object(walk, out, schemas, schema, value, levels - 1)
 }
 
 /// Appends the records of an object of a schema.
 #[cycle(message)]
 #[inline(always)]
-fn append_object<'a>(
+fn append_object<'a, T: ReadableSchemas>(
     walk: &mut Walk<'a>,
     out: &mut Vec<u8>,
+    schemas: &'a T,
     schema: u32,
     value: &Node<'_, 'a>,
     left: u32,
 ) -> Result<(), Reason>
     requires trail { walk.old.trail.items ≡ [] }
-    ensures appended { Appends result (object_bytes (message_bytes left) (named_rows schema) value.now)
+    ensures appended { Appends result (object_bytes (message_bytes (T.format schemas.now) left)
+        (named_rows (T.format schemas.now) schema) value.now)
         out.old.items out.new.items }
-    ensures error { HasError result (object_error (message_error left) (named_rows schema) value.now)
+    ensures error { HasError result (object_error (message_error (T.format schemas.now) left)
+        (named_rows (T.format schemas.now) schema) value.now)
         walk.new.trail.items }
 {
     let Shape::Object(members) = value.shape() else {
         return Err(Reason::WrongKind);
     };
-    append_members(walk, out, schema, &members, left)
+    append_members(walk, out, schemas, schema, &members, left)
 }
 
 /// Appends the records of the members of an object of a schema.
 #[cycle(message)]
-fn append_members<'a>(
+fn append_members<'a, T: ReadableSchemas>(
     walk: &mut Walk<'a>,
     out: &mut Vec<u8>,
+    schemas: &'a T,
     schema: u32,
     members: &Members<'_, 'a>,
     left: u32,
 ) -> Result<(), Reason>
     requires trail { walk.old.trail.items ≡ [] }
-    ensures appended { Appends result (members_bytes (message_bytes left) (named_rows schema)
+    ensures appended { Appends result (members_bytes (message_bytes (T.format schemas.now) left)
+        (named_rows (T.format schemas.now) schema)
         members.now) out.old.items out.new.items }
-    ensures error { HasError result (members_error (message_error left) (named_rows schema) members.now)
+    ensures error { HasError result (members_error (message_error (T.format schemas.now) left)
+        (named_rows (T.format schemas.now) schema) members.now)
         walk.new.trail.items }
 {
     let mut places = Places {
         schema,
         numbered: [Place::Absent; PLACES],
     };
-    if let Err(key) = find_places(schema, members, &mut places.numbered) {
+    if let Err(key) = find_places(schemas, schema, members, &mut places.numbered) {
         return Err(walk.note(Step::Member(key), Reason::UnknownMember));
     }
-    append_rows(walk, out, members, &places, left)
+    append_rows(walk, out, schemas, members, &places, left)
 }
 
 /// Appends the records of the rows of an object's schema.
 #[cycle(message)]
-fn append_rows<'t, 'a>(
+fn append_rows<'t, 'a, T: ReadableSchemas>(
     walk: &mut Walk<'a>,
     out: &mut Vec<u8>,
+    schemas: &'a T,
     members: &Members<'t, 'a>,
     places: &Places,
     left: u32,
 ) -> Result<(), Reason>
     requires trail { walk.old.trail.items ≡ [] }
-    requires places { ArePlaces members.now places.now }
-    ensures appended { Appends result (rows_bytes (message_bytes left) members.now
-        (named_rows places.now.schema)) out.old.items out.new.items }
+    requires places { ArePlaces (T.format schemas.now) members.now places.now }
+    ensures appended { Appends result (rows_bytes (message_bytes (T.format schemas.now) left) members.now
+        (named_rows (T.format schemas.now) places.now.schema)) out.old.items out.new.items }
     ensures error { HasError result
-        (rows_error (message_error left) members.now (named_rows places.now.schema)) walk.new.trail.items }
+        (rows_error (message_error (T.format schemas.now) left) members.now
+        (named_rows (T.format schemas.now) places.now.schema)) walk.new.trail.items }
 {
-    let rows = rows_of(places.schema);
+    let rows = rows_of(schemas, places.schema);
     for row in rows {
-        append_row(walk, out, row, members, places, left)?;
+        append_row(walk, out, schemas, row, members, places, left)?;
     }
     Ok(())
 }
 
 /// Appends the records of a row of an object's schema.
 #[cycle(message)]
-fn append_row<'t, 'a>(
+fn append_row<'t, 'a, T: ReadableSchemas>(
     walk: &mut Walk<'a>,
     out: &mut Vec<u8>,
-    row: &Row,
+    schemas: &'a T,
+    row: &T::Row,
     members: &Members<'t, 'a>,
     places: &Places,
     left: u32,
 ) -> Result<(), Reason>
     requires trail { walk.old.trail.items ≡ [] }
-    requires places { ArePlaces members.now places.now }
-    requires row { IsRowOf places.now.schema (codec.row_view row.now) }
-    ensures appended { Appends result (row_bytes (message_bytes left) members.now
-        (row_view places.now.schema row.now))
+    requires places { ArePlaces (T.format schemas.now) members.now places.now }
+    requires row { IsRowOf (T.format schemas.now) places.now.schema (T.Row.view row.now) }
+    ensures appended { Appends result (row_bytes (message_bytes (T.format schemas.now) left) members.now
+        (named_row (T.format schemas.now) places.now.schema (T.Row.view row.now)))
         out.old.items out.new.items }
     ensures error { HasError result
-        (row_error (message_error left) members.now (row_view places.now.schema row.now)) walk.new.trail.items }
+        (row_error (message_error (T.format schemas.now) left) members.now
+        (named_row (T.format schemas.now) places.now.schema (T.Row.view row.now))) walk.new.trail.items }
 {
     if lacks(places, row) {
         return Ok(());
     }
-    match row {
-        Row::Plain(field) => append_given(walk, out, true, field, members, places, left),
-        Row::Optional(field) => append_given(walk, out, false, field, members, places, left),
-        Row::Repeated(field) => append_list(walk, out, field, members, places, left),
-        Row::OneOf(fields) => append_oneof(walk, out, fields, members, places, left),
+    match row.shape() {
+        RowShape::Plain(field) => {
+            append_given(walk, out, schemas, true, field, members, places, left)
+        }
+        RowShape::Optional(field) => {
+            append_given(walk, out, schemas, false, field, members, places, left)
+        }
+        RowShape::Repeated(field) => append_list(walk, out, schemas, field, members, places, left),
+        RowShape::OneOf(fields) => append_oneof(walk, out, schemas, fields, members, places, left),
     }
 }
 
 /// The value that an object gives a field of its schema. If it comes twice, the field is noted.
 #[inline(always)]
-fn given_or_noted<'t, 'a>(
+fn given_or_noted<'t, 'a, T: ReadableSchemas>(
     walk: &mut Walk<'a>,
+    schemas: &'a T,
     field: &Field,
     members: &Members<'t, 'a>,
     places: &Places,
 ) -> Result<Option<Node<'t, 'a>>, Reason>
     requires trail { walk.old.trail.items ≡ [] }
-    requires places { ArePlaces members.now places.now }
-    requires field { IsOf places.now.schema (in_schema places.now.schema field.now) }
+    requires places { ArePlaces (T.format schemas.now) members.now places.now }
+    requires field { IsOf (T.format schemas.now) places.now.schema
+        (in_schema (T.format schemas.now) places.now.schema field.now) }
     ensures given { MatchResult result
-        (λ found. given (in_schema places.now.schema field.now) members.now ≡ Some found)
+        (λ found. given (in_schema (T.format schemas.now) places.now.schema field.now) members.now ≡ Some found)
         (λ reason. reason ≢ Reason.OutOfMemory
-        → given (in_schema places.now.schema field.now) members.now ≡ None) }
+        → given (in_schema (T.format schemas.now) places.now.schema field.now) members.now ≡ None) }
     ensures trail { MatchResult result (λ _. walk.new.trail.items ≡ [])
         (λ reason. reason ≢ Reason.OutOfMemory → (reason ≡ Reason.RepeatedMember)
-        × (trail_view walk.new.trail.items ≡ Member (in_schema places.now.schema field.now).name ∷ [])) }
+        × (trail_view walk.new.trail.items ≡ Member (in_schema (T.format schemas.now) places.now.schema field.now).name
+        ∷ [])) }
 {
-    match given(members, places, field) {
+    match given(schemas, members, places, field) {
         Ok(found) => Ok(found),
-        Err(reason) => Err(walk.note_field(places.schema, field, reason)),
+        Err(reason) => Err(walk.note_field(schemas, places.schema, field, reason)),
     }
 }
 
 /// Appends the record of a field that is not repeated; a default is left out if the field is plain.
 #[cycle(message)]
 #[inline(always)]
-fn append_given<'t, 'a>(
+fn append_given<'t, 'a, T: ReadableSchemas>(
     walk: &mut Walk<'a>,
     out: &mut Vec<u8>,
+    schemas: &'a T,
     plain: bool,
     field: &Field,
     members: &Members<'t, 'a>,
@@ -241,44 +269,60 @@ fn append_given<'t, 'a>(
     left: u32,
 ) -> Result<(), Reason>
     requires trail { walk.old.trail.items ≡ [] }
-    requires places { ArePlaces members.now places.now }
-    requires field { IsOf places.now.schema (in_schema places.now.schema field.now) }
+    requires places { ArePlaces (T.format schemas.now) members.now places.now }
+    requires field { IsOf (T.format schemas.now) places.now.schema
+        (in_schema (T.format schemas.now) places.now.schema field.now) }
     ensures appended { Appends result
-        (given_bytes (field_bytes (message_bytes left) plain (in_schema places.now.schema field.now))
-        (given (in_schema places.now.schema field.now) members.now)) out.old.items out.new.items }
+        (given_bytes (field_bytes (message_bytes (T.format schemas.now) left) plain
+        (in_schema (T.format schemas.now) places.now.schema field.now))
+        (given (in_schema (T.format schemas.now) places.now.schema field.now) members.now)) out.old.items
+        out.new.items }
     ensures error { HasError result
-        (given_error (field_error (message_error left) (in_schema places.now.schema field.now))
-        (in_schema places.now.schema field.now) (given (in_schema places.now.schema field.now) members.now))
+        (given_error (field_error (message_error (T.format schemas.now) left)
+        (in_schema (T.format schemas.now) places.now.schema field.now))
+        (in_schema (T.format schemas.now) places.now.schema field.now)
+        (given (in_schema (T.format schemas.now) places.now.schema field.now) members.now))
         walk.new.trail.items }
 {
-    let value = match given(members, places, field) {
+    let value = match given(schemas, members, places, field) {
         Ok(Some(value)) => value,
         Ok(None) => return Ok(()),
-        Err(reason) => return Err(walk.note_field(places.schema, field, reason)),
+        Err(reason) => return Err(walk.note_field(schemas, places.schema, field, reason)),
     };
-    match append_value(walk, out, plain, places.schema, field, &value, left) {
+    match append_value(
+        walk,
+        out,
+        schemas,
+        plain,
+        places.schema,
+        field,
+        &value,
+        left,
+    ) {
         Ok(()) => Ok(()),
-        Err(reason) => Err(walk.note_field(places.schema, field, reason)),
+        Err(reason) => Err(walk.note_field(schemas, places.schema, field, reason)),
     }
 }
 
 /// Appends the record of a oneof of an object's schema.
 #[cycle(message)]
-fn append_oneof<'t, 'a>(
+fn append_oneof<'t, 'a, T: ReadableSchemas>(
     walk: &mut Walk<'a>,
     out: &mut Vec<u8>,
+    schemas: &'a T,
     fields: &[Field],
     members: &Members<'t, 'a>,
     places: &Places,
     left: u32,
 ) -> Result<(), Reason>
     requires trail { walk.old.trail.items ≡ [] }
-    requires places { ArePlaces members.now places.now }
-    requires row { IsRowOf places.now.schema (OneOf (map codec.field_view fields.now)) }
-    ensures appended { Appends result (oneof_bytes (message_bytes left) members.now false
-        (named_members places.now.schema fields.now)) out.old.items out.new.items }
+    requires places { ArePlaces (T.format schemas.now) members.now places.now }
+    requires row { IsRowOf (T.format schemas.now) places.now.schema (OneOf (map codec.field_view fields.now)) }
+    ensures appended { Appends result (oneof_bytes (message_bytes (T.format schemas.now) left) members.now false
+        (named_members (T.format schemas.now) places.now.schema fields.now)) out.old.items out.new.items }
     ensures error { HasError result
-        (oneof_error (message_error left) members.now false (named_members places.now.schema fields.now))
+        (oneof_error (message_error (T.format schemas.now) left) members.now false
+        (named_members (T.format schemas.now) places.now.schema fields.now))
         walk.new.trail.items }
 {
     let mut held = false;
@@ -286,14 +330,23 @@ fn append_oneof<'t, 'a>(
         if is_absent(places, field) {
             continue;
         }
-        let Some(value) = given_or_noted(walk, field, members, places)? else {
+        let Some(value) = given_or_noted(walk, schemas, field, members, places)? else {
             continue;
         };
         if held {
-            return Err(walk.note_field(places.schema, field, Reason::SeveralMembers));
+            return Err(walk.note_field(schemas, places.schema, field, Reason::SeveralMembers));
         }
-        if let Err(reason) = append_value(walk, out, false, places.schema, field, &value, left) {
-            return Err(walk.note_field(places.schema, field, reason));
+        if let Err(reason) = append_value(
+            walk,
+            out,
+            schemas,
+            false,
+            places.schema,
+            field,
+            &value,
+            left,
+        ) {
+            return Err(walk.note_field(schemas, places.schema, field, reason));
         }
         held = true;
     }
@@ -302,48 +355,57 @@ fn append_oneof<'t, 'a>(
 
 /// Appends the records of a repeated field.
 #[cycle(message)]
-fn append_list<'t, 'a>(
+fn append_list<'t, 'a, T: ReadableSchemas>(
     walk: &mut Walk<'a>,
     out: &mut Vec<u8>,
+    schemas: &'a T,
     field: &Field,
     members: &Members<'t, 'a>,
     places: &Places,
     left: u32,
 ) -> Result<(), Reason>
     requires trail { walk.old.trail.items ≡ [] }
-    requires places { ArePlaces members.now places.now }
-    requires field { IsOf places.now.schema (in_schema places.now.schema field.now) }
+    requires places { ArePlaces (T.format schemas.now) members.now places.now }
+    requires field { IsOf (T.format schemas.now) places.now.schema
+        (in_schema (T.format schemas.now) places.now.schema field.now) }
     ensures appended { Appends result
-        (given_bytes (list_bytes (message_bytes left) (in_schema places.now.schema field.now))
-        (given (in_schema places.now.schema field.now) members.now)) out.old.items out.new.items }
+        (given_bytes (list_bytes (message_bytes (T.format schemas.now) left)
+        (in_schema (T.format schemas.now) places.now.schema field.now))
+        (given (in_schema (T.format schemas.now) places.now.schema field.now) members.now)) out.old.items
+        out.new.items }
     ensures error { HasError result
-        (given_error (list_error (message_error left) (in_schema places.now.schema field.now))
-        (in_schema places.now.schema field.now) (given (in_schema places.now.schema field.now) members.now))
+        (given_error (list_error (message_error (T.format schemas.now) left)
+        (in_schema (T.format schemas.now) places.now.schema field.now))
+        (in_schema (T.format schemas.now) places.now.schema field.now)
+        (given (in_schema (T.format schemas.now) places.now.schema field.now) members.now))
         walk.new.trail.items }
 {
-    let Some(value) = given_or_noted(walk, field, members, places)? else {
+    let Some(value) = given_or_noted(walk, schemas, field, members, places)? else {
         return Ok(());
     };
-    match append_array(walk, out, places.schema, field, &value, left) {
+    match append_array(walk, out, schemas, places.schema, field, &value, left) {
         Ok(()) => Ok(()),
-        Err(reason) => Err(walk.note_field(places.schema, field, reason)),
+        Err(reason) => Err(walk.note_field(schemas, places.schema, field, reason)),
     }
 }
 
 /// Appends the records of a value of a repeated field, which has to be an array.
 #[cycle(message)]
-fn append_array<'a>(
+fn append_array<'a, T: ReadableSchemas>(
     walk: &mut Walk<'a>,
     out: &mut Vec<u8>,
+    schemas: &'a T,
     schema: u32,
     field: &Field,
     value: &Node<'_, 'a>,
     left: u32,
 ) -> Result<(), Reason>
     requires trail { walk.old.trail.items ≡ [] }
-    ensures appended { Appends result (list_bytes (message_bytes left) (in_schema schema field.now) value.now)
+    ensures appended { Appends result (list_bytes (message_bytes (T.format schemas.now) left)
+        (in_schema (T.format schemas.now) schema field.now) value.now)
         out.old.items out.new.items }
-    ensures error { HasError result (list_error (message_error left) (in_schema schema field.now) value.now)
+    ensures error { HasError result (list_error (message_error (T.format schemas.now) left)
+        (in_schema (T.format schemas.now) schema field.now) value.now)
         walk.new.trail.items }
 {
     let Shape::Array(mut items) = value.shape() else {
@@ -352,14 +414,15 @@ fn append_array<'a>(
     if let Kind::U32 = field.kind {
         return append_run(walk, out, field.number, &mut items);
     }
-    append_items(walk, out, schema, field, &mut items, left)
+    append_items(walk, out, schemas, schema, field, &mut items, left)
 }
 
 /// Appends the records of the elements of an array.
 #[cycle(message)]
-fn append_items<'a>(
+fn append_items<'a, T: ReadableSchemas>(
     walk: &mut Walk<'a>,
     out: &mut Vec<u8>,
+    schemas: &'a T,
     schema: u32,
     field: &Field,
     items: &mut Items<'_, 'a>,
@@ -367,16 +430,18 @@ fn append_items<'a>(
 ) -> Result<(), Reason>
     requires trail { walk.old.trail.items ≡ [] }
     ensures appended { Appends result
-        (items_bytes (message_bytes left) (in_schema schema field.now) items.old)
+        (items_bytes (message_bytes (T.format schemas.now) left) (in_schema (T.format schemas.now) schema field.now)
+        items.old)
         out.old.items out.new.items }
-    ensures error { HasError result (items_error (message_error left) (in_schema schema field.now) 0 items.old)
+    ensures error { HasError result (items_error (message_error (T.format schemas.now) left)
+        (in_schema (T.format schemas.now) schema field.now) 0 items.old)
         walk.new.trail.items }
 {
     for index in 0..items.upper_bound() {
         let Some(item) = items.next() else {
             return Ok(());
         };
-        if let Err(reason) = append_value(walk, out, false, schema, field, &item, left) {
+        if let Err(reason) = append_value(walk, out, schemas, false, schema, field, &item, left) {
             return Err(walk.note(Step::Element(index), reason));
         }
     }
@@ -431,9 +496,10 @@ fn append_numbers<'a>(
 /// Appends the record of a single value of a field of a schema; a default is left out if it is of a plain field.
 #[cycle(message)]
 #[inline(always)]
-fn append_value<'a>(
+fn append_value<'a, T: ReadableSchemas>(
     walk: &mut Walk<'a>,
     out: &mut Vec<u8>,
+    schemas: &'a T,
     plain: bool,
     schema: u32,
     field: &Field,
@@ -442,9 +508,11 @@ fn append_value<'a>(
 ) -> Result<(), Reason>
     requires trail { walk.old.trail.items ≡ [] }
     ensures appended { Appends result
-        (field_bytes (message_bytes left) plain (in_schema schema field.now) value.now)
+        (field_bytes (message_bytes (T.format schemas.now) left) plain
+        (in_schema (T.format schemas.now) schema field.now) value.now)
         out.old.items out.new.items }
-    ensures error { HasError result (field_error (message_error left) (in_schema schema field.now) value.now)
+    ensures error { HasError result (field_error (message_error (T.format schemas.now) left)
+        (in_schema (T.format schemas.now) schema field.now) value.now)
         walk.new.trail.items }
 {
     match field.kind {
@@ -452,16 +520,16 @@ fn append_value<'a>(
         Kind::U64 => append_number(out, plain, field.number, read_u64(value)?)?,
         Kind::Boolean => append_number(out, plain, field.number, read_boolean(value)?)?,
         Kind::Enumeration => {
-            let bits = read_enumeration(values_of(schema, field.number), value)?;
+            let bits = read_enumeration(schemas, schema, field.number, value)?;
             append_number(out, plain, field.number, extended(bits))?;
         }
         Kind::Text => append_content(out, plain, field.number, read_text(value)?)?,
         Kind::ByteString => append_bytes(out, plain, field.number, value)?,
         Kind::Message(nested) => {
-            let room = walk.lengths.next(nested, value, left)?;
+            let room = walk.lengths.next(schemas, nested, value, left)?;
             let place = append_prefix(out, field.number, room)?;
             let end = out.len();
-            append_message(walk, out, nested, value, left)?;
+            append_message(walk, out, schemas, nested, value, left)?;
             put_length(out, place, end)?;
         }
     }

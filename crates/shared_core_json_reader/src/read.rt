@@ -5,15 +5,19 @@ ghost use Rattle.std.specs.Prelude.{◌≡◌, ◌≢◌, ◌++◌, ℕ, List, [
 ghost use Rattle.std.specs.Prelude.{MatchOption, MatchResult};
 ghost use Rattle.std.specs.String.{string_bytes};
 ghost use Rattle.shared_core_codec.specs.Payloads.{IsAccepted, payload_meaning};
-ghost use Rattle.shared_core_json_reader.specs.Reading.{only_value, json_of_text, message_read};
-ghost use Rattle.shared_core_json_reader.specs.Reading.{value_payload, text_meaning, text_payload};
+ghost use Rattle.shared_core_json_reader.specs.Rows.{protocol};
+ghost use Rattle.shared_core_json_reader.specs.Reading.{only_value, json_of_text, message_read, Means};
+ghost use Rattle.shared_core_json_reader.specs.Reading.{value_payload, value_payload_in, text_meaning, text_payload};
 ghost use Rattle.shared_core_json_reader.specs.FirstError.{offset_of, step_text, path_text, step_view, trail_view};
-ghost use Rattle.shared_core_json_reader.specs.FirstError.{message_error, value_error, HasError, SaysError, IsNotJson};
+ghost use Rattle.shared_core_json_reader.specs.FirstError.{message_error, value_error, value_error_in};
+ghost use Rattle.shared_core_json_reader.specs.FirstError.{HasError, SaysError, IsNotJson};
 
 use crate::error::{JsonReadError, Reason};
 use crate::payload::{Step, Walk, append_message};
+use crate::readable::ReadableSchemas;
 use json::{Reader, Scratch};
 use json_table::{Node, Table};
+use shared_core_codec::any_table::ProtocolSchemas;
 use shared_core_wire::records::LEVELS;
 use std::alloc::{AllocError, Global};
 
@@ -153,29 +157,53 @@ pub fn table_of_text<'a>(
     }
 }
 
-/// Puts the canonical payload of what a value means for a schema into a buffer, in place of what is there.
-fn write_payload<'a>(
+/// Puts the canonical payload of what a value means for a schema of a table into a buffer, in place of what is there.
+fn write_payload<'a, T: ReadableSchemas>(
     walk: &mut Walk<'a>,
+    schemas: &'a T,
     schema: u32,
     node: &Node<'_, 'a>,
     payload: &mut Vec<u8>,
 ) -> Result<(), Reason>
     requires { walk.old.trail.items ≡ [] }
-    ensures ok { OnOk result (value_payload schema node.now ≡ Some payload.new.items) }
-    ensures means { OnOk result (IsAccepted schema payload.new.items
-        × (message_read 101 schema node.now ≡ Some (payload_meaning schema payload.new.items))) }
+    ensures ok { OnOk result (value_payload_in (T.format schemas.now) schema node.now ≡ Some payload.new.items) }
+    ensures means { OnOk result (Means (T.format schemas.now) schema node.now payload.new.items) }
     ensures rejected { IfErr result (λ reason. reason ≢ Reason.OutOfMemory
-        → value_payload schema node.now ≡ None) }
-    ensures error { HasError result (message_error 101 schema node.now) walk.new.trail.items }
+        → value_payload_in (T.format schemas.now) schema node.now ≡ None) }
+    ensures error { HasError result (message_error (T.format schemas.now) 101 schema node.now)
+        walk.new.trail.items }
 {
     payload.clear();
-    append_message(walk, payload, schema, node, LEVELS + 1)?;
+    append_message(walk, payload, schemas, schema, node, LEVELS + 1)?;
     Ok(())
 }
 
-/// Puts the canonical payload of what a JSON value means for a schema, by its index, into a buffer, which is emptied
-/// first and grows where it has too little room. The error is the reason of that of `payload_of_node`, without the
-/// path; part of the payload may be in the buffer then.
+/// Puts the canonical payload of what a JSON value means for a schema of a table, by its index, into a buffer, which is
+/// emptied first and grows where it has too little room. The error is the reason of that of `payload_of_node_in`,
+/// without the path; part of the payload may be in the buffer then.
+pub fn payload_into_in<'a, T: ReadableSchemas>(
+    alloc: Global,
+    schemas: &'a T,
+    schema: u32,
+    node: &Node<'_, 'a>,
+    payload: &mut Vec<u8>,
+) -> Result<(), Reason>
+    ensures ok { OnOk result (value_payload_in (T.format schemas.now) schema node.now ≡ Some payload.new.items) }
+    // the payload is accepted, and means what the value means
+    ensures means { OnOk result (Means (T.format schemas.now) schema node.now payload.new.items) }
+    ensures rejected { IfErr result (λ reason. reason ≢ Reason.OutOfMemory
+        → value_payload_in (T.format schemas.now) schema node.now ≡ None) }
+    // the reason of the first error of the value
+    ensures error { MatchResult result (λ _. value_error_in (T.format schemas.now) schema node.now ≡ None)
+        (λ reason. reason ≢ Reason.OutOfMemory
+        → (path : List ℕ) × (value_error_in (T.format schemas.now) schema node.now ≡ Some (reason, path))) }
+{
+    let mut walk = Walk::new(alloc);
+    write_payload(&mut walk, schemas, schema, node, payload)?;
+    Ok(())
+}
+
+/// The same for a schema of the protocol.
 pub fn payload_into(
     alloc: Global,
     schema: u32,
@@ -185,7 +213,7 @@ pub fn payload_into(
     ensures ok { OnOk result (value_payload schema node.now ≡ Some payload.new.items) }
     // the payload is accepted, and means what the value means
     ensures means { OnOk result (IsAccepted schema payload.new.items
-        × (message_read 101 schema node.now ≡ Some (payload_meaning schema payload.new.items))) }
+        × (message_read protocol 101 schema node.now ≡ Some (payload_meaning schema payload.new.items))) }
     ensures rejected { IfErr result (λ reason. reason ≢ Reason.OutOfMemory
         → value_payload schema node.now ≡ None) }
     // the reason of the first error of the value
@@ -193,13 +221,39 @@ pub fn payload_into(
         (λ reason. reason ≢ Reason.OutOfMemory
         → (path : List ℕ) × (value_error schema node.now ≡ Some (reason, path))) }
 {
-    let mut walk = Walk::new(alloc);
-    write_payload(&mut walk, schema, node, payload)?;
-    Ok(())
+    payload_into_in(alloc, &ProtocolSchemas, schema, node, payload)
 }
 
-/// Returns the canonical payload of what a JSON value means for a schema, by its index, as `payload_of` does for a
-/// text. Its errors are those of `Reason` except for `NotJson`, with a path that begins in the value.
+/// Returns the canonical payload of what a JSON value means for a schema of a table, by its index, as `payload_of` does
+/// for a text. Its errors are those of `Reason` except for `NotJson`, with a path that begins in the value.
+pub fn payload_of_node_in<'a, T: ReadableSchemas>(
+    alloc: Global,
+    schemas: &'a T,
+    schema: u32,
+    node: &Node<'_, 'a>,
+) -> Result<Vec<u8>, JsonReadError>
+    ensures ok { IfOk result (λ payload. value_payload_in (T.format schemas.now) schema node.now
+        ≡ Some payload.items) }
+    // the payload is accepted, and means what the value means
+    ensures means { IfOk result (λ payload. Means (T.format schemas.now) schema node.now payload.items) }
+    ensures rejected { IfErr result (λ error. error.reason ≢ Reason.OutOfMemory
+        → value_payload_in (T.format schemas.now) schema node.now ≡ None) }
+    // the first error of the value, and the path to the rejected value
+    ensures error { MatchResult result (λ _. value_error_in (T.format schemas.now) schema node.now ≡ None)
+        (λ error. error.reason ≢ Reason.OutOfMemory
+        → SaysError error (value_error_in (T.format schemas.now) schema node.now)) }
+{
+    let Ok(mut payload) = Vec::with_capacity(alloc, ROOM) else {
+        return Err(error_at(alloc, Reason::OutOfMemory, 0));
+    };
+    let mut walk = Walk::new(alloc);
+    match write_payload(&mut walk, schemas, schema, node, &mut payload) {
+        Ok(()) => Ok(payload),
+        Err(reason) => Err(error_on(alloc, reason, &mut walk.trail)),
+    }
+}
+
+/// The same for a schema of the protocol.
 pub fn payload_of_node(
     alloc: Global,
     schema: u32,
@@ -208,7 +262,7 @@ pub fn payload_of_node(
     ensures ok { IfOk result (λ payload. value_payload schema node.now ≡ Some payload.items) }
     // the payload is accepted, and means what the value means
     ensures means { IfOk result (λ payload. IsAccepted schema payload.items
-        × (message_read 101 schema node.now ≡ Some (payload_meaning schema payload.items))) }
+        × (message_read protocol 101 schema node.now ≡ Some (payload_meaning schema payload.items))) }
     ensures rejected { IfErr result (λ error. error.reason ≢ Reason.OutOfMemory
         → value_payload schema node.now ≡ None) }
     // the first error of the value, and the path to the rejected value
@@ -216,14 +270,7 @@ pub fn payload_of_node(
         (λ error. error.reason ≢ Reason.OutOfMemory
         → SaysError error (value_error schema node.now)) }
 {
-    let Ok(mut payload) = Vec::with_capacity(alloc, ROOM) else {
-        return Err(error_at(alloc, Reason::OutOfMemory, 0));
-    };
-    let mut walk = Walk::new(alloc);
-    match write_payload(&mut walk, schema, node, &mut payload) {
-        Ok(()) => Ok(payload),
-        Err(reason) => Err(error_on(alloc, reason, &mut walk.trail)),
-    }
+    payload_of_node_in(alloc, &ProtocolSchemas, schema, node)
 }
 
 /// Returns the canonical payload of what a JSON text means for the schema at this index of the table.

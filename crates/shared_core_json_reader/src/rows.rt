@@ -1,14 +1,12 @@
 //! What JSON adds to the rows of schemas, which are those of `shared_core_codec`: the names of the values of enums.
 
 ghost use Rattle.std.specs.Prelude.{◌≡◌, map};
-ghost use Rattle.shared_core_codec.specs.Table.{table};
-ghost use Rattle.shared_core_codec.specs.ProgramRows.{row_view};
 ghost use Rattle.shared_core_json_reader.specs.EnumValues.{enum_fields};
 ghost use Rattle.shared_core_json_reader.specs.Rows.{value_view, enum_field_view, enum_values};
-ghost use Rattle.shared_core_json_reader.specs.Rows.{rows_view, named_rows};
+ghost use Rattle.shared_core_json_reader.specs.Rows.{named_row, named_rows};
 
 use crate::enum_values::ENUM_FIELDS;
-use shared_core_codec::rows::{self, Row};
+use crate::readable::ReadableSchemas;
 
 /// The name of a value of an enum, and its number.
 #[derive(Clone, Copy)]
@@ -41,10 +39,11 @@ pub fn values_of(schema: u32, number: u32) -> &'static [EnumValue]
     &[]
 }
 
-/// The rows of the schema at an index of the table; past its end there are none.
-pub fn rows_of(schema: u32) -> &'static [Row]
-    ensures named { rows_view schema result.now ≡ named_rows schema }
-    ensures rows { map row_view result.now ≡ table schema }
+/// The rows of the schema at an index of a table; past its end there are none.
+pub fn rows_of<T: ReadableSchemas>(schemas: &T, schema: u32) -> &[T::Row]
+    ensures named { map (named_row (T.format schemas.now) schema) (map T.Row.view result.now)
+        ≡ named_rows (T.format schemas.now) schema }
+    ensures rows { map T.Row.view result.now ≡ (T.format schemas.now).table schema }
 {
-    rows::rows_of(schema)
+    schemas.rows_of(schema)
 }

@@ -13,6 +13,7 @@ ghost use Rattle.shared_core_json_reader.specs.FirstError.{number_text_reason, n
 ghost use Rattle.shared_core_json_reader.specs.Views.{whole_view};
 
 use crate::error::Reason;
+use crate::readable::ReadableSchemas;
 use crate::rows::EnumValue;
 use fast_float::Numeral;
 use json::is_number;
@@ -169,7 +170,7 @@ fn signed_bits(whole: Whole) -> Result<u32, Reason>
 }
 
 /// The number of the value of an enum that has a name.
-fn value_named(values: &[EnumValue], name: &str) -> Option<u32>
+pub fn value_named(values: &[EnumValue], name: &str) -> Option<u32>
     ensures { result ≡ value_named (map value_view values.now) name.now }
 {
     for value in values {
@@ -180,14 +181,20 @@ fn value_named(values: &[EnumValue], name: &str) -> Option<u32>
     None
 }
 
-/// The value of an enum that a value is, by a name or by a number, as its low 32 bits.
-pub fn read_enumeration(values: &[EnumValue], value: &Node<'_, '_>) -> Result<u32, Reason>
-    ensures value { MatchResult result (λ bits. enum_read (map value_view values.now) value.now ≡ Some bits)
-        (λ _. enum_read (map value_view values.now) value.now ≡ None) }
+/// The value of the enum of a field that a value is, by a name or by a number, as its low 32 bits.
+pub fn read_enumeration<T: ReadableSchemas>(
+    schemas: &T,
+    schema: u32,
+    number: u32,
+    value: &Node<'_, '_>,
+) -> Result<u32, Reason>
+    ensures value { MatchResult result
+        (λ bits. enum_read ((T.format schemas.now).values schema number) value.now ≡ Some bits)
+        (λ _. enum_read ((T.format schemas.now).values schema number) value.now ≡ None) }
     ensures reason { IfErr result (λ reason. number_reason value.now ≡ reason) }
 {
     if let Some(name) = value.as_str() {
-        if let Some(bits) = value_named(values, name) {
+        if let Some(bits) = schemas.value_named(schema, number, name) {
             return Ok(bits);
         }
     }

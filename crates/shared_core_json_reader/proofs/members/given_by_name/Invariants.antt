@@ -6,8 +6,9 @@ use Rattle.shared_core_json_reader.specs.Reading.{values_named}
 use Rattle.shared_core_json_reader.proofs.members.given_by_name.Given as goal
 
 abbrev pub invariant-loop-key : goal.invariant-loop-key
-invariant-loop-key l = option_to_list l.found ++ values_named (in_schema l.schema l.field) l.rest ≡ values_named
-    (in_schema l.schema l.field) l.members
+invariant-loop-key g l = option_to_list l.found ++ values_named
+    (in_schema (g.T.ReadableSchemas.format l.schemas) l.schema l.field) l.rest ≡ values_named
+    (in_schema (g.T.ReadableSchemas.format l.schemas) l.schema l.field) l.members
 
 abbrev pub decreases-loop-key : goal.decreases-loop-key
-decreases-loop-key l = members_count l.rest
+decreases-loop-key g l = members_count l.rest

@@ -4,16 +4,20 @@ use Rattle.shared_core_json_reader.proofs.Whole.{appended_payload, no_payload, p
 use Rattle.shared_core_json_reader.proofs.read.write_payload.Goals as goal
 
 pub returns-clause-ok : goal.returns-clause-ok
-returns-clause-ok c = appended_payload c.args.schema c.args.node.now c.clear.new.self.items
+returns-clause-ok g c = appended_payload (g.T.ReadableSchemas.format c.args.schemas.now)
+    (g.met.T.ReadableSchemas.readable c.args.schemas.now) c.args.schema c.args.node.now c.clear.new.self.items
     c.append_message.new.out.items c.clear.ensures.items c.in_ok-append_message.ensures.appended
 
 pub returns-clause-means : goal.returns-clause-means
-returns-clause-means c =
+returns-clause-means g c =
     let short : length c.append_message.new.out.items < 2 ^ 64 = search rules in
-    payload_means c.args.schema c.args.node.now c.append_message.new.out.items
-    (returns-clause-ok c) short
+    payload_means (g.T.ReadableSchemas.format c.args.schemas.now) (g.met.T.ReadableSchemas.readable c.args.schemas.now)
+    c.args.schema c.args.node.now c.append_message.new.out.items
+    (returns-clause-ok g c) short
 
 pub returns-in_err-append_message-clause-rejected : goal.returns-in_err-append_message-clause-rejected
-returns-in_err-append_message-clause-rejected c =
+returns-in_err-append_message-clause-rejected g c =
     let from = err_from_is_err_and c.from_residual.result c.from_residual.ensures.1 in
-    rw (from.1, from.2) (λ n. no_payload c.args.schema c.args.node.now (c.in_err-append_message.ensures.appended n))
+    rw (from.1, from.2) (λ n. no_payload (g.T.ReadableSchemas.format c.args.schemas.now)
+    (g.met.T.ReadableSchemas.readable c.args.schemas.now) c.args.schema c.args.node.now
+    (c.in_err-append_message.ensures.appended n))
