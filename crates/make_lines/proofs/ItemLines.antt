@@ -16,13 +16,16 @@ use Rattle.shared_core_base.proofs.Types.{code_of_type}
 use Rattle.shared_core_json.specs.Form.{byte_string_json}
 use Rattle.shared_core_stream.specs.declared.encoding.item.Item.{Item}
 use Rattle.shared_core_stream.specs.declared.encoding.item.Item.TheVariants.{Message, Unknown, Skipped}
-use Rattle.shared_core_message.specs.Schemas.{schema_at}
 use Rattle.dump_lines.specs.declared.options.Options.{Options}
 use Rattle.shared_core_stream.specs.Items.{front_word, body_length, item_of, IsItem}
-use Rattle.dump_lines.specs.Lines.{payload_members, ack_members, header_members, item_json, written_word}
+use Rattle.dump_lines.specs.Lines.{payload_members_in, ack_members, header_members, item_json_in, written_word}
+use Rattle.dump_lines.specs.Reading.{Reading}
+use Rattle.shared_core_json_reader.specs.Rows.{EnumValues}
 use Rattle.make_lines.specs.Lines.{value_made, line_made}
 use Rattle.make_lines.specs.Made.{has_newline}
-use Rattle.make_lines.specs.MadeAgain.{payload_again, with_payload, item_again, IsWhole}
+use Rattle.make_lines.specs.MadeAgain.{payload_again_in, with_payload, item_again_in, IsWhole}
+use Rattle.make_lines.specs.Making.{Making, making, messages_of}
+use Rattle.make_lines.proofs.ReadBack.{ReadsBack}
 use Rattle.make_lines.proofs.HeaderWords.{Headed, word_small}
 use Rattle.make_lines.proofs.LineMembers.{message_line, unknown_line, skipped_line}
 use Rattle.make_lines.proofs.ItemsBack.{flag_of, header_text, shown_header, body_is_bytes, written, unknown_back}
@@ -31,15 +34,15 @@ use Rattle.make_lines.proofs.LineTexts.{OptionIs, IsLineText, single_line, line_
 use Rattle.make_lines.proofs.LineTexts.{payload_texts, message_texts, unknown_texts, skipped_texts}
 
 -- a line that means bytes, or nothing
-pub record MadeLine (version : Version) (json : Json) (bytes : Option (List ℕ)) : Type 0 where
+pub record MadeLine (by : Making) (json : Json) (bytes : Option (List ℕ)) : Type 0 where
   pub single : has_newline (print (json_tokens json)) ≡ false
-  pub means : line_made version (print (json_tokens json)) ≡ bytes
+  pub means : line_made by (print (json_tokens json)) ≡ bytes
 
-pub as_made : (version : Version) (ms : Members) (bytes : Option (List ℕ)) → IsLineText (object ms) → value_made version
-    (object ms) ≡ bytes → MadeLine version (object ms) bytes
-as_made version ms bytes text said = record {
+pub as_made : (by : Making) (ms : Members) (bytes : Option (List ℕ)) → IsLineText (object ms) → value_made by
+    (object ms) ≡ bytes → MadeLine by (object ms) bytes
+as_made by ms bytes text said = record {
   single = single_line (object ms) text;
-  means = line_reads version ms text
+  means = line_reads by ms text
       ∙ said;
 }
 
@@ -73,7 +76,8 @@ other_length_of version word none = rw none refl
 
 -- ---- the lines of a dump
 
-module _ (options : Options) (whole : IsWhole options) (at : ℕ) (early : at < 2 ^ 128) (bytes : List ℕ) (word : ℕ)
+module _ (reading : Reading) (values : EnumValues) (back : ReadsBack reading values) (options : Options)
+    (whole : IsWhole options) (at : ℕ) (early : at < 2 ^ 128) (bytes : List ℕ) (word : ℕ)
     (headed : Headed bytes word) where
   abbrev code : ℕ
   code = word / 281474976710656
@@ -84,22 +88,25 @@ module _ (options : Options) (whole : IsWhole options) (at : ℕ) (early : at < 
   header_is : (written : ℕ) → OptionIs (header_text word written)
   header_is written = header_text_is word written
 
-  unknown_json : item_json options at word (Unknown code) ≡ unknown_line (decimal at) (decimal code)
+  unknown_json : item_json_in reading options at word (Unknown code) ≡ unknown_line (decimal at) (decimal code)
       (header_text word (code * 281474976710656))
   unknown_json = ap (λ (ms : Members). object (member (codes "offset") (number (decimal at))
       (member (codes "unknown") (Json.boolean true) (member (codes "code") (number (decimal code)) ms))))
       (shown_header word (code * 281474976710656) no_members)
 
-  unknown_made : type_of code ≡ None → skips_unknown_messages options.version ≡ false → MadeLine options.version
-      (item_json options at word (Unknown code)) (Some (take 8 bytes))
+  unknown_made : type_of code ≡ None → skips_unknown_messages options.version ≡ false
+      → MadeLine (making (messages_of reading values) options.version)
+      (item_json_in reading options at word (Unknown code)) (Some (take 8 bytes))
   unknown_made none keeps =
-      subst (λ (j : Json). MadeLine options.version j (Some (take 8 bytes))) (sym unknown_json)
-      (as_made options.version _ (Some (take 8 bytes)) (unknown_texts at code
+      subst (λ (j : Json). MadeLine (making (messages_of reading values) options.version) j (Some (take 8 bytes)))
+      (sym unknown_json)
+      (as_made (making (messages_of reading values) options.version) _ (Some (take 8 bytes)) (unknown_texts at code
       (header_text word (code * 281474976710656)) early code_low (header_is (code * 281474976710656)))
-      (unknown_back bytes word headed options.version options.texts (decimal at) (decimal 0) none keeps ∙ ap
+      (unknown_back bytes word headed reading values back options.version options.texts (decimal at) (decimal 0) none
+      keeps ∙ ap
       (λ (xs : List ℕ). Some xs) (append-nil (take 8 bytes))))
 
-  skipped_json : item_json options at word (Skipped code (drop 8 bytes))
+  skipped_json : item_json_in reading options at word (Skipped code (drop 8 bytes))
       ≡ skipped_line (decimal at) (decimal code) (decimal (length (drop 8 bytes)))
       (header_text word (code * 281474976710656 + length (drop 8 bytes)))
       (byte_string_json options.texts (drop 8 bytes))
@@ -113,15 +120,19 @@ module _ (options : Options) (whole : IsWhole options) (at : ℕ) (early : at < 
       ∙ ap shown (shown_header word (code * 281474976710656 + length body)
       (member (codes "bytes") (byte_string_json options.texts body) no_members))
 
-  skipped_made : type_of code ≡ None → length (drop 8 bytes) ≡ word % 4294967296 → MadeLine options.version
-      (item_json options at word (Skipped code (drop 8 bytes))) (with_payload (take 4 bytes) (drop 8 bytes))
+  skipped_made : type_of code ≡ None → length (drop 8 bytes) ≡ word % 4294967296
+      → MadeLine (making (messages_of reading values) options.version)
+      (item_json_in reading options at word (Skipped code (drop 8 bytes))) (with_payload (take 4 bytes) (drop 8 bytes))
   skipped_made none long =
       let body = drop 8 bytes in
-      subst (λ (j : Json). MadeLine options.version j (with_payload (take 4 bytes) body)) (sym skipped_json)
-      (as_made options.version _ _ (skipped_texts options.texts at code (length body)
+      subst (λ (j : Json). MadeLine (making (messages_of reading values) options.version) j
+      (with_payload (take 4 bytes) body)) (sym skipped_json)
+      (as_made (making (messages_of reading values) options.version) _ _
+      (skipped_texts options.texts at code (length body)
       (header_text word (code * 281474976710656 + length body)) body early code_low (omega (arith, long))
       (header_is (code * 281474976710656 + length body)))
-      (skipped_back bytes word headed options.version options.texts (decimal at) (decimal (length body)) none long))
+      (skipped_back bytes word headed reading values back options.version options.texts (decimal at)
+      (decimal (length body)) none long))
 
   module _ (ty : MessageType) (typed : type_of code ≡ Some ty) (long : length (drop 8 bytes) ≡ word % 4294967296) where
     abbrev as_item : Item
@@ -138,11 +149,12 @@ module _ (options : Options) (whole : IsWhole options) (at : ℕ) (early : at < 
     code_is = code_of_type code ty typed
 
     abbrev shown_payload : Members
-    shown_payload = payload_members options.texts (schema_at options.version ty) (drop 8 bytes)
+    shown_payload = payload_members_in reading options.texts (reading.schema_at options.version ty) (drop 8 bytes)
 
-    message_json : item_json options at word as_item
+    message_json : item_json_in reading options at word as_item
         ≡ message_line (decimal at) (debug_name_of ty) (decimal code) (decimal (length (drop 8 bytes)))
-        (flag_of ty word) (header_text word (written bytes word headed options.version options.texts (decimal at)
+        (flag_of ty word) (header_text word (written bytes word headed reading values back options.version options.texts
+        (decimal at)
         (decimal (length (drop 8 bytes))) ty typed)) shown_payload
     unfolding word_of
     message_json =
@@ -158,20 +170,24 @@ module _ (options : Options) (whole : IsWhole options) (at : ℕ) (early : at < 
         ∙ ap (λ (n : ℕ). shown n (header_members word (as_written n) shown_payload)) code_is
         ∙ ap (shown code) (shown_header word (as_written code) shown_payload)
 
-    message_made : MadeLine options.version (item_json options at word as_item)
-        (with_payload (take 4 bytes) (payload_again (schema_at options.version ty) (drop 8 bytes)))
+    message_made : MadeLine (making (messages_of reading values) options.version)
+        (item_json_in reading options at word as_item)
+        (with_payload (take 4 bytes) (payload_again_in reading (reading.schema_at options.version ty) (drop 8 bytes)))
     message_made =
         let body = drop 8 bytes in
-        subst (λ (j : Json). MadeLine options.version j (with_payload (take 4 bytes)
-        (payload_again (schema_at options.version ty) body))) (sym message_json)
-        (as_made options.version _ _ (message_texts at code (length body) (debug_name_of ty) (flag_of ty word)
-        (header_text word (written bytes word headed options.version options.texts (decimal at)
+        subst (λ (j : Json). MadeLine (making (messages_of reading values) options.version) j
+        (with_payload (take 4 bytes)
+        (payload_again_in reading (reading.schema_at options.version ty) body))) (sym message_json)
+        (as_made (making (messages_of reading values) options.version) _ _
+        (message_texts at code (length body) (debug_name_of ty) (flag_of ty word)
+        (header_text word (written bytes word headed reading values back options.version options.texts (decimal at)
         (decimal (length body)) ty typed)) shown_payload
         early code_low (omega (arith, long)) (name_utf8 ty (omega (arith, code_is, word_small bytes word headed)))
-        (header_is _) (payload_texts options.texts (schema_at options.version ty) body
+        (header_is _) (payload_texts reading values back options.texts (reading.schema_at options.version ty) body
         (body_is_bytes bytes word headed)))
-        (message_line_back bytes word headed options.version options.texts (decimal at) (decimal (length body)) ty typed
-        (schema_at options.version ty) refl))
+        (message_line_back bytes word headed reading values back options.version options.texts (decimal at)
+        (decimal (length body)) ty typed
+        (reading.schema_at options.version ty) refl))
 
 -- ---- items
 
@@ -183,27 +199,32 @@ headed_of version bytes item is small = record { eight = omega (arith, is.whole)
 pub body_long : (bytes : List ℕ) (n : ℕ) → length bytes ≡ 8 + n → length (drop 8 bytes) ≡ n
 body_long bytes n e = omega (arith, length-drop 8 bytes, e)
 
-pub item_made : (options : Options) (at : ℕ) (bytes : List ℕ) (item : Item) → IsWhole options → at < 2 ^ 128 → IsItem
-    options.version bytes item → IsBytes bytes → MadeLine options.version (item_json options at (front_word bytes) item)
-    (item_again options.version bytes item)
-item_made options at bytes item whole early is small = subst Made (sym is.means)
+pub item_made : (reading : Reading) (values : EnumValues) (back : ReadsBack reading values) (options : Options) (at : ℕ)
+    (bytes : List ℕ) (item : Item) → IsWhole options → at < 2 ^ 128 → IsItem
+    options.version bytes item → IsBytes bytes
+    → MadeLine (making (messages_of reading values) options.version)
+    (item_json_in reading options at (front_word bytes) item)
+    (item_again_in reading options.version bytes item)
+item_made reading values back options at bytes item whole early is small = subst Made (sym is.means)
     (by_type (type_of (front_word bytes / 281474976710656)) refl)
   where
     headed : Headed bytes (front_word bytes)
     headed = headed_of options.version bytes item is small
 
     Made : Item → Type 0
-    Made i = MadeLine options.version (item_json options at (front_word bytes) i) (item_again options.version bytes i)
+    Made i = MadeLine (making (messages_of reading values) options.version)
+        (item_json_in reading options at (front_word bytes) i) (item_again_in reading options.version bytes i)
 
     by_skip : (b : Bool) → skips_unknown_messages options.version ≡ b → type_of (front_word bytes / 281474976710656) ≡
         None → Made (cond b (Skipped (front_word bytes / 281474976710656) (drop 8 bytes))
         (Unknown (front_word bytes / 281474976710656)))
     by_skip true e none =
-        skipped_made options whole at early bytes (front_word bytes) headed none
+        skipped_made reading values back options whole at early bytes (front_word bytes) headed none
         (body_long bytes (front_word bytes % 4294967296) (is.whole ∙ ap (λ (n : ℕ). 8 + n)
         (other_length_of options.version (front_word bytes) none ∙ ap
         (λ (b : Bool). cond b (front_word bytes % 4294967296) 0) e)))
-    by_skip false e none = unknown_made options whole at early bytes (front_word bytes) headed none e
+    by_skip false e none = unknown_made reading values back options whole at early bytes (front_word bytes) headed none
+        e
 
     by_type : (o : Option MessageType) → type_of (front_word bytes / 281474976710656) ≡ o → Made
         (item_of options.version (front_word bytes) (drop 8 bytes))
@@ -211,6 +232,6 @@ item_made options at bytes item whole early is small = subst Made (sym is.means)
         (by_skip (skips_unknown_messages options.version) refl none)
     by_type (Some ty) typed =
         subst Made (sym (typed_item options.version (front_word bytes) (drop 8 bytes) ty typed))
-        (message_made options whole at early bytes (front_word bytes) headed ty typed
+        (message_made reading values back options whole at early bytes (front_word bytes) headed ty typed
         (body_long bytes (front_word bytes % 4294967296)
         (is.whole ∙ ap (λ (n : ℕ). 8 + n) (typed_length options.version (front_word bytes) ty typed))))

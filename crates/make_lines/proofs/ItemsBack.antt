@@ -19,30 +19,32 @@ use Rattle.shared_core_base.specs.MessageHeader.{ack_bit, word_length}
 use Rattle.shared_core_wire.specs.Acceptance.{accepts_payload}
 use Rattle.shared_core_wire.specs.Value.{Parts}
 use Rattle.shared_core_wire.specs.Canonical.{canonical_payload}
-use Rattle.shared_core_codec.specs.Table.{table}
-use Rattle.shared_core_codec.specs.Payloads.{payload_meaning}
-use Rattle.shared_core_json.specs.Fields.{names_of}
-use Rattle.shared_core_json.specs.Form.{byte_string_json, members_json, json_with}
+use Rattle.shared_core_wire.specs.Overlay.{meaning}
+use Rattle.shared_core_json.specs.Form.{byte_string_json, members_json_in, json_with_in}
 use Rattle.shared_core_json_reader.specs.declared.error.Reason.TheVariants.{OutOfRange}
 use Rattle.shared_core_json_reader.specs.Scalars.{bytes_read}
-use Rattle.shared_core_json_reader.specs.FirstError.{number_reason, bytes_reason, value_error}
-use Rattle.shared_core_json.proofs.Meanings.{accepted_means, back_bytes}
+use Rattle.shared_core_json_reader.specs.FirstError.{number_reason, bytes_reason, value_error_in}
+use Rattle.shared_core_json_reader.specs.Rows.{EnumValues}
+use Rattle.shared_core_json.proofs.Meanings.{back_bytes}
 use Rattle.shared_core_json_reader.proofs.ScalarsBack.{u32_back, bytes_back, byte_string_back, byte_string_there}
 use Rattle.shared_core_json_reader.proofs.TreeBack.{message_back}
 use Rattle.shared_core_json_reader.proofs.NamesApart.{same_bytes}
-use Rattle.shared_core_message.specs.Schemas.{schema_at}
 use Rattle.make_lines.specs.declared.error.LineReason.TheVariants.{Json as Wrong, OtherType, NoSchema, NoFlag}
 use Rattle.make_lines.specs.declared.error.LineReason.TheVariants.{OtherCode, OtherFlag, NoSuchPayload, TooLong}
 use Rattle.make_lines.specs.Errors.{LineFault, at as fault_at}
-use Rattle.make_lines.specs.MadeAgain.{payload_again}
-use Rattle.dump_lines.specs.Lines.{payload_members, header_members}
+use Rattle.make_lines.specs.MadeAgain.{payload_again_in}
+use Rattle.make_lines.specs.Making.{making, messages_of}
+use Rattle.make_lines.proofs.ReadBack.{ReadsBack}
+use Rattle.dump_lines.specs.Lines.{payload_members_in, header_members, meaning_json, unread_members}
+use Rattle.dump_lines.specs.Reading.{Reading, is_read}
 use Rattle.make_lines.specs.Lines.{then_read, read_map, unless, code_below, code_read, name_read, is_name_of, code_if}
 use Rattle.make_lines.specs.Lines.{code_said, has_flag, flag_said, nothing_if, bytes_said, message_fault, message_read}
 use Rattle.make_lines.specs.Lines.{message_said, word as said_word, word_fault, with_size, word_given}
 use Rattle.make_lines.specs.Lines.{checked_given, header_given, header_said, value_made}
 use Rattle.make_lines.proofs.HeaderWords.{Headed, word_small, word_bytes, word_is_bytes, other_length, four_of_word}
 use Rattle.make_lines.proofs.LineMembers.{Says, header_if, message_line, unknown_line, skipped_line, item_is}
-use Rattle.make_lines.proofs.LineMembers.{says_message, says_bytes, says_malformed, says_unknown, says_skipped}
+use Rattle.make_lines.proofs.LineMembers.{says_message, says_bytes, says_malformed, says_not_canonical, says_unknown}
+use Rattle.make_lines.proofs.LineMembers.{says_skipped}
 
 -- ---- codes, bytes and flags
 
@@ -213,13 +215,15 @@ module _ (bytes : List ℕ) (word : ℕ) (headed : Headed bytes word) where
 
   -- ---- items
 
-  module _ (version : Version) (texts : Bool) (at len : List ℕ) where
+  module _ (reading : Reading) (values : EnumValues) (back : ReadsBack reading values) (version : Version)
+      (texts : Bool) (at len : List ℕ) where
     pub unknown_back : type_of (word / 281474976710656) ≡ None → skips_unknown_messages version ≡ false → value_made
-        version (unknown_line at (decimal (word / 281474976710656))
+        (making (messages_of reading values) version) (unknown_line at (decimal (word / 281474976710656))
         (header_text word (word / 281474976710656 * 281474976710656))) ≡ Some (take 8 bytes ++ [])
     unknown_back none keeps =
         let n = word / 281474976710656 in
-        ap result_ok (item_is version _ _ _ _ _ _ _ _ n false [] (Ok (take 8 bytes))
+        ap result_ok (item_is (making (messages_of reading values) version) _ _ _ _ _ _ _ _ n false []
+        (Ok (take 8 bytes))
         (says_unknown at (decimal n) (header_text word (n * 281474976710656))) (code_back n code_small) refl
         (ap (nothing_if (Some true)) none)
         (alone_back version n (untyped_agrees word none) keeps))
@@ -229,14 +233,16 @@ module _ (bytes : List ℕ) (word : ℕ) (headed : Headed bytes word) where
     skipped_word size e = omega (arith, e)
 
     pub skipped_back : type_of (word / 281474976710656) ≡ None → length (drop 8 bytes) ≡ word % 4294967296
-        → value_made version (skipped_line at (decimal (word / 281474976710656)) len
+        → value_made (making (messages_of reading values) version)
+        (skipped_line at (decimal (word / 281474976710656)) len
         (header_text word (word / 281474976710656 * 281474976710656 + length (drop 8 bytes)))
         (byte_string_json texts (drop 8 bytes)))
         ≡ option_map (λ h. h ++ drop 8 bytes) (with_length (length (drop 8 bytes)))
     skipped_back none long =
         let n = word / 281474976710656 in
         let body = drop 8 bytes in
-        ap result_ok (item_is version _ _ _ _ _ _ _ _ n false body (read_length (length body))
+        ap result_ok (item_is (making (messages_of reading values) version) _ _ _ _ _ _ _ _ n false body
+        (read_length (length body))
         (says_skipped at (decimal n) len (header_text word (n * 281474976710656 + length body))
         (byte_string_json texts body) (byte_string_there texts body))
         (code_back n code_small) refl (bytes_there _ (byte_string_json texts body) body
@@ -266,57 +272,72 @@ module _ (bytes : List ℕ) (word : ℕ) (headed : Headed bytes word) where
           → Says (line_with others) (Some (string (debug_name_of ty)))
           (Some (number (decimal (word / 281474976710656)))) (option_map boolean (flag_of ty word))
           (option_map string (header_text word written)) None (Some b) None
-          → value_made version (line_with others) ≡ made_of payload
+          → value_made (making (messages_of reading values) version) (line_with others) ≡ made_of payload
       given_back b payload others read says =
           let n = word / 281474976710656 in
-          ap result_ok (item_is version _ _ _ _ _ _ _ _ n (requests (flag_of ty word)) payload
+          ap result_ok (item_is (making (messages_of reading values) version) _ _ _ _ _ _ _ _ n
+          (requests (flag_of ty word)) payload
           (read_length (length payload)) says
           (typed_back n ty code_small typed) (flag_back n word ty _ typed) (bytes_there _ b payload read)
           (header_back version written n (length payload) (requests (flag_of ty word)) (typed_agrees word ty typed)
           (message_word (length payload))))
           ∙ length_made (length payload) payload
 
-      value_line : (s : ℕ) → schema_at version ty ≡ Some s → accepts_payload table 100 s (drop 8 bytes) ≡ true →
-          message_said version (word / 281474976710656) (json_with texts s (payload_meaning s (drop 8 bytes))) ≡ Ok
-          (canonical_payload table s (payload_meaning s (drop 8 bytes)))
-      value_line s e a =
-          let v = payload_meaning s (drop 8 bytes) in
-          let is = accepted_means s (drop 8 bytes) a body_is_bytes in
-          let m = json_with texts s v in
-          ap (λ (o : Option MessageType). then_read (message_read m)
-          (ok_or (option_and_then (schema_at version) o) (fault_at (codes "message") NoSchema))) typed
-          ∙ ap (λ (o : Option ℕ). then_read (message_read m) (ok_or o (fault_at (codes "message") NoSchema))) e
-          ∙ ap (λ (o : Option Parts). ok_or (option_map (canonical_payload table s) o)
-          (message_fault (value_error s m))) (message_back texts 100 s v is.fits is.low is.bytes)
+      value_line : (s : ℕ) → reading.schema_at version ty ≡ Some s → accepts_payload reading.table 100 s (drop 8 bytes)
+          ≡
+          true → is_read reading s (drop 8 bytes) ≡ true → message_said (making (messages_of reading values) version)
+          (word / 281474976710656) (meaning_json reading texts s (drop 8 bytes)) ≡ Ok
+          (canonical_payload reading.table s (meaning reading.table 100 s (drop 8 bytes)))
+      value_line s e a r =
+          let format = (messages_of reading values).format in
+          let v = meaning reading.table 100 s (drop 8 bytes) in
+          let is = back.well s (drop 8 bytes) a r body_is_bytes in
+          let m = json_with_in reading.table reading.names texts s v in
+          ap (λ (o : Option MessageType). then_read (message_read format m)
+          (ok_or (option_and_then (reading.schema_at version) o) (fault_at (codes "message") NoSchema))) typed
+          ∙ ap (λ (o : Option ℕ). then_read (message_read format m) (ok_or o (fault_at (codes "message") NoSchema))) e
+          ∙ ap (λ (o : Option Parts). ok_or (option_map (canonical_payload reading.table s) o)
+          (message_fault (value_error_in format s m)))
+          (message_back format back.readable texts 100 s v is.fits is.low is.bytes)
 
-      pub message_line_back : (schema : Option ℕ) → schema_at version ty ≡ schema → value_made version
-          (line_with (payload_members texts schema (drop 8 bytes))) ≡ made_of (payload_again schema (drop 8 bytes))
+      pub message_line_back : (schema : Option ℕ) → reading.schema_at version ty ≡ schema → value_made
+          (making (messages_of reading values) version) (line_with (payload_members_in reading texts schema
+          (drop 8 bytes))) ≡ made_of (payload_again_in reading schema (drop 8 bytes))
       message_line_back None e =
           let body = drop 8 bytes in
-          given_back (byte_string_json texts body) body (payload_members texts None body)
+          given_back (byte_string_json texts body) body (payload_members_in reading texts None body)
           (byte_string_back texts body body_is_bytes)
           (says_bytes at (debug_name_of ty) (decimal (word / 281474976710656)) len (flag_of ty word)
           (header_text word written) (byte_string_json texts body) (byte_string_there texts body))
-      message_line_back (Some s) e = by_test (accepts_payload table 100 s (drop 8 bytes)) refl
+      message_line_back (Some s) e = by_test (accepts_payload reading.table 100 s (drop 8 bytes)) refl
+          (is_read reading s (drop 8 bytes)) refl
         where
-          by_test : (b : Bool) → accepts_payload table 100 s (drop 8 bytes) ≡ b
-              → value_made version (line_with (cond b (member (codes "message")
-              (json_with texts s (payload_meaning s (drop 8 bytes))) no_members)
-              (member (codes "malformed") (boolean true)
-              (member (codes "bytes") (byte_string_json texts (drop 8 bytes)) no_members))))
-              ≡ made_of (cond b (canonical_payload table s (payload_meaning s (drop 8 bytes))) (drop 8 bytes))
-          by_test true a =
+          by_test : (b : Bool) → accepts_payload reading.table 100 s (drop 8 bytes) ≡ b → (r : Bool) → is_read reading s
+              (drop 8 bytes) ≡ r → value_made (making (messages_of reading values) version) (line_with (cond b
+              (cond r (member (codes "message") (meaning_json reading texts s (drop 8 bytes)) no_members)
+              (unread_members (codes "notCanonical") texts (drop 8 bytes)))
+              (unread_members (codes "malformed") texts (drop 8 bytes))))
+              ≡ made_of (cond b (cond r (canonical_payload reading.table s
+              (meaning reading.table 100 s (drop 8 bytes))) (drop 8 bytes)) (drop 8 bytes))
+          by_test true a true r =
               let n = word / 281474976710656 in
-              let v = payload_meaning s (drop 8 bytes) in
-              let p = canonical_payload table s v in
-              ap result_ok (item_is version _ _ _ _ _ _ _ _ n (requests (flag_of ty word)) p (read_length (length p))
+              let v = meaning reading.table 100 s (drop 8 bytes) in
+              let p = canonical_payload reading.table s v in
+              ap result_ok (item_is (making (messages_of reading values) version) _ _ _ _ _ _ _ _ n
+              (requests (flag_of ty word)) p (read_length (length p))
               (says_message at (debug_name_of ty) (decimal n) len (flag_of ty word) (header_text word written)
-              (members_json texts (names_of s) v (table s)))
-              (typed_back n ty code_small typed) (flag_back n word ty _ typed) (value_line s e a)
+              (members_json_in reading.table reading.names texts (reading.names s) v (reading.table s)))
+              (typed_back n ty code_small typed) (flag_back n word ty _ typed) (value_line s e a r)
               (header_back version written n (length p) (requests (flag_of ty word)) (typed_agrees word ty typed)
               (message_word (length p))))
               ∙ length_made (length p) p
-          by_test false a =
+          by_test true a false r =
+              given_back (byte_string_json texts (drop 8 bytes)) (drop 8 bytes) _
+              (byte_string_back texts (drop 8 bytes) body_is_bytes)
+              (says_not_canonical at (debug_name_of ty) (decimal (word / 281474976710656)) len (flag_of ty word)
+              (header_text word written) (byte_string_json texts (drop 8 bytes))
+              (byte_string_there texts (drop 8 bytes)))
+          by_test false a r q =
               given_back (byte_string_json texts (drop 8 bytes)) (drop 8 bytes) _
               (byte_string_back texts (drop 8 bytes) body_is_bytes)
               (says_malformed at (debug_name_of ty) (decimal (word / 281474976710656)) len (flag_of ty word)

@@ -1,6 +1,7 @@
 -- A stream whose payloads are made again as they are.
 use Rattle.std.proofs.Common.{◌≡◌, ℕ, ◌+◌, ◌/◌, ◌%◌, ◌≤◌, List, [], ◌∷◌, ◌++◌, length, take, drop, Bool, true, false}
-use Rattle.std.proofs.Common.{cond, Option, Some, None, option_map, refl, sym, ap, ap₂, subst, ◌∙◌, append_assoc}
+use Rattle.std.proofs.Common.{cond, Option, Some, None, Ok, option_map, ◌^◌, ◌<◌, refl, sym, ap, ap₂, subst, ◌∙◌}
+use Rattle.std.proofs.Common.{append_assoc}
 use Rattle.std.proofs.Common.{length-append, arith}
 use Rattle.std.proofs.lemmas.Bool.{lt-ltb}
 use Rattle.std.proofs.lemmas.List.{take-append-drop, take_all}
@@ -18,14 +19,22 @@ use Rattle.shared_core_codec.specs.Canonicity.{IsCanonical}
 use Rattle.shared_core_json.proofs.Meanings.{back_bytes}
 use Rattle.shared_core_stream.specs.declared.encoding.item.Item.{Item}
 use Rattle.shared_core_stream.specs.declared.encoding.item.Item.TheVariants.{Unknown, Skipped}
-use Rattle.shared_core_message.specs.Schemas.{schema_at}
 use Rattle.dump_lines.specs.declared.options.Options.{Options}
 use Rattle.shared_core_stream.specs.Items.{front_word, item_of, IsItem, AreItems}
 use Rattle.stream_lines.specs.Printing.{item_size, items_size, lines as printed_lines, all_lines}
-use Rattle.dump_lines.specs.Lines.{line_of, rest_line}
-use Rattle.make_lines.specs.Made.{AreLines, both}
-use Rattle.make_lines.specs.MadeAgain.{payload_again, with_payload, item_again, stream_again, IsKept, AreKept}
-use Rattle.make_lines.specs.MadeAgain.{ItemIsMadeAgain, DumpIsMadeAgain, KeepsStreams, ThereAndBack}
+use Rattle.dump_lines.specs.Lines.{line_of_in, rest_line}
+use Rattle.dump_lines.specs.Dump.{IsDumpedIn}
+use Rattle.dump_lines.specs.Reading.{Reading, protocol}
+use Rattle.stream_lines.specs.declared.report.Report.{Report}
+use Rattle.shared_core_json_reader.specs.Rows.{EnumValues, enum_values}
+use Rattle.make_lines.specs.Made.{AreLines, both, IsMade}
+use Rattle.make_lines.specs.MadeAgain.{payload_again, payload_again_in, with_payload, item_again_in, stream_again_in}
+use Rattle.make_lines.specs.MadeAgain.{IsKeptIn, AreKeptIn}
+use Rattle.make_lines.specs.MadeAgain.{ItemIsMadeAgain, DumpIsMadeAgain, KeepsStreams, ThereAndBack, IsMadeAgainBy}
+use Rattle.make_lines.specs.MadeAgain.{IsWhole}
+use Rattle.make_lines.specs.MadeAgain.{ItemIsMadeAgainIn, DumpIsMadeAgainIn, KeepsStreamsIn, ThereAndBackIn}
+use Rattle.make_lines.specs.Making.{making, messages_of}
+use Rattle.make_lines.proofs.ReadBack.{ReadsBack, protocol_back, other_back, other_again}
 use Rattle.make_lines.proofs.HeaderWords.{Headed, word_bytes, other_length}
 use Rattle.make_lines.proofs.ItemLines.{typed_item, typed_length, other_item, other_length_of, headed_of, body_long}
 use Rattle.make_lines.proofs.ItemLines.{item_made}
@@ -51,17 +60,18 @@ module _ (version : Version) (bytes : List ℕ) (word : ℕ) (headed : Headed by
       headed)
       ∙ ap (λ (xs : List ℕ). Some xs) (take-append-drop 8 bytes)
 
-kept_item : (version : Version) (bytes : List ℕ) (item : Item) → IsItem version bytes item → IsBytes bytes → IsKept
-    version item → item_again version bytes item ≡ Some bytes
-kept_item version bytes item is small kept =
-    ap (item_again version bytes) is.means ∙ by_type (type_of (front_word bytes / 281474976710656)) refl
-    (subst (IsKept version) is.means kept)
+kept_item : (reading : Reading) (version : Version) (bytes : List ℕ) (item : Item) → IsItem version bytes item
+    → IsBytes bytes → IsKeptIn reading
+    version item → item_again_in reading version bytes item ≡ Some bytes
+kept_item reading version bytes item is small kept =
+    ap (item_again_in reading version bytes) is.means ∙ by_type (type_of (front_word bytes / 281474976710656)) refl
+    (subst (IsKeptIn reading version) is.means kept)
   where
     headed : Headed bytes (front_word bytes)
     headed = headed_of version bytes item is small
 
     by_skip : (b : Bool) → skips_unknown_messages version ≡ b → type_of (front_word bytes / 281474976710656) ≡ None →
-        item_again version bytes (cond b (Skipped (front_word bytes / 281474976710656) (drop 8 bytes))
+        item_again_in reading version bytes (cond b (Skipped (front_word bytes / 281474976710656) (drop 8 bytes))
         (Unknown (front_word bytes / 281474976710656))) ≡ Some bytes
     by_skip true e none =
         let long = body_long bytes (front_word bytes % 4294967296)
@@ -77,78 +87,148 @@ kept_item version bytes item is small kept =
         ) in
         ap (λ (xs : List ℕ). Some xs) (take_all 8 bytes (omega (arith, eight)))
 
-    by_type : (o : Option MessageType) → type_of (front_word bytes / 281474976710656) ≡ o → IsKept version
-        (item_of version (front_word bytes) (drop 8 bytes)) → item_again version bytes
+    by_type : (o : Option MessageType) → type_of (front_word bytes / 281474976710656) ≡ o → IsKeptIn reading version
+        (item_of version (front_word bytes) (drop 8 bytes)) → item_again_in reading version bytes
         (item_of version (front_word bytes) (drop 8 bytes)) ≡ Some bytes
-    by_type None none k = ap (item_again version bytes) (other_item version (front_word bytes) (drop 8 bytes) none) ∙
+    by_type None none k = ap (item_again_in reading version bytes)
+        (other_item version (front_word bytes) (drop 8 bytes) none) ∙
         by_skip (skips_unknown_messages version) refl none
     by_type (Some ty) typed k =
         let item_is = typed_item version (front_word bytes) (drop 8 bytes) ty typed in
-        let same : payload_again (schema_at version ty) (drop 8 bytes) ≡ drop 8 bytes = subst (IsKept version) item_is k
+        let same : payload_again_in reading (reading.schema_at version ty) (drop 8 bytes)
+        ≡ drop 8 bytes = subst (IsKeptIn reading version) item_is k
         in
         let long = body_long bytes (front_word bytes % 4294967296)
         (is.whole ∙ ap (λ (n : ℕ). 8 + n) (typed_length version (front_word bytes) ty typed)) in
-        ap (item_again version bytes) item_is ∙ ap (with_payload (take 4 bytes)) same ∙ whole_again version bytes
+        ap (item_again_in reading version bytes) item_is ∙ ap (with_payload (take 4 bytes)) same
+        ∙ whole_again version bytes
         (front_word bytes) headed long
 
 -- ---- a stream
 
-kept_front : (version : Version) (front rest : List ℕ) (items : List Item) → AreItems version front items → IsBytes
-    front → AreKept version items → stream_again version (front ++ rest) items rest ≡ Some (front ++ rest)
-kept_front version front rest [] are small kept = ap (λ (xs : List ℕ). Some (xs ++ rest)) (sym are)
-kept_front version front rest (item ∷ items) are small kept =
+kept_front : (reading : Reading) (version : Version) (front rest : List ℕ) (items : List Item)
+    → AreItems version front items → IsBytes
+    front → AreKeptIn reading version items → stream_again_in reading version (front ++ rest) items rest
+    ≡ Some (front ++ rest)
+kept_front reading version front rest [] are small kept = ap (λ (xs : List ℕ). Some (xs ++ rest)) (sym are)
+kept_front reading version front rest (item ∷ items) are small kept =
     let first = are.0 in
     let others = are.1 in
     let split : front ≡ first ++ others = are.4 in
     let long : 8 ≤ length first = omega (arith, are.2.whole) in
-    let one = kept_item version first item are.2 (front_bytes first others (subst IsBytes split small)) kept.0 in
-    let more = kept_front version others rest items are.3 (back_bytes first others (subst IsBytes split small)) kept.1
+    let one = kept_item reading version first item are.2 (front_bytes first others (subst IsBytes split small)) kept.0
+    in
+    let more = kept_front reading version others rest items are.3 (back_bytes first others (subst IsBytes split small))
+    kept.1
     in
     let joined : front ++ rest ≡ first ++ (others ++ rest) = ap (λ (xs : List ℕ). xs ++ rest) split ∙ append_assoc first
     others rest in
     let after_is : drop (item_size item) (front ++ rest) ≡ others ++ rest = ap (drop (item_size item)) joined ∙
     after_front (item_size item) first (others ++ rest) (sized version first item are.2) in
-    ap₂ (λ (o : Option (List ℕ)) (ys : List ℕ). both o (stream_again version ys items rest))
-    (ap (λ (xs : List ℕ). item_again version xs item) joined ∙ again_more version first (others ++ rest) item long ∙
+    ap₂ (λ (o : Option (List ℕ)) (ys : List ℕ). both o (stream_again_in reading version ys items rest))
+    (ap (λ (xs : List ℕ). item_again_in reading version xs item) joined
+    ∙ again_more reading version first (others ++ rest) item long ∙
     one) after_is
     ∙ ap (both (Some first)) more ∙ ap (λ (xs : List ℕ). Some xs) (sym joined)
 
 -- ---- the laws
 
+module _ (reading : Reading) (values : EnumValues) (back : ReadsBack reading values) where
+  pub kept_streams_in : (version : Version) → KeepsStreamsIn reading version
+  kept_streams_in version stream rest items small split kept =
+      let then = split.items_then in
+      ap (λ (bytes : List ℕ). stream_again_in reading version bytes items rest) then.whole
+      ∙ kept_front reading version then.front rest items then.encoded (front_bytes then.front rest
+      (subst IsBytes then.whole small)) kept
+      ∙ ap (λ (bytes : List ℕ). Some bytes) (sym then.whole)
+
+  pub item_again_made_in : (options : Options) → ItemIsMadeAgainIn reading values options
+  item_again_made_in options at bytes item whole early small is =
+      (item_made reading values back options at bytes item whole early is small).means
+
+  pub dump_again_made_in : (options : Options) → DumpIsMadeAgainIn reading values options
+  dump_again_made_in options stream rest items lines last whole small short split are =
+      let then = split.items_then in
+      let held = subst IsBytes then.whole small in
+      let total : length stream ≡ length then.front + length rest = omega
+      (arith, ap length then.whole, length-append then.front rest) in
+      let means = stream_means reading values back options whole rest (back_bytes then.front rest held)
+      (omega (arith, total)) 0 then.front
+      items then.encoded (front_bytes then.front rest held) (omega (arith, total)) in
+      let text_is : all_lines (line_of_in reading options) (rest_line options) stream items rest
+      ≡ printed_lines (line_of_in reading options) 0
+      (then.front ++ rest) items ++ rest_line options (0 + items_size items) rest =
+      ap (λ (bytes : List ℕ). all_lines (line_of_in reading options) (rest_line options) bytes items rest) then.whole
+      ∙ ap (λ (n : ℕ). printed_lines (line_of_in reading options) 0 (then.front ++ rest) items ++ rest_line options n
+      rest)
+      (omega arith) in
+      means lines last (subst (λ (text : List ℕ). AreLines text lines last) text_is are)
+      ∙ ap (λ (bytes : List ℕ). stream_again_in reading options.version bytes items rest) (sym then.whole)
+
+  pub there_and_back_in : (options : Options) → ThereAndBackIn reading values options
+  there_and_back_in options report stream dump bytes left after whole small short dumped back =
+      let are = subst (λ (text : List ℕ). AreLines text back.lines back.rest) dumped.written_for.1 back.split in
+      let means = sym (dump_again_made_in options stream dumped.rest dumped.items back.lines back.rest whole small short
+      dumped.split are) ∙ back.stands.1 in (
+        means,
+        λ kept. let e = sym means ∙ kept_streams_in options.version stream dumped.rest dumped.items small dumped.split
+            kept in cc,
+      )
+
+-- ---- the messages of the protocol
+
 pub kept_streams : (version : Version) → KeepsStreams version
-kept_streams version stream rest items small split kept =
-    let then = split.items_then in
-    ap (λ (bytes : List ℕ). stream_again version bytes items rest) then.whole
-    ∙ kept_front version then.front rest items then.encoded (front_bytes then.front rest
-    (subst IsBytes then.whole small)) kept
-    ∙ ap (λ (bytes : List ℕ). Some bytes) (sym then.whole)
+kept_streams = kept_streams_in protocol enum_values protocol_back
 
 pub item_again_made : (options : Options) → ItemIsMadeAgain options
-item_again_made options at bytes item whole early small is =
-    (item_made options at bytes item whole early is small).means
+item_again_made = item_again_made_in protocol enum_values protocol_back
 
 pub dump_again_made : (options : Options) → DumpIsMadeAgain options
-dump_again_made options stream rest items lines last whole small short split are =
-    let then = split.items_then in
-    let held = subst IsBytes then.whole small in
-    let total : length stream ≡ length then.front + length rest = omega
-    (arith, ap length then.whole, length-append then.front rest) in
-    let means = stream_means options whole rest (back_bytes then.front rest held) (omega (arith, total)) 0 then.front
-    items then.encoded (front_bytes then.front rest held) (omega (arith, total)) in
-    let text_is : all_lines (line_of options) (rest_line options) stream items rest ≡ printed_lines (line_of options) 0
-    (then.front ++ rest) items ++ rest_line options (0 + items_size items) rest =
-    ap (λ (bytes : List ℕ). all_lines (line_of options) (rest_line options) bytes items rest) then.whole
-    ∙ ap (λ (n : ℕ). printed_lines (line_of options) 0 (then.front ++ rest) items ++ rest_line options n rest)
-    (omega arith) in
-    means lines last (subst (λ (text : List ℕ). AreLines text lines last) text_is are)
-    ∙ ap (λ (bytes : List ℕ). stream_again options.version bytes items rest) (sym then.whole)
+dump_again_made = dump_again_made_in protocol enum_values protocol_back
 
 pub there_and_back : (options : Options) → ThereAndBack options
-there_and_back options report stream dump bytes left after whole small short dumped back =
-    let are = subst (λ (text : List ℕ). AreLines text back.lines back.rest) dumped.written_for.1 back.split in
-    let means = sym (dump_again_made options stream dumped.rest dumped.items back.lines back.rest whole small short
-    dumped.split are) ∙ back.stands.1 in (
-      means,
-      λ kept. let e = sym means ∙ kept_streams options.version stream dumped.rest dumped.items small dumped.split
-          kept in cc,
-    )
+there_and_back = there_and_back_in protocol enum_values protocol_back
+
+-- ---- another table
+
+module _ (reading : Reading) (values : EnumValues) (by : IsMadeAgainBy reading values) where
+  kept_one : (version : Version) (bytes : List ℕ) (item : Item) → IsItem version bytes item → IsBytes bytes → IsKeptIn
+      reading version item
+  kept_one version bytes item is small = subst (IsKeptIn reading version) (sym is.means)
+      (by_type (type_of (front_word bytes / 281474976710656)) refl)
+    where
+      body : IsBytes (drop 8 bytes)
+      body = back_bytes (take 8 bytes) (drop 8 bytes) (subst IsBytes (sym (take-append-drop 8 bytes)) small)
+
+      by_skip : (b : Bool) → IsKeptIn reading version (cond b
+          (Skipped (front_word bytes / 281474976710656) (drop 8 bytes))
+          (Unknown (front_word bytes / 281474976710656)))
+      by_skip true = tt
+      by_skip false = tt
+
+      by_type : (o : Option MessageType) → type_of (front_word bytes / 281474976710656) ≡ o → IsKeptIn reading version
+          (item_of version (front_word bytes) (drop 8 bytes))
+      by_type None none = subst (IsKeptIn reading version)
+          (sym (other_item version (front_word bytes) (drop 8 bytes) none)) (by_skip (skips_unknown_messages version))
+      by_type (Some ty) typed = subst (IsKeptIn reading version)
+          (sym (typed_item version (front_word bytes) (drop 8 bytes) ty typed))
+          (other_again reading values by (reading.schema_at version ty) (drop 8 bytes) body)
+
+  kept_all : (version : Version) (front : List ℕ) (items : List Item) → AreItems version front items → IsBytes front →
+      AreKeptIn reading version items
+  kept_all version front [] are small = tt
+  kept_all version front (item ∷ items) are small = (
+    kept_one version are.0 item are.2 (front_bytes are.0 are.1 (subst IsBytes are.4 small)),
+    kept_all version are.1 items are.3 (back_bytes are.0 are.1 (subst IsBytes are.4 small)),
+  )
+
+  pub other_there_and_back : (options : Options) (report : Report) (stream dump bytes : List ℕ)
+      (left after : Option (List ℕ)) → IsWhole options → IsBytes stream → length stream < 2 ^ 128 → IsDumpedIn reading
+      options (Ok report) stream dump left → IsMade (making (messages_of reading values) options.version) (Ok tt) dump
+      bytes after → bytes ≡ stream
+  other_there_and_back options report stream dump bytes left after whole small short dumped back =
+      let then = dumped.split.items_then in
+      (there_and_back_in reading values (other_back reading values by) options report stream dump bytes left after whole
+      small short dumped back).1
+      (kept_all options.version then.front dumped.items then.encoded (front_bytes then.front dumped.rest
+      (subst IsBytes then.whole small)))

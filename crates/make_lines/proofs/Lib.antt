@@ -6,6 +6,7 @@ pub mod Steps
 pub mod Progress
 pub mod HeaderWords
 pub mod LineMembers
+pub mod ReadBack
 pub mod ItemsBack
 pub mod LineTexts
 pub mod LineSplits

@@ -18,19 +18,20 @@ use Rattle.json.proofs.Printed.Utf8.{IsUtf8-are_ascii}
 use Rattle.json.proofs.Printed.Decimals.{IsNumber-decimal}
 use Rattle.shared_core_base.specs.declared.header.MessageType.{MessageType}
 use Rattle.shared_core_base.specs.declared.header.MessageType.TheVariants.{CustomEntry}
-use Rattle.shared_core_base.specs.declared.version.Version.{Version}
 use Rattle.shared_core_base.specs.MessageType.{code_of, debug_name_of}
 use Rattle.shared_core_wire.specs.Acceptance.{accepts_payload}
-use Rattle.shared_core_codec.specs.Table.{table}
-use Rattle.shared_core_codec.specs.Payloads.{payload_meaning}
-use Rattle.shared_core_json.specs.Form.{byte_string_json, json_with}
+use Rattle.shared_core_wire.specs.Overlay.{meaning}
+use Rattle.shared_core_json.specs.Form.{byte_string_json}
 use Rattle.shared_core_json_reader.proofs.LawOfJson.{byte_string_depth, value_low}
-use Rattle.shared_core_json.proofs.Meanings.{accepted_means}
 use Rattle.shared_core_json_reader.proofs.Printed.{are_visible, visible_decimal, MayPrint, MembersMay, TokenMay}
 use Rattle.shared_core_json_reader.proofs.Printed.{TokensMay, tokens_may, printed_back}
-use Rattle.shared_core_json_reader.proofs.PrintedValues.{byte_string_may, value_may}
+use Rattle.shared_core_json_reader.proofs.PrintedValues.{byte_string_may, value_may_in}
 use Rattle.base64.specs.GeneralPurpose.{IsBytes}
-use Rattle.dump_lines.specs.Lines.{ack_members, payload_members}
+use Rattle.dump_lines.specs.Lines.{ack_members, payload_members_in, meaning_json, unread_members}
+use Rattle.dump_lines.specs.Reading.{Reading, is_read}
+use Rattle.shared_core_json_reader.specs.Rows.{Format, EnumValues}
+use Rattle.make_lines.specs.Making.{Making, messages_of}
+use Rattle.make_lines.proofs.ReadBack.{ReadsBack}
 use Rattle.make_lines.specs.Lines.{value_made, line_made}
 use Rattle.make_lines.specs.Made.{has_newline}
 use Rattle.std.specs.Int.{w64, to_be_bytes}
@@ -115,10 +116,10 @@ pub record IsLineText (j : Json) : Type 0 where
 pub single_line : (j : Json) → IsLineText j → has_newline (print (json_tokens j)) ≡ false
 single_line j h = printed_line false (json_tokens j) (tokens_may j h.may)
 
-pub line_reads : (version : Version) (ms : Members) → IsLineText (object ms) → line_made version
-    (print (json_tokens (object ms))) ≡ value_made version (object ms)
+pub line_reads : (by : Making) (ms : Members) → IsLineText (object ms) → line_made by
+    (print (json_tokens (object ms))) ≡ value_made by (object ms)
 unfolding line_made print_from
-line_reads version ms h = ap (option_and_then (value_made version)) (printed_back (object ms) h.may h.low)
+line_reads by ms h = ap (option_and_then (value_made by)) (printed_back (object ms) h.may h.low)
 
 -- ---- the lines of a dump
 
@@ -181,26 +182,33 @@ bytes_texts texts b = record {
       (arith, byte_string_depth texts b);
 }
 
-pub payload_texts : (texts : Bool) (schema : Option ℕ) (payload : List ℕ) → IsBytes payload → AreTexts
-    (payload_members texts schema payload)
-payload_texts texts None payload i = bytes_texts texts payload
-payload_texts texts (Some s) payload i = by_test (accepts_payload table 100 s payload) refl
+pub payload_texts : (reading : Reading) (values : EnumValues) (back : ReadsBack reading values) (texts : Bool)
+    (schema : Option ℕ) (payload : List ℕ) → IsBytes payload → AreTexts
+    (payload_members_in reading texts schema payload)
+payload_texts reading values back texts None payload i = bytes_texts texts payload
+payload_texts reading values back texts (Some s) payload i = by_test (accepts_payload reading.table 100 s payload) refl
+    (is_read reading s payload) refl
   where
-    by_test : (b : Bool) → accepts_payload table 100 s payload ≡ b
-        → AreTexts (cond b (member (codes "message") (json_with texts s (payload_meaning s payload)) no_members)
-        (member (codes "malformed") (boolean true) (member (codes "bytes") (byte_string_json texts payload)
-        no_members)))
-    by_test true a =
-        let is = accepted_means s payload a i in
+    format : Format
+    format = (messages_of reading values).format
+
+    by_test : (b : Bool) → accepts_payload reading.table 100 s payload ≡ b → (r : Bool) → is_read reading s payload ≡ r
+        → AreTexts (cond b (cond r (member (codes "message") (meaning_json reading texts s payload) no_members)
+        (unread_members (codes "notCanonical") texts payload)) (unread_members (codes "malformed") texts payload))
+    by_test true a true r =
+        let v = meaning reading.table 100 s payload in
+        let is = back.well s payload a r i in
         record {
           may = (
             IsUtf8-are_ascii (codes "message") refl,
-            value_may texts s (payload_meaning s payload) is.fits,
+            value_may_in format back.utf8 texts s v is.fits,
             tt,
           );
-          low = omega (arith, value_low texts s (payload_meaning s payload) is.fits, is.low);
+          low = omega (arith, value_low format texts s v is.fits, is.low);
         }
-    by_test false a = true_texts (codes "malformed") _ (IsUtf8-are_ascii (codes "malformed") refl)
+    by_test true a false r = true_texts (codes "notCanonical") _ (IsUtf8-are_ascii (codes "notCanonical") refl)
+        (bytes_texts texts payload)
+    by_test false a r q = true_texts (codes "malformed") _ (IsUtf8-are_ascii (codes "malformed") refl)
         (bytes_texts texts payload)
 
 as_line : (ms : Members) → AreTexts ms → IsLineText (object ms)

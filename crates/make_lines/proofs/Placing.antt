@@ -70,7 +70,9 @@ own_place (suc (suc (suc (suc (suc (suc (suc (suc (suc (suc zero)))))))))) h = r
 own_place (suc (suc (suc (suc (suc (suc (suc (suc (suc (suc (suc zero))))))))))) h = refl
 own_place (suc (suc (suc (suc (suc (suc (suc (suc (suc (suc (suc (suc zero)))))))))))) h = refl
 own_place (suc (suc (suc (suc (suc (suc (suc (suc (suc (suc (suc (suc (suc zero))))))))))))) h = refl
-own_place (suc (suc (suc (suc (suc (suc (suc (suc (suc (suc (suc (suc (suc (suc i)))))))))))))) h = absurd (omega arith)
+own_place (suc (suc (suc (suc (suc (suc (suc (suc (suc (suc (suc (suc (suc (suc zero)))))))))))))) h = refl
+own_place (suc (suc (suc (suc (suc (suc (suc (suc (suc (suc (suc (suc (suc (suc (suc i))))))))))))))) h = absurd
+    (omega arith)
 
 named_place : (key : List ℕ) (i : ℕ) → i < place_count → bytes_eq key (name_at i) ≡ true → place_of key ≡ Some i
 named_place key i h e = ap place_of ((bytes_eq-Decides key (name_at i)).0 e) ∙ own_place i h
@@ -107,7 +109,8 @@ known_name (suc (suc (suc (suc (suc (suc (suc (suc (suc (suc zero)))))))))) h = 
 known_name (suc (suc (suc (suc (suc (suc (suc (suc (suc (suc (suc zero))))))))))) h = refl
 known_name (suc (suc (suc (suc (suc (suc (suc (suc (suc (suc (suc (suc zero)))))))))))) h = refl
 known_name (suc (suc (suc (suc (suc (suc (suc (suc (suc (suc (suc (suc (suc zero))))))))))))) h = refl
-known_name (suc (suc (suc (suc (suc (suc (suc (suc (suc (suc (suc (suc (suc (suc i)))))))))))))) h =
+known_name (suc (suc (suc (suc (suc (suc (suc (suc (suc (suc (suc (suc (suc (suc zero)))))))))))))) h = refl
+known_name (suc (suc (suc (suc (suc (suc (suc (suc (suc (suc (suc (suc (suc (suc (suc i))))))))))))))) h =
     absurd (omega arith)
 
 pub known_place : (key : List ℕ) (i : ℕ) → place_of key ≡ Some i → is_known key ≡ true
@@ -124,7 +127,8 @@ unknown_place key e =
     let item = none_of _ _ (none_of _ _ (none_of _ _ (no 1 refl) (no 2 refl)) (no 6 refl)) (no 9 refl) in
     let more = none_of _ _ (no 5 refl) (no 4 refl) in
     let bytes = none_of _ _ (none_of _ _ (no 7 refl) (no 12 refl)) (no 11 refl) in
-    let passed = none_of _ _ (none_of _ _ (none_of _ _ (no 0 refl) (no 3 refl)) (no 8 refl)) (no 10 refl) in
+    let passed = none_of _ _ (none_of _ _ (none_of _ _ (none_of _ _ (no 0 refl) (no 3 refl)) (no 8 refl)) (no 10 refl))
+    (no 14 refl) in
     none_of _ _ (none_of _ _ (none_of _ _ (none_of _ _ item more) (no 13 refl)) bytes) passed
   where
     no : (i : ℕ) → ltb i place_count ≡ true → bytes_eq key (name_at i) ≡ false

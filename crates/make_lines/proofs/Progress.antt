@@ -3,7 +3,7 @@ use Rattle.std.proofs.Common.{◌≡◌, ℕ, suc, ◌+◌, List, [], ◌∷◌,
 use Rattle.std.proofs.Common.{inr, refl, sym, ap, subst, ◌∙◌, append_assoc, append-nil, length-append}
 use Rattle.std.specs.Io.KnownBytes.{Appends, Consumes, IsAtEnd, Keeps}
 use Rattle.std.proofs.KnownBytes.{Appends-nil, Appends-trans, Consumes-nil, Consumes-trans, Consumes-kept}
-use Rattle.shared_core_base.specs.declared.version.Version.{Version}
+use Rattle.make_lines.specs.Making.{Making}
 use Rattle.stream_lines.specs.Printing.{Begins}
 use Rattle.make_lines.specs.declared.error.MakeError.{MakeError}
 use Rattle.make_lines.specs.declared.error.MakeError.TheVariants.{Input, Output, OutOfMemory, Line}
@@ -19,28 +19,28 @@ begins_join : (front xs ys : List ℕ) → Begins xs ys → Begins (front ++ xs)
 begins_join front xs ys (more, e) = (more, ap (λ (zs : List ℕ). front ++ zs) e ∙ sym (append_assoc front xs more))
 
 -- A making that is not at its end: what the complete lines mean is written, and the rest is pending.
-pub record GoesOn (version : Version) (first start left out : Option (List ℕ)) (pending : List ℕ) (taken : ℕ) : Type 0
+pub record GoesOn (by : Making) (first start left out : Option (List ℕ)) (pending : List ℕ) (taken : ℕ) : Type 0
   where
     pub read : List ℕ
     pub lines : List (List ℕ)
     pub bytes : List ℕ
     pub split : AreLines read lines pending
     pub came : Consumes first left read
-    pub meant : made (line_made version) lines ≡ Some bytes
+    pub meant : made (line_made by) lines ≡ Some bytes
     pub wrote : Appends start out bytes
     pub count : taken ≡ counted (length lines)
 
 -- A making that has ended, as its contract says it.
-abbrev pub HasEnded : Version → Option (List ℕ) → Option (List ℕ) → Option (List ℕ) → Option (List ℕ) → Result
+abbrev pub HasEnded : Making → Option (List ℕ) → Option (List ℕ) → Option (List ℕ) → Option (List ℕ) → Result
     (Unit {0}) MakeError → Type 0
-HasEnded version first start left out result =
-    (read : List ℕ) × (written : List ℕ) × Consumes first left read × Appends start out written × IsMade version result
+HasEnded by first start left out result =
+    (read : List ℕ) × (written : List ℕ) × Consumes first left read × Appends start out written × IsMade by result
     read written left
 
 -- an allocation fails before anything is read
-pub out_at_once : (version : Version) (first start : Option (List ℕ)) → HasEnded version first start first start
+pub out_at_once : (by : Making) (first start : Option (List ℕ)) → HasEnded by first start first start
     (Err OutOfMemory)
-out_at_once version first start = (
+out_at_once by first start = (
   [],
   [],
   Consumes-nil first,
@@ -54,8 +54,8 @@ out_at_once version first start = (
   },
 )
 
-module _ (version : Version) (first start : Option (List ℕ)) where
-  starts : GoesOn version first start first start [] 0
+module _ (by : Making) (first start : Option (List ℕ)) where
+  starts : GoesOn by first start first start [] 0
   starts = record {
     read = [];
     lines = [];
@@ -67,12 +67,12 @@ module _ (version : Version) (first start : Option (List ℕ)) where
     count = refl;
   }
 
-  pub started : (pending : List ℕ) → pending ≡ [] → GoesOn version first start first start pending 0
-  started pending e = subst (λ (xs : List ℕ). GoesOn version first start first start xs 0) (sym e) starts
+  pub started : (pending : List ℕ) → pending ≡ [] → GoesOn by first start first start pending 0
+  started pending e = subst (λ (xs : List ℕ). GoesOn by first start first start xs 0) (sym e) starts
 
   module _ (left out : Option (List ℕ)) (pending : List ℕ) (taken : ℕ)
-      (so_far : GoesOn version first start left out pending taken) where
-    pub ended_input : (now : Option (List ℕ)) → Keeps left now → HasEnded version first start now out (Err Input)
+      (so_far : GoesOn by first start left out pending taken) where
+    pub ended_input : (now : Option (List ℕ)) → Keeps left now → HasEnded by first start now out (Err Input)
     ended_input now kept = (
       so_far.read,
       so_far.bytes,
@@ -92,8 +92,8 @@ module _ (version : Version) (first start : Option (List ℕ)) where
       wrote_all : Appends start grown (so_far.bytes ++ written)
       wrote_all = Appends-trans start out grown so_far.bytes written so_far.wrote wrote
 
-      then_ended : (result : Result (Unit {0}) MakeError) → StandsMade (line_made version) (IsRejected version) result
-          so_far.lines pending (so_far.bytes ++ written) now → HasEnded version first start now grown result
+      then_ended : (result : Result (Unit {0}) MakeError) → StandsMade (line_made by) (IsRejected by) result
+          so_far.lines pending (so_far.bytes ++ written) now → HasEnded by first start now grown result
       then_ended result stands = (
         so_far.read,
         so_far.bytes ++ written,
@@ -103,18 +103,18 @@ module _ (version : Version) (first start : Option (List ℕ)) where
             { lines = so_far.lines; rest = pending; split = so_far.split; stands = stands },
       )
 
-      meant_last : (bytes : List ℕ) → line_made version state.pending.items ≡ Some bytes → made (line_made version)
+      meant_last : (bytes : List ℕ) → line_made by state.pending.items ≡ Some bytes → made (line_made by)
           (so_far.lines ++ pending ∷ []) ≡ Some (so_far.bytes ++ bytes)
       meant_last bytes e =
-          made_join (line_made version) so_far.lines (pending ∷ []) so_far.bytes bytes so_far.meant
-          (made_one (line_made version) pending bytes (subst (λ (xs : List ℕ). line_made version xs ≡ Some bytes)
+          made_join (line_made by) so_far.lines (pending ∷ []) so_far.bytes bytes so_far.meant
+          (made_one (line_made by) pending bytes (subst (λ (xs : List ℕ). line_made by xs ≡ Some bytes)
           held e))
 
       nothing_more : written ≡ [] → so_far.bytes ≡ so_far.bytes ++ written
       nothing_more e = sym (append-nil so_far.bytes) ∙ ap (λ (xs : List ℕ). so_far.bytes ++ xs) (sym e)
 
-      pub ended_finish : (result : Result (Unit {0}) MakeError) → IsFinished (line_made version) (IsRejected version)
-          result written state → HasEnded version first start now grown result
+      pub ended_finish : (result : Result (Unit {0}) MakeError) → IsFinished (line_made by) (IsRejected by)
+          result written state → HasEnded by first start now grown result
       ended_finish (Ok done) is = then_ended (Ok done) (end, meant_last written is)
       ended_finish (Err Input) is = absurd is
       ended_finish (Err Output) (bytes, e, b) = then_ended (Err Output) (
@@ -136,7 +136,7 @@ module _ (version : Version) (first start : Option (List ℕ)) where
         pending,
         inr (end, refl),
         so_far.meant ∙ ap (λ (xs : List ℕ). Some xs) (nothing_more e),
-        subst (λ (xs : List ℕ). IsRejected version xs error) held n,
+        subst (λ (xs : List ℕ). IsRejected by xs error) held n,
         c ∙ ap (λ (k : ℕ). counted (suc k)) count ∙ ap (λ (k : ℕ). counted (suc k)) so_far.count ∙ counted_suc
             (length so_far.lines),
       )
@@ -158,22 +158,22 @@ module _ (version : Version) (first start : Option (List ℕ)) where
           (then_bytes so_far.read pending chunk so_far.lines so_far.split.begins)
           (subst (λ (xs : List ℕ). BeginWith (xs ++ chunk) ls rest) held b)
 
-      pub goes_on : IsStep (line_made version) (IsRejected version) (old.pending.items ++ chunk) (Ok tt) written old new
-          → GoesOn version first start now grown new.pending.items new.taken
+      pub goes_on : IsStep (line_made by) (IsRejected by) (old.pending.items ++ chunk) (Ok tt) written old new
+          → GoesOn by first start now grown new.pending.items new.taken
       goes_on (ls, are, e, none, n) = record {
         read = so_far.read ++ chunk;
         lines = so_far.lines ++ ls;
         bytes = so_far.bytes ++ written;
         split = record { begins = then_begin ls new.pending.items are.begins; unended = are.unended };
         came = came_more;
-        meant = made_join (line_made version) so_far.lines ls so_far.bytes written so_far.meant e;
+        meant = made_join (line_made by) so_far.lines ls so_far.bytes written so_far.meant e;
         wrote = wrote_more;
         count = n ∙ ap (λ (k : ℕ). counted (k + length ls)) (count ∙ so_far.count) ∙ counted_more (length so_far.lines)
             (length ls) ∙ ap counted (sym (length-append so_far.lines ls));
       }
 
-      pub ended_step : (error : MakeError) → IsStep (line_made version) (IsRejected version)
-          (old.pending.items ++ chunk) (Err error) written old new → HasEnded version first start now grown (Err error)
+      pub ended_step : (error : MakeError) → IsStep (line_made by) (IsRejected by)
+          (old.pending.items ++ chunk) (Err error) written old new → HasEnded by first start now grown (Err error)
       ended_step Input is = absurd is
       ended_step Output (ls, rest, more, b, e, cut) =
           let (all, last, are, first_ones) = all_lines (so_far.read ++ chunk) rest (so_far.lines ++ ls)
@@ -190,7 +190,7 @@ module _ (version : Version) (first start : Option (List ℕ)) where
                 so_far.lines ++ ls,
                 so_far.bytes ++ more,
                 inl first_ones,
-                made_join (line_made version)
+                made_join (line_made by)
                     so_far.lines ls so_far.bytes more so_far.meant e,
                 begins_join so_far.bytes written more cut,
               );
@@ -233,7 +233,7 @@ module _ (version : Version) (first start : Option (List ℕ)) where
                 before,
                 line,
                 inl first_ones,
-                made_join (line_made version) so_far.lines ls so_far.bytes written so_far.meant e,
+                made_join (line_made by) so_far.lines ls so_far.bytes written so_far.meant e,
                 n,
                 c ∙ ap (λ (k : ℕ). counted (suc (k + length ls))) (count ∙ so_far.count) ∙ counted_next
                     (length so_far.lines) (length ls) ∙ ap (λ (k : ℕ). counted (suc k))

@@ -22,14 +22,17 @@ use Rattle.shared_core_json.proofs.Meanings.{back_bytes}
 use Rattle.shared_core_json_reader.proofs.ScalarsBack.{byte_string_back, byte_string_there}
 use Rattle.shared_core_stream.specs.declared.encoding.item.Item.{Item}
 use Rattle.shared_core_stream.specs.declared.encoding.item.Item.TheVariants.{Message, Unknown, Skipped}
-use Rattle.shared_core_message.specs.Schemas.{schema_at}
 use Rattle.dump_lines.specs.declared.options.Options.{Options}
 use Rattle.shared_core_stream.specs.Items.{front_word, item_of, IsItem, AreItems}
 use Rattle.stream_lines.specs.Printing.{item_size, items_size, lines}
-use Rattle.dump_lines.specs.Lines.{item_json, item_code, is_selected, json_line, line_of, rest_members, rest_line}
+use Rattle.dump_lines.specs.Lines.{item_json_in, item_code, is_selected, json_line, line_of_in, rest_members, rest_line}
+use Rattle.dump_lines.specs.Reading.{Reading}
+use Rattle.shared_core_json_reader.specs.Rows.{EnumValues}
 use Rattle.make_lines.specs.Lines.{line_made}
 use Rattle.make_lines.specs.Made.{both}
-use Rattle.make_lines.specs.MadeAgain.{payload_again, with_payload, item_again, stream_again, IsWhole}
+use Rattle.make_lines.specs.MadeAgain.{payload_again_in, with_payload, item_again_in, stream_again_in, IsWhole}
+use Rattle.make_lines.specs.Making.{Making, making, messages_of}
+use Rattle.make_lines.proofs.ReadBack.{ReadsBack}
 use Rattle.make_lines.proofs.LineMembers.{rest_is, no_rest_is}
 use Rattle.make_lines.proofs.ItemsBack.{bytes_there}
 use Rattle.make_lines.proofs.LineTexts.{rest_texts}
@@ -42,33 +45,34 @@ use Rattle.make_lines.proofs.LineSplits.{Means, nothing_means, line_means}
 abbrev line_text : Json → List ℕ
 line_text json = print (json_tokens json) ++ (10 ∷ [])
 
-empty_line : (version : Version) → line_made version [] ≡ Some []
+empty_line : (by : Making) → line_made by [] ≡ Some []
 unfolding line_made
-empty_line version = refl
+empty_line by = refl
 
 -- a line and its newline, before more
-made_then : (version : Version) (json : Json) (more : List ℕ) (bytes others : Option (List ℕ)) → MadeLine version json
-    bytes → Means (line_made version) more others → Means (line_made version) (line_text json ++ more)
+made_then : (by : Making) (json : Json) (more : List ℕ) (bytes others : Option (List ℕ)) → MadeLine by json
+    bytes → Means (line_made by) more others → Means (line_made by) (line_text json ++ more)
     (both bytes others)
-made_then version json more bytes others m h =
-    subst (λ (text : List ℕ). Means (line_made version) text (both bytes others))
+made_then by json more bytes others m h =
+    subst (λ (text : List ℕ). Means (line_made by) text (both bytes others))
     (sym (append_assoc (print (json_tokens json)) (10 ∷ []) more))
-    (line_means (line_made version) (print (json_tokens json)) more bytes others m.single m.means h)
+    (line_means (line_made by) (print (json_tokens json)) more bytes others m.single m.means h)
 
 -- ---- the rest
 
-module _ (options : Options) (whole : IsWhole options) where
+module _ (reading : Reading) (values : EnumValues) (options : Options) (whole : IsWhole options) where
   rest_line_made : (at : ℕ) (rest : List ℕ) → at < 2 ^ 128 → length rest < 2 ^ 128 → IsBytes rest → MadeLine
-      options.version (object (member (codes "offset") (number (decimal at))
+      (making (messages_of reading values) options.version) (object (member (codes "offset") (number (decimal at))
       (member (codes "rest") (number (decimal (length rest))) (rest_members options rest)))) (Some rest)
   rest_line_made at [] early short small =
       let shown : Members → Json = λ (ms : Members). object (member (codes "offset") (number (decimal at))
       (member (codes "rest") (number (decimal 0)) ms)) in
-      subst (λ (j : Json). MadeLine options.version j (Some []))
+      subst (λ (j : Json). MadeLine (making (messages_of reading values) options.version) j (Some []))
       (sym (ap (λ (b : Bool). shown (cond b (member (codes "bytes") (byte_string_json options.texts []) no_members)
       no_members)) (and_false options.payloads)))
-      (as_made options.version _ (Some []) (rest_texts options.texts at 0 None early (omega arith))
-      (ap result_ok (no_rest_is options.version (decimal at))))
+      (as_made (making (messages_of reading values) options.version) _ (Some [])
+      (rest_texts options.texts at 0 None early (omega arith))
+      (ap result_ok (no_rest_is (making (messages_of reading values) options.version) (decimal at))))
     where
       and_false : (b : Bool) → (b && false) ≡ false
       and_false true = refl
@@ -79,11 +83,13 @@ module _ (options : Options) (whole : IsWhole options) where
       (member (codes "rest") (number (decimal (length body))) ms)) in
       let some : (options.payloads && ltb 0 (length body)) ≡ true = ap₂ (λ (a b : Bool). a && b) whole.payloads
       (lt-ltb 0 (length body) (omega arith)) in
-      subst (λ (j : Json). MadeLine options.version j (Some body))
+      subst (λ (j : Json). MadeLine (making (messages_of reading values) options.version) j (Some body))
       (sym (ap (λ (b : Bool). shown (cond b (member (codes "bytes") (byte_string_json options.texts body)
       no_members) no_members)) some))
-      (as_made options.version _ (Some body) (rest_texts options.texts at (length body) (Some body) early short)
-      (ap result_ok (rest_is options.version (decimal at) (decimal (length body)) (byte_string_json options.texts body)
+      (as_made (making (messages_of reading values) options.version) _ (Some body)
+      (rest_texts options.texts at (length body) (Some body) early short)
+      (ap result_ok (rest_is (making (messages_of reading values) options.version) (decimal at) (decimal (length body))
+      (byte_string_json options.texts body)
       (byte_string_there options.texts body)
       ∙ bytes_there (codes "bytes") (byte_string_json options.texts body) body
       (byte_string_back options.texts body small))))
@@ -95,15 +101,19 @@ module _ (options : Options) (whole : IsWhole options) where
   rest_is_there line = ap (λ (b : Bool). cond b line []) whole.rest
 
   rest_means : (at : ℕ) (rest : List ℕ) → at < 2 ^ 128 → length rest < 2 ^ 128 → IsBytes rest → Means
-      (line_made options.version) (rest_line options at rest) (Some rest)
+      (line_made (making (messages_of reading values) options.version)) (rest_line options at rest) (Some rest)
   rest_means at rest early short small =
       let json = object (member (codes "offset") (number (decimal at))
       (member (codes "rest") (number (decimal (length rest))) (rest_members options rest))) in
-      let m = made_then options.version json [] (Some rest) (Some []) (rest_line_made at rest early short small)
-      (nothing_means (line_made options.version) (empty_line options.version)) in
-      subst (λ (text : List ℕ). Means (line_made options.version) text (Some rest))
+      let m = made_then (making (messages_of reading values) options.version) json [] (Some rest) (Some [])
+      (rest_line_made at rest early short small)
+      (nothing_means (line_made (making (messages_of reading values) options.version))
+      (empty_line (making (messages_of reading values) options.version))) in
+      subst (λ (text : List ℕ). Means (line_made (making (messages_of reading values) options.version)) text
+      (Some rest))
       (append-nil (line_text json) ∙ sym (one_line json) ∙ sym (rest_is_there (json_line options.pretty json)))
-      (subst (λ (bs : List ℕ). Means (line_made options.version) (line_text json ++ []) (Some bs)) (append-nil rest)
+      (subst (λ (bs : List ℕ). Means (line_made (making (messages_of reading values) options.version))
+      (line_text json ++ []) (Some bs)) (append-nil rest)
       m)
 
   -- ---- items
@@ -112,11 +122,12 @@ module _ (options : Options) (whole : IsWhole options) where
   selected code = ap (λ (b : Bool). b || list_any (λ x. eqb x code) options.codes.now)
       (eq-eqb (length options.codes.now) 0 whole.all)
 
-  shown_line : (at word : ℕ) (item : Item) → line_of options at word item ≡ line_text (item_json options at word item)
+  shown_line : (at word : ℕ) (item : Item) → line_of_in reading options at word item
+      ≡ line_text (item_json_in reading options at word item)
   shown_line at word item =
-      ap (λ (b : Bool). cond b (json_line options.pretty (item_json options at word item)) [])
+      ap (λ (b : Bool). cond b (json_line options.pretty (item_json_in reading options at word item)) [])
       (selected (item_code item))
-      ∙ one_line (item_json options at word item)
+      ∙ one_line (item_json_in reading options at word item)
 
 -- the size of an item is that of its bytes
 pub sized : (version : Version) (bytes : List ℕ) (item : Item) → IsItem version bytes item → item_size item ≡ length
@@ -145,25 +156,30 @@ pub after_front : (n : ℕ) (front more : List ℕ) → n ≡ length front → d
 after_front n front more e = ap (λ (k : ℕ). drop k (front ++ more)) e ∙ drop-append_seam front more
 
 -- what follows the item does not matter
-pub again_more : (version : Version) (front more : List ℕ) (item : Item) → 8 ≤ length front → item_again version
-    (front ++ more) item ≡ item_again version front item
-again_more version front more (Message message) h = ap (λ (xs : List ℕ). with_payload xs
-    (payload_again (schema_at version message.header.ty) message.payload)) (take-append-le 4 front more (omega arith))
-again_more version front more (Unknown code) h = ap (λ (xs : List ℕ). Some xs) (take-append-le 8 front more h)
-again_more version front more (Skipped code payload) h = ap (λ (xs : List ℕ). with_payload xs payload)
+pub again_more : (reading : Reading) (version : Version) (front more : List ℕ) (item : Item) → 8 ≤ length front
+    → item_again_in reading version
+    (front ++ more) item ≡ item_again_in reading version front item
+again_more reading version front more (Message message) h = ap (λ (xs : List ℕ). with_payload xs
+    (payload_again_in reading (reading.schema_at version message.header.ty) message.payload))
+    (take-append-le 4 front more (omega arith))
+again_more reading version front more (Unknown code) h = ap (λ (xs : List ℕ). Some xs) (take-append-le 8 front more h)
+again_more reading version front more (Skipped code payload) h = ap (λ (xs : List ℕ). with_payload xs payload)
     (take-append-le 4 front more (omega arith))
 
 -- ---- a whole stream
 
-module _ (options : Options) (whole : IsWhole options) (rest : List ℕ) (held : IsBytes rest)
+module _ (reading : Reading) (values : EnumValues) (back : ReadsBack reading values) (options : Options)
+    (whole : IsWhole options) (rest : List ℕ) (held : IsBytes rest)
     (short : length rest < 2 ^ 128) where
   pub stream_means : (at : ℕ) (front : List ℕ) (items : List Item) → AreItems options.version front items → IsBytes
       front → at + length front < 2 ^ 128
-      → Means (line_made options.version) (lines (line_of options) at (front ++ rest) items ++ rest_line options
-      (at + items_size items) rest) (stream_again options.version (front ++ rest) items rest)
+      → Means (line_made (making (messages_of reading values) options.version))
+      (lines (line_of_in reading options) at (front ++ rest) items ++ rest_line options
+      (at + items_size items) rest) (stream_again_in reading options.version (front ++ rest) items rest)
   stream_means at front [] are small early =
-      subst (λ (n : ℕ). Means (line_made options.version) (rest_line options n rest) (Some rest)) (omega arith)
-      (rest_means options whole at rest (omega arith) short held)
+      subst (λ (n : ℕ). Means (line_made (making (messages_of reading values) options.version))
+      (rest_line options n rest) (Some rest)) (omega arith)
+      (rest_means reading values options whole at rest (omega arith) short held)
   stream_means at front (item ∷ items) are small early =
       let first = are.0 in
       let others = are.1 in
@@ -177,36 +193,41 @@ module _ (options : Options) (whole : IsWhole options) (rest : List ℕ) (held :
       (arith, ap length split, length-append first others) in
       let joined : front ++ rest ≡ first ++ (others ++ rest) = ap (λ (xs : List ℕ). xs ++ rest) split ∙ append_assoc
       first others rest in
-      let line = item_made options at first item whole (omega arith) is first_small in
+      let line = item_made reading values back options at first item whole (omega arith) is first_small in
       let more = stream_means (at + item_size item) others items are.3 others_small (omega (arith, size, total)) in
-      let one = made_then options.version (item_json options at (front_word first) item) _
-      (item_again options.version first item) _ line more in
+      let one = made_then (making (messages_of reading values) options.version)
+      (item_json_in reading options at (front_word first) item) _
+      (item_again_in reading options.version first item) _ line more in
       let word_is : front_word (front ++ rest) ≡ front_word first = ap front_word joined ∙ front_word_more first
       (others ++ rest) long in
       let after_is : drop (item_size item) (front ++ rest) ≡ others ++ rest = ap (drop (item_size item)) joined ∙
       after_front (item_size item) first (others ++ rest) size in
-      let text_is : lines (line_of options) at (front ++ rest) (item ∷ items) ++ rest_line options
+      let text_is : lines (line_of_in reading options) at (front ++ rest) (item ∷ items) ++ rest_line options
       (at + items_size (item ∷ items)) rest
-      ≡ line_text (item_json options at (front_word first) item) ++
-      (lines (line_of options) (at + item_size item) (others ++ rest) items ++ rest_line options
+      ≡ line_text (item_json_in reading options at (front_word first) item) ++
+      (lines (line_of_in reading options) (at + item_size item) (others ++ rest) items ++ rest_line options
       (at + item_size item + items_size items) rest) =
-      ap₂ (λ (xs ys : List ℕ). (xs ++ lines (line_of options) (at + item_size item) ys items) ++ rest_line options
+      ap₂ (λ (xs ys : List ℕ). (xs ++ lines (line_of_in reading options) (at + item_size item) ys items) ++ rest_line
+      options
       (at + (item_size item + items_size items)) rest)
-      (ap (λ (n : ℕ). line_of options at n item) word_is ∙ shown_line options whole at (front_word first) item) after_is
-      ∙ append_assoc (line_text (item_json options at (front_word first) item))
-      (lines (line_of options) (at + item_size item) (others ++ rest) items)
+      (ap (λ (n : ℕ). line_of_in reading options at n item) word_is
+      ∙ shown_line reading values options whole at (front_word first) item) after_is
+      ∙ append_assoc (line_text (item_json_in reading options at (front_word first) item))
+      (lines (line_of_in reading options) (at + item_size item) (others ++ rest) items)
       (rest_line options (at + (item_size item + items_size items)) rest)
-      ∙ ap (λ (n : ℕ). line_text (item_json options at (front_word first) item) ++
-      (lines (line_of options) (at + item_size item) (others ++ rest) items ++ rest_line options n rest))
+      ∙ ap (λ (n : ℕ). line_text (item_json_in reading options at (front_word first) item) ++
+      (lines (line_of_in reading options) (at + item_size item) (others ++ rest) items ++ rest_line options n rest))
       (omega arith) in
-      let bytes_are : stream_again options.version (front ++ rest) (item ∷ items) rest ≡ both
-      (item_again options.version first item) (stream_again options.version (others ++ rest) items rest) =
-      ap₂ (λ (o : Option (List ℕ)) (ys : List ℕ). both o (stream_again options.version ys items rest))
-      (ap (λ (xs : List ℕ). item_again options.version xs item) joined ∙ again_more options.version first
+      let bytes_are : stream_again_in reading options.version (front ++ rest) (item ∷ items) rest ≡ both
+      (item_again_in reading options.version first item)
+      (stream_again_in reading options.version (others ++ rest) items rest) =
+      ap₂ (λ (o : Option (List ℕ)) (ys : List ℕ). both o (stream_again_in reading options.version ys items rest))
+      (ap (λ (xs : List ℕ). item_again_in reading options.version xs item) joined
+      ∙ again_more reading options.version first
       (others ++ rest) item long) after_is in
-      subst (λ (text : List ℕ). Means (line_made options.version) text
-      (stream_again options.version (front ++ rest) (item ∷ items) rest)) (sym text_is)
-      (subst (λ (bs : Option (List ℕ)). Means (line_made options.version)
-      (line_text (item_json options at (front_word first) item) ++
-      (lines (line_of options) (at + item_size item) (others ++ rest) items ++ rest_line options
+      subst (λ (text : List ℕ). Means (line_made (making (messages_of reading values) options.version)) text
+      (stream_again_in reading options.version (front ++ rest) (item ∷ items) rest)) (sym text_is)
+      (subst (λ (bs : Option (List ℕ)). Means (line_made (making (messages_of reading values) options.version))
+      (line_text (item_json_in reading options at (front_word first) item) ++
+      (lines (line_of_in reading options) (at + item_size item) (others ++ rest) items ++ rest_line options
       (at + item_size item + items_size items) rest)) bs) (sym bytes_are) one)

@@ -2,6 +2,7 @@ pub mod Errors
 pub mod Appending
 pub mod Members
 pub mod Places
+pub mod Making
 pub mod Lines
 pub mod Made
 pub mod Steps

@@ -13,17 +13,18 @@ use Rattle.shared_core_base.specs.declared.version.Version.{Version}
 use Rattle.shared_core_base.specs.Version.{skips_unknown_messages}
 use Rattle.shared_core_base.specs.MessageHeader.{word_code, word_length}
 use Rattle.shared_core_base.specs.MessageType.{code_of, type_of, type_in, named_types, allows_ack, debug_name_of}
-use Rattle.shared_core_message.specs.Schemas.{schema_at}
 use Rattle.shared_core_json_reader.specs.declared.error.Reason.{Reason}
 use Rattle.shared_core_json_reader.specs.declared.error.Reason.TheVariants.{WrongKind, OutOfRange}
 use Rattle.shared_core_json_reader.specs.Scalars.{unsigned_read, bytes_read}
-use Rattle.shared_core_json_reader.specs.Reading.{value_payload, json_of_text}
-use Rattle.shared_core_json_reader.specs.FirstError.{number_reason, bytes_reason, value_error}
+use Rattle.shared_core_json_reader.specs.Reading.{value_payload_in, json_of_text}
+use Rattle.shared_core_json_reader.specs.FirstError.{number_reason, bytes_reason, value_error_in}
+use Rattle.shared_core_json_reader.specs.Rows.{Format}
 use Rattle.make_lines.specs.declared.error.LineReason.TheVariants.{Json as Wrong, NoType, OtherType, NoPayload}
 use Rattle.make_lines.specs.declared.error.LineReason.TheVariants.{SeveralPayloads, NoSchema, NoFlag, HeaderLength}
 use Rattle.make_lines.specs.declared.error.LineReason.TheVariants.{OtherCode, OtherFlag, NoSuchPayload, CodeOfType}
 use Rattle.make_lines.specs.declared.error.LineReason.TheVariants.{TooLong, ItemInRest, NoBytes}
 use Rattle.make_lines.specs.Errors.{LineFault, lack, at, inside, no_type_named}
+use Rattle.make_lines.specs.Making.{Making, schema_of}
 use Rattle.make_lines.specs.Members.{given, given_either, given_name, shape_fault}
 
 -- ---- what is read, or a fault
@@ -93,13 +94,13 @@ message_fault None = at (codes "message") lack
 message_fault (Some error) = inside (codes "message") error.0 error.1
 
 -- The payload of a message of a schema.
-abbrev pub message_read : Json → ℕ → Result (List ℕ) LineFault
-message_read m s = ok_or (value_payload s m) (message_fault (value_error s m))
+abbrev pub message_read : Format → Json → ℕ → Result (List ℕ) LineFault
+message_read format m s = ok_or (value_payload_in format s m) (message_fault (value_error_in format s m))
 
 -- The payload of a message of the type that has this code.
-abbrev pub message_said : Version → ℕ → Json → Result (List ℕ) LineFault
-message_said version code m =
-    then_read (message_read m) (ok_or (option_and_then (schema_at version) (type_of code))
+abbrev pub message_said : Making → ℕ → Json → Result (List ℕ) LineFault
+message_said by code m =
+    then_read (message_read by.messages.format m) (ok_or (option_and_then (schema_of by) (type_of code))
     (at (codes "message") NoSchema))
 
 -- No payload, if a member says that there is none and the code is unassigned.
@@ -115,21 +116,21 @@ nothing_said code j = nothing_if (as_bool j) (type_of code)
 
 -- The payload by a message, by bytes in a member of this name, or by the member that says that there is none: exactly
 -- one of them has to be present.
-abbrev pub payload_said : Version → ℕ → List ℕ → Option Json → Option Json → Option Json → Result (List ℕ) LineFault
-payload_said version code name (Some m) None None = message_said version code m
-payload_said version code name None (Some b) None = bytes_said name b
-payload_said version code name None None (Some u) = nothing_said code u
-payload_said version code name None None None = Err (at [] NoPayload)
-payload_said version code name m b u = Err (at [] SeveralPayloads)
+abbrev pub payload_said : Making → ℕ → List ℕ → Option Json → Option Json → Option Json → Result (List ℕ) LineFault
+payload_said by code name (Some m) None None = message_said by code m
+payload_said by code name None (Some b) None = bytes_said name b
+payload_said by code name None None (Some u) = nothing_said code u
+payload_said by code name None None None = Err (at [] NoPayload)
+payload_said by code name m b u = Err (at [] SeveralPayloads)
 
 -- The name of the member that gives bytes.
 abbrev pub bytes_name : Json → List ℕ
 bytes_name j = given_name (codes "bytes") (codes "payload") j
 
 -- The payload of the item that a line describes.
-abbrev pub line_payload : Version → ℕ → Json → Result (List ℕ) LineFault
-line_payload version code j =
-    payload_said version code (bytes_name j) (given (codes "message") j)
+abbrev pub line_payload : Making → ℕ → Json → Result (List ℕ) LineFault
+line_payload by code j =
+    payload_said by code (bytes_name j) (given (codes "message") j)
     (given_either (codes "bytes") (codes "payload") j) (given (codes "unknown") j)
 
 -- ---- the header
@@ -223,9 +224,9 @@ abbrev pub framed : Version → ℕ → Bool → Json → List ℕ → Result (L
 framed version code flag j payload = read_map (λ h. h ++ payload) (line_header version code flag (length payload) j)
 
 -- The bytes of the item that a line describes.
-unfoldable pub item_said : Version → Json → Result (List ℕ) LineFault
-item_said version j =
-    then_read (λ code. then_read (λ flag. then_read (framed version code flag j) (line_payload version code j))
+unfoldable pub item_said : Making → Json → Result (List ℕ) LineFault
+item_said by j =
+    then_read (λ code. then_read (λ flag. then_read (framed by.version code flag j) (line_payload by code j))
     (line_flag code j)) (line_code j)
 
 -- Whether a line has none of the members that say what an item is.
@@ -253,14 +254,14 @@ rest_said r j =
     else Err (at (codes "rest") ItemInRest)
 
 -- The bytes of a line, which is that of an item or of the bytes after the last item.
-abbrev pub said : Version → Option Json → Json → Result (List ℕ) LineFault
-said version None j = item_said version j
-said version (Some r) j = rest_said r j
+abbrev pub said : Making → Option Json → Json → Result (List ℕ) LineFault
+said by None j = item_said by j
+said by (Some r) j = rest_said r j
 
 -- The bytes that the value of a line means, or why it is rejected: the first fault, in the order of its members, its
 -- code, its flag, its payload and its header.
-unfoldable pub line_said : Version → Json → Result (List ℕ) LineFault
-line_said version j = unless (shape_fault j) (said version (given (codes "rest") j) j)
+unfoldable pub line_said : Making → Json → Result (List ℕ) LineFault
+line_said by j = unless (shape_fault j) (said by (given (codes "rest") j) j)
 
 -- Whether a byte is a space, a tab or a carriage return.
 abbrev pub is_space : ℕ → Bool
@@ -272,9 +273,9 @@ is_blank [] = true
 is_blank (b ∷ bs) = if is_space b then is_blank bs else false
 
 -- The bytes that the value of a line means, if it is not rejected.
-abbrev pub value_made : Version → Json → Option (List ℕ)
-value_made version j = result_ok (line_said version j)
+abbrev pub value_made : Making → Json → Option (List ℕ)
+value_made by j = result_ok (line_said by j)
 
 -- The bytes that a line means: none if it is blank.
-unfoldable pub line_made : Version → List ℕ → Option (List ℕ)
-line_made version text = if is_blank text then Some [] else option_and_then (value_made version) (json_of_text text)
+unfoldable pub line_made : Making → List ℕ → Option (List ℕ)
+line_made by text = if is_blank text then Some [] else option_and_then (value_made by) (json_of_text text)

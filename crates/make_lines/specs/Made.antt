@@ -2,12 +2,12 @@
 use Rattle.std.specs.Prelude.{◌≡◌, ◌⊎◌, ℕ, suc, Bool, false, List, [], ◌∷◌, ◌++◌, length, min, ◌==◌, if◌then◌else◌}
 use Rattle.std.specs.Prelude.{Option, Some, option_map, option_and_then, Result, Ok, Err}
 use Rattle.std.specs.Io.KnownBytes.{IsAtEnd}
-use Rattle.shared_core_base.specs.declared.version.Version.{Version}
 use Rattle.stream_lines.specs.Printing.{Begins}
 use Rattle.make_lines.specs.declared.error.LineError.{LineError}
 use Rattle.make_lines.specs.declared.error.MakeError.{MakeError}
 use Rattle.make_lines.specs.declared.error.MakeError.TheVariants.{Input, Output, OutOfMemory, Line}
 use Rattle.make_lines.specs.Lines.{line_made}
+use Rattle.make_lines.specs.Making.{Making}
 use Rattle.make_lines.specs.Appending.{IsRejected}
 
 -- Whether some bytes have a newline.
@@ -70,9 +70,9 @@ StandsMade means fails (Err (Line number error)) lines rest written left =
     × (made means done ≡ Some written) × fails line error × (number ≡ counted (suc (length done)))
 
 -- The bytes that were read are these lines and this rest, and what is written is as the result says.
-pub record IsMade (version : Version) (result : Result (Unit {0}) MakeError) (read written : List ℕ)
+pub record IsMade (by : Making) (result : Result (Unit {0}) MakeError) (read written : List ℕ)
     (left : Option (List ℕ)) : Type 0 where
   pub lines : List (List ℕ)
   pub rest : List ℕ
   pub split : AreLines read lines rest
-  pub stands : StandsMade (line_made version) (IsRejected version) result lines rest written left
+  pub stands : StandsMade (line_made by) (IsRejected by) result lines rest written left

@@ -10,11 +10,11 @@ abbrev pub names : List (List ℕ)
 names =
     codes "offset" ∷ codes "type" ∷ codes "code" ∷ codes "length" ∷ codes "requestedAck" ∷ codes "header" ∷
     codes "message" ∷ codes "bytes" ∷ codes "malformed" ∷ codes "unknown" ∷ codes "skipped" ∷ codes "rest" ∷
-    codes "payload" ∷ codes "ack" ∷ []
+    codes "payload" ∷ codes "ack" ∷ codes "notCanonical" ∷ []
 
 -- How many places there are.
 abbrev pub place_count : ℕ
-place_count = 14
+place_count = 15
 
 -- The name of a place.
 abbrev pub name_at : ℕ → List ℕ

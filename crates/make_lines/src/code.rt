@@ -2,18 +2,18 @@
 
 ghost use Rattle.std.specs.Prelude.{◌≡◌, Some, Ok, IfOk, MatchResult, option_and_then};
 ghost use Rattle.shared_core_base.specs.MessageType.{type_of};
-ghost use Rattle.shared_core_message.specs.Schemas.{schema_at};
+ghost use Rattle.make_lines.specs.Making.{making, schema_of};
 ghost use Rattle.make_lines.specs.Lines.{code_read, name_read, code_named, is_name_of, code_if, line_code, has_flag};
 ghost use Rattle.make_lines.specs.Appending.{Rejects, RejectsAnywhere};
 
 use crate::error::LineReason;
+use crate::line_table::LineTable;
 use crate::members::{CODE, LINE, Line, TYPE};
 use crate::reject::Fault;
 use json_table::Node;
 use shared_core_base::header::MessageType;
 use shared_core_base::version::Version;
 use shared_core_json_reader::{Reason, read_u32};
-use shared_core_message::schemas::schema_at;
 use std::alloc::{AllocError, Global};
 
 /// The code that a value is.
@@ -97,11 +97,11 @@ impl Coded {
     }
 
     /// The schema of the messages that have the code.
-    pub fn schema(self, version: Version) -> Option<u32>
-        ensures { result ≡ option_and_then (schema_at version) (type_of self.code) }
+    pub fn schema<M: LineTable>(self, version: Version, messages: &M) -> Option<u32>
+        ensures { result ≡ option_and_then (schema_of (making (M.messages messages.now) version)) (type_of self.code) }
     {
         match self.ty {
-            Some(ty) => schema_at(version, ty),
+            Some(ty) => messages.schema_of(version, ty),
             None => None,
         }
     }

@@ -5,7 +5,7 @@ ghost use Rattle.shared_core_base.specs.declared.version.Version.{Version};
 ghost use Rattle.shared_core_codec.specs.Canonicity.{IsCanonical};
 ghost use Rattle.dump_lines.specs.declared.options.Options.{Options};
 ghost use Rattle.make_lines.specs.MadeAgain.{payload_again, ItemIsMadeAgain};
-ghost use Rattle.make_lines.specs.MadeAgain.{DumpIsMadeAgain, KeepsStreams, ThereAndBack};
+ghost use Rattle.make_lines.specs.MadeAgain.{DumpIsMadeAgain, IsMadeAgain, KeepsStreams, ThereAndBack};
 
 /// The line of an item, in a dump with payloads, one object per line and the last line, means the item, with its header
 /// and its payload. A well-formed payload becomes the canonical one.
@@ -27,4 +27,10 @@ pub fn canonical_streams_are_kept()
 /// What `make` makes of what `dump` wrote, both having ended well, is that stream.
 pub fn streams_go_there_and_back()
     ensures { (options : Options) → ThereAndBack options }
+{}
+
+/// What `make` makes by another table of what `dump` wrote by it, both having ended well, is that stream, with each
+/// payload as it was.
+pub fn streams_of_other_tables_go_there_and_back()
+    ensures { (options : Options) → IsMadeAgain options }
 {}

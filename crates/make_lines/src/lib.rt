@@ -6,6 +6,7 @@ mod error;
 mod header;
 pub mod laws;
 mod line;
+mod line_table;
 mod members;
 mod payload;
 mod reject;
@@ -13,4 +14,5 @@ mod stream;
 mod text;
 
 pub use crate::error::{LineError, LineReason, MakeError};
+pub use crate::line_table::{LineTable, OtherLines};
 pub use crate::stream::make;

@@ -2,11 +2,13 @@
 
 ghost use Rattle.std.specs.Prelude.{◌≡◌, Ok, MatchResult, false};
 ghost use Rattle.make_lines.specs.Lines.{item_said, says_no_item, rest_said, line_said, is_blank};
+ghost use Rattle.make_lines.specs.Making.{making};
 ghost use Rattle.make_lines.specs.Members.{pairs_fault, shape_fault};
 ghost use Rattle.make_lines.specs.Appending.{RejectsAnywhere, Appends, AppendsOf, AppendsItem, AppendsLine};
 
 use crate::error::{LineError, LineReason};
 use crate::header::{append, append_framed, head_of};
+use crate::line_table::LineTable;
 use crate::members::{
     ACK, BYTES, CODE, HEADER, Line, MESSAGE, PAYLOAD, PLACES, REQUESTED_ACK, REST, TYPE, UNKNOWN,
     find_places, first_fault,
@@ -22,17 +24,19 @@ use std::alloc::Global;
 
 /// Appends the bytes of an item. Its payload is in a buffer before.
 #[tactic(auto, unfolding(crate::specs::Lines::item_said))]
-fn append_item(
+fn append_item<M: LineTable>(
     alloc: Global,
     version: Version,
+    messages: &M,
     line: &Line<'_, '_>,
     payload: &mut Vec<u8>,
     out: &mut Vec<u8>,
 ) -> Result<(), ItemFault>
-    ensures { AppendsItem line.now result (item_said version line.now) out.old.items out.new.items }
+    ensures { AppendsItem (M.messages messages.now).format line.now result
+        (item_said (making (M.messages messages.now) version) line.now) out.old.items out.new.items }
 {
     let head = head_of(alloc, version, line)?;
-    payload_of(alloc, version, head.coded, line, payload)?;
+    payload_of(alloc, version, messages, head.coded, line, payload)?;
     append_framed(alloc, &head, payload.as_slice(), line, out)?;
     Ok(())
 }
@@ -83,21 +87,23 @@ fn append_rest(
 
 /// Appends the bytes of a line that has no other members than a line may have.
 #[tactic(auto, unfolding(crate::specs::Lines::line_said, crate::specs::Members::shape_fault))]
-fn append_members(
+fn append_members<M: LineTable>(
     alloc: Global,
     version: Version,
+    messages: &M,
     line: &Line<'_, '_>,
     payload: &mut Vec<u8>,
     out: &mut Vec<u8>,
 ) -> Result<(), ItemFault>
     requires { shape_fault line.now ≡ pairs_fault line.now }
-    ensures { AppendsItem line.now result (line_said version line.now) out.old.items out.new.items }
+    ensures { AppendsItem (M.messages messages.now).format line.now result
+        (line_said (making (M.messages messages.now) version) line.now) out.old.items out.new.items }
 {
     if let Some(fault) = line.pairs_fault() {
         return Err(ItemFault::Line(fault));
     }
     let Some(rest) = line.given(REST) else {
-        return append_item(alloc, version, line, payload, out);
+        return append_item(alloc, version, messages, line, payload, out);
     };
     append_rest(alloc, &rest, line, out)?;
     Ok(())
@@ -105,14 +111,16 @@ fn append_members(
 
 /// Appends the bytes that the value of a line means.
 #[tactic(auto, unfolding(crate::specs::Lines::line_said, crate::specs::Members::shape_fault))]
-fn append_said(
+fn append_said<M: LineTable>(
     alloc: Global,
     version: Version,
+    messages: &M,
     value: &Node<'_, '_>,
     payload: &mut Vec<u8>,
     out: &mut Vec<u8>,
 ) -> Result<(), LineError>
-    ensures { Appends result (line_said version value.now) out.old.items out.new.items }
+    ensures { Appends result (line_said (making (M.messages messages.now) version) value.now) out.old.items
+        out.new.items }
 {
     let Shape::Object(members) = value.shape() else {
         return Err(reject(alloc, LineReason::Json(Reason::WrongKind), ""));
@@ -122,9 +130,9 @@ fn append_said(
         return Err(first_fault(alloc, &members));
     }
     let line = Line::new(members, &places);
-    match append_members(alloc, version, &line, payload, out) {
+    match append_members(alloc, version, messages, &line, payload, out) {
         Ok(()) => Ok(()),
-        Err(fault) => Err(item_error(alloc, &line, fault)),
+        Err(fault) => Err(item_error(alloc, messages.table(), &line, fault)),
     }
 }
 
@@ -148,19 +156,27 @@ impl Buffers {
 /// Appends the bytes that a line means that is not blank, which may be long or nested deep.
 #[inline(never)]
 #[tactic(auto, unfolding(crate::specs::Lines::line_made))]
-fn append_long(
+fn append_long<M: LineTable>(
     alloc: Global,
     version: Version,
+    messages: &M,
     line: &[u8],
     buffers: &mut Buffers,
     out: &mut Vec<u8>,
 ) -> Result<(), LineError>
     requires { is_blank line.now ≡ false }
-    ensures { AppendsLine version line.now result out.old.items out.new.items }
+    ensures { AppendsLine (making (M.messages messages.now) version) line.now result out.old.items out.new.items }
 {
     let error = match table_of_text(alloc, line, &mut buffers.scratch) {
         Ok(table) => {
-            return append_said(alloc, version, &table.root(), &mut buffers.payload, out);
+            return append_said(
+                alloc,
+                version,
+                messages,
+                &table.root(),
+                &mut buffers.payload,
+                out,
+            );
         }
         Err(error) => error,
     };
@@ -173,20 +189,28 @@ fn append_long(
 /// Appends the bytes that a line means, without its newline; none for a blank one. After an error nothing is appended,
 /// unless an allocation failed.
 #[tactic(auto, unfolding(crate::specs::Lines::line_made))]
-pub fn append_line(
+pub fn append_line<M: LineTable>(
     alloc: Global,
     version: Version,
+    messages: &M,
     line: &[u8],
     buffers: &mut Buffers,
     out: &mut Vec<u8>,
 ) -> Result<(), LineError>
-    ensures { AppendsLine version line.now result out.old.items out.new.items }
+    ensures { AppendsLine (making (M.messages messages.now) version) line.now result out.old.items out.new.items }
 {
     if is_blank(line) {
         return Ok(());
     }
     if let Some(table) = short_table(alloc, line, &mut buffers.scratch) {
-        return append_said(alloc, version, &table.root(), &mut buffers.payload, out);
+        return append_said(
+            alloc,
+            version,
+            messages,
+            &table.root(),
+            &mut buffers.payload,
+            out,
+        );
     }
-    append_long(alloc, version, line, buffers, out)
+    append_long(alloc, version, messages, line, buffers, out)
 }

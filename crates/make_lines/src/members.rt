@@ -18,7 +18,7 @@ use std::alloc::Global;
 use std::marker::Model;
 
 /// How many places there are.
-pub const PLACES: usize = 14;
+pub const PLACES: usize = 15;
 
 /// The names of the members that a line may have, in the order in which a dump has them; the place of a name is its
 /// index.
@@ -37,6 +37,7 @@ static NAMES: [&str; PLACES] = [
     "rest",
     "payload",
     "ack",
+    "notCanonical",
 ];
 
 /// The place of the member `type`.
@@ -70,7 +71,7 @@ pub const PAYLOAD: u8 = 12;
 pub const ACK: u8 = 13;
 
 /// The place of no member, whose name is empty: that of the line itself.
-pub const LINE: u8 = 14;
+pub const LINE: u8 = 15;
 
 /// The value of a line: an object of members that a line may have. A contract sees the value.
 #[derive(Drop)]

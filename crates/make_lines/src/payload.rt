@@ -2,17 +2,19 @@
 
 ghost use Rattle.std.specs.Prelude.{◌≡◌, [], codes, Some, Ok, MatchResult};
 ghost use Rattle.make_lines.specs.Lines.{bytes_said, bytes_name, message_said, nothing_said, line_payload};
+ghost use Rattle.make_lines.specs.Making.{making};
 ghost use Rattle.make_lines.specs.Members.{given};
 ghost use Rattle.make_lines.specs.Places.{name_at};
 ghost use Rattle.make_lines.specs.Appending.{RejectsAnywhere, RejectsItem};
 
 use crate::code::Coded;
 use crate::error::LineReason;
+use crate::line_table::LineTable;
 use crate::members::{BYTES, LINE, Line, MESSAGE, PAYLOAD, UNKNOWN};
 use crate::reject::{Fault, ItemFault};
 use json_table::Node;
 use shared_core_base::version::Version;
-use shared_core_json_reader::{Reason, payload_into, read_bytes};
+use shared_core_json_reader::{Reason, payload_into_in, read_bytes};
 use std::alloc::Global;
 
 /// The bytes that a value is, in base64.
@@ -37,22 +39,25 @@ pub fn bytes_place(line: &Line<'_, '_>) -> u8
 }
 
 /// Puts the payload of the message of a line into a buffer.
-fn message_of(
+fn message_of<M: LineTable>(
     alloc: Global,
     version: Version,
+    messages: &M,
     coded: Coded,
     line: &Line<'_, '_>,
     message: &Node<'_, '_>,
     payload: &mut Vec<u8>,
 ) -> Result<(), ItemFault>
     requires { given (codes "message") line.now ≡ Some message.now }
-    ensures { MatchResult result (λ _. message_said version coded.code message.now ≡ Ok payload.new.items)
-        (RejectsItem line.now (message_said version coded.code message.now)) }
+    ensures { MatchResult result (λ _. message_said (making (M.messages messages.now) version) coded.code message.now
+        ≡ Ok payload.new.items)
+        (RejectsItem (M.messages messages.now).format line.now
+        (message_said (making (M.messages messages.now) version) coded.code message.now)) }
 {
-    let Some(schema) = coded.schema(version) else {
+    let Some(schema) = coded.schema(version, messages) else {
         return Err(ItemFault::Line(Fault::at(MESSAGE, LineReason::NoSchema)));
     };
-    match payload_into(alloc, schema, message, payload) {
+    match payload_into_in(alloc, messages.table(), schema, message, payload) {
         Ok(()) => Ok(()),
         Err(reason) => Err(ItemFault::Message(schema, reason)),
     }
@@ -73,21 +78,26 @@ fn check_alone(coded: Coded, value: &Node<'_, '_>) -> Result<(), Fault>
 }
 
 /// Puts the payload of a line into a buffer, in place of what is there.
-pub fn payload_of(
+pub fn payload_of<M: LineTable>(
     alloc: Global,
     version: Version,
+    messages: &M,
     coded: Coded,
     line: &Line<'_, '_>,
     payload: &mut Vec<u8>,
 ) -> Result<(), ItemFault>
-    ensures { MatchResult result (λ _. line_payload version coded.code line.now ≡ Ok payload.new.items)
-        (RejectsItem line.now (line_payload version coded.code line.now)) }
+    ensures { MatchResult result (λ _. line_payload (making (M.messages messages.now) version) coded.code line.now
+        ≡ Ok payload.new.items)
+        (RejectsItem (M.messages messages.now).format line.now
+        (line_payload (making (M.messages messages.now) version) coded.code line.now)) }
 {
     let message = line.given(MESSAGE);
     let bytes = line.given_either(BYTES, PAYLOAD);
     let unknown = line.given(UNKNOWN);
     match (message, bytes, unknown) {
-        (Some(message), None, None) => message_of(alloc, version, coded, line, &message, payload),
+        (Some(message), None, None) => message_of(
+            alloc, version, messages, coded, line, &message, payload,
+        ),
         (None, Some(bytes), None) => {
             *payload = bytes_of(alloc, &bytes, bytes_place(line))?;
             Ok(())

@@ -13,7 +13,8 @@ ghost use Rattle.make_lines.specs.Appending.{said_of, untyped, text_fault, messa
 use crate::error::{LineError, LineReason};
 use crate::members::{LINE, Line, MESSAGE, TYPE, name_at};
 use crate::text::is_cut_off;
-use shared_core_json_reader::{JsonReadError, Reason, payload_of_node};
+use shared_core_json_reader::readable::ReadableSchemas;
+use shared_core_json_reader::{JsonReadError, Reason, payload_of_node_in};
 use std::alloc::{AllocError, Global};
 
 /// Why a line is rejected: for the value of the member of a place, or for itself if the place is `LINE`. If no type has
@@ -187,12 +188,18 @@ pub fn reject_text(alloc: Global, line: &[u8], offset: usize) -> LineError
 /// The error for a rejected value inside the message of a line, which is of a schema. The message is read again for the
 /// path to the value: of a stream that is one message at most.
 #[cold]
-fn message_error(alloc: Global, schema: u32, line: &Line<'_, '_>, reason: Reason) -> LineError
+fn message_error<T: ReadableSchemas>(
+    alloc: Global,
+    schemas: &T,
+    schema: u32,
+    line: &Line<'_, '_>,
+    reason: Reason,
+) -> LineError
     requires { reason ≢ Reason.OutOfMemory
-        → (path : List ℕ) × (message_error schema line.now ≡ Some (reason, path)) }
+        → (path : List ℕ) × (message_error (T.format schemas.now) schema line.now ≡ Some (reason, path)) }
     ensures reason { result.reason ≢ lack → result.reason ≡ variant.Json reason }
     ensures fault { result.reason ≢ lack
-        → (path : List ℕ) × (message_error schema line.now ≡ Some (reason, path))
+        → (path : List ℕ) × (message_error (T.format schemas.now) schema line.now ≡ Some (reason, path))
         × (fault_of result ≡ fault_inside (codes "message") reason path) }
 {
     if reason == Reason::OutOfMemory {
@@ -201,7 +208,7 @@ fn message_error(alloc: Global, schema: u32, line: &Line<'_, '_>, reason: Reason
     let Some(message) = line.given(MESSAGE) else {
         unreachable!();
     };
-    match payload_of_node(alloc, schema, &message) {
+    match payload_of_node_in(alloc, schemas, schema, &message) {
         Ok(_) => unreachable!(),
         Err(error) => reject_inside(alloc, &error, "message"),
     }
@@ -209,13 +216,18 @@ fn message_error(alloc: Global, schema: u32, line: &Line<'_, '_>, reason: Reason
 
 /// The error that the fault of an item is.
 #[cold]
-pub fn item_error(alloc: Global, line: &Line<'_, '_>, fault: ItemFault) -> LineError
-    requires { reason_of fault ≢ lack → (said : LineFault) × IsSaid line.now fault said }
+pub fn item_error<T: ReadableSchemas>(
+    alloc: Global,
+    schemas: &T,
+    line: &Line<'_, '_>,
+    fault: ItemFault,
+) -> LineError
+    requires { reason_of fault ≢ lack → (said : LineFault) × IsSaid (T.format schemas.now) line.now fault said }
     ensures reason { result.reason ≢ lack → result.reason ≡ reason_of fault }
-    ensures fault { result.reason ≢ lack → IsSaid line.now fault (fault_of result) }
+    ensures fault { result.reason ≢ lack → IsSaid (T.format schemas.now) line.now fault (fault_of result) }
 {
     match fault {
         ItemFault::Line(fault) => error_of(alloc, line, fault),
-        ItemFault::Message(schema, reason) => message_error(alloc, schema, line, reason),
+        ItemFault::Message(schema, reason) => message_error(alloc, schemas, schema, line, reason),
     }
 }

@@ -4,11 +4,13 @@ ghost use Rattle.std.specs.Prelude.{◌≡◌, ◌++◌, ℕ, List, [], false, I
 ghost use Rattle.std.specs.Io.KnownBytes.{Appends, Consumes};
 ghost use Rattle.make_lines.specs.Lines.{line_made};
 ghost use Rattle.make_lines.specs.Appending.{IsRejected, AppendsLine};
+ghost use Rattle.make_lines.specs.Making.{making};
 ghost use Rattle.make_lines.specs.Made.{has_newline, IsMade};
 ghost use Rattle.make_lines.specs.Steps.{IsTaken, IsStep, IsFinished, LineIsTaken};
 
 use crate::error::{LineError, LineReason, MakeError};
 use crate::line::{Buffers, append_line};
+use crate::line_table::LineTable;
 use crate::reject::out_of_memory;
 use memchr::memchr;
 use shared_core_base::version::Version;
@@ -53,36 +55,39 @@ fn whole_line<'a>(pending: &'a mut Vec<u8>, end: &'a [u8]) -> Result<&'a [u8], A
 
 /// Appends what the line means that the pending bytes and then these are.
 #[inline(always)]
-fn append_ended(
+fn append_ended<M: LineTable>(
     alloc: Global,
     version: Version,
+    messages: &M,
     end: &[u8],
     buffers: &mut Buffers,
     lines: &mut Lines,
 ) -> Result<(), LineError>
-    ensures made { AppendsLine version (lines.old.pending.items ++ end.now) result
+    ensures made { AppendsLine (making (M.messages messages.now) version) (lines.old.pending.items ++ end.now) result
         lines.old.made.items lines.new.made.items }
     ensures taken { lines.new.taken ≡ lines.old.taken }
 {
     match whole_line(&mut lines.pending, end) {
-        Ok(line) => append_line(alloc, version, line, buffers, &mut lines.made),
+        Ok(line) => append_line(alloc, version, messages, line, buffers, &mut lines.made),
         Err(_) => Err(out_of_memory(alloc)),
     }
 }
 
 /// Takes the pending bytes, and then these, as a line.
 #[inline(always)]
-fn take_line(
+fn take_line<M: LineTable>(
     alloc: Global,
     version: Version,
+    messages: &M,
     end: &[u8],
     buffers: &mut Buffers,
     lines: &mut Lines,
 ) -> Result<Option<Rejected>, AllocError>
-    ensures { LineIsTaken (line_made version) (IsRejected version) end.now result lines.old lines.new }
+    ensures { LineIsTaken (line_made (making (M.messages messages.now) version))
+        (IsRejected (making (M.messages messages.now) version)) end.now result lines.old lines.new }
 {
     let number = lines.taken.saturating_add(1);
-    match append_ended(alloc, version, end, buffers, lines) {
+    match append_ended(alloc, version, messages, end, buffers, lines) {
         Ok(()) => {
             lines.taken = number;
             lines.pending.clear();
@@ -94,20 +99,22 @@ fn take_line(
 }
 
 /// Takes the lines that a chunk ends, up to a rejected one.
-fn take_chunk(
+fn take_chunk<M: LineTable>(
     alloc: Global,
     version: Version,
+    messages: &M,
     chunk: &[u8],
     buffers: &mut Buffers,
     lines: &mut Lines,
 ) -> Result<Option<Rejected>, AllocError>
     requires { has_newline lines.old.pending.items ≡ false }
-    ensures { IsTaken (line_made version) (IsRejected version) (lines.old.pending.items ++ chunk.now) result
+    ensures { IsTaken (line_made (making (M.messages messages.now) version))
+        (IsRejected (making (M.messages messages.now) version)) (lines.old.pending.items ++ chunk.now) result
         lines.old lines.new }
 {
     let mut rest = chunk;
     while let Some(at) = memchr(b'\n', rest) {
-        if let Some(rejected) = take_line(alloc, version, &rest[..at], buffers, lines)? {
+        if let Some(rejected) = take_line(alloc, version, messages, &rest[..at], buffers, lines)? {
             return Ok(Some(rejected));
         }
         rest = &rest[at + 1..];
@@ -117,9 +124,10 @@ fn take_chunk(
 }
 
 /// Takes the lines that a chunk ends, and writes what they mean.
-fn step<W: Write>(
+fn step<M: LineTable, W: Write>(
     alloc: Global,
     version: Version,
+    messages: &M,
     chunk: &[u8],
     buffers: &mut Buffers,
     lines: &mut Lines,
@@ -129,10 +137,11 @@ fn step<W: Write>(
     requires unended { has_newline lines.old.pending.items ≡ false }
     ensures { (written : List ℕ)
         × Appends (W.contents output.old) (W.contents output.new) written
-        × IsStep (line_made version) (IsRejected version) (lines.old.pending.items ++ chunk.now) result written
+        × IsStep (line_made (making (M.messages messages.now) version))
+        (IsRejected (making (M.messages messages.now) version)) (lines.old.pending.items ++ chunk.now) result written
         lines.old lines.new }
 {
-    let rejected = take_chunk(alloc, version, chunk, buffers, lines)?;
+    let rejected = take_chunk(alloc, version, messages, chunk, buffers, lines)?;
     write_whole(output, lines.made.as_slice())?;
     lines.made.clear();
     match rejected {
@@ -142,9 +151,10 @@ fn step<W: Write>(
 }
 
 /// Takes the pending bytes as the last line, and writes what it means.
-fn finish<W: Write>(
+fn finish<M: LineTable, W: Write>(
     alloc: Global,
     version: Version,
+    messages: &M,
     buffers: &mut Buffers,
     lines: &mut Lines,
     output: &mut W,
@@ -152,31 +162,34 @@ fn finish<W: Write>(
     requires { lines.old.made.items ≡ [] }
     ensures { (written : List ℕ)
         × Appends (W.contents output.old) (W.contents output.new) written
-        × IsFinished (line_made version) (IsRejected version) result written lines.old }
+        × IsFinished (line_made (making (M.messages messages.now) version))
+        (IsRejected (making (M.messages messages.now) version)) result written lines.old }
 {
-    if let Some(rejected) = take_line(alloc, version, &[], buffers, lines)? {
+    if let Some(rejected) = take_line(alloc, version, messages, &[], buffers, lines)? {
         return Err(MakeError::Line(rejected.number, rejected.error));
     }
     write_whole(output, lines.made.as_slice())?;
     Ok(())
 }
 
-/// Writes the bytes that lines of JSON mean: each line means an item, or the bytes after the last item.
+/// Writes the bytes that lines of JSON mean: each line means an item, or the bytes after the last item. Messages are
+/// read by a table.
 ///
 /// It reads at most 65,536 bytes at a time, and writes what the lines mean that a chunk ends before it reads the next.
 /// The last line may lack its newline. `Ok` comes only if the reader has no byte left, and then all is written. After
 /// `Input` what all lines mean that were read is written; after `Output` a prefix of what the first lines mean; after
 /// `OutOfMemory` what the first lines mean; after `Line` what the lines before the rejected one mean.
-pub fn make<R: Read, W: Write>(
+pub fn make<M: LineTable, R: Read, W: Write>(
     alloc: Global,
     version: Version,
+    messages: &M,
     input: &mut R,
     output: &mut W,
 ) -> Result<(), MakeError>
     ensures { (read : List ℕ) × (written : List ℕ)
         × Consumes (R.remaining input.old) (R.remaining input.new) read
         × Appends (W.contents output.old) (W.contents output.new) written
-        × IsMade version result read written (R.remaining input.new) }
+        × IsMade (making (M.messages messages.now) version) result read written (R.remaining input.new) }
 {
     let mut lines = Lines {
         pending: Vec::new(alloc),
@@ -191,11 +204,12 @@ pub fn make<R: Read, W: Write>(
             return Err(MakeError::Input);
         };
         if count == 0 {
-            return finish(alloc, version, &mut buffers, &mut lines, output);
+            return finish(alloc, version, messages, &mut buffers, &mut lines, output);
         }
         step(
             alloc,
             version,
+            messages,
             &buffer[..count],
             &mut buffers,
             &mut lines,

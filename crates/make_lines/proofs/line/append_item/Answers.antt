@@ -2,12 +2,13 @@ use Rattle.std.proofs.Common.{refl}
 use Rattle.std.proofs.lemmas.Result.{err_from_is_err_and}
 use Rattle.make_lines.specs.Appending.{said_of}
 use Rattle.make_lines.specs.Lines.{item_said, framed, line_code, line_flag, line_payload, then_read}
+use Rattle.make_lines.specs.Making.{making}
 use Rattle.make_lines.proofs.Heads.{no_head}
 use Rattle.make_lines.proofs.line.append_item.Goals as goal
 
 pub returns-in_err-head : goal.returns-in_err-head
 unfolding item_said
-returns-in_err-head c =
+returns-in_err-head g c =
     let from = err_from_is_err_and c.from_residual.result c.from_residual.ensures.1 in
     let version = c.args.version in
     let line = c.args.line.now in
@@ -15,7 +16,8 @@ returns-in_err-head c =
       (
         said_of line c.in_err-head.field-0.0,
         no_head (line_code line) (λ code. line_flag code line)
-            (λ code flag. then_read (framed version code flag line) (line_payload version code line)) _
+            (λ code flag. then_read (framed version code flag line)
+            (line_payload (making (g.M.LineTable.messages c.args.messages.now) c.args.version) code line)) _
             (c.in_err-head.ensures.err some),
         refl,
       ),
@@ -24,7 +26,7 @@ returns-in_err-head c =
 
 pub returns-in_err-payload_of : goal.returns-in_err-payload_of
 unfolding item_said
-returns-in_err-payload_of c =
+returns-in_err-payload_of g c =
     let from = err_from_is_err_and c.from_residual-in_err-payload_of.result
     c.from_residual-in_err-payload_of.ensures.1 in
     let head = c.in_ok-head.ensures.ok in

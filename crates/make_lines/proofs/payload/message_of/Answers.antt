@@ -1,13 +1,20 @@
-use Rattle.std.proofs.Common.{◌≡◌, ◌∙◌, sym, ap}
+use Rattle.std.proofs.Common.{◌≡◌, ◌∙◌, Some, None, sym, ap, subst}
 use Rattle.shared_core_json_reader.specs.declared.error.Reason.{Reason}
+use Rattle.shared_core_json_reader.specs.Reading.{value_payload_in}
+use Rattle.shared_core_json_reader.specs.FirstError.{value_error_in}
 use Rattle.make_lines.specs.declared.error.LineReason.TheVariants as variant
+use Rattle.make_lines.specs.Making.{making}
 use Rattle.make_lines.proofs.ItemFaults.{message_rejected}
 use Rattle.make_lines.proofs.payload.message_of.Goals as goal
 
 pub returns-in-Err : goal.returns-in-Err
-returns-in-Err c some =
+returns-in-Err g c some =
+    let by = making (g.M.LineTable.messages c.args.messages.now) c.args.version in
     let other = λ (e : c.in-Err.reason ≡ Reason.OutOfMemory). some (ap variant.Json e) in
     let first = c.in-Err.ensures.error other in
-    message_rejected c.args.version c.args.line.now c.args.coded.code c.in-Some.schema c.args.message.now
-    c.in-Err.reason first.0 c.requires (sym c.schema.ensures ∙ c.in-Some.is)
-    (c.in-Err.ensures.rejected other) first.1
+    let s = c.in-Some.schema in
+    let m = c.args.message.now in
+    let none = subst (λ format. value_payload_in format s m ≡ None) c.table.ensures (c.in-Err.ensures.rejected other) in
+    let error = subst (λ format. value_error_in format s m ≡ Some (c.in-Err.reason, first.0)) c.table.ensures first.1 in
+    message_rejected by c.args.line.now c.args.coded.code s m c.in-Err.reason first.0 c.requires
+    (sym c.schema.ensures ∙ c.in-Some.is) none error

@@ -2,13 +2,14 @@ use Rattle.std.proofs.Common.{◌≡◌, ℕ, suc, ◌+◌, ◌-◌, ◌^◌, �
 use Rattle.std.proofs.Common.{sym, ap, subst, ◌∙◌, append_assoc, append-nil, length-append, arith, rules}
 use Rattle.std.proofs.lemmas.List.{length-take, length-drop}
 use Rattle.make_lines.specs.Lines.{line_made}
+use Rattle.make_lines.specs.Making.{making}
 use Rattle.make_lines.specs.Made.{counted, has_newline, BeginWith}
 use Rattle.make_lines.proofs.Taking.{none_yet, then_lines, line_found, rest_after, none_found, newline_append}
 use Rattle.make_lines.proofs.Taking.{made_join, made_one, counted_suc}
 use Rattle.make_lines.proofs.stream.take_chunk.Goals as goal
 
 pub loop-at-init : goal.loop-at-init
-loop-at-init c =
+loop-at-init g c =
     let fits : c.args.lines.now.taken < 2 ^ 64 = search rules in (
       c.requires,
       [],
@@ -22,13 +23,13 @@ loop-at-init c =
     )
 
 pub overflow_add-rest : goal.overflow_add-rest
-overflow_add-rest c =
+overflow_add-rest g c =
     let (unended, ls, more, begins, meant, made_is, count, short) = c.loop-at.invariant in
     let fits : length c.args.chunk.now < 2 ^ 64 = search rules in
     omega (arith, c.in-Some.ensures.0.high, short, fits)
 
 pub returns-in-Some-2 : goal.returns-in-Some-2
-returns-in-Some-2 c =
+returns-in-Some-2 g c =
     let (unended, ls, more, begins, meant, made_is, count, short) = c.loop-at.invariant in
     let (none, here) = c.in-Some.ensures in
     let pending = c.loop-at.lines.pending.items in
@@ -49,7 +50,7 @@ returns-in-Some-2 c =
     )
 
 pub loop-at-preserved : goal.loop-at-preserved
-loop-at-preserved c =
+loop-at-preserved g c =
     let (unended, ls, more, begins, meant, made_is, count, short) = c.loop-at.invariant in
     let (none, here) = c.in-Some.ensures in
     let pending = c.loop-at.lines.pending.items in
@@ -63,8 +64,9 @@ loop-at-preserved c =
       subst (BeginWith _ (ls ++ line ∷ [])) (rest_after c.take_line.new.lines.pending.items rest at empty)
           (then_lines _ (pending ++ rest) (drop (suc at) rest) ls (line ∷ []) begins
           (line_found pending rest line at unended none here refl)),
-      made_join (line_made c.args.version) ls (line ∷ []) more bytes meant
-          (made_one (line_made c.args.version) line bytes means),
+      made_join (line_made (making (g.M.LineTable.messages c.args.messages.now) c.args.version)) ls (line ∷ []) more
+          bytes meant
+          (made_one (line_made (making (g.M.LineTable.messages c.args.messages.now) c.args.version)) line bytes means),
       wrote ∙ ap (λ (xs : List ℕ). xs ++ bytes) made_is ∙ append_assoc c.args.lines.now.made.items more bytes,
       number ∙ ap (λ (n : ℕ). counted (suc n)) count ∙ counted_suc (c.args.lines.now.taken + length ls) ∙ ap counted
           (omega (arith, length-append ls (line ∷ []))),
@@ -72,7 +74,7 @@ loop-at-preserved c =
     )
 
 pub returns : goal.returns
-returns c =
+returns g c =
     let (unended, ls, more, begins, meant, made_is, count, short) = c.loop-at.invariant in
     let pending = c.loop-at.lines.pending.items in
     let rest = c.loop-at.rest.now in
