@@ -1,12 +1,12 @@
 -- What one more item adds.
-use Rattle.std.proofs.Common.{◌≡◌, ◌+◌, ℕ, List, [], ◌++◌, Bool, true, false, cond, refl, ap, sym, ◌∙◌, append-nil}
+use Rattle.std.proofs.Common.{◌≡◌, ℕ, List, [], ◌++◌, Bool, true, false, cond, refl, ap, sym, ◌∙◌, append-nil}
 use Rattle.std.specs.Prelude.{codes}
 use Rattle.shared_core_stream.specs.declared.encoding.item.Item.{Item}
 use Rattle.stream_lines.specs.Printing.{item_size}
 use Rattle.show_lines.specs.declared.facts.Facts.{Facts}
 use Rattle.show_lines.specs.declared.options.Options.{Options}
 use Rattle.show_lines.specs.declared.place.Place.{Place}
-use Rattle.show_lines.specs.Waiting.{joined, waiting_after, Shown, Waiting}
+use Rattle.show_lines.specs.Waiting.{joined, waiting_after, Waiting}
 use Rattle.show_lines.specs.Lines.{has_line, invocation_name, is_command, is_selected, item_facts, item_name, joins}
 use Rattle.show_lines.specs.Lines.{line_of, place_after, then_known, waiting_then, Known}
 

@@ -20,8 +20,8 @@ use Rattle.stream_lines.specs.Printing.{too_long_after, AllWithin, AreWithin, Be
 use Rattle.stream_lines.specs.Steps.{IsAfter}
 use Rattle.shared_core_base.specs.declared.version.Version.{Version}
 use Rattle.show_lines.specs.declared.options.Options.{Options}
-use Rattle.show_lines.specs.Lines.{all_lines, known_after, last_lines, line_of, lines, nothing_known, then_known, Known}
-use Rattle.show_lines.specs.Showing.{report_on, AreShown, IsLong, IsWrittenFor}
+use Rattle.show_lines.specs.Lines.{known_after, last_lines, line_of, lines, nothing_known, then_known, Known}
+use Rattle.show_lines.specs.Showing.{AreShown, IsLong, IsWrittenFor}
 use Rattle.show_lines.specs.Steps.{Added}
 
 lines_join : (options : Options) (known : Known) (items others : List Item) → lines options known items ++ lines options

@@ -1,13 +1,13 @@
 -- What a line has of the contents of a message.
-use Rattle.std.specs.Prelude.{ℕ, Bool, true, false, ◌&&◌, ◌||◌, List, [], ◌∷◌, ◌++◌, codes, decimal, nat_eq, nat_lt}
+use Rattle.std.specs.Prelude.{ℕ, Bool, true, false, ◌||◌, List, [], ◌∷◌, ◌++◌, codes, decimal, nat_eq, nat_lt}
 use Rattle.std.specs.Prelude.{Option, Some, None, if◌then◌else◌, flat_map, ◌==◌}
 use Rattle.std.specs.Fmt.{digits}
 use Rattle.shared_core_base.specs.MessageType.{code_of, debug_name_of}
 use Rattle.shared_core_base.specs.declared.header.MessageType.{MessageType}
 use Rattle.shared_core_base.specs.declared.version.Version.{Version}
 use Rattle.shared_core_wire.specs.Acceptance.{accepts_payload}
-use Rattle.shared_core_wire.specs.Schema.{Kind, U32, U64, Text, ByteString, Message}
-use Rattle.shared_core_wire.specs.Value.{Part, Parts, Number, Bytes, Nested}
+use Rattle.shared_core_wire.specs.Schema.{U32, U64, Text, ByteString, Message}
+use Rattle.shared_core_wire.specs.Value.{Parts, Number, Bytes, Nested}
 use Rattle.shared_core_codec.specs.Payloads.{payload_meaning}
 use Rattle.shared_core_codec.specs.Table as schema
 use Rattle.shared_core_fields.specs.Fields.{FieldPart, message_fields}
@@ -132,3 +132,7 @@ is_failure field = false
 abbrev pub has_failure : List FieldPart → Bool
 has_failure [] = false
 has_failure (field ∷ fields) = if is_failure field then true else has_failure fields
+
+-- Whether a message of a schema with these fields is a failure: an error message is one, and what has a failure.
+abbrev pub fails_as : ℕ → List FieldPart → Bool
+fails_as s fields = (s == schema.error) || has_failure fields

@@ -1,5 +1,5 @@
 -- The beginnings of texts and bytes.
-use Rattle.std.specs.Prelude.{ℕ, Bool, true, false, not, List, ◌++◌, codes, length, take, if◌then◌else◌, nat_lt}
+use Rattle.std.specs.Prelude.{ℕ, Bool, not, List, ◌++◌, codes, length, take, if◌then◌else◌, nat_lt}
 use Rattle.std.specs.List.{slice_index}
 use Rattle.std.specs.Int.{is_in_range}
 use Rattle.std.specs.Str.Lossy.{utf8_lossy}

@@ -5,17 +5,15 @@ use Rattle.std.specs.List.{ends_with, list_any, starts_with}
 use Rattle.std.specs.Str.{is_utf8}
 use Rattle.std.specs.StrCase.Lower.{str_to_lowercase}
 use Rattle.hex.specs.Hex.{encode_lower}
-use Rattle.shared_core_base.specs.declared.header.MessageType.{MessageType}
-use Rattle.shared_core_base.specs.declared.header.MessageType.TheVariants.{Error}
 use Rattle.shared_core_base.specs.declared.version.Version.{Version}
 use Rattle.shared_core_wire.specs.Schema.{U32, U64, Text, ByteString, Message}
-use Rattle.shared_core_wire.specs.Value.{Part, Parts, Number, Bytes, Nested, Elements, nil, cons}
+use Rattle.shared_core_wire.specs.Value.{Parts, Number, Bytes, Nested, Elements, nil, cons}
 use Rattle.shared_core_fields.specs.Fields.{FieldPart}
 use Rattle.shared_core_json.specs.Fields.{names_of, name_of}
 use Rattle.shared_core_stream.specs.declared.encoding.item.Item.{Item}
 use Rattle.shared_core_stream.specs.declared.encoding.item.Item.TheVariants as item
 use Rattle.stream_lines.specs.Printing.{item_size}
-use Rattle.show_lines.specs.Contents.{has_failure, item_held, role_of, type_text, value_fields}
+use Rattle.show_lines.specs.Contents.{fails_as, item_held, role_of, type_text, value_fields}
 use Rattle.show_lines.specs.Contents.{Holding, OpaqueBytes, Malformed, Means}
 use Rattle.show_lines.specs.declared.facts.Role.{Role}
 use Rattle.show_lines.specs.declared.facts.Role.TheVariants as role
@@ -126,14 +124,9 @@ kind_of (item.Message message) held = message_kind (role_of message.header.ty) h
 kind_of (item.Unknown code) held = state.Unknown
 kind_of (item.Skipped code payload) held = state.Skipped
 
--- Whether this is an error message.
-abbrev pub is_error : MessageType → Bool
-is_error Error = true
-is_error ty = false
-
--- Whether an item that holds this is a message with a failure.
+-- Whether an item that holds this is an error message, or a message with a failure.
 abbrev pub fails : Item → Option Holding → Bool
-fails (item.Message message) (Some (Means s value)) = is_error message.header.ty || has_failure (value_fields s value)
+fails (item.Message message) (Some (Means s value)) = fails_as s (value_fields s value)
 fails i held = false
 
 -- Whether an item that holds this is malformed.

@@ -1,17 +1,12 @@
 -- The lines of items, each by the items before it.
 use Rattle.std.specs.Prelude.{ℕ, ◌+◌, Bool, true, false, not, ◌&&◌, ◌||◌, List, [], ◌∷◌, ◌++◌, codes, decimal, length}
-use Rattle.std.specs.Prelude.{Option, Some, None, if◌then◌else◌, nat_lt}
-use Rattle.shared_core_base.specs.declared.header.MessageType.{MessageType}
-use Rattle.shared_core_base.specs.declared.header.MessageType.TheVariants.{Error}
+use Rattle.std.specs.Prelude.{None, if◌then◌else◌, nat_lt}
 use Rattle.shared_core_base.specs.declared.version.Version.{Version}
-use Rattle.shared_core_wire.specs.Acceptance.{accepts_payload}
-use Rattle.shared_core_codec.specs.Payloads.{payload_meaning}
-use Rattle.shared_core_codec.specs.Table as schema
 use Rattle.shared_core_fields.specs.Fields.{FieldPart}
 use Rattle.shared_core_message.specs.Schemas.{schema_at}
 use Rattle.shared_core_stream.specs.declared.encoding.item.Item.{Item}
 use Rattle.shared_core_stream.specs.declared.encoding.item.Item.TheVariants.{Message, Unknown, Skipped}
-use Rattle.show_lines.specs.Contents.{role_of, value_fields, number_in, has_failure, held_text, payload_held, type_text}
+use Rattle.show_lines.specs.Contents.{role_of, value_fields, number_in, fails_as, held_text, payload_held, type_text}
 use Rattle.show_lines.specs.Contents.{Holding, OpaqueBytes, Malformed, Means}
 use Rattle.show_lines.specs.Filter.{matches}
 use Rattle.show_lines.specs.Waiting.{Shown, Waiting, joined, waiting_after, open_lines}
@@ -28,28 +23,28 @@ use Rattle.stream_lines.specs.Printing.{item_size}
 abbrev pub no_ids : Role → Bool → Facts
 no_ids role fails = record { role = role; invocation = None; result = None; is_failure = fails }
 
--- What is known of a message by its fields: the id by which the invocation of a call becomes known, that of its
--- result, and whether it is a failure.
-abbrev pub fields_facts : Role → List FieldPart → Facts
-fields_facts Command fields = record {
+-- What is known of a message by its schema and its fields: the id by which the invocation of a call becomes known,
+-- that of its result, and whether it is a failure.
+abbrev pub fields_facts : Role → ℕ → List FieldPart → Facts
+fields_facts Command s fields = record {
   role = Command;
   invocation = number_in 10 fields;
   result = number_in 11 fields;
-  is_failure = has_failure fields;
+  is_failure = fails_as s fields;
 }
-fields_facts Notification fields = record {
+fields_facts Notification s fields = record {
   role = Notification;
   invocation = None;
   result = number_in 1 fields;
-  is_failure = has_failure fields;
+  is_failure = fails_as s fields;
 }
-fields_facts Other fields = no_ids Other (has_failure fields)
+fields_facts Other s fields = no_ids Other (fails_as s fields)
 
 -- What is known of a message by what it holds: nothing of a custom entry; what is malformed is a failure.
 abbrev pub held_facts : Role → Holding → Facts
 held_facts role (OpaqueBytes bytes) = no_ids role false
 held_facts role (Malformed bytes) = no_ids role true
-held_facts role (Means s value) = fields_facts role (value_fields s value)
+held_facts role (Means s value) = fields_facts role s (value_fields s value)
 
 -- ---- an item
 

@@ -3,7 +3,7 @@ use Rattle.std.specs.Prelude.{◌≡◌, ◌⊎◌, ℕ, List, [], ◌∷◌, �
 use Rattle.std.specs.Io.KnownBytes.{IsAtEnd}
 use Rattle.shared_core_base.specs.declared.version.Version.{Version}
 use Rattle.shared_core_stream.specs.declared.encoding.item.Item.{Item}
-use Rattle.shared_core_stream.specs.declared.encoding.item.Item.TheVariants.{Message, Unknown, Skipped}
+use Rattle.shared_core_stream.specs.declared.encoding.item.Item.TheVariants.{Message}
 use Rattle.shared_core_stream.specs.Items.{SplitsInto}
 use Rattle.shared_core_message.specs.Schemas.{schema_at}
 use Rattle.stream_lines.specs.declared.report.Report.{Report}

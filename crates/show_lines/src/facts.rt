@@ -2,7 +2,8 @@
 
 ghost use Rattle.std.specs.Prelude.{◌≡◌};
 ghost use Rattle.shared_core_codec.specs.Payloads.{payload_meaning};
-ghost use Rattle.show_lines.specs.Contents.{has_failure, is_failure, number_in, number_part, role_of, value_fields};
+ghost use Rattle.show_lines.specs.Contents.{fails_as, has_failure, is_failure, number_in, number_part};
+ghost use Rattle.show_lines.specs.Contents.{role_of, value_fields};
 ghost use Rattle.show_lines.specs.Lines.{fields_facts, is_command, no_ids};
 ghost use Rattle.shared_core_fields.specs.Views.{field_part};
 
@@ -11,6 +12,9 @@ use shared_core_fields::fields::{CanonicalPayload, Field, FieldValue};
 
 /// The number of the schema of failures.
 pub const FAILURE: u32 = 2;
+
+/// The number of the schema of error messages.
+const ERROR: u32 = 13;
 
 /// What a message is for.
 #[derive(Clone, Copy, Debug, PartialEq, Eq, Drop)]
@@ -72,10 +76,10 @@ pub fn role_of(ty: MessageType) -> Role
 
 /// What is known of a message by its payload.
 pub fn facts_of(role: Role, payload: CanonicalPayload<'_>) -> Facts
-    ensures { result ≡ fields_facts role
+    ensures { result ≡ fields_facts role payload.entry.schema
         (value_fields payload.entry.schema (payload_meaning payload.entry.schema payload.entry.bytes.now)) }
 {
-    let is_failure = has_failure(payload);
+    let is_failure = is_failing(payload);
     match role {
         Role::Command => Facts {
             role,
@@ -116,8 +120,16 @@ fn number_of(field: &Field<'_>) -> Option<u32>
     }
 }
 
+/// Whether it is an error message, or one of its fields is a failure.
+pub fn is_failing(payload: CanonicalPayload<'_>) -> bool
+    ensures { result ≡ fails_as payload.entry.schema
+        (value_fields payload.entry.schema (payload_meaning payload.entry.schema payload.entry.bytes.now)) }
+{
+    payload.schema == ERROR || has_failure(payload)
+}
+
 /// Whether one of the fields is a failure.
-pub fn has_failure(payload: CanonicalPayload<'_>) -> bool
+fn has_failure(payload: CanonicalPayload<'_>) -> bool
     ensures { result ≡ has_failure
         (value_fields payload.entry.schema (payload_meaning payload.entry.schema payload.entry.bytes.now)) }
 {

@@ -55,7 +55,7 @@ pub enum State {
     Unknown,
     /// A message with an unassigned code, from version 9 on.
     Skipped,
-    /// Bytes that are in no item, which is never one.
+    /// Trailing bytes, which are never one.
     Rest,
 }
 

@@ -2,18 +2,18 @@
 #![tactic(auto)]
 
 mod contents;
-mod excerpt;
-mod facts;
+pub mod excerpt;
+pub mod facts;
 mod filter;
-mod held;
-mod line;
+pub mod held;
+pub mod line;
 mod matching;
 mod options;
 mod place;
 mod range;
 mod scratch;
 mod stream;
-mod waiting;
+pub mod waiting;
 
 pub use crate::filter::{Filter, FilterError, Word};
 pub use crate::options::Options;

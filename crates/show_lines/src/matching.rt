@@ -15,14 +15,13 @@ ghost use Rattle.show_lines.specs.Filter.{number_passes, numbers_pass, passes, s
 ghost use Rattle.show_lines.specs.Showing.{IsLong};
 ghost use Rattle.stream_lines.specs.Printing.{IsLack};
 
-use crate::facts::{Role, has_failure, role_of};
+use crate::facts::{Role, is_failing, role_of};
 use crate::filter::{State, Test, Word};
 use crate::held::{Held, Payloads};
 use crate::line::push_type;
 use crate::place::Place;
 use dump_lines::Canonicalizer;
 use hex::encode;
-use shared_core_base::header::MessageType;
 use shared_core_codec::utf8::as_text;
 use shared_core_fields::fields::{CanonicalPayload, Field, FieldValue};
 use shared_core_fields::runs::Run;
@@ -160,14 +159,12 @@ impl<'a> Sought<'a> {
         }
     }
 
-    /// Whether it is a message with a failure.
+    /// Whether it is an error message, or a message with a failure.
     fn fails(&self) -> bool
         ensures { result ≡ fails self.now.item.now (option_map held_view self.now.held) }
     {
         match (self.item, self.held) {
-            (Item::Message(message), Some(Held::Fields(payload))) => {
-                matches!(message.ty(), MessageType::Error) || has_failure(payload)
-            }
+            (Item::Message(_), Some(Held::Fields(payload))) => is_failing(payload),
             _ => false,
         }
     }

@@ -23,7 +23,7 @@ use crate::matching::Matcher;
 use crate::options::Options;
 use crate::place::Place;
 use crate::scratch::Scratch;
-use crate::waiting::{Coming, Waiting};
+use crate::waiting::{Named, Waiting};
 use dump_lines::Canonicalizer;
 use shared_core_io::{ItemBuffer, ReadError};
 use shared_core_stream::encoding::{Item, MessageTooLong};
@@ -264,21 +264,11 @@ impl Lines {
             joined,
             ..
         } = &mut self.scratch;
-        joined.clear();
-        invocation.clear();
-        invocation.push_str("the invocation id of ")?;
-        invocation.push_str(name.as_str())?;
-        let half = Coming {
-            is_command: facts.is_command(),
+        let item = Named {
             is_selected,
             text: name.as_str(),
         };
-        let first = Coming {
-            text: invocation.as_str(),
-            ..half
-        };
-        self.waiting.join(facts.invocation, first, joined)?;
-        self.waiting.join(facts.result, half, joined)
+        self.waiting.join_item(facts, item, joined, invocation)
     }
 
     /// Adds the line of the item whose parts are there.

@@ -6,9 +6,11 @@ ghost use Rattle.std.specs.BTreeMap.{insert_entry, is_at};
 ghost use Rattle.std.specs.Map.{remove_entry};
 ghost use Rattle.std.specs.Ordering.{nat_cmp};
 ghost use Rattle.std.specs.String.{string_bytes};
+ghost use Rattle.show_lines.specs.Lines.{joins, waiting_then};
 ghost use Rattle.show_lines.specs.Waiting.{coming_view, halves_view, half_view, joined, joined_text, open_line};
 ghost use Rattle.show_lines.specs.Waiting.{open_lines, other_half, waiting_after, waiting_with};
 
+use crate::facts::Facts;
 use std::alloc::{AllocError, Global};
 use std::collections::BTreeMap;
 
@@ -34,6 +36,15 @@ pub struct Coming<'a> {
     pub text: &'a str,
 }
 
+/// An item that was read.
+#[derive(Clone, Copy)]
+pub struct Named<'a> {
+    /// Whether it is one of those that may have lines.
+    pub is_selected: bool,
+    /// The text by which lines name it.
+    pub text: &'a str,
+}
+
 /// The halves that wait for their others, by the ids that both have. Its size is that of as many texts as there are
 /// ids without both.
 #[derive(Drop)]
@@ -51,6 +62,38 @@ impl Waiting {
             alloc,
             halves: BTreeMap::new(alloc),
         }
+    }
+
+    /// Overwrites `joined` with what the line of an item that was read says of its other halves. Each half that it is
+    /// waits, or its other half does no longer. `invocation` is a buffer that is overwritten.
+    pub fn join_item(
+        &mut self,
+        facts: &Facts,
+        item: Named<'_>,
+        joined: &mut String,
+        invocation: &mut String,
+    ) -> Result<(), AllocError>
+        ensures joined { OnOk result (string_bytes joined.new
+            ≡ joins item.entry.is_selected (halves_view self.old.halves.entries) facts.now item.entry.text.now) }
+        ensures waiting { OnOk result (halves_view self.new.halves.entries
+            ≡ waiting_then item.entry.is_selected (halves_view self.old.halves.entries) facts.now
+            item.entry.text.now) }
+    {
+        joined.clear();
+        invocation.clear();
+        invocation.push_str("the invocation id of ")?;
+        invocation.push_str(item.text)?;
+        let half = Coming {
+            is_command: facts.is_command(),
+            is_selected: item.is_selected,
+            text: item.text,
+        };
+        let first = Coming {
+            text: invocation.as_str(),
+            ..half
+        };
+        self.join(facts.invocation, first, joined)?;
+        self.join(facts.result, half, joined)
     }
 
     /// Appends what the line of a half that was read says of its other half. If it has an id, it waits, or its other

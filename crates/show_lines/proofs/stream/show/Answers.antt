@@ -11,7 +11,7 @@ use Rattle.stream_lines.specs.Printing.{Begins, IsLack, IsLongIn}
 use Rattle.stream_lines.specs.Steps.{holding}
 use Rattle.stream_lines.specs.declared.error.PrintError.TheVariants.{OutOfMemory}
 use Rattle.stream_lines.proofs.Progress.{all_decoded, filled, then_long}
-use Rattle.show_lines.specs.Lines.{last_lines, nothing_known, Known}
+use Rattle.show_lines.specs.Lines.{last_lines, Known}
 use Rattle.show_lines.specs.Showing.{IsLong}
 use Rattle.show_lines.specs.Steps.{known_by}
 use Rattle.show_lines.proofs.Progress.{ended_cut, ended_input, ended_lack, ended_long, ended_output, ended_whole}

@@ -1,4 +1,4 @@
-use Rattle.std.proofs.Common.{◌≡◌, ◌++◌, ◌∙◌, ℕ, List, ap, string_bytes}
+use Rattle.std.proofs.Common.{◌++◌, ◌∙◌, ap, string_bytes}
 use Rattle.std.specs.Prelude.{codes}
 use Rattle.shared_core_base.specs.declared.version.Version.{Version}
 use Rattle.show_lines.specs.Lines.{item_facts, item_name, place_after}

@@ -1,4 +1,4 @@
-use Rattle.std.proofs.Common.{◌≡◌, ◌≤◌, length}
+use Rattle.std.proofs.Common.{◌≡◌, length}
 use Rattle.shared_core_io.specs.Buffered.{held_in}
 use Rattle.stream_lines.specs.Steps.{holding}
 use Rattle.show_lines.specs.Steps.{Added, AreCounted, known_by}

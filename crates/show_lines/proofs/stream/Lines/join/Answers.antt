@@ -1,32 +1,10 @@
-use Rattle.std.proofs.Common.{◌≡◌, ◌++◌, ℕ, List, ap, ◌∙◌, string_bytes}
+use Rattle.std.proofs.Common.{◌∙◌, ap}
 use Rattle.std.proofs.lemmas.Result.{on_ok_weaker}
-use Rattle.std.specs.Prelude.{codes}
-use Rattle.show_lines.specs.Lines.{invocation_name}
+use Rattle.show_lines.specs.Lines.{joins}
 use Rattle.show_lines.specs.Steps.{waiting_of}
-use Rattle.show_lines.proofs.Joins.{joined_both, waiting_both}
 use Rattle.show_lines.proofs.stream.Lines.join.Goals as goal
 
 pub returns-clause-joined : goal.returns-clause-joined
-returns-clause-joined c =
-    let name = string_bytes c.args.self.now.scratch.name in
-    let named : c.as_str-3.result.now ≡ invocation_name name =
-    c.as_str-3.ensures.value ∙ c.in_ok-push_str-2.ensures.bytes
-    ∙ ap (λ (l : List ℕ). l ++ c.as_str.result.now) (c.in_ok-push_str.ensures.bytes
-    ∙ ap (λ (l : List ℕ). l ++ codes "the invocation id of ") c.clear-2.ensures.bytes)
-    ∙ ap (λ (l : List ℕ). codes "the invocation id of " ++ l) c.as_str.ensures.value in
-    on_ok_weaker c.join-2.result (λ line. joined_both (waiting_of c.args.self.now) c.args.facts.now
-    name c.is_command.result c.args.is_selected _ _ _ c.is_command.ensures named
-    c.as_str-2.ensures.value c.in_ok-join.ensures.waiting _ _ _ c.clear.ensures.bytes c.in_ok-join.ensures.line line)
-    c.join-2.ensures.line
-
-pub returns-clause-waiting : goal.returns-clause-waiting
-returns-clause-waiting c =
-    let name = string_bytes c.args.self.now.scratch.name in
-    let named : c.as_str-3.result.now ≡ invocation_name name =
-    c.as_str-3.ensures.value ∙ c.in_ok-push_str-2.ensures.bytes
-    ∙ ap (λ (l : List ℕ). l ++ c.as_str.result.now) (c.in_ok-push_str.ensures.bytes
-    ∙ ap (λ (l : List ℕ). l ++ codes "the invocation id of ") c.clear-2.ensures.bytes)
-    ∙ ap (λ (l : List ℕ). codes "the invocation id of " ++ l) c.as_str.ensures.value in
-    on_ok_weaker c.join-2.result (λ waits. waiting_both (waiting_of c.args.self.now)
-    c.args.facts.now name c.is_command.result c.args.is_selected _ _ _ c.is_command.ensures
-    named c.as_str-2.ensures.value c.in_ok-join.ensures.waiting _ waits) c.join-2.ensures.waiting
+returns-clause-joined c = on_ok_weaker c.join_item.result
+    (λ line. line ∙ ap (joins c.args.is_selected (waiting_of c.args.self.now) c.args.facts.now) c.as_str.ensures.value)
+    c.join_item.ensures.joined
