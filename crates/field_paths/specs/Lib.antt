@@ -1,0 +1,3 @@
+pub mod Getting
+pub mod Paths
+pub mod Values

@@ -1,0 +1,4 @@
+pub mod Counting
+pub mod Levels
+pub mod Longest
+pub mod Noting
