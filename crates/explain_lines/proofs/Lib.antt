@@ -1,0 +1,4 @@
+pub mod Explaining
+pub mod Going
+pub mod Records
+pub mod Shown
