@@ -319,6 +319,23 @@ def compact(value: object) -> str:
     return json.dumps(value, separators=(",", ":"))
 
 
+def of_dumps(check: checks.Check, diff: Program) -> None:
+    """Compares dumps as the streams that they are of."""
+    dump = Program(check, "journal_dump", "recorded")
+    others = ("recorded", "replayed_other_handler", "replayed_other_payload", "shifted")
+    for name in others:
+        pathlib.Path(f"{name}.jsonl").write_bytes(dump.run(name).out)
+    for other in others:
+        streams = diff.run(f"--all recorded {other}")
+        dumps = diff.run(f"--all --input dump recorded.jsonl {other}.jsonl")
+        is_same = (dumps.status, dumps.out, dumps.err) == (streams.status, streams.out, b"")
+        check.case(f"dumps of recorded and {other}", is_same, dumps)
+    pathlib.Path("bad.jsonl").write_bytes(pathlib.Path("recorded.jsonl").read_bytes() + b"{}\n")
+    diff.ends("--input dump recorded.jsonl bad.jsonl", "",
+              "journal_diff: bad.jsonl:7: neither a type nor a code\n", 2)
+    diff.ends("--input dump recorded recorded.jsonl", "", "journal_diff: recorded:1: not JSON at byte 0\n", 2)
+
+
 def main(check: checks.Check) -> None:
     diff = Program(check, "journal_diff", "recorded")
     go_to_streams(check, JOURNALS)
@@ -335,6 +352,7 @@ def main(check: checks.Check) -> None:
               " 4294967295 bytes of payload, more than the limit of 1048576\n", 2, given=b"\x04\0\0\0\xff\xff\xff\xff")
     aligned(check, diff)
     shortened(check, diff)
+    of_dumps(check, diff)
     # a value that has ' != ' itself
     run = diff.run("--color always unequal key")
     is_plain = run.status == 1 and run.out.endswith(b"\n   key: 'a != b' != 'c'\n")

@@ -101,8 +101,8 @@ MADE = {
 DUMPED = len((STREAMS / "replay.dump").read_bytes())
 IS_DUMP = "this is a dump; journal make turns it into a stream"
 IS_GZIP = "this is compressed; gzip -dc turns it into a stream"
-IS_HEX = "this looks like hexadecimal digits; xxd -r -p turns them into a stream"
-IS_BASE64 = "this looks like base64; base64 -d turns it into a stream"
+IS_HEX = "this looks like hexadecimal digits; --input hex reads them"
+IS_BASE64 = "this looks like base64; --input base64 reads it"
 ANYWAY = "it is dumped all the same; with --strict the status is 2"
 
 

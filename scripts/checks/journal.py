@@ -137,6 +137,42 @@ RUNS = {
         (("--help",), 0, ""),
         (("--version",), 0, ""),
     ),
+    "describe": (
+        ((), 0, ""),
+        (("--protocol", "9", "replay", "-"), 0, ""),
+        (("cut_short",), 0, ": offset 21: 8 bytes after the last whole item"),
+        (("--max-message=8", "recorded"), 1, ": InputCommand at offset 0: 9 bytes of payload, more than the limit"),
+        (("nothing", "replay"), 2, ": nothing: No such file or directory"),
+        (("--to", "1", "recorded"), 2, "unexpected argument '--to'"),
+        ((b"\xff",), 2, ": an argument is not UTF-8"),
+        (("--help",), 0, ""),
+        (("--version",), 0, ""),
+    ),
+    "get": (
+        (("-", "1", "value.content"), 0, ""),
+        (("--protocol", "9", "recorded", "2", "parameter"), 0, ""),
+        (("recorded", "2", "parametr"), 1, ": item 2: no field of it has the name 'parametr'; did you mean parameter?"),
+        (("recorded", "5", "value"), 1, ": no item 5: the stream ends before it"),
+        (("recorded", "last", "value"), 2, "ITEM is the index of an item, from 0"),
+        (("nothing", "0", "value"), 2, ": nothing: No such file or directory"),
+        (("recorded", "0"), 2, "the following required arguments were not provided:\n  <PATH>"),
+        ((b"\xff",), 2, ": an argument is not UTF-8"),
+        (("--help",), 0, ""),
+        (("--version",), 0, ""),
+    ),
+    "explain": (
+        ((), 0, ""),
+        (("--at", "0", "--raw", "--protocol=9", "recorded"), 0, ""),
+        (("cut_short",), 0, ""),
+        (("--at", "999999", "recorded"), 1, ": no byte at 999999: the stream has "),
+        (("--at", "-1", "recorded"), 2, "error: "),
+        (("--at", "x", "recorded"), 2, "--at takes the offset of a byte, from 0"),
+        (("--max-message=8", "recorded"), 1, ": InputCommand at offset 0: 9 bytes of payload, more than the limit"),
+        (("nothing",), 2, ": nothing: No such file or directory"),
+        (("replay", "3"), 2, "unexpected argument '3'"),
+        (("--help",), 0, ""),
+        (("--version",), 0, ""),
+    ),
     "schema": (
         (("/dev/null",), 0, ""),
         (("nothing",), 2, ": nothing: No such file or directory"),
@@ -228,7 +264,7 @@ class Journal:
         self.check.case("journal --help in 80 columns", checks.is_narrow(ended.out), ended)
         named = re.findall(r"^  (\w+)  ", ended.out.decode(), re.M)
         linked = [name.removeprefix("journal_") for name in crates.LINKS]
-        unlinked = ["cut", "cat", "redact", "schema", "help"]
+        unlinked = ["cut", "cat", "redact", "describe", "get", "explain", "schema", "help"]
         self.check.same("the subcommands, and the links to some", ["list", *linked, *unlinked], named)
         installed = checks.run(["sh", "-c", ". scripts/up_to_date.sh && echo $links"], cwd=checks.ROOT)
         self.check.same("the links that are installed", list(crates.LINKS), installed.out.decode().split())

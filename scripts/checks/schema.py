@@ -1,9 +1,9 @@
 #!/usr/bin/env python3
-"""journal schema and journal dump --schema on the descriptions of other runtimes, and on what is not a descriptor set.
+"""journal schema, and journal dump and make with --schema, on descriptions of other runtimes and on what is not a set.
 
 protoc makes a set of each .proto file of tests/adopt, and of the protocol's own. The tables are next to those files.
 protoc also makes payloads by those files. Protobuf prints the same of random payloads of all message types, by a
-description that has other numbers; for this, Python's protobuf is needed.
+description that has other numbers; for this, Python's protobuf is needed. Each dump is made again as the same bytes.
 """
 from __future__ import annotations
 
@@ -80,9 +80,18 @@ def frame_of(code: int, payload: bytes) -> bytes:
     return code.to_bytes(2, "big") + bytes(2) + len(payload).to_bytes(4, "big") + payload
 
 
+def block(number: int, content: bytes) -> bytes:
+    """The record of a short content."""
+    return bytes([8 * number + 2, len(content)]) + content
+
+
 def shown_by(program: Program, words: str, code: int, payload: bytes) -> dict[str, object]:
-    """The members that a dump has of a payload."""
-    run = program.run(f"dump --strict {words}", frame_of(code, payload))
+    """The members that a dump has of a payload, if it is made again as the same bytes."""
+    frame = frame_of(code, payload)
+    run = program.run(f"dump --strict {words}", frame)
+    made = program.run(f"make {words}", run.out)
+    if made != checks.Run(0, frame, b""):
+        return {"dump": str(run), "made": str(made)}
     lines = run.out.splitlines() if run.status == 0 and not run.err else []
     line = json.loads(lines[0]) if len(lines) == 2 else {"run": str(run)}
     return {key: value for key, value in line.items() if key not in ("offset", "type", "code", "length")}
@@ -143,9 +152,26 @@ def not_dumped(check: checks.Check, program: Program) -> None:
     hint = "a text, and not a descriptor set, which this makes of a .proto file"
     said = f"journal dump: {text}: {hint}: protoc --include_imports -o schema.binpb {text}\n"
     program.ends(f"dump --schema {text}", "", said, 2, what="a .proto file")
-    both = program.run("dump --schema - -")
-    is_said = b"either the stream or the descriptor set can come from the standard input" in both.err
-    check.case("journal dump --schema - -", both.status == 2 and not both.out and is_said, both)
+    for word, what in (("dump", b"stream"), ("make", b"lines")):
+        both = program.run(f"{word} --schema - -")
+        is_said = b"either the %s or the descriptor set can come from the standard input" % what in both.err
+        check.case(f"journal {word} --schema - -", both.status == 2 and not both.out and is_said, both)
+
+
+def not_made(check: checks.Check, program: Program) -> None:
+    """A line that means nothing by a set, one of a malformed payload, and a set by which no JSON is read."""
+    words = f"make --schema {check.work}/other.set"
+    malformed = b'{"type":"OutputCommand","malformed":true,"bytes":"CgE="}\n'
+    program.ends(words, frame_of(0x0401, b"\x0a\1"), given=malformed, what="malformed")
+    wrong = b'{"type":"SleepCommand","message":{"wakeUp":1}}\n'
+    said = "journal make: -:1: message.wakeUp: unknown member\n"
+    program.ends(words, "", said, 1, given=wrong, what="unknown member")
+    fields = (block(1, b"a%d" % n) + bytes([0x18, n, 0x20, 1, 0x28, 13]) + block(10, b"a") for n in (1, 2))
+    message = block(1, b"m") + b"".join(block(2, field) for field in fields)
+    shared = check.work / "shared.set"
+    shared.write_bytes(block(1, block(1, b"f") + block(4, message) + block(12, b"proto3")))
+    said = f"journal make: {shared}: f: m: a key in JSON is a name of two fields\n"
+    program.ends(f"make --schema {shared}", "", said, 2, what="two fields of one name")
 
 
 def main(check: checks.Check) -> None:
@@ -172,6 +198,7 @@ def main(check: checks.Check) -> None:
     schema.ends("schema", "", "journal schema: -: f: m: malformed\n", 2, given=wrong, what="no UTF-8")
     dumped(check, schema)
     not_dumped(check, schema)
+    not_made(check, schema)
     random_payloads(check, schema)
 
 

@@ -140,7 +140,7 @@ CASES: tuple[tuple[str, str, *tuple[str, ...]], ...] = (
     ("--commands failed", "".join(FAILED[:3]) + SLEEPS),
     ("--failures failed", FAILED[4]),
     ("--failures --commands failed", ""),
-    ("--failures odd", ODD[0]),
+    ("--failures odd", ODD[0] + ODD[2]),
     ("--failures --open odd", ""),
     ("--open failed", SLEEPS),
     ("--open --commands --from 1 --to 1 failed", SLEEPS),
@@ -179,14 +179,13 @@ def filters(check: checks.Check, show: Program) -> None:
     """Compares what each filter of examples/filters.txt finds."""
     for stream, cases in filter_cases.cases():
         for words, found in cases:
-            # with an equals sign words may begin with a minus sign
-            ended = show.run((f"--where={words}", "-"), stream)
+            ended = show.run(("--where", words, "-"), stream)
             shown = re.findall(r"^(open (?:[a-z ]+ of )?)?#(\d+) ", ended.out.decode(), re.MULTILINE)
             wanted = "is:open" in words
             indices = [int(index) for is_open, index in shown if bool(is_open) == wanted]
             check.case(f"--where {words}", ended.status == 0 and indices == found, ended)
     for words, said in WRONG:
-        ended = show.run((f"--where={words}",), b"")
+        ended = show.run(("--where", words), b"")
         check.case(f"--where {words}", ended.status == 2 and said in ended.err.decode(), ended)
 
 

@@ -2,7 +2,7 @@
 use Rattle.std.specs.Prelude.{List, ℕ, codes}
 use Rattle.journal.specs.declared.subcommand.Subcommand.{Subcommand}
 use Rattle.journal.specs.declared.subcommand.Subcommand.TheVariants.{List as Listing, Dump, Make, Diff, Show}
-use Rattle.journal.specs.declared.subcommand.Subcommand.TheVariants.{Cut, Cat, Schema, Redact}
+use Rattle.journal.specs.declared.subcommand.Subcommand.TheVariants.{Cut, Cat, Schema, Redact, Describe, Get, Explain}
 
 -- The name of a subcommand.
 abbrev pub subcommand_name : Subcommand → List ℕ
@@ -15,3 +15,6 @@ subcommand_name Cut = codes "cut"
 subcommand_name Cat = codes "cat"
 subcommand_name Schema = codes "schema"
 subcommand_name Redact = codes "redact"
+subcommand_name Describe = codes "describe"
+subcommand_name Get = codes "get"
+subcommand_name Explain = codes "explain"

@@ -81,10 +81,10 @@ fn hint(first: &[u8]) -> Option<&'static str> {
     }
     // a header has zeros, which are the digit 0, and the letter A in base64
     if first.iter().all(|byte| byte.is_ascii_hexdigit()) && first.contains(&b'0') {
-        return Some("this looks like hexadecimal digits; xxd -r -p turns them into a stream");
+        return Some("this looks like hexadecimal digits; --input hex reads them");
     }
     if first.iter().all(|byte| is_base64(*byte)) {
-        return Some("this looks like base64; base64 -d turns it into a stream");
+        return Some("this looks like base64; --input base64 reads it");
     }
     None
 }

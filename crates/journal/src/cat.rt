@@ -8,7 +8,8 @@ use crate::call::Call;
 use crate::definitions;
 use crate::parts::File;
 use clap::Error;
-use command_line::{Pipe, max_message_of, protocol_of};
+use command_line::{Pipe, encoding_of, max_message_of, protocol_of};
+use encoded_input::Encoding;
 use shared_core::encoding::RawMessage;
 use shared_core_base::version::Version;
 use std::alloc::{AllocError, Global};
@@ -25,6 +26,8 @@ struct Arguments<'a> {
     version: Version,
     /// The greatest length of a payload that is taken.
     limit: u32,
+    /// How the files are written, if they are text.
+    encoding: Option<Encoding>,
 }
 
 impl<'a> Arguments<'a> {
@@ -37,6 +40,7 @@ impl<'a> Arguments<'a> {
             path,
             version: self.version,
             limit: self.limit,
+            encoding: self.encoding,
         }
     }
 }
@@ -49,7 +53,7 @@ fn parse_arguments<'a>(
 ) -> Result<Arguments<'a>, Error>
     ensures { IfOk result (λ parsed. 5 ≤ version_number parsed.version) }
 {
-    let mut command = definitions::cat(alloc, name)?.no_binary_name(true);
+    let mut command = definitions::CAT.command(alloc, name)?.no_binary_name(true);
     let matches = command.try_get_matches_from_mut(words)?;
     let limit = max_message_of(&mut command, &matches)?;
     let mut paths = Vec::new(alloc);
@@ -60,6 +64,7 @@ fn parse_arguments<'a>(
         paths,
         version: protocol_of(&matches),
         limit,
+        encoding: encoding_of(&matches),
     })
 }
 

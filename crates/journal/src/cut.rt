@@ -9,7 +9,7 @@ use crate::definitions;
 use crate::parts::{File, LACKING};
 use clap::error::ErrorKind;
 use clap::{ArgMatches, Command, Error};
-use command_line::{Pipe, fail, max_message_of, protocol_of};
+use command_line::{Pipe, encoding_of, fail, max_message_of, protocol_of};
 use std::alloc::Global;
 use std::io::IsTerminal;
 use std::process::ExitCode;
@@ -66,7 +66,7 @@ fn parse_arguments<'a>(
 ) -> Result<Arguments<'a>, Error>
     ensures { IfOk result (λ parsed. 5 ≤ version_number parsed.file.version) }
 {
-    let mut command = definitions::cut(alloc, name)?.no_binary_name(true);
+    let mut command = definitions::CUT.command(alloc, name)?.no_binary_name(true);
     let matches = command.try_get_matches_from_mut(words)?;
     let limit = max_message_of(&mut command, &matches)?;
     let range = range_of(&mut command, &matches)?;
@@ -75,6 +75,7 @@ fn parse_arguments<'a>(
             path: matches.get_str("file").unwrap_or("-"),
             version: protocol_of(&matches),
             limit,
+            encoding: encoding_of(&matches),
         },
         range,
     })

@@ -10,7 +10,7 @@ use crate::beginning::{Beginning, Begun};
 use crate::call::Call;
 use crate::diff::arguments::{Arguments, ValuesChoice, parse_arguments};
 use crate::diff::inputs::{Inputs, closed_side, open_both};
-use command_line::{Pipe, Progress, Watched, has_color};
+use command_line::{Decoding, Pipe, Progress, has_color};
 use diff_lines::{
     DiffError, DiffOptions, Findings, Form, Look, Names, Trouble, diff, empty_note, no_item_note,
     rest_note, unknown_note,
@@ -134,7 +134,7 @@ fn run_parsed(call: &Call<'_>, parsed: &Arguments<'_>, inputs: Inputs) -> ExitCo
             parsed.version,
             parsed.limit,
             Begun::new(
-                Watched::new(inputs.recorded, &progress),
+                Decoding::new(inputs.recorded, parsed.encoding, &progress),
                 &beginnings.recorded,
             ),
         ),
@@ -143,7 +143,7 @@ fn run_parsed(call: &Call<'_>, parsed: &Arguments<'_>, inputs: Inputs) -> ExitCo
             parsed.version,
             parsed.limit,
             Begun::new(
-                Watched::new(inputs.replayed, &progress),
+                Decoding::new(inputs.replayed, parsed.encoding, &progress),
                 &beginnings.replayed,
             ),
         ),

@@ -12,7 +12,7 @@ use crate::call::Call;
 use crate::descriptors::{fail_descriptors, read_descriptors};
 use crate::dump::arguments::{Arguments, parse_arguments};
 pub use crate::dump::canonical::Records;
-use command_line::{Input, Pipe, Progress, Watched, input_size, note};
+use command_line::{Decoding, Input, Pipe, Progress, input_size, note};
 use descriptor_set::named_table_of;
 use dump_lines::{
     MOST_SHOWN, MessageTable, Options, OtherTable, ProtocolTable, dump, dump_on_terminal,
@@ -102,7 +102,7 @@ fn run_parsed<M: MessageTable>(
     };
     let progress = Progress::beside_output(call.rt, call.name, input_size(&input));
     let beginning = Beginning::new();
-    let mut input = Begun::new(Watched::new(input, &progress), &beginning);
+    let mut input = Begun::new(Decoding::new(input, parsed.encoding, &progress), &beginning);
     let is_terminal = call.rt.stdout().is_terminal();
     let mut output = Pipe::new(Escaping::new(
         call.rt.alloc(),

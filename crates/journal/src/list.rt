@@ -7,7 +7,10 @@ use crate::beginning::{Beginning, Begun};
 use crate::call::Call;
 use crate::definitions;
 use clap::Error;
-use command_line::{Input, Pipe, Progress, Watched, input_size, max_message_of, protocol_of};
+use command_line::{
+    Decoding, Input, Pipe, Progress, encoding_of, input_size, max_message_of, protocol_of,
+};
+use encoded_input::Encoding;
 use list_lines::{Options, list};
 use shared_core_base::version::Version;
 use std::alloc::Global;
@@ -26,6 +29,8 @@ struct Arguments<'a> {
     version: Version,
     /// The greatest length of a payload that is taken.
     limit: u32,
+    /// How the file is written, if it is text.
+    encoding: Option<Encoding>,
 }
 
 /// Parses the arguments. The error is an invalid argument, or a request for the help or the version.
@@ -36,13 +41,14 @@ fn parse_arguments<'a>(
 ) -> Result<Arguments<'a>, Error>
     ensures { IfOk result (λ parsed. 5 ≤ version_number parsed.version) }
 {
-    let mut command = definitions::list(alloc, name)?.no_binary_name(true);
+    let mut command = definitions::LIST.command(alloc, name)?.no_binary_name(true);
     let matches = command.try_get_matches_from_mut(words)?;
     let limit = max_message_of(&mut command, &matches)?;
     Ok(Arguments {
         path: matches.get_str("file").unwrap_or("-"),
         version: protocol_of(&matches),
         limit,
+        encoding: encoding_of(&matches),
     })
 }
 
@@ -65,7 +71,7 @@ fn run_parsed(call: &Call<'_>, parsed: &Arguments<'_>, input: Input) -> ExitCode
     };
     let progress = Progress::beside_output(call.rt, call.name, input_size(&input));
     let beginning = Beginning::new();
-    let mut input = Begun::new(Watched::new(input, &progress), &beginning);
+    let mut input = Begun::new(Decoding::new(input, parsed.encoding, &progress), &beginning);
     let mut output = Pipe::new(call.rt.stdout());
     let listed = list(call.rt.alloc(), &options, &mut input, &mut output);
     progress.clear();

@@ -1,5 +1,5 @@
-//! Lists, shows, prints, makes, compares, cuts, joins and redacts journals: a program with a subcommand for each. If it
-//! is called by a subcommand's name, as `journal_dump`, it is only that subcommand.
+//! Lists, shows, describes, explains, prints, makes, compares, cuts, joins and redacts journals: a program with a
+//! subcommand for each. If it is called by a subcommand's name, as `journal_dump`, it is only that subcommand.
 #![tactic(auto)]
 
 mod beginning;
@@ -7,19 +7,23 @@ mod call;
 mod cat;
 mod cut;
 mod definitions;
+mod describe;
 mod descriptors;
 mod diff;
 mod dump;
+mod explain;
+mod get;
 mod list;
 mod make;
 mod parts;
 mod redact;
 mod schema;
 mod show;
+mod similar;
 mod subcommand;
 
 use crate::call::Call;
-use crate::subcommand::{Asked, Subcommand};
+use crate::subcommand::{Asked, Subcommand, program};
 use clap::Error;
 use clap::error::ErrorKind;
 use command_line::{ArgumentsError, fail, read_arguments, report};
@@ -54,13 +58,16 @@ fn run(call: &Call<'_>, subcommand: Subcommand) -> ExitCode {
         Subcommand::Cat => cat::run(call),
         Subcommand::Schema => schema::run(call),
         Subcommand::Redact => redact::run(call),
+        Subcommand::Describe => describe::run(call),
+        Subcommand::Get => get::run(call),
+        Subcommand::Explain => explain::run(call),
     }
 }
 
 /// Why the arguments name no subcommand; the first argument is the program's path. Or their request for the help or the
 /// version.
 fn why_none(alloc: Global, arguments: &[String]) -> Result<Error, Error> {
-    let mut command = definitions::journal(alloc)?;
+    let mut command = program(alloc, PROGRAM)?;
     command.try_get_matches_from_mut(arguments)?;
     // its definition has the subcommands that are looked for before this
     Ok(command.error(ErrorKind::MissingSubcommand, "a subcommand comes first")?)

@@ -2,10 +2,15 @@
 
 use crate::call::Call;
 use crate::definitions;
+use crate::descriptors::{fail_descriptors, read_descriptors};
 use clap::Error;
+use clap::error::ErrorKind;
 use command_line::{Input, Pipe, Progress, Watched, fail, input_size, protocol_of};
-use make_lines::{MakeError, make};
+use descriptor_set::readable_table_of;
+use make_lines::{LineTable, MakeError, OtherLines, make};
+use schema_lines::schemas_of;
 use shared_core_base::version::Version;
+use shared_core_codec::any_table::ProtocolSchemas;
 use std::alloc::Global;
 use std::io::{IsTerminal, Stdout};
 use std::process::ExitCode;
@@ -15,6 +20,9 @@ use std::process::ExitCode;
 struct Arguments<'a> {
     /// The path of the lines, or `-` for the standard input.
     path: &'a str,
+    /// The path of the descriptor set by which messages are read, or `-` for the standard input; `None` for the
+    /// protocol's own description.
+    schema: Option<&'a str>,
     /// The version of the protocol.
     version: Version,
 }
@@ -25,10 +33,19 @@ fn parse_arguments<'a>(
     name: &'static str,
     words: &'a [String],
 ) -> Result<Arguments<'a>, Error> {
-    let command = definitions::make(alloc, name)?.no_binary_name(true);
-    let matches = command.try_get_matches_from(words)?;
+    let mut command = definitions::MAKE.command(alloc, name)?.no_binary_name(true);
+    let matches = command.try_get_matches_from_mut(words)?;
+    let path = matches.get_str("file").unwrap_or("-");
+    let schema = matches.get_str("schema");
+    if path == "-" && schema == Some("-") {
+        return Err(command.error(
+            ErrorKind::ArgumentConflict,
+            "either the lines or the descriptor set can come from the standard input",
+        )?);
+    }
     Ok(Arguments {
-        path: matches.get_str("file").unwrap_or("-"),
+        path,
+        schema,
         version: protocol_of(&matches),
     })
 }
@@ -55,15 +72,56 @@ fn end(
     }
 }
 
-/// Makes the stream of the input, and returns the status.
-fn run_parsed(call: &Call<'_>, parsed: &Arguments<'_>, input: Input) -> ExitCode {
+/// Makes the stream of the input, whose messages are read by a table, and returns the status.
+fn run_parsed<M: LineTable>(
+    call: &Call<'_>,
+    parsed: &Arguments<'_>,
+    messages: &M,
+    input: Input,
+) -> ExitCode {
     let rt = call.rt;
     let progress = Progress::beside_output(rt, call.name, input_size(&input));
     let mut input = Watched::new(input, &progress);
     let mut output = Pipe::new(rt.stdout());
-    let made = make(rt.alloc(), parsed.version, &mut input, &mut output);
+    let made = make(
+        rt.alloc(),
+        parsed.version,
+        messages,
+        &mut input,
+        &mut output,
+    );
     progress.clear();
     end(call, parsed.path, made, &output)
+}
+
+/// Opens the lines, makes the stream by a table, and returns the status.
+fn run_by<M: LineTable>(call: &Call<'_>, parsed: &Arguments<'_>, messages: &M) -> ExitCode {
+    match call.open(parsed.path) {
+        Ok(input) => run_parsed(call, parsed, messages, input),
+        Err(error) => call.fail(error, 2),
+    }
+}
+
+/// Makes the stream by the descriptor set of a file, and returns the status.
+fn run_by_set(call: &Call<'_>, parsed: &Arguments<'_>, path: &str) -> ExitCode {
+    let alloc = call.rt.alloc();
+    let set = match read_descriptors(call, path) {
+        Ok(set) => set,
+        Err(status) => return status,
+    };
+    let table = match readable_table_of(alloc, &set) {
+        Ok(table) => table,
+        Err(error) => return fail_descriptors(call, path, error),
+    };
+    let schemas = match schemas_of(alloc, &set) {
+        Ok(schemas) => schemas,
+        Err(error) => return call.fail(error, call.failure),
+    };
+    let messages = OtherLines {
+        table: &table,
+        schemas: schemas.as_slice(),
+    };
+    run_by(call, parsed, &messages)
 }
 
 /// Parses the arguments, makes the stream, and returns the status.
@@ -75,8 +133,8 @@ pub fn run(call: &Call<'_>) -> ExitCode {
     if call.rt.stdout().is_terminal() {
         return call.fail("the stream is not written to a terminal: redirect it", 2);
     }
-    match call.open(parsed.path) {
-        Ok(input) => run_parsed(call, &parsed, input),
-        Err(error) => call.fail(error, 2),
+    match parsed.schema {
+        Some(path) => run_by_set(call, &parsed, path),
+        None => run_by(call, &parsed, &ProtocolSchemas),
     }
 }

@@ -8,7 +8,8 @@ mod announcing;
 use crate::beginning::{Beginning, Begun};
 use crate::call::Call;
 use crate::parts::announcing::announcing;
-use command_line::{Input, Pipe, Progress, Watched, fail, input_size, note};
+use command_line::{Decoding, Input, Pipe, Progress, fail, input_size, note};
+use encoded_input::Encoding;
 use shared_core::encoding::RawMessage;
 use shared_core_base::version::Version;
 use std::io::Stdout;
@@ -31,6 +32,8 @@ pub struct File<'a> {
     pub version: Version,
     /// The greatest length of a payload that is taken.
     pub limit: u32,
+    /// How it is written, if it is text.
+    pub encoding: Option<Encoding>,
 }
 
 impl<'a> File<'a> {
@@ -62,7 +65,7 @@ impl<'a> File<'a> {
         };
         let progress = Progress::beside_output(call.rt, call.name, input_size(&input));
         let beginning = Beginning::new();
-        let mut input = Begun::new(Watched::new(input, &progress), &beginning);
+        let mut input = Begun::new(Decoding::new(input, self.encoding, &progress), &beginning);
         let located = locate(call.rt.alloc(), &options, range, &mut input);
         progress.clear();
         self.check(call, &beginning, located)
@@ -134,7 +137,7 @@ impl<'a> File<'a> {
     ) -> Result<(), ExitCode> {
         let input = self.open(call)?;
         let progress = Progress::beside_output(call.rt, call.name, input_size(&input));
-        let mut input = Watched::new(input, &progress);
+        let mut input = Decoding::new(input, self.encoding, &progress);
         let copied = copy_part(call.rt.alloc(), part, &mut input, output);
         progress.clear();
         let path = self.path;

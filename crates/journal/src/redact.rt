@@ -8,8 +8,10 @@ use crate::call::Call;
 use crate::definitions;
 use clap::Error;
 use command_line::{
-    Input, Pipe, Progress, Watched, fail, input_size, max_message_of, note, protocol_of,
+    Decoding, Input, Pipe, Progress, encoding_of, fail, input_size, max_message_of, note,
+    protocol_of,
 };
+use encoded_input::Encoding;
 use shared_core_base::version::Version;
 use std::alloc::Global;
 use std::io::{IsTerminal, Read};
@@ -38,6 +40,8 @@ struct Arguments<'a> {
     version: Version,
     /// The greatest length of a payload that is taken.
     limit: u32,
+    /// How the file is written, if it is text.
+    encoding: Option<Encoding>,
 }
 
 /// Parses the arguments. The error is an invalid argument, or a request for the help or the version.
@@ -48,7 +52,9 @@ fn parse_arguments<'a>(
 ) -> Result<Arguments<'a>, Error>
     ensures { IfOk result (λ parsed. 5 ≤ version_number parsed.version) }
 {
-    let mut command = definitions::redact(alloc, name)?.no_binary_name(true);
+    let mut command = definitions::REDACT
+        .command(alloc, name)?
+        .no_binary_name(true);
     let matches = command.try_get_matches_from_mut(words)?;
     let limit = max_message_of(&mut command, &matches)?;
     Ok(Arguments {
@@ -56,6 +62,7 @@ fn parse_arguments<'a>(
         secret: matches.get_str("key"),
         version: protocol_of(&matches),
         limit,
+        encoding: encoding_of(&matches),
     })
 }
 
@@ -102,14 +109,19 @@ fn end(call: &Call<'_>, version: Version, beginning: &Beginning, found: &Report)
 }
 
 /// Writes the input with its contents replaced, and returns the status.
-fn run_with(call: &Call<'_>, options: &Options, input: Input) -> ExitCode
+fn run_with(
+    call: &Call<'_>,
+    options: &Options,
+    encoding: Option<Encoding>,
+    input: Input,
+) -> ExitCode
     requires version { 5 ≤ version_number options.now.version }
     requires low { 1 ≤ options.now.chunk_size }
     requires high { options.now.chunk_size ≤ 65536 }
 {
     let progress = Progress::beside_output(call.rt, call.name, input_size(&input));
     let beginning = Beginning::new();
-    let mut input = Begun::new(Watched::new(input, &progress), &beginning);
+    let mut input = Begun::new(Decoding::new(input, encoding, &progress), &beginning);
     let mut output = Pipe::new(call.rt.stdout());
     let written = redact(call.rt.alloc(), options, &mut input, &mut output);
     progress.clear();
@@ -141,7 +153,7 @@ pub fn run(call: &Call<'_>) -> ExitCode {
         key,
     };
     match call.open(parsed.path) {
-        Ok(input) => run_with(call, &options, input),
+        Ok(input) => run_with(call, &options, parsed.encoding, input),
         Err(error) => call.fail(error, 2),
     }
 }

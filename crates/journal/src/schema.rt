@@ -24,7 +24,9 @@ fn parse_arguments<'a>(
     name: &'static str,
     words: &'a [String],
 ) -> Result<Arguments<'a>, Error> {
-    let command = definitions::schema(alloc, name)?.no_binary_name(true);
+    let command = definitions::SCHEMA
+        .command(alloc, name)?
+        .no_binary_name(true);
     let matches = command.try_get_matches_from(words)?;
     Ok(Arguments {
         path: matches.get_str("file").unwrap_or("-"),

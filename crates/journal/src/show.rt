@@ -9,7 +9,10 @@ use crate::definitions;
 use crate::dump::Records;
 use clap::error::ErrorKind;
 use clap::{ArgMatches, Command, Error};
-use command_line::{Input, Pipe, Progress, Watched, input_size, max_message_of, note, protocol_of};
+use command_line::{
+    Decoding, Input, Pipe, Progress, encoding_of, input_size, max_message_of, note, protocol_of,
+};
+use encoded_input::Encoding;
 use shared_core_base::version::Version;
 use show_lines::{Filter, Options, show};
 use std::alloc::Global;
@@ -23,6 +26,8 @@ struct Arguments<'a> {
     path: &'a str,
     version: Version,
     limit: u32,
+    /// How the file is written, if it is text.
+    encoding: Option<Encoding>,
     /// The indices of the first and the last item that have lines.
     from: u64,
     to: u64,
@@ -59,7 +64,7 @@ fn parse_arguments<'a>(
 ) -> Result<Arguments<'a>, Error>
     ensures { IfOk result (λ parsed. 5 ≤ version_number parsed.version) }
 {
-    let mut command = definitions::show(alloc, name)?.no_binary_name(true);
+    let mut command = definitions::SHOW.command(alloc, name)?.no_binary_name(true);
     let matches = command.try_get_matches_from_mut(words)?;
     let limit = max_message_of(&mut command, &matches)?;
     let from = index_of(&mut command, &matches, "from", 0)?;
@@ -75,6 +80,7 @@ fn parse_arguments<'a>(
         path: matches.get_str("file").unwrap_or("-"),
         version: protocol_of(&matches),
         limit,
+        encoding: encoding_of(&matches),
         from,
         to,
         commands: matches.get_flag("commands"),
@@ -121,14 +127,15 @@ fn end(call: &Call<'_>, version: Version, beginning: &Beginning, found: &Report)
 }
 
 /// Shows the input, and returns the status.
-fn run_parsed(call: &Call<'_>, options: &Options<'_>, input: Input) -> ExitCode
-    requires { 5 ≤ version_number options.now.version }
+fn run_parsed(call: &Call<'_>, parsed: &Arguments<'_>, input: Input) -> ExitCode
+    requires { 5 ≤ version_number parsed.now.version }
 {
+    let options = parsed.options();
     let progress = Progress::beside_output(call.rt, call.name, input_size(&input));
     let beginning = Beginning::new();
-    let mut input = Begun::new(Watched::new(input, &progress), &beginning);
+    let mut input = Begun::new(Decoding::new(input, parsed.encoding, &progress), &beginning);
     let mut output = Pipe::new(call.rt.stdout());
-    let shown = show(call.rt.alloc(), options, &Records, &mut input, &mut output);
+    let shown = show(call.rt.alloc(), &options, &Records, &mut input, &mut output);
     progress.clear();
     match shown {
         Ok(found) => end(call, options.version, &beginning, &found),
@@ -145,7 +152,7 @@ pub fn run(call: &Call<'_>) -> ExitCode {
         Err(error) => return call.report(&error),
     };
     match call.open(parsed.path) {
-        Ok(input) => run_parsed(call, &parsed.options(), input),
+        Ok(input) => run_parsed(call, &parsed, input),
         Err(error) => call.fail(error, 2),
     }
 }

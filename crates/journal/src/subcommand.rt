@@ -1,5 +1,26 @@
 //! The subcommands, and how each is asked for.
 
+use crate::definitions;
+use clap::Command;
+use command_line::Definition;
+use std::alloc::{AllocError, Global};
+
+/// The subcommands, in the order of the help.
+static SUBCOMMANDS: [Subcommand; 12] = [
+    Subcommand::List,
+    Subcommand::Dump,
+    Subcommand::Make,
+    Subcommand::Diff,
+    Subcommand::Show,
+    Subcommand::Cut,
+    Subcommand::Cat,
+    Subcommand::Redact,
+    Subcommand::Describe,
+    Subcommand::Get,
+    Subcommand::Explain,
+    Subcommand::Schema,
+];
+
 /// What the program does.
 #[derive(Clone, Copy, Debug, PartialEq, Eq, Drop)]
 pub enum Subcommand {
@@ -21,6 +42,12 @@ pub enum Subcommand {
     Schema,
     /// Replaces the contents of a journal.
     Redact,
+    /// Describes journals.
+    Describe,
+    /// Writes a field of an item.
+    Get,
+    /// Explains the bytes of a stream.
+    Explain,
 }
 
 impl Subcommand {
@@ -43,8 +70,56 @@ impl Subcommand {
             "cat" => Some(Subcommand::Cat),
             "schema" => Some(Subcommand::Schema),
             "redact" => Some(Subcommand::Redact),
+            "describe" => Some(Subcommand::Describe),
+            "get" => Some(Subcommand::Get),
+            "explain" => Some(Subcommand::Explain),
             _ => None,
         }
+    }
+
+    /// The name of this subcommand.
+    fn word(self) -> &'static str
+        ensures { result.now ≡ subcommand_name self }
+    {
+        match self {
+            Subcommand::List => "list",
+            Subcommand::Dump => "dump",
+            Subcommand::Make => "make",
+            Subcommand::Diff => "diff",
+            Subcommand::Show => "show",
+            Subcommand::Cut => "cut",
+            Subcommand::Cat => "cat",
+            Subcommand::Schema => "schema",
+            Subcommand::Redact => "redact",
+            Subcommand::Describe => "describe",
+            Subcommand::Get => "get",
+            Subcommand::Explain => "explain",
+        }
+    }
+
+    /// The definition of its command line.
+    fn definition(self) -> &'static Definition {
+        match self {
+            Subcommand::List => &definitions::LIST,
+            Subcommand::Dump => &definitions::DUMP,
+            Subcommand::Make => &definitions::MAKE,
+            Subcommand::Diff => &definitions::DIFF,
+            Subcommand::Show => &definitions::SHOW,
+            Subcommand::Cut => &definitions::CUT,
+            Subcommand::Cat => &definitions::CAT,
+            Subcommand::Schema => &definitions::SCHEMA,
+            Subcommand::Redact => &definitions::REDACT,
+            Subcommand::Describe => &definitions::DESCRIBE,
+            Subcommand::Get => &definitions::GET,
+            Subcommand::Explain => &definitions::EXPLAIN,
+        }
+    }
+
+    /// Its command for clap, by its name.
+    fn command<'a>(self, alloc: Global) -> Result<Command<'a>, AllocError> {
+        // the borrow checker wants the name shortened before it is in the command
+        let word: &'a str = self.word();
+        self.definition().command(alloc, word)
     }
 
     /// The subcommand that the program of this path is: that whose name is after `journal_` in the last component.
@@ -56,7 +131,8 @@ impl Subcommand {
         };
         match Subcommand::named(name.strip_prefix("journal_")?)? {
             Subcommand::List | Subcommand::Cut | Subcommand::Cat | Subcommand::Schema => None,
-            Subcommand::Redact => None,
+            Subcommand::Redact | Subcommand::Describe | Subcommand::Get => None,
+            Subcommand::Explain => None,
             subcommand => Some(subcommand),
         }
     }
@@ -65,7 +141,8 @@ impl Subcommand {
     pub fn failure(self) -> u8 {
         match self {
             Subcommand::List | Subcommand::Dump | Subcommand::Show | Subcommand::Schema => 1,
-            Subcommand::Redact => 1,
+            Subcommand::Redact | Subcommand::Describe | Subcommand::Get => 1,
+            Subcommand::Explain => 1,
             Subcommand::Make | Subcommand::Diff | Subcommand::Cut | Subcommand::Cat => 2,
         }
     }
@@ -111,6 +188,9 @@ impl Asked {
             (Subcommand::Cat, _) => "journal cat",
             (Subcommand::Schema, _) => "journal schema",
             (Subcommand::Redact, _) => "journal redact",
+            (Subcommand::Describe, _) => "journal describe",
+            (Subcommand::Get, _) => "journal get",
+            (Subcommand::Explain, _) => "journal explain",
         }
     }
 
@@ -118,4 +198,16 @@ impl Asked {
     pub fn place(self) -> usize {
         if self.is_program { 1 } else { 2 }
     }
+}
+
+/// The command of the program for clap, with its subcommands. A command line has to say one of them.
+pub fn program<'a>(alloc: Global, name: &'a str) -> Result<Command<'a>, AllocError> {
+    let mut command = definitions::JOURNAL
+        .command(alloc, name)?
+        .subcommand_required(true)
+        .arg_required_else_help(true);
+    for subcommand in SUBCOMMANDS {
+        command = command.subcommand(subcommand.command(alloc)?)?;
+    }
+    Ok(command)
 }

@@ -2,7 +2,7 @@
 _journal() {
     local word=${COMP_WORDS[COMP_CWORD]}
     if [ "$COMP_CWORD" -eq 1 ]; then
-        mapfile -t COMPREPLY < <(compgen -W 'list dump make diff show cut cat redact schema help --help --version' -- "$word")
+        mapfile -t COMPREPLY < <(compgen -W 'list dump make diff show cut cat redact describe get explain schema help --help --version' -- "$word")
         return
     fi
     case ${COMP_WORDS[1]} in
@@ -14,43 +14,50 @@ _journal() {
         cut) _journal_command_cut ;;
         cat) _journal_command_cat ;;
         redact) _journal_command_redact ;;
+        describe) _journal_command_describe ;;
+        get) _journal_command_get ;;
+        explain) _journal_command_explain ;;
         schema) _journal_command_schema ;;
-        help) mapfile -t COMPREPLY < <(compgen -W 'list dump make diff show cut cat redact schema' -- "$word") ;;
+        help) mapfile -t COMPREPLY < <(compgen -W 'list dump make diff show cut cat redact describe get explain schema' -- "$word") ;;
     esac
 }
 _journal_command_list() {
     local word=${COMP_WORDS[COMP_CWORD]}
     case ${COMP_WORDS[COMP_CWORD - 1]} in
+        --input) mapfile -t COMPREPLY < <(compgen -W 'hex base64' -- "$word") ;;
         --max-message) mapfile -t COMPREPLY < <(compgen -W '' -- "$word") ;;
         --protocol) mapfile -t COMPREPLY < <(compgen -W '5 6 7 8 9' -- "$word") ;;
-        *) [[ $word != -* ]] || mapfile -t COMPREPLY < <(compgen -W '--max-message --protocol --help --version' -- "$word") ;;
+        *) [[ $word != -* ]] || mapfile -t COMPREPLY < <(compgen -W '--input --max-message --protocol --help --version' -- "$word") ;;
     esac
 }
 _journal_dump() {
     local word=${COMP_WORDS[COMP_CWORD]}
     case ${COMP_WORDS[COMP_CWORD - 1]} in
+        --input) mapfile -t COMPREPLY < <(compgen -W 'hex base64' -- "$word") ;;
         --max-message) mapfile -t COMPREPLY < <(compgen -W '' -- "$word") ;;
         --protocol) mapfile -t COMPREPLY < <(compgen -W '5 6 7 8 9' -- "$word") ;;
         --schema) mapfile -t COMPREPLY < <(compgen -W '' -- "$word") ;;
         --type) mapfile -t COMPREPLY < <(compgen -W 'Start Suspension Error End ProposeRunCompletion AwaitingOn ProposeRunCompletionAck GetStateEphemeralCommand GetStateEphemeralNotification InputCommand OutputCommand GetLazyStateCommand SetStateCommand ClearStateCommand ClearAllStateCommand GetLazyStateKeysCommand GetEagerStateCommand GetEagerStateKeysCommand GetPromiseCommand PeekPromiseCommand CompletePromiseCommand SleepCommand CallCommand OneWayCallCommand SendSignalCommand RunCommand AttachInvocationCommand GetInvocationOutputCommand CompleteAwakeableCommand GetLazyStateCompletionNotification GetLazyStateKeysCompletionNotification GetPromiseCompletionNotification PeekPromiseCompletionNotification CompletePromiseCompletionNotification SleepCompletionNotification CallCompletionNotification CallInvocationIdCompletionNotification RunCompletionNotification AttachInvocationCompletionNotification GetInvocationOutputCompletionNotification SignalNotification' -- "$word") ;;
-        *) [[ $word != -* ]] || mapfile -t COMPREPLY < <(compgen -W '--max-message --no-payload --pretty --protocol --schema --strict --text --type --help --version' -- "$word") ;;
+        *) [[ $word != -* ]] || mapfile -t COMPREPLY < <(compgen -W '--input --max-message --no-payload --pretty --protocol --schema --strict --text --type --help --version' -- "$word") ;;
     esac
 }
 _journal_make() {
     local word=${COMP_WORDS[COMP_CWORD]}
     case ${COMP_WORDS[COMP_CWORD - 1]} in
         --protocol) mapfile -t COMPREPLY < <(compgen -W '5 6 7 8 9' -- "$word") ;;
-        *) [[ $word != -* ]] || mapfile -t COMPREPLY < <(compgen -W '--protocol --help --version' -- "$word") ;;
+        --schema) mapfile -t COMPREPLY < <(compgen -W '' -- "$word") ;;
+        *) [[ $word != -* ]] || mapfile -t COMPREPLY < <(compgen -W '--protocol --schema --help --version' -- "$word") ;;
     esac
 }
 _journal_diff() {
     local word=${COMP_WORDS[COMP_CWORD]}
     case ${COMP_WORDS[COMP_CWORD - 1]} in
         --values) mapfile -t COMPREPLY < <(compgen -W 'auto short whole' -- "$word") ;;
+        --input) mapfile -t COMPREPLY < <(compgen -W 'hex base64 dump' -- "$word") ;;
         --max-message) mapfile -t COMPREPLY < <(compgen -W '' -- "$word") ;;
         --color) mapfile -t COMPREPLY < <(compgen -W 'auto always never' -- "$word") ;;
         --protocol) mapfile -t COMPREPLY < <(compgen -W '5 6 7 8 9' -- "$word") ;;
-        *) [[ $word != -* ]] || mapfile -t COMPREPLY < <(compgen -W '--all --verdict --values --ignore-ids --ignore-payloads --max-message --strict --json --color --protocol --help --version' -- "$word") ;;
+        *) [[ $word != -* ]] || mapfile -t COMPREPLY < <(compgen -W '--all --verdict --values --ignore-ids --ignore-payloads --input --max-message --strict --json --color --protocol --help --version' -- "$word") ;;
     esac
 }
 _journal_show() {
@@ -59,36 +66,68 @@ _journal_show() {
         --from) mapfile -t COMPREPLY < <(compgen -W '' -- "$word") ;;
         --to) mapfile -t COMPREPLY < <(compgen -W '' -- "$word") ;;
         --where) mapfile -t COMPREPLY < <(compgen -W '' -- "$word") ;;
+        --input) mapfile -t COMPREPLY < <(compgen -W 'hex base64' -- "$word") ;;
         --max-message) mapfile -t COMPREPLY < <(compgen -W '' -- "$word") ;;
         --protocol) mapfile -t COMPREPLY < <(compgen -W '5 6 7 8 9' -- "$word") ;;
-        *) [[ $word != -* ]] || mapfile -t COMPREPLY < <(compgen -W '--commands --failures --open --from --to --where --max-message --protocol --help --version' -- "$word") ;;
+        *) [[ $word != -* ]] || mapfile -t COMPREPLY < <(compgen -W '--commands --failures --open --from --to --where --input --max-message --protocol --help --version' -- "$word") ;;
     esac
 }
 _journal_command_cut() {
     local word=${COMP_WORDS[COMP_CWORD]}
     case ${COMP_WORDS[COMP_CWORD - 1]} in
         --from) mapfile -t COMPREPLY < <(compgen -W '' -- "$word") ;;
+        --input) mapfile -t COMPREPLY < <(compgen -W 'hex base64' -- "$word") ;;
         --max-message) mapfile -t COMPREPLY < <(compgen -W '' -- "$word") ;;
         --protocol) mapfile -t COMPREPLY < <(compgen -W '5 6 7 8 9' -- "$word") ;;
         --to) mapfile -t COMPREPLY < <(compgen -W '' -- "$word") ;;
-        *) [[ $word != -* ]] || mapfile -t COMPREPLY < <(compgen -W '--from --max-message --protocol --to --help --version' -- "$word") ;;
+        *) [[ $word != -* ]] || mapfile -t COMPREPLY < <(compgen -W '--from --input --max-message --protocol --to --help --version' -- "$word") ;;
     esac
 }
 _journal_command_cat() {
     local word=${COMP_WORDS[COMP_CWORD]}
     case ${COMP_WORDS[COMP_CWORD - 1]} in
+        --input) mapfile -t COMPREPLY < <(compgen -W 'hex base64' -- "$word") ;;
         --max-message) mapfile -t COMPREPLY < <(compgen -W '' -- "$word") ;;
         --protocol) mapfile -t COMPREPLY < <(compgen -W '5 6 7 8 9' -- "$word") ;;
-        *) [[ $word != -* ]] || mapfile -t COMPREPLY < <(compgen -W '--max-message --protocol --help --version' -- "$word") ;;
+        *) [[ $word != -* ]] || mapfile -t COMPREPLY < <(compgen -W '--input --max-message --protocol --help --version' -- "$word") ;;
     esac
 }
 _journal_command_redact() {
     local word=${COMP_WORDS[COMP_CWORD]}
     case ${COMP_WORDS[COMP_CWORD - 1]} in
         --key) mapfile -t COMPREPLY < <(compgen -W '' -- "$word") ;;
+        --input) mapfile -t COMPREPLY < <(compgen -W 'hex base64' -- "$word") ;;
         --max-message) mapfile -t COMPREPLY < <(compgen -W '' -- "$word") ;;
         --protocol) mapfile -t COMPREPLY < <(compgen -W '5 6 7 8 9' -- "$word") ;;
-        *) [[ $word != -* ]] || mapfile -t COMPREPLY < <(compgen -W '--key --max-message --protocol --help --version' -- "$word") ;;
+        *) [[ $word != -* ]] || mapfile -t COMPREPLY < <(compgen -W '--key --input --max-message --protocol --help --version' -- "$word") ;;
+    esac
+}
+_journal_command_describe() {
+    local word=${COMP_WORDS[COMP_CWORD]}
+    case ${COMP_WORDS[COMP_CWORD - 1]} in
+        --input) mapfile -t COMPREPLY < <(compgen -W 'hex base64' -- "$word") ;;
+        --max-message) mapfile -t COMPREPLY < <(compgen -W '' -- "$word") ;;
+        --protocol) mapfile -t COMPREPLY < <(compgen -W '5 6 7 8 9' -- "$word") ;;
+        *) [[ $word != -* ]] || mapfile -t COMPREPLY < <(compgen -W '--input --max-message --protocol --help --version' -- "$word") ;;
+    esac
+}
+_journal_command_get() {
+    local word=${COMP_WORDS[COMP_CWORD]}
+    case ${COMP_WORDS[COMP_CWORD - 1]} in
+        --input) mapfile -t COMPREPLY < <(compgen -W 'hex base64' -- "$word") ;;
+        --max-message) mapfile -t COMPREPLY < <(compgen -W '' -- "$word") ;;
+        --protocol) mapfile -t COMPREPLY < <(compgen -W '5 6 7 8 9' -- "$word") ;;
+        *) [[ $word != -* ]] || mapfile -t COMPREPLY < <(compgen -W '--input --max-message --protocol --help --version' -- "$word") ;;
+    esac
+}
+_journal_command_explain() {
+    local word=${COMP_WORDS[COMP_CWORD]}
+    case ${COMP_WORDS[COMP_CWORD - 1]} in
+        --at) mapfile -t COMPREPLY < <(compgen -W '' -- "$word") ;;
+        --input) mapfile -t COMPREPLY < <(compgen -W 'hex base64' -- "$word") ;;
+        --max-message) mapfile -t COMPREPLY < <(compgen -W '' -- "$word") ;;
+        --protocol) mapfile -t COMPREPLY < <(compgen -W '5 6 7 8 9' -- "$word") ;;
+        *) [[ $word != -* ]] || mapfile -t COMPREPLY < <(compgen -W '--at --input --max-message --protocol --raw --help --version' -- "$word") ;;
     esac
 }
 _journal_command_schema() {

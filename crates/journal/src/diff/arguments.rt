@@ -6,7 +6,8 @@ ghost use Rattle.shared_core_base.specs.Version.{version_number};
 use crate::definitions;
 use clap::error::ErrorKind;
 use clap::{ArgMatches, Command, Error};
-use command_line::{ColorChoice, color_of, max_message_of, protocol_of};
+use command_line::{ColorChoice, color_of, encoding_of, max_message_of, protocol_of};
+use encoded_input::Encoding;
 use shared_core_base::version::Version;
 use std::alloc::Global;
 
@@ -32,6 +33,10 @@ pub struct Arguments<'a> {
     pub version: Version,
     /// The greatest length of a payload that is taken.
     pub limit: u32,
+    /// How both files are written, if they are text.
+    pub encoding: Option<Encoding>,
+    /// Whether both are dumps.
+    pub is_dump: bool,
     /// Whether all that moved is printed, wherever the output goes.
     pub is_all: bool,
     /// Whether the verdict is, wherever the output goes.
@@ -58,7 +63,7 @@ pub fn parse_arguments<'a>(
 ) -> Result<Arguments<'a>, Error>
     ensures { IfOk result (λ parsed. 5 ≤ version_number parsed.version) }
 {
-    let mut command = definitions::diff(alloc, name)?.no_binary_name(true);
+    let mut command = definitions::DIFF.command(alloc, name)?.no_binary_name(true);
     let matches = command.try_get_matches_from_mut(words)?;
     arguments_of(&mut command, &matches)
 }
@@ -99,6 +104,8 @@ fn arguments_of<'a>(
         replayed,
         version: protocol_of(matches),
         limit,
+        encoding: encoding_of(matches),
+        is_dump: matches.get_str("input") == Some("dump"),
         is_all,
         is_verdict,
         values: values_of(matches),

@@ -7,7 +7,8 @@ use crate::definitions;
 use crate::dump::suggestions::unknown_type;
 use clap::error::ErrorKind;
 use clap::{ArgMatches, Command, Error};
-use command_line::{max_message_of, protocol_of};
+use command_line::{encoding_of, max_message_of, protocol_of};
+use encoded_input::Encoding;
 use shared_core_base::header::MessageType;
 use shared_core_base::version::Version;
 use std::alloc::{AllocError, Global};
@@ -24,6 +25,8 @@ pub struct Arguments<'a> {
     pub version: Version,
     /// The greatest length of a payload that is taken.
     pub limit: u32,
+    /// How the file is written, if it is text.
+    pub encoding: Option<Encoding>,
     /// The codes of the selected types; none for all.
     pub codes: Vec<u16>,
     /// Whether payloads are printed.
@@ -76,7 +79,7 @@ pub fn parse_arguments<'a>(
 ) -> Result<Arguments<'a>, Error>
     ensures { IfOk result (λ parsed. 5 ≤ version_number parsed.version) }
 {
-    let mut command = definitions::dump(alloc, name)?.no_binary_name(true);
+    let mut command = definitions::DUMP.command(alloc, name)?.no_binary_name(true);
     let matches = command.try_get_matches_from_mut(words)?;
     arguments_of(alloc, &mut command, &matches)
 }
@@ -104,6 +107,7 @@ fn arguments_of<'a>(
         schema,
         version: protocol_of(matches),
         limit,
+        encoding: encoding_of(matches),
         codes,
         payloads: !matches.get_flag("no-payload"),
         texts: matches.get_flag("text"),

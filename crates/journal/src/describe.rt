@@ -1,0 +1,222 @@
+//! Describes streams, files or the standard input: some lines about each.
+
+ghost use Rattle.std.specs.Prelude.{◌≤◌, IfOk};
+ghost use Rattle.shared_core_base.specs.Version.{version_number};
+
+use crate::beginning::{Beginning, Begun};
+use crate::call::Call;
+use crate::definitions;
+use crate::dump::Records;
+use clap::Error;
+use command_line::{
+    Decoding, Input, Pipe, Progress, encoding_of, fail, input_size, max_message_of, note,
+    protocol_of,
+};
+use encoded_input::Encoding;
+use shared_core_base::version::Version;
+use std::alloc::{AllocError, Global};
+use std::process::ExitCode;
+use stream_lines::output::write_whole;
+use stream_lines::{PrintError, Report};
+use stream_summary::{Options, describe};
+use terminal_text::{Escapes, push_escaped};
+
+/// The number of bytes that are read at a time.
+const CHUNK: usize = 65536;
+
+/// The status if a stream cannot be opened.
+const UNOPENED: u8 = 2;
+
+/// The parsed arguments.
+#[derive(Drop)]
+struct Arguments<'a> {
+    /// The paths of the streams; `-` is the standard input.
+    paths: Vec<&'a str>,
+    version: Version,
+    /// The greatest length of a payload that is taken.
+    limit: u32,
+    /// How the files are written, if they are text.
+    encoding: Option<Encoding>,
+}
+
+impl<'a> Arguments<'a> {
+    /// How a stream is read.
+    fn options(&self) -> Options
+        requires { 5 ≤ version_number self.now.version }
+        ensures version { 5 ≤ version_number result.version }
+        ensures low { 1 ≤ result.chunk_size }
+        ensures high { result.chunk_size ≤ 65536 }
+    {
+        Options {
+            version: self.version,
+            limit: self.limit,
+            chunk_size: CHUNK,
+        }
+    }
+}
+
+/// Parses the arguments. The error is an invalid argument, or a request for the help or the version.
+fn parse_arguments<'a>(
+    alloc: Global,
+    name: &'static str,
+    words: &'a [String],
+) -> Result<Arguments<'a>, Error>
+    ensures { IfOk result (λ parsed. 5 ≤ version_number parsed.version) }
+{
+    let mut command = definitions::DESCRIBE
+        .command(alloc, name)?
+        .no_binary_name(true);
+    let matches = command.try_get_matches_from_mut(words)?;
+    let limit = max_message_of(&mut command, &matches)?;
+    let mut paths = Vec::new(alloc);
+    for path in matches.get_strs("file").unwrap_or(&["-"]) {
+        paths.push(*path)?;
+    }
+    Ok(Arguments {
+        paths,
+        version: protocol_of(&matches),
+        limit,
+        encoding: encoding_of(&matches),
+    })
+}
+
+/// How the description of a stream ended, after what is wrong was reported.
+enum Ended {
+    /// It is written.
+    Whole,
+    /// The input, an allocation or the output failed.
+    Failed(ExitCode),
+    /// The reader has closed the output.
+    Closed,
+}
+
+/// Reports the trailing bytes.
+fn report_rest(call: &Call<'_>, version: Version, beginning: &Beginning, found: &Report) {
+    let (offset, count) = (found.end, found.rest);
+    if count == 0 {
+        return;
+    }
+    let bytes = if count == 1 { "byte" } else { "bytes" };
+    note(
+        call.rt,
+        call.name,
+        format_args!("offset {offset}: {count} {bytes} after the last whole item"),
+    );
+    if offset == 0 {
+        beginning.report_no_message(call, version);
+    }
+}
+
+/// Describes an input.
+fn describe_input(
+    call: &Call<'_>,
+    options: &Options,
+    encoding: Option<Encoding>,
+    input: Input,
+) -> Ended
+    requires version { 5 ≤ version_number options.now.version }
+    requires low { 1 ≤ options.now.chunk_size }
+    requires high { options.now.chunk_size ≤ 65536 }
+{
+    let progress = Progress::beside_output(call.rt, call.name, input_size(&input));
+    let beginning = Beginning::new();
+    let mut input = Begun::new(Decoding::new(input, encoding, &progress), &beginning);
+    let mut output = Pipe::new(call.rt.stdout());
+    let described = describe(call.rt.alloc(), options, &Records, &mut input, &mut output);
+    progress.clear();
+    match described {
+        Ok(found) => {
+            report_rest(call, options.version, &beginning, &found);
+            Ended::Whole
+        }
+        // the reader has closed the output, so nothing is reported
+        Err(PrintError::Output) if output.is_broken() => Ended::Closed,
+        Err(error) => Ended::Failed(call.fail(error, call.failure)),
+    }
+}
+
+/// The heading of a path among several, after an empty line if it is not the first.
+fn heading(alloc: Global, path: &str, is_first: bool) -> Result<String, AllocError> {
+    let mut text = String::new(alloc);
+    if !is_first {
+        text.push_str("\n")?;
+    }
+    text.push_str("==> ")?;
+    push_escaped(&mut text, Escapes::Text, path)?;
+    text.push_str(" <==\n")?;
+    Ok(text)
+}
+
+/// Writes a heading.
+fn write_heading(call: &Call<'_>, path: &str, is_first: bool) -> Ended {
+    let text = match heading(call.rt.alloc(), path, is_first) {
+        Ok(text) => text,
+        Err(error) => return Ended::Failed(fail(call.rt, call.name, error, call.failure)),
+    };
+    let mut output = Pipe::new(call.rt.stdout());
+    match write_whole(&mut output, text.as_bytes()) {
+        Ok(()) => Ended::Whole,
+        Err(_) if output.is_broken() => Ended::Closed,
+        Err(error) => Ended::Failed(fail(call.rt, call.name, error, call.failure)),
+    }
+}
+
+/// Describes the stream of a path.
+fn describe_path(
+    call: &Call<'_>,
+    options: &Options,
+    encoding: Option<Encoding>,
+    path: &str,
+) -> Ended
+    requires version { 5 ≤ version_number options.now.version }
+    requires low { 1 ≤ options.now.chunk_size }
+    requires high { options.now.chunk_size ≤ 65536 }
+{
+    match call.open(path) {
+        Ok(input) => describe_input(call, options, encoding, input),
+        Err(error) => Ended::Failed(call.fail(error, UNOPENED)),
+    }
+}
+
+/// Describes the streams, and returns the status: 0, or that of the last stream that has another one. Where the output
+/// fails, it is the last.
+fn describe_all(
+    call: &Call<'_>,
+    options: &Options,
+    encoding: Option<Encoding>,
+    paths: &[&str],
+) -> ExitCode
+    requires version { 5 ≤ version_number options.now.version }
+    requires low { 1 ≤ options.now.chunk_size }
+    requires high { options.now.chunk_size ≤ 65536 }
+{
+    let mut status = ExitCode::SUCCESS;
+    for (index, path) in paths.iter().enumerate() {
+        if paths.len() > 1 {
+            match write_heading(call, *path, index == 0) {
+                Ended::Whole => {}
+                Ended::Failed(failed) => return failed,
+                Ended::Closed => return ExitCode::from(call.failure),
+            }
+        }
+        match describe_path(call, options, encoding, *path) {
+            Ended::Whole => {}
+            Ended::Failed(failed) => status = failed,
+            Ended::Closed => return ExitCode::from(call.failure),
+        }
+    }
+    status
+}
+
+/// Parses the arguments, describes the streams, and returns the status.
+pub fn run(call: &Call<'_>) -> ExitCode {
+    match parse_arguments(call.rt.alloc(), call.name, call.words) {
+        Ok(parsed) => describe_all(
+            call,
+            &parsed.options(),
+            parsed.encoding,
+            parsed.paths.as_slice(),
+        ),
+        Err(error) => call.report(&error),
+    }
+}
