@@ -57,8 +57,11 @@ def kept_module(kit: pathlib.Path, target: list[str], folder: pathlib.Path, kept
         for name in ("ld.lld", "llvm-ar"):
             (tools / "bin" / name).symlink_to(kit / "toolchain/bin" / name)
         clang = kit / "toolchain/bin/clang"
-        # rattle calls clang without an environment, in a folder of its own, on module.bc
-        wrapper = f"#!/bin/sh\n[ ! -e module.bc ] || /bin/cp module.bc '{tools}/kept.bc'\nexec '{clang}' \"$@\"\n"
+        # rattle calls clang without an environment, in a folder of its own, on module.bc; nothing takes the library of
+        # it, and that of an empty module takes no time
+        empty = f"echo 'target triple = \"{target[1]}\"' > module.bc"
+        kept_bc = f"if [ -e module.bc ]; then /bin/cp module.bc '{tools}/kept.bc'; {empty}; fi"
+        wrapper = f"#!/bin/sh\n{kept_bc}\nexec '{clang}' \"$@\"\n"
         (tools / "bin/clang").write_text(wrapper)
         (tools / "bin/clang").chmod(0o755)
         said = build.compiled(CRATE, kit, tools / "library.a", [*target, "--toolchain", tools], folder)

@@ -16,6 +16,7 @@ from make_page import HERE, ROOT, content_hash, embedded
 
 # What of the package for Node the worker has, in the order in which they take from each other.
 LIBRARY = ("declared", "module_memory", "module_calls")
+NAMES = "CALLS, ERRORS, ITEM, ITEM_NUMBERS, REPLAY, REPLAY_NUMBERS, VERDICT, VERDICT_NUMBERS, useInstances"
 
 # The page's Content-Security-Policy: the two scripts, a worker of its own text, the module, and nothing else.
 POLICY = (
@@ -33,7 +34,7 @@ def library():
     text = "\n".join((ROOT / "node/lib" / f"{name}.js").read_text(encoding="utf-8") for name in LIBRARY)
     text = re.sub(r"^import [^;]*;\n", "", text, flags=re.M)
     text = re.sub(r"^export (?=const|let|function)", "", text, flags=re.M)
-    return f"const {{ CALLS, useInstances }} = (() => {{\n{text}\nreturn {{ CALLS, useInstances }};\n}})();\n"
+    return f"const {{ {NAMES} }} = (() => {{\n{text}\nreturn {{ {NAMES} }};\n}})();\n"
 
 
 def body_of_page():

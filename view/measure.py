@@ -1,22 +1,34 @@
-"""Times pages of large journals in a headless Chromium: python3 view/measure.py [ITEMS..]
+"""Times pages of large journals in headless browsers: python3 view/measure.py [ITEMS..]
+
+    python3 view/measure.py --streams MODULE.wasm MEGABYTES    the page that opens journals, in Chromium and in Firefox
 
 For each number of items, by default 1000, 100000 and 438000, a page of one dump, and one of two that differ in three
 commands. Prints a row of a table: the CPU time of the maker; the page's size; until it can be used the time, the
 CPU time, the script's heap and the resident memory of the page's process; and the CPU time of a key, of a
-drawing of the overview, and of a first filter by a text.
+drawing of the overview, and of a first filter by a text. That is in Chromium.
+
+With --streams two streams of so many megabytes are chosen, which part at a command after nine tenths. Prints until the
+difference is said and until the page is there, the CPU time, the most resident memory of a process of the browser that
+is not its first, and how many addresses outside the page were requested.
 """
 import base64
+import contextlib
 import json
+import os
 import pathlib
 import resource
 import subprocess
 import sys
 import tempfile
+import time
 
 sys.dont_write_bytecode = True
 HERE = pathlib.Path(__file__).resolve().parent
 
-from browser import Browser  # noqa: E402
+import make_opener  # noqa: E402
+import samples  # noqa: E402
+from browser import BROWSERS  # noqa: E402
+from chromium import Chromium  # noqa: E402
 
 KEYS = 20
 DRAWINGS = 20
@@ -89,7 +101,7 @@ def search(browser, text):
 
 def measured(page):
     """What is measured of a page in the browser, as the cells of a row."""
-    with Browser() as browser:
+    with Chromium() as browser:
         processor, seconds = spent(browser, lambda: browser.open(page))
         heap = browser.call("Runtime.getHeapUsage")["usedSize"] / 1e6
         memory = resident(browser)
@@ -102,7 +114,70 @@ def measured(page):
                 f"{1000 * key / KEYS:.0f} ms", f"{1000 * draw / DRAWINGS:.0f} ms", f"{text:.1f} s"]  # fmt: skip
 
 
+def tree(first):
+    """The processes that a process has begun, and theirs: the CPU seconds of each, and its most resident memory."""
+    found, parents = {}, {}
+    for folder in pathlib.Path("/proc").glob("[0-9]*"):
+        with contextlib.suppress(OSError):
+            words = (folder / "stat").read_text().rpartition(") ")[2].split()
+            most = (folder / "status").read_text().partition("VmHWM:")[2].split()[:1] or ["0"]
+            parents[int(folder.name)] = int(words[1])
+            ticks = int(words[11]) + int(words[12])
+            found[int(folder.name)] = (ticks / os.sysconf("SC_CLK_TCK"), int(most[0]) * 1024 / 1e6)
+
+    def is_of(process):
+        while process not in (0, first):
+            process = parents.get(process, 0)
+        return process == first
+
+    return {process: facts for process, facts in found.items() if is_of(process)}
+
+
+def write_streams(paths, megabytes):
+    """Writes two streams that part at a command after nine tenths."""
+    run = len(next(samples.runs(1)))
+    count = megabytes * 1_000_000 // run
+    for path, other in zip(paths, (None, count * 95 // 100)):
+        with open(path, "wb") as file:
+            file.writelines(samples.runs(count, other))
+
+
+def opened(name, page, paths):
+    """What is measured of the page that opens two streams, as the cells of a row."""
+    says = "document.getElementById('opener-says')?.textContent ?? ''"
+    with BROWSERS[name]() as browser:
+        browser.load(page)
+        for place, path in zip(("recorded", "replayed"), paths):
+            browser.choose(f"#{place}", path)
+        before = sum(seconds for seconds, _ in tree(browser.process.pid).values())
+        start = time.monotonic()
+        browser.evaluate("document.getElementById('open').click()")
+        browser.wait(f"!/^Reading|^$/.test({says}) || document.body.dataset.ready === 'true'")
+        said = time.monotonic() - start
+        browser.wait("document.body.dataset.ready === 'true'")
+        shown = time.monotonic() - start
+        processes = tree(browser.process.pid)
+        processor = sum(seconds for seconds, _ in processes.values()) - before
+        memory = max(most for process, (_, most) in processes.items() if process != browser.process.pid)
+        sentence = browser.evaluate("document.getElementById('sentence').textContent")
+        sent = [url for url in browser.requests if not url.startswith(("file:", "about:", "blob:", "data:"))]
+        print(f"{name}: {sentence}; {[*browser.messages, *sent]}", file=sys.stderr)
+        return [f"{said:.1f} s", f"{shown:.1f} s", f"{processor:.1f} s", f"{memory:.0f} MB", f"{len(sent)}"]
+
+
+def measure_streams(module, megabytes):
+    with tempfile.TemporaryDirectory() as folder:
+        page, *paths = [pathlib.Path(folder, name) for name in ("journal_view.html", "recorded", "replayed")]
+        make_opener.main([module, str(page)])
+        write_streams(paths, int(megabytes))
+        for name in BROWSERS:
+            print(f"| {' | '.join([name, f'2 × {megabytes} MB', *opened(name, page, paths)])} |", flush=True)
+
+
 def main(words):
+    if words[:1] == ["--streams"]:
+        measure_streams(*words[1:])
+        return
     with tempfile.TemporaryDirectory() as folder:
         page, *dumps = [pathlib.Path(folder, name) for name in ("page.html", "recorded.jsonl", "replayed.jsonl")]
         for items in map(int, words or ("1000", "100000", "438000")):

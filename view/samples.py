@@ -112,6 +112,24 @@ def steps(number, first=1):
     return [frame("SetStateCommand", key=key, value={"content": b"done"}) for key in keys]
 
 
+def runs(count, other=None):
+    """The parts of a journal of so many runs, at most two million, each with its completion: 150 bytes a run. The one
+    of a number may have another name."""
+    first = 1 << 14
+    names = (b"run 0000000", b"ran 0000000")
+    value = as_json({"order": 0, "text": "x" * 86})
+    both = [
+        frame("RunCommand", result_completion_id=first, name=name.decode())
+        + frame("RunCompletionNotification", completion_id=first, value={"content": value})
+        for name in names
+    ]
+    # the numbers have the same length in all runs
+    one, changed = (text.replace(varint(first), b"%b").replace(b"0000000", b"%07d") for text in both)
+    for number in range(count):
+        number_of = varint(first + number)
+        yield (changed if number == other else one) % (number_of, number, number_of)
+
+
 def audited():
     """Two journals of 98 steps; the replay sets another state before the fiftieth."""
     same = steps(98)

@@ -1,6 +1,7 @@
-"""The test vectors by the package for Node in a headless Chromium, from a loopback server: browser_vectors.py TREE
+"""The test vectors by the package for Node in a headless browser, from a loopback server: browser_vectors.py TREE NAME
 
-TREE has node/ with its module built, conformance/ and examples/. The last line is 'N passed, M failed'.
+TREE has node/ with its module built, conformance/ and examples/; NAME is chromium or firefox. The last line is 'N
+passed, M failed'.
 """
 from __future__ import annotations
 
@@ -13,7 +14,8 @@ import threading
 ROOT = pathlib.Path(__file__).resolve().parent.parent.parent
 sys.path.insert(0, str(ROOT / "view"))
 
-from browser import Browser  # noqa: E402
+from browser import BROWSERS  # noqa: E402
+from driver import NotHere  # noqa: E402
 
 SCRIPT = "<script type=module src=/node/test/browser.js></script>"
 PAGE = f"<!doctype html><meta charset=utf-8><title>vectors</title>{SCRIPT}"
@@ -43,12 +45,17 @@ def vectors(tree: pathlib.Path) -> list[str]:
     return [file.read_text() for file in [*sorted(folder.glob("*.txt")), *sorted((folder / "json").glob("*.txt"))]]
 
 
-def main(tree: str) -> int:
+def main(tree: str, name: str) -> int:
+    try:
+        browser = BROWSERS[name]()
+    except NotHere as why:
+        print(f"node: the package in {name}: not run, since {why}\n0 passed, 0 failed")
+        return 0
     handler = functools.partial(Served, directory=tree)
     server = http.server.ThreadingHTTPServer(("127.0.0.1", 0), handler)
     threading.Thread(target=server.serve_forever, daemon=True).start()
-    with Browser() as browser:
-        browser.call("Page.navigate", url=f"http://127.0.0.1:{server.server_address[1]}/")
+    with browser:
+        browser.navigate(f"http://127.0.0.1:{server.server_address[1]}/")
         try:
             browser.wait("window.result !== undefined")
             result = browser.evaluate("window.result")

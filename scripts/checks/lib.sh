@@ -75,11 +75,13 @@ case_of() {
   outcome "$name" $ended
 }
 
-# counted NAME COMMAND..: a command whose last line is 'N passed, M failed', which are added to the tally
+# counted NAME COMMAND..: a command whose last line is 'N passed, M failed', which are added to the tally; lines that
+# say what is not run are shown
 counted() {
   name=$1
   shift
   "$@" > "$work/log" 2> "$err"
+  sed -n '/: not run, since /p' "$work/log"
   counts=$(sed -n '$p' "$work/log")
   if ! add "$counts"; then
     head -n 20 "$work/log"

@@ -3,7 +3,7 @@
 #
 # It builds the addon in a copy of node/, over the proved static library, as scripts/checks/c.sh takes it, and over
 # another one in its place, which returns what this package does not know; the module as scripts/wasm.py does. The tests
-# run over both, and in headless Chromium the test vectors by the page's entry. It uses no network.
+# run over both, and in headless browsers the test vectors by the page's entry. It uses no network.
 set -u
 cd "$(dirname "$0")/../.." || exit 1
 . scripts/checks/lib.sh
@@ -100,11 +100,9 @@ for calls in addon ${module:+module}; do
   counted "the test vectors over the $calls" node "$tree/node/test/conformance.js"
 done
 unset PENDRATSOA_CALLS
-if [ -z "$module" ] || ! command -v chromium > /dev/null; then
-  without 'the package in a browser' 'chromium, or no module'
-else
-  counted 'the package in a browser' python3 -B scripts/checks/browser_vectors.py "$tree"
-fi
+for browser in ${module:+chromium firefox}; do
+  counted "the package in $browser" timeout 900 python3 -B scripts/checks/browser_vectors.py "$tree" $browser
+done
 
 # The package as a user has it: the files that package.json lists, in node_modules.
 user=$work/user

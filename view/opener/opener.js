@@ -71,7 +71,9 @@
         show({ version, ignoresPayloads, script: null, ...data.about, ...messagesAt(version) }, data.lines);
       }
     };
-    const module = Uint8Array.from(atob(part("module").textContent), (unit) => unit.charCodeAt(0));
+    const units = atob(part("module").textContent);
+    const module = new Uint8Array(units.length);
+    for (let at = 0; at < units.length; at += 1) module[at] = units.charCodeAt(at);
     worker.postMessage({ module, files, version, ignoresPayloads, types: messagesAt(version).types }, [module.buffer]);
   }
 

@@ -1,14 +1,17 @@
 // The worker of the page that opens journals: the lines that journal dump prints of their items, and the verdict on
-// two. `CALLS` are those of the package for Node, over the module.
+// two. It reads files part by part, so that memory does not grow with them. `CALLS` are those of the package for Node,
+// over the module; `ITEM`, `VERDICT` and `REPLAY` are where the numbers of their structs are, `ERRORS` their errors.
 
 const MOST_ITEMS = 200_000;
 const BEFORE = 1_000;
 const LINE_CHARACTERS = 4 << 20;
 const JOURNAL_CHARACTERS = 64 << 20;
-const ITEMS_AT_ONCE = 4096;
-const BYTES_AT_ONCE = 1 << 20;
+// How many bytes are read of a file at once, and in how many of them items are looked for, except a longer item.
+const READ_AT_ONCE = 1 << 22;
+const PART = 1 << 18;
 const NO_LIMIT = 0xffffffff;
 const HEADER = 8;
+const HALVES = 2 * ITEM_NUMBERS;
 const ACK_BIT = 1n << 47n;
 
 const KINDS = ["message", "unknown", "skipped"];
@@ -24,6 +27,8 @@ const VERDICTS = [
 ];
 
 const decoder = new TextDecoder("utf-8", { ignoreBOM: true });
+const reader = new FileReaderSync();
+const nothing = new Uint8Array(0);
 
 /** Why there is no page. */
 class Refused extends Error {}
@@ -35,14 +40,15 @@ function checked(returned, what) {
 
 let scratch = new Uint8Array(1 << 16);
 
-/** What a call writes into room that is enough; it returns how much that is. */
+/** The text that a call writes into room that is enough, and returns the length of; undefined of what is malformed. */
 function written(call, what) {
-  let length = checked(call(scratch), what);
-  while (length > scratch.length) {
+  let length = call(scratch);
+  if (length < 0 && ERRORS.get(length)?.[0] === "Malformed") return undefined;
+  while (checked(length, what) > scratch.length) {
     scratch = new Uint8Array(2 * length);
-    length = checked(call(scratch), what);
+    length = call(scratch);
   }
-  return scratch.subarray(0, length);
+  return decoder.decode(scratch.subarray(0, length));
 }
 
 function base64(bytes) {
@@ -53,163 +59,292 @@ function base64(bytes) {
   return btoa(text);
 }
 
-/** A journal: its bytes, and the names, directions and schemas of the types received in it. */
+/** A journal in a file. It holds a part at a time: some whole items. Those before `place` are taken. */
 class Journal {
-  constructor(name, bytes, version, types) {
-    Object.assign(this, { name, bytes, version, types, known: new Map() });
+  constructor(file, version, types) {
+    Object.assign(this, { file, name: file.name, size: file.size, version, types, known: new Map() });
+    this.held = nothing;
+    this.heldAt = 0;
+    // the part: where it begins, its bytes, how many items are in it, and the numbers of each as two halves
+    this.at = 0;
+    this.bytes = nothing;
+    this.count = 0;
+    this.numbers = new BigUint64Array((ITEM_NUMBERS * PART) / HEADER);
+    this.halves = new Uint32Array(this.numbers.buffer);
+    // of the item that comes next: its place in the part, and its offset there; how many commands come from it on
+    this.place = 0;
+    this.begin = 0;
+    this.left = 0;
+    // how many items and commands are in all parts so far, and where each part begins, with these numbers before it
+    this.items = 0;
+    this.commands = 0;
+    this.marks = [];
   }
 
   type(code) {
     let found = this.known.get(code);
     if (found === undefined) {
-      const name = decoder.decode(written((out) => CALLS.typeName(code, out), "a type"));
+      const name = written((out) => CALLS.typeName(code, out), "a type");
       found = { name, schema: CALLS.schema(this.version, code), isCommand: this.types[name]?.direction === "command" };
       this.known.set(code, found);
     }
     return found;
   }
 
-  /** The items, of each its kind, first word, code, flag and size, and where it begins; and where the rest is. */
-  *items() {
-    const table = new BigUint64Array(6 * ITEMS_AT_ONCE);
-    let begin = 0;
-    for (let most = BYTES_AT_ONCE; begin < this.bytes.length;) {
-      const chunk = this.bytes.subarray(begin, begin + most);
-      const count = checked(CALLS.items(this.version, NO_LIMIT, chunk, table), this.name);
-      for (let at = 0; at < 6 * count; at += 6) {
-        const [kind, code, size] = [table[at], table[at + 2], table[at + 4]].map(Number);
-        yield { at: begin, kind, word: table[at + 1], code, ack: table[at + 3], size };
-        begin += size;
-      }
-      if (count > 0) most = BYTES_AT_ONCE;
-      else if (chunk.length < most) break;
-      else most *= 4;
+  /** So many bytes of the file from an offset on, or as many as there are. */
+  read(at, size) {
+    const end = Math.min(at + size, this.size);
+    if (at < this.heldAt || end > this.heldAt + this.held.length) {
+      this.held = nothing;
+      this.held = new Uint8Array(reader.readAsArrayBuffer(this.file.slice(at, at + Math.max(size, READ_AT_ONCE))));
+      this.heldAt = at;
     }
-    this.rest = begin;
+    return this.held.subarray(at - this.heldAt, end - this.heldAt);
   }
 
-  isCommand({ kind, code }) {
-    return kind === 0 && this.type(code).isCommand;
+  /** Takes the part that begins at an offset; whether a whole item is there. */
+  load(at) {
+    Object.assign(this, { at, count: 0, place: 0, begin: 0 });
+    for (let size = PART; at < this.size;) {
+      this.bytes = this.read(at, size);
+      this.count = checked(CALLS.items(this.version, NO_LIMIT, this.bytes, this.numbers), this.name);
+      if (this.count > 0) return true;
+      size = this.bytes.length + checked(CALLS.next(this.version, this.bytes, this.numbers), this.name);
+      if (at + size > this.size) break;
+    }
+    this.bytes = nothing;
+    return false;
   }
 
-  /** The line of an item. */
-  line({ at, kind, word, code, ack, size }) {
-    const payload = this.bytes.subarray(at + HEADER, at + size);
-    const head = (as) => (as === word ? "" : `,"header":"${base64(this.bytes.subarray(at, at + HEADER))}"`);
+  /** Takes the part after all that were taken; whether there is one. */
+  advance() {
+    this.skip(this.count);
+    const mark = { at: this.at + this.begin, item: this.items, command: this.commands };
+    if (!this.load(mark.at)) return false;
+    this.marks.push(mark);
+    this.items += this.count;
+    this.left = 0;
+    for (let place = 0; place < this.count; place += 1) this.left += this.isCommand(place);
+    this.commands += this.left;
+    return true;
+  }
+
+  /** 1 of a command, 0 of another item. */
+  isCommand(place) {
+    const at = HALVES * place;
+    return this.halves[at + 2 * ITEM.kind] === 0 && this.type(this.halves[at + 2 * ITEM.code]).isCommand ? 1 : 0;
+  }
+
+  /** The size of an item, which is below 2^33. */
+  sizeOf(place) {
+    const at = HALVES * place + 2 * ITEM.size;
+    return this.halves[at] + this.halves[at + 1] * 2 ** 32;
+  }
+
+  /** Takes the items of the part before a place. */
+  skip(place) {
+    for (; this.place < place; this.place += 1) this.begin += this.sizeOf(this.place);
+  }
+
+  /** How many commands the part has that are not taken; where there is none, that of the next part that has some. */
+  ahead() {
+    while (this.left === 0 && this.advance());
+    return this.left;
+  }
+
+  /** The place after an amount of commands, which the part has: as `place` and `begin`. */
+  after(amount) {
+    let { place, begin } = this;
+    for (let found = 0; found < amount; place += 1) {
+      found += this.isCommand(place);
+      begin += this.sizeOf(place);
+    }
+    return { place, begin };
+  }
+
+  /** The command that comes after so many, header and payload. */
+  command(amount) {
+    const { place, begin } = this.after(amount + 1);
+    return this.bytes.subarray(begin - this.sizeOf(place - 1), begin);
+  }
+
+  /** The first place, from one on, with so many commands before it, or with no more than so many items from it on. */
+  reach(from, command, most) {
+    const found = { ...from };
+    const isBefore = ({ item, command: commands }) => item + most < this.items && commands < command;
+    while (isBefore(found) && this.load(found.at)) {
+      while (isBefore(found) && this.place < this.count) {
+        found.item += 1;
+        found.command += this.isCommand(this.place);
+        this.skip(this.place + 1);
+      }
+      found.at = this.at + this.begin;
+    }
+    return found;
+  }
+
+  /** The line of the item that comes next. */
+  line() {
+    const { at, begin, bytes, halves } = this;
+    const numbers = HALVES * this.place;
+    const size = this.sizeOf(this.place);
+    const kind = KINDS[halves[numbers + 2 * ITEM.kind]];
+    const code = halves[numbers + 2 * ITEM.code];
+    const word = this.numbers[numbers / 2 + ITEM.word];
+    const payload = bytes.subarray(begin + HEADER, begin + size);
+    const head = (as) => (as === word ? "" : `,"header":"${base64(bytes.subarray(begin, begin + HEADER))}"`);
     const top = BigInt(code) << 48n;
-    if (KINDS[kind] === "unknown") return `{"offset":${at},"unknown":true,"code":${code}${head(top)}}`;
-    const length = payload.length;
-    if (KINDS[kind] === "skipped") {
-      const bytes = `,"bytes":"${base64(payload)}"`;
-      return `{"offset":${at},"skipped":true,"code":${code},"length":${length}${head(top + BigInt(length))}${bytes}}`;
+    const offset = at + begin;
+    if (kind === "unknown") return `{"offset":${offset},"unknown":true,"code":${code}${head(top)}}`;
+    const { length } = payload;
+    if (kind === "skipped") {
+      const members = `${head(top + BigInt(length))},"bytes":"${base64(payload)}"`;
+      return `{"offset":${offset},"skipped":true,"code":${code},"length":${length}${members}}`;
     }
     const { name, schema } = this.type(code);
+    const ack = halves[numbers + 2 * ITEM.requestedAck] === 1;
     // the one type whose header has the flag
-    const flag = name === "ProposeRunCompletion" ? `,"requestedAck":${ack === 1n}` : "";
-    const members = `${flag}${head(top + BigInt(length) + (ack === 1n ? ACK_BIT : 0n))}`;
-    const start = `{"offset":${at},"type":${JSON.stringify(name)},"code":${code},"length":${length}`;
-    return `${start}${members}${this.payload(schema, payload)}}`;
+    const flag = name === "ProposeRunCompletion" ? `,"requestedAck":${ack}` : "";
+    const members = `${flag}${head(top + BigInt(length) + (ack ? ACK_BIT : 0n))}`;
+    const start = `{"offset":${offset},"type":${JSON.stringify(name)},"code":${code},"length":${length}`;
+    // joined, since an engine keeps a text that is added up as its parts
+    return [start, members, membersOf(schema, payload), "}"].join("");
   }
 
-  /** The members of a payload. A custom entry has no schema. */
-  payload(schema, payload) {
-    if (schema >= 0) {
-      const json = scratchJson(schema, payload);
-      if (json !== undefined) return `,"message":${json}`;
+  /** The same, without its payload if it is too long for a page. */
+  shortened() {
+    const size = this.sizeOf(this.place);
+    const line = size > LINE_CHARACTERS ? undefined : this.line();
+    if (line !== undefined && line.length <= LINE_CHARACTERS) return line;
+    const numbers = HALVES * this.place;
+    const [kind, code] = [ITEM.kind, ITEM.code].map((number) => this.halves[numbers + 2 * number]);
+    const offset = this.at + this.begin;
+    const type = kind === 0 ? `"type":${JSON.stringify(this.type(code).name)}` : `"${KINDS[kind]}":true`;
+    return `{"offset":${offset},${type},"code":${code},"length":${size - HEADER},"leftOut":"item ${offset}"}`;
+  }
+
+  /** The lines from a place on, at most so many. */
+  lines(from, most) {
+    const lines = [];
+    let characters = 0;
+    for (let { at } = from; this.load(at); at = this.at + this.begin) {
+      for (; this.place < this.count; this.skip(this.place + 1)) {
+        if (lines.length === most) return lines;
+        const line = this.shortened();
+        characters += line.length;
+        if (characters > JOURNAL_CHARACTERS) return lines;
+        lines.push(line);
+      }
     }
-    return `${schema >= 0 ? ',"malformed":true' : ""},"bytes":"${base64(payload)}"`;
+    return lines;
   }
 
-  restLine() {
-    const bytes = this.bytes.subarray(this.rest);
-    const shown = bytes.length > 0 && bytes.length < LINE_CHARACTERS / 2 ? `,"bytes":"${base64(bytes)}"` : "";
-    return `{"offset":${this.rest},"rest":${bytes.length}${shown}}`;
+  /** The line of what is in no item, from an offset on. */
+  restLine(at) {
+    const size = this.size - at;
+    const shown = size > 0 && size < LINE_CHARACTERS / 2 ? `,"bytes":"${base64(this.read(at, size))}"` : "";
+    return `{"offset":${at},"rest":${size}${shown}}`;
   }
 }
 
-/** The JSON of a payload; undefined if it is malformed. */
-function scratchJson(schema, payload) {
-  if (CALLS.isWellFormed(schema, payload) !== 1) return undefined;
-  return decoder.decode(written((out) => CALLS.json(schema, payload, out), "a payload"));
+/** The members of a payload. A custom entry has no schema. */
+function membersOf(schema, payload) {
+  const json = schema < 0 ? undefined : written((out) => CALLS.json(schema, payload, out), "a payload");
+  if (json !== undefined) return `,"message":${json}`;
+  return `${schema < 0 ? "" : ',"malformed":true'},"bytes":"${base64(payload)}"`;
 }
 
-/** The lines of a journal that the page shows, as view/dumps.py keeps them. */
-function linesOf(journal, most, start) {
-  let items = 0;
-  let commands = 0;
-  let firstItem = 0;
-  let firstCommand = 0;
-  const counts = [];
-  for (const item of journal.items()) {
-    items += 1;
-    commands += journal.isCommand(item);
-    // where the window would begin that ends with this item
-    if (firstItem + most < items && firstCommand < start) {
-      firstCommand += counts[firstItem % most];
-      firstItem += 1;
+/** Says how far journals are read, each time that is a percent more. */
+function progressOf(journals) {
+  const total = journals.reduce((sum, { size }) => sum + size, 0);
+  let said = 0;
+  return () => {
+    const read = journals.reduce((sum, { at, begin }) => sum + at + begin, 0);
+    const percent = Math.floor((100 * read) / total);
+    if (percent > said) postMessage({ progress: `Reading .. ${percent} %` });
+    said = percent;
+  };
+}
+
+/** The text of two commands that differ at an index: that of a replay which has reached it. */
+function mismatchAt(index, [recorded, replayed], version, ignoresPayloads) {
+  const numbers = new BigUint64Array(REPLAY_NUMBERS);
+  numbers[REPLAY.version] = BigInt(version);
+  numbers[REPLAY.options] = ignoresPayloads ? 1n : 0n;
+  numbers[REPLAY.index] = BigInt(index);
+  // the one before it in the recording was the same, and may be any
+  const recording = new Uint8Array(2 * recorded.length);
+  recording.set(recorded);
+  recording.set(recorded, recorded.length);
+  const [code, payload] = [256 * replayed[0] + replayed[1], replayed.subarray(HEADER)];
+  return written((out) => CALLS.replayText(code, recording, payload, numbers, out), "the journals");
+}
+
+/** The verdict on two journals, part by part: each command is compared with the other's at its index, and no more. */
+function verdictOn(journals, version, ignoresPayloads, say) {
+  const numbers = new BigUint64Array(VERDICT_NUMBERS);
+  for (let before = 0; ; say()) {
+    const amounts = journals.map((journal) => journal.ahead());
+    // where one has ended, the first command of the other one is beyond its end
+    const amount = Math.min(...amounts) || Math.max(...amounts);
+    const ends = journals.map((journal) => journal.after(Math.min(amount, journal.left)));
+    const [one, other] = journals.map(({ bytes, begin }, side) => bytes.subarray(begin, ends[side].begin));
+    const call = (out) => CALLS.verdict(version, one, other, ignoresPayloads, numbers, out);
+    const said = written(call, "the journals");
+    const [kind, here] = [VERDICT.kind, VERDICT.index].map((number) => Number(numbers[number]));
+    const [name, printed] = VERDICTS[kind];
+    if (name !== "same" || amount === 0) {
+      const index = before + here;
+      const isMismatch = before > 0 && name === "differs";
+      const commands = isMismatch ? journals.map((journal) => journal.command(here)) : [];
+      const text = isMismatch ? mismatchAt(index, commands, version, ignoresPayloads) : said;
+      return { kind: name, index, text: printed(index, text) };
     }
-    counts[(items - 1) % most] = journal.isCommand(item) ? 1 : 0;
+    journals.forEach((journal, side) => Object.assign(journal, ends[side], { left: journal.left - amount }));
+    before += amount;
   }
-  return { items, commands, firstItem, firstCommand };
 }
 
-/** The lines from a command on. */
-function keptFrom(journal, found, command, most) {
-  const lines = [];
-  let { firstItem, firstCommand } = found;
-  let characters = 0;
-  let index = 0;
-  for (const item of journal.items()) {
-    if (index >= firstItem && firstCommand < command) {
-      firstItem += 1;
-      firstCommand += journal.isCommand(item) ? 1 : 0;
-    } else if (index >= firstItem && lines.length < most && characters <= JOURNAL_CHARACTERS) {
-      const line = shortened(journal, item);
-      characters += line.length;
-      if (characters <= JOURNAL_CHARACTERS) lines.push(line);
-    }
-    index += 1;
-  }
-  return { lines, firstItem, firstCommand };
-}
-
-/** The line of an item, without its payload if it is too long for a page. */
-function shortened(journal, item) {
-  const line = item.size > LINE_CHARACTERS ? undefined : journal.line(item);
-  if (line !== undefined && line.length <= LINE_CHARACTERS) return line;
-  const { at, kind, code, size } = item;
-  const type = kind === 0 ? `"type":${JSON.stringify(journal.type(code).name)}` : `"${KINDS[kind]}":true`;
-  return `{"offset":${at},${type},"code":${code},"length":${size - HEADER},"leftOut":"item ${at}"}`;
+/** What is said of a verdict before the page is there. */
+function beginningOf({ kind, index }) {
+  return kind === "same" ? "The journals are the same. " : `The journals part at command ${index}. `;
 }
 
 /** What makes the page: the facts of the journals, their lines, and the verdict on two. */
 function read(journals, version, ignoresPayloads) {
   const most = Math.floor(MOST_ITEMS / journals.length);
+  const say = progressOf(journals);
   let verdict = null;
   let start = 0;
   if (journals.length === 2) {
-    const numbers = new BigUint64Array(2);
-    const [one, other] = journals.map(({ bytes }) => bytes);
-    const call = (out) => CALLS.verdict(version, one, other, ignoresPayloads, numbers, out);
-    const text = decoder.decode(written(call, "the journals"));
-    const [kind, index] = Array.from(numbers, Number);
-    const [name, printed] = VERDICTS[kind];
-    verdict = { kind: name, index, text: printed(index, text) };
-    start = name === "same" ? 0 : Math.max(0, index - Math.min(BEFORE, Math.floor(most / 10)));
+    verdict = verdictOn(journals, version, ignoresPayloads, say);
+    const { kind, index } = verdict;
+    start = kind === "same" ? 0 : Math.max(0, index - Math.min(BEFORE, Math.floor(most / 10)));
   }
-  const found = journals.map((journal) => linesOf(journal, most, start));
-  const command = Math.max(...found.map(({ firstCommand }) => firstCommand));
-  const kept = journals.map((journal, side) => keptFrom(journal, found[side], command, most));
-  const facts = journals.map((journal, side) => {
-    const { items, commands } = found[side];
-    if (items === 0 && journal.bytes.length > 0) {
+  const ends = journals.map((journal) => {
+    while (journal.advance()) say();
+    if (journal.items === 0 && journal.size > 0) {
       throw new Refused(`${journal.name}: no message in it; is it a journal of version ${version}?`);
     }
-    const { lines, firstItem, firstCommand } = kept[side];
-    const { name, bytes } = journal;
-    return { name, items, commands, shown: lines.length, firstItem, firstCommand, bytes: bytes.length };
+    return journal.at;
   });
-  const lines = kept.map((one, side) => [...one.lines, journals[side].restLine()].join("\n"));
+  postMessage({ progress: `${verdict === null ? "" : beginningOf(verdict)}Decoding ..` });
+  const firsts = journals.map((journal) => {
+    // the last part that begins before the place
+    const isBefore = ({ item, command }) => item + most < journal.items && command < start;
+    return journal.reach(journal.marks.findLast(isBefore) ?? { at: 0, item: 0, command: 0 }, start, most);
+  });
+  const command = Math.max(...firsts.map((first) => first.command));
+  const shown = journals.map((journal, side) => {
+    const first = journal.reach(firsts[side], command, 0);
+    return { first, lines: journal.lines(first, most) };
+  });
+  const facts = journals.map(({ name, items, commands, size }, side) => {
+    const { first, lines } = shown[side];
+    const [firstItem, firstCommand] = [first.item, first.command];
+    return { name, items, commands, shown: lines.length, firstItem, firstCommand, bytes: size };
+  });
+  const lines = journals.map((journal, side) => [...shown[side].lines, journal.restLine(ends[side])].join("\n"));
   return { about: { verdict, journals: facts }, lines };
 }
 
@@ -217,13 +352,7 @@ onmessage = async ({ data: { module, files, version, ignoresPayloads, types } })
   try {
     const compiled = await WebAssembly.compile(module);
     useInstances(() => new WebAssembly.Instance(compiled).exports);
-    const journals = [];
-    for (const file of files) {
-      postMessage({ progress: `Reading ${file.name} ..` });
-      journals.push(new Journal(file.name, new Uint8Array(await file.arrayBuffer()), version, types));
-    }
-    postMessage({ progress: "Decoding .." });
-    postMessage(read(journals, version, ignoresPayloads));
+    postMessage(read(files.map((file) => new Journal(file, version, types)), version, ignoresPayloads));
   } catch (error) {
     postMessage({ refused: error instanceof Refused ? error.message : `It cannot be read: ${error.message}` });
   }

@@ -115,7 +115,8 @@ function start() {
     drawStrip();
   });
   addEventListener("beforeprint", () => paint(true));
-  addEventListener("afterprint", () => paint());
+  // on the next frame, since Firefox lays the page out for paper until then
+  addEventListener("afterprint", () => requestAnimationFrame(() => paint()));
   if (!goToAddress()) go(Math.max(0, difference));
   list.focus({ preventScroll: true });
   document.body.dataset.ready = "true";

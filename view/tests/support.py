@@ -14,10 +14,14 @@ STREAMS = VIEW.parent / "examples" / "streams"
 sys.path[:0] = [str(VIEW), str(VIEW.parent / "scripts" / "checks")]
 
 import make_page  # noqa: E402
-from browser import Browser  # noqa: E402
+from browser import BROWSERS  # noqa: E402
 
 # to look whether a program is up to date takes longer than to run it
 make_page.program = functools.cache(make_page.program)
+
+# which browser it is, and the WebAssembly module
+BROWSER = "chromium"
+MODULE = None
 
 FOLDER = tempfile.TemporaryDirectory()
 WORK = pathlib.Path(FOLDER.name)
@@ -52,16 +56,15 @@ def page_of(*words):
 
 @functools.cache
 def the_browser():
-    """The one browser of a module's tests."""
-    browser = Browser()
-    unittest.addModuleCleanup(browser.__exit__)
-    return browser
+    """The one browser of all tests."""
+    return BROWSERS[BROWSER]()
 
 
 class PageTest(unittest.TestCase):
     def tearDown(self):
         self.assertEqual(the_browser().messages, [], "the console has errors")
-        self.assertEqual([url for url in the_browser().requests if not url.startswith(("file:", "about:"))], [])
+        inside = ("file:", "about:", "data:", "blob:")
+        self.assertEqual([url for url in the_browser().requests if not url.startswith(inside)], [])
 
     def open(self, *words, place=""):
         the_browser().open(page_of(*words), place)

@@ -1,11 +1,8 @@
-#!/usr/bin/env python3
 """The page in a headless Chromium: what moved between two journals, from the sentence to the cause, by mouse and keys;
 and the overview, trees of JSON, the state, the filter's words, the address and what is copied."""
 import json
-import sys
 
-from support import FOLDER, STREAMS, WORK, PageTest, make_page, the_browser, written
-from tally import tell
+from support import STREAMS, WORK, PageTest, make_page, the_browser, written
 
 import filter_cases
 import samples
@@ -656,10 +653,7 @@ class Addresses(PageTest):
 
 class Copies(PageTest):
     def setUp(self):
-        # of the browser, not of the page
-        session, browser.session = browser.session, None
-        browser.call("Browser.grantPermissions", permissions=["clipboardReadWrite", "clipboardSanitizedWrite"])
-        browser.session = session
+        browser.allow_clipboard()
 
     def copied(self, label, place=0):
         button = (
@@ -741,8 +735,3 @@ class Explained(PageTest):
         self.assertEqual(self.rows(), 1)
         browser.press("Escape")
         browser.wait("location.hash.startsWith('#recorded-') || location.hash.startsWith('#replayed-')")
-
-
-if __name__ == "__main__":
-    tell(sys.argv[1:])
-    FOLDER.cleanup()

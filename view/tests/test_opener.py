@@ -1,20 +1,16 @@
-#!/usr/bin/env python3
-"""The page that opens journals, in a headless Chromium from its file: of streams that are dropped on it or chosen it
-shows what the page shows that the programs make, and it requests nothing. test_opener.py MODULE.wasm"""
+"""The page that opens journals, in a headless browser from its file: of streams that are dropped on it or chosen it
+shows what the page shows that the programs make, and it requests nothing."""
 import base64
 import json
-import pathlib
 import subprocess
-import sys
 
-from support import FOLDER, STREAMS, WORK, PageTest, make_page, page_of, the_browser, written
-from tally import tell
+import support
+from support import STREAMS, WORK, PageTest, make_page, page_of, the_browser, written
 
 import make_opener
 import samples
 from samples import frame, raw_frame
 
-MODULE = pathlib.Path(sys.argv.pop()).resolve()
 PAGE = WORK / "journal_view.html"
 browser = None
 
@@ -26,36 +22,37 @@ DROP = """(async () => {
   document.getElementById('version').value = '%s';
   document.dispatchEvent(new DragEvent('drop', { dataTransfer: files, bubbles: true, cancelable: true }));
 })()"""
-OPENED = "document.body.dataset.ready === 'true' || /^(?!Reading|Decoding)./.test(byId('opener-says').textContent)"
+SAYS = "document.getElementById('opener-says')?.textContent"
+OPENED = f"document.body.dataset.ready === 'true' || !/^$|^Reading|Decoding \\.\\.$/.test({SAYS})"
 
 
 def setUpModule():
     global browser
-    make_opener.main([str(MODULE), str(PAGE)])
+    make_opener.main([support.MODULE, str(PAGE)])
     browser = the_browser()
 
 
-def dumped(path, version):
-    """What journal dump prints."""
-    words = [make_page.program(True), "dump", "--protocol", str(version), "--", str(path)]
-    return subprocess.run(words, stdout=subprocess.PIPE, check=True, encoding="utf-8").stdout.rstrip("\n")
+def printed(subcommand, *paths, version=8):
+    """What a subcommand of journal prints of streams."""
+    words = [make_page.program(True), subcommand, "--protocol", str(version), "--", *paths]
+    return subprocess.run(words, capture_output=True, encoding="utf-8").stdout.rstrip("\n")
 
 
 class OpenerTest(PageTest):
-    def tearDown(self):
-        # the worker is a blob, and none is sent for
-        browser.requests = [url for url in browser.requests if not url.startswith("blob:")]
-        super().tearDown()
-
     def drop(self, *streams, version=8):
         """Opens the page and drops streams on it, each a name and bytes."""
-        browser.call("Page.navigate", url="about:blank")
-        browser.messages, browser.requests = [], []
-        browser.call("Page.navigate", url=PAGE.as_uri())
-        browser.wait("location.protocol === 'file:' && document.readyState === 'complete'")
+        browser.load(PAGE)
         files = [[name, base64.b64encode(data).decode()] for name, data in streams]
         browser.evaluate(DROP % (json.dumps(files), version))
-        browser.wait(OPENED.replace("byId", "document.getElementById.bind(document)"))
+        browser.wait(OPENED)
+
+    def choose(self, *paths):
+        """Opens the page and chooses files."""
+        browser.load(PAGE)
+        for name, path in zip(("recorded", "replayed"), paths):
+            browser.choose(f"#{name}", path)
+        browser.evaluate("document.getElementById('open').click()")
+        browser.wait(OPENED)
 
     def lines(self, side=0):
         return self.value(f"document.getElementById('journal-{side}').textContent").strip("\n")
@@ -64,7 +61,7 @@ class OpenerTest(PageTest):
 class OneJournal(OpenerTest):
     def check(self, name, data, version=8):
         self.drop((name, data), version=version)
-        self.assertEqual(self.lines(), dumped(written(name, data), version))
+        self.assertEqual(self.lines(), printed("dump", written(name, data), version=version))
         self.assertEqual(self.text("h1"), name)
 
     def test_examples(self):
@@ -94,13 +91,7 @@ class OneJournal(OpenerTest):
         self.assertEqual(self.text("#opener-says"), "noise: no message in it; is it a journal of version 8?")
 
     def test_a_chosen_file(self):
-        browser.call("Page.navigate", url=PAGE.as_uri())
-        browser.wait("document.readyState === 'complete' && document.getElementById('recorded') !== null")
-        root = browser.call("DOM.getDocument")["root"]["nodeId"]
-        node = browser.call("DOM.querySelector", nodeId=root, selector="#recorded")["nodeId"]
-        browser.call("DOM.setFileInputFiles", nodeId=node, files=[str(STREAMS / "replay")])
-        browser.evaluate("document.getElementById('open').click()")
-        browser.wait("document.body.dataset.ready === 'true'")
+        self.choose(STREAMS / "replay")
         self.assertEqual(self.lines(), (STREAMS / "replay.dump").read_text().rstrip("\n"))
 
 
@@ -120,13 +111,14 @@ class TwoJournals(OpenerTest):
             self.assertEqual(found, wanted)
 
     def test_long_journals_begin_before_the_first_difference(self):
-        commands = [frame("RunCommand", name=f"run {index}", result_completion_id=index) for index in range(120_000)]
-        other = [*commands[:115_000], frame("RunCommand", name="other", result_completion_id=1), *commands[115_001:]]
-        self.drop(("one", b"".join(commands)), ("other", b"".join(other)))
-        self.assertIn("command 115,000", self.text("#sentence"))
-        self.assertEqual(json.loads(self.lines(1).split("\n")[0])["message"]["name"], "run 20000")
-
-
-if __name__ == "__main__":
-    tell(sys.argv[1:])
-    FOLDER.cleanup()
+        # of 8 MB each, with more items than a page shows: they are read and compared part by part
+        streams = {"one": samples.runs(53_000), "other": samples.runs(53_000, 51_000)}
+        paths = [written(name, b"".join(stream)) for name, stream in streams.items()]
+        self.choose(*paths)
+        self.assertIn("command 51,000", self.text("#sentence"))
+        self.assertEqual([self.text(f"#sentence .side-{side}") for side in (0, 1)], ["run 0051000", "ran 0051000"])
+        self.assertEqual(self.value("about.verdict.text"), printed("diff", *paths))
+        for side, path in enumerate(paths):
+            first, *_, last = lines = self.lines(side).split("\n")
+            self.assertEqual([len(lines), json.loads(first)["message"]["name"]], [100_001, "run 0003000"])
+            self.assertEqual(json.loads(last), {"offset": path.stat().st_size, "rest": 0})
