@@ -3,10 +3,11 @@
 
 A line is the language, the record, the work (a payload decoded and two fields read, or a record encoded), microseconds
 of CPU time of this library's package and of the other, and how many times as fast this one is. There are also the items
-of a stream, the same with two fields of each read, replays, frames and JSON; for Node only items. The others are
-protobuf's own packages of Debian, for streams and frames with a framing of twenty lines, prost with serde_json, and for
-Node JSON.parse of the dump. Where one is missing it says 'not run'. Python and Ruby are measured with their compiled
-modules, and without them as python-ctypes and ruby-fiddle.
+of a stream, the same with two fields of each read, replays, frames and JSON. The others are protobuf's own packages of
+Debian, for streams and frames with a framing of twenty lines, and prost with serde_json. For Node they are JSON.parse
+of the dump, and protobuf by hand (languages/peer.mjs). Where one is missing it says 'not run'. Python and Ruby are
+measured with their compiled modules, and without them as python-ctypes and ruby-fiddle. Lines of node-forms are the
+package for Node over its addon and over the WebAssembly module.
 """
 from __future__ import annotations
 
@@ -71,9 +72,13 @@ def node(work: pathlib.Path) -> None:
     shared.needs("node", "nodejs")
     folder = shutil.copytree(ROOT / "node", work / "node_modules" / "pendratsoa")
     quietly("sh", folder / "build.sh", work / "prefix")
-    for name in ("measure.mjs", "messages.txt"):
+    for name in ("measure.mjs", "peer.mjs", "forms.mjs", "messages.txt"):
         shutil.copyfile(MEASURES / name, work / name)
     run("node", work / "measure.mjs")
+    quietly(sys.executable, "-B", ROOT / "scripts" / "wasm.py")
+    other = shutil.copytree(folder, work / "node_modules" / "over_module")
+    shutil.copyfile(ROOT / "crates/journal_ffi/out/wasm/pendratsoa.wasm", other / "build" / "pendratsoa.wasm")
+    run("node", work / "forms.mjs", folder, other)
 
 
 def go(work: pathlib.Path) -> None:

@@ -78,8 +78,8 @@ func TestItemsHoweverTheyAreRead(t *testing.T) {
 // came is a message with the bytes that it came as, at an offset.
 func came(t *testing.T, message Message, digits string, offset int64) Message {
 	message.position = positionAt(offset)
-	message.came = unhex(t, digits)
-	message.Payload = message.came[headerSize:]
+	message.came = receivedAs(unhex(t, digits))
+	message.Payload = message.came.bytes()[headerSize:]
 	return message
 }
 
@@ -87,7 +87,7 @@ func TestVersion9SkipsPayloads(t *testing.T) {
 	decoder := NewDecoder(bytes.NewReader(unhex(t, "00080000000000020003"+"000300000000")), 9)
 	items, err := all(decoder)
 	data := unhex(t, "00080000000000020003")
-	want := []Item{Skipped{9, 8, 8<<48 | 2, data[8:], data, positionAt(0)}}
+	want := []Item{Skipped{9, 8, 8<<48 | 2, data[8:], receivedAs(data), positionAt(0)}}
 	if !reflect.DeepEqual(items, want) || !errors.Is(err, io.ErrUnexpectedEOF) || decoder.Rest() != 6 {
 		t.Errorf("%v, %v, %d", items, err, decoder.Rest())
 	}

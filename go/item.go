@@ -4,6 +4,7 @@ import (
 	"encoding/binary"
 	"fmt"
 	"io"
+	"unsafe"
 )
 
 // An Item is what a stream consists of: a Message, an UnknownCode or a Skipped. Its String is a line of a listing.
@@ -24,12 +25,11 @@ type Message struct {
 	// Version is that of its stream, and Code that of its type.
 	Version int
 	Code    uint16
-	// Payload is its payload, in any encoding.
-	Payload []byte
 	// RequestedAck tells whether its header requests an acknowledgement.
 	RequestedAck bool
-	// came is the message as received, or nil of one that did not
-	came     []byte
+	// Payload is its payload, in any encoding.
+	Payload  []byte
+	came     received
 	position position
 }
 
@@ -51,15 +51,34 @@ type Skipped struct {
 	// Word is the eight bytes of the header as one big-endian number.
 	Word uint64
 	// Payload is its payload.
-	Payload []byte
-	// came is the message as received, or nil of one that did not
-	came     []byte
+	Payload  []byte
+	came     received
 	position position
 }
 
 func (Message) isItem()     {}
 func (UnknownCode) isItem() {}
 func (Skipped) isItem()     {}
+
+// A received is a message as it was received: its first byte, or nil of one that was not, and the size of its payload.
+// A slice of it would make each item a quarter larger.
+type received struct {
+	first   *byte
+	payload uint32
+}
+
+// receivedAs returns a message as it was received, header and payload.
+func receivedAs(bytes []byte) received {
+	return received{&bytes[0], uint32(len(bytes) - headerSize)}
+}
+
+// bytes returns the message, or nil if it was not received.
+func (r received) bytes() []byte {
+	if r.first == nil {
+		return nil
+	}
+	return unsafe.Slice(r.first, headerSize+int(r.payload))
+}
 
 // A position is one more than the offset of an item in its stream, and 0 of one that did not come in a stream.
 type position int64
@@ -119,8 +138,8 @@ func (m Message) Bytes() []byte {
 }
 
 func (m Message) bytes() ([]byte, error) {
-	if m.came != nil {
-		return m.came, nil
+	if bytes := m.came.bytes(); bytes != nil {
+		return bytes, nil
 	}
 	header, err := Header(m.Version, m.Code, len(m.Payload))
 	if err != nil {
@@ -136,8 +155,8 @@ func (u UnknownCode) Bytes() []byte {
 
 // Bytes returns the message as received, or its payload after its word if it did not come in a stream.
 func (s Skipped) Bytes() []byte {
-	if s.came != nil {
-		return s.came
+	if bytes := s.came.bytes(); bytes != nil {
+		return bytes
 	}
 	return wordBytes(s.Word, s.Payload)
 }
@@ -305,11 +324,11 @@ func itemOf(version int, numbers []uint64, bytes []byte, at position) (Item, err
 	payload := bytes[numbers[itemPayload]:]
 	switch numbers[itemKind] {
 	case itemMessage:
-		return Message{version, code, payload, numbers[itemRequestedAck] != 0, bytes, at}, nil
+		return Message{version, code, numbers[itemRequestedAck] != 0, payload, receivedAs(bytes), at}, nil
 	case itemUnknownCode:
 		return UnknownCode{version, code, numbers[itemWord], at}, nil
 	case itemSkipped:
-		return Skipped{version, code, numbers[itemWord], payload, bytes, at}, nil
+		return Skipped{version, code, numbers[itemWord], payload, receivedAs(bytes), at}, nil
 	}
 	return nil, unexpected("kind of item", numbers[itemKind])
 }

@@ -17,7 +17,8 @@ import (
 // The cases of conformance/packages.cases, which its README specifies: what each kind of line returns for its words.
 var packageCases = map[string]func(t *testing.T, words []string) string{
 	"items": itemsCase, "read": readCase, "as": asCase, "compare": compareCase, "mismatch": mismatchCase,
-	"number": numberCase,
+	"replay": stepsCase, "encode": encodeCase, "decode": decodeCase, "json": jsonCase, "number": numberCase,
+	"limit": limitCase,
 }
 
 func TestPackages(t *testing.T) {
@@ -254,6 +255,46 @@ func mismatchCase(t *testing.T, words []string) string {
 		line += fmt.Sprintf(" %s %s %s", field.Name, digitsOf([]byte(field.Recorded)), digitsOf([]byte(field.Replayed)))
 	}
 	return line
+}
+
+func stepsCase(t *testing.T, words []string) string {
+	version := must(strconv.Atoi(words[0]))(t)
+	ignored := Ignored{Payloads: words[1] == "yes", IDs: words[1] == "ids"}
+	replay := must(NewReplay(version, bytesOf(t, words[2]), ignored))(t)
+	steps := []string{stepOf(t, replay, nil)}
+	for _, item := range itemsIn(version, bytesOf(t, words[3])) {
+		steps = append(steps, stepOf(t, replay, must(replay.Check(item))(t)))
+	}
+	end := "none"
+	if left := must(replay.Finish())(t); left != nil {
+		end = fmt.Sprintf("%s %d", kindOf(left.Kind), left.Index)
+	}
+	return strings.Join(steps, ", ") + "; " + end
+}
+
+// stepOf returns what is said of an item, and what comes next.
+func stepOf(t *testing.T, replay *Replay, said *Mismatch) string {
+	kind := "none"
+	if said != nil {
+		kind = kindOf(said.Kind)
+	}
+	expected, isThere, err := replay.Expected()
+	if err != nil {
+		t.Fatal(err)
+	}
+	if !isThere {
+		return fmt.Sprintf("%s %d", kind, replay.Index())
+	}
+	return fmt.Sprintf("%s %d %d %s", kind, replay.Index(), expected.Offset(), expected.Type())
+}
+
+func limitCase(t *testing.T, words []string) string {
+	limit, err := strconv.ParseUint(words[0], 10, 32)
+	if err != nil {
+		return "out_of_range"
+	}
+	NewDecoder(strings.NewReader(""), LastVersion).SetMaxMessageSize(uint32(limit))
+	return "ok"
 }
 
 func numberCase(t *testing.T, words []string) string {

@@ -2,6 +2,14 @@
  * The journal wire protocol of the Restate SDKs: the items of a stream, frames, payloads and their JSON, notifications,
  * and commands and journals compared.
  *
+ * ```ts
+ * for await (const item of items(createReadStream('journal'), 8)) {
+ *   if (item.kind === 'message' && item.type === 'SetStateCommand') {
+ *     console.log(item.offset, item.message.value?.content);
+ *   }
+ * }
+ * ```
+ *
  * Bytes are a `Uint8Array` (a `Buffer` is one). One over a `SharedArrayBuffer`, which another thread may change
  * meanwhile, or whose buffer is detached, is a `TypeError`, as is any value of another kind than is declared here. What
  * is returned is the caller's, in memory of its own.

@@ -6,6 +6,7 @@ import {
   ID_KINDS,
   LAST_VERSION,
   NOTIFICATION_NUMBERS,
+  READING,
   READINGS,
   READ_NUMBERS,
   RESULT_KINDS,
@@ -15,45 +16,96 @@ import {
 } from './declared.js';
 import { notKnown, notTaken, refusal, wrongKind } from './errors.js';
 import { schemaNumber } from './schemas.js';
-import { texts } from './text.js';
+import { isText, texts } from './text.js';
 
 export { FIRST_VERSION, LAST_VERSION };
 
 const encoder = new TextEncoder();
 
-// What calls write to. No JavaScript runs between a call and the reading of it.
+// What calls write to, and read of texts that are short. No JavaScript of others runs between a call and the reading of
+// it.
 const scratch = new Uint8Array(65536);
+const head = new Uint8Array(8);
+const SHORT_TEXT = 4096;
+let scratchText;
 const readNumbers = new BigUint64Array(READ_NUMBERS);
 const notificationNumbers = new BigUint64Array(NOTIFICATION_NUMBERS);
 const verdictNumbers = new BigUint64Array(VERDICT_NUMBERS);
 
 export function libraryVersion() {
-  return text(written((out) => addon.libraryVersion(out), { call: 'libraryVersion' }));
+  return filled((out) => addon.libraryVersion(out), { call: 'libraryVersion' }, textOf);
+}
+
+// What the library returned of types, and would return again: of named ones by version and code, and the names and the
+// codes of the first so many, since custom entries have some sixty thousand.
+const typesOf = new Map();
+const namesOf = new Map();
+const codesOf = new Map();
+const MOST_REMEMBERED = 256;
+
+/** What a map has of a key, or what a call returns, which is then in the map. */
+function remembered(map, key, call) {
+  const found = map.get(key);
+  if (found !== undefined) {
+    return found;
+  }
+  const value = call();
+  if (map.size < MOST_REMEMBERED) {
+    map.set(key, value);
+  }
+  return value;
+}
+
+/** What is remembered of a named type at a version. */
+function typeOf(version, code) {
+  const found = typesOf.get(version)?.get(code);
+  if (found !== undefined) {
+    return found;
+  }
+  const number = checked(addon.schema(version, code), { call: 'schema', version, code });
+  const type = { schema: number, requestsAck: undefined };
+  typesOf.set(version, (typesOf.get(version) ?? new Map()).set(code, type));
+  return type;
 }
 
 export function schema(version, code) {
-  return checked(addon.schema(version, code), { call: 'schema', version, code });
+  return typeOf(version, code).schema;
+}
+
+/** Whether the header of a named type requests an acknowledgement at a version. */
+export function requestsAck(version, code) {
+  const type = typeOf(version, code);
+  // the flag is the high bit of the third byte
+  type.requestsAck ??= headOf(version, code, 0)[2] >= 0x80;
+  return type.requestsAck;
 }
 
 export function typeName(code) {
-  return text(written((out) => addon.typeName(code, out), { call: 'typeName', code }));
+  const call = (out) => addon.typeName(code, out);
+  return remembered(namesOf, code, () => filled(call, { call: 'typeName', code }, textOf));
 }
 
 export function typeCode(name) {
   if (typeof name !== 'string') {
     throw wrongKind('name', name, 'a string');
   }
-  return checked(addon.typeCode(encoder.encode(name)), { call: 'typeCode', name });
+  const given = { call: 'typeCode', name };
+  return remembered(codesOf, name, () => checked(addon.typeCode(encoder.encode(name)), given));
 }
 
 export function header(version, code, payloadLength) {
-  const given = { call: 'header', version, code, payloadLength };
-  return bytes(written((out) => addon.header(version, code, payloadLength, out), given));
+  return headOf(version, code, payloadLength).slice();
+}
+
+/** A header, in bytes that the next one is written to. */
+export function headOf(version, code, payloadLength) {
+  checked(addon.header(version, code, payloadLength, head), { call: 'header', version, code, payloadLength });
+  return head;
 }
 
 export function frame(version, code, payload) {
   const given = { call: 'frame', version, code, payload };
-  return bytes(written((out) => addon.frame(version, code, payload, out), given));
+  return filled((out) => addon.frame(version, code, payload, out), given, bytesOf);
 }
 
 export function frameInto(version, code, payload, out) {
@@ -68,32 +120,34 @@ export function isWellFormed(schema, payload) {
 export function canonical(schema, payload) {
   const given = { call: 'canonical', schema, payload };
   const number = known(schema, given);
-  return bytes(written((out) => addon.canonical(number, payload, out), given));
+  return filled((out) => addon.canonical(number, payload, out), given, bytesOf);
 }
 
 export function merge(schema, first, second) {
   const given = { call: 'merge', schema, first, second };
   const number = known(schema, given);
-  return bytes(written((out) => addon.merge(number, first, second, out), given));
+  return filled((out) => addon.merge(number, first, second, out), given, bytesOf);
 }
 
 export function toJson(schema, payload) {
   const given = { call: 'toJson', schema, payload };
   const number = known(schema, given);
-  return text(written((out) => addon.json(number, payload, out), given));
+  return filled((out) => addon.json(number, payload, out), given, textOf);
 }
 
 export function fromJson(schema, json) {
   const given = { call: 'fromJson', schema, json };
   const number = known(schema, given);
   const utf8 = typeof json === 'string' ? utf8Of(json) : json;
-  const found = written((out) => addon.payloadOfJson(number, utf8, readNumbers, out), given);
-  const [kind, offset] = Array.from(readNumbers, Number);
-  const reading = kindOf(READINGS, kind, given, 'kind of JSON text');
-  if (reading === 'read') {
-    return bytes(found);
-  }
-  throw notTaken(given, { reason: reading, offset: reading === 'notJson' ? offset : undefined, path: text(found) });
+  const call = (out) => addon.payloadOfJson(number, utf8, readNumbers, out);
+  return filled(call, given, (out, length) => {
+    const reading = kindOf(READINGS, Number(readNumbers[READING.kind]), given, 'kind of JSON text');
+    if (reading === 'read') {
+      return bytesOf(out, length);
+    }
+    const offset = reading === 'notJson' ? Number(readNumbers[READING.offset]) : undefined;
+    throw notTaken(given, { reason: reading, offset, path: textOf(out, length) });
+  });
 }
 
 export function notification(code, payload) {
@@ -112,7 +166,7 @@ export function headerEq(code, first, second, { ignorePayloads = false } = {}) {
 
 export function difference(code, first, second) {
   const given = { call: 'difference', code, first, second };
-  return text(written((out) => addon.difference(code, first, second, out), given));
+  return filled((out) => addon.difference(code, first, second, out), given, textOf);
 }
 
 export function compareJournals(version, recorded, replayed, { ignorePayloads = false } = {}) {
@@ -133,21 +187,33 @@ export function checked(returned, given) {
   return returned;
 }
 
-/** What a call writes into room that is enough: a part of `scratch`, which the next call writes to, or an own array. */
-export function written(call, given) {
+/**
+ * What is taken of what a call writes into room that is enough: of `scratch`, which the next call writes to, or of an
+ * array for it, up to a length.
+ */
+function filled(call, given, take) {
   let out = scratch;
   for (;;) {
     const needed = checked(call(out), given);
     if (needed <= out.length) {
-      return out.subarray(0, needed);
+      return take(out, needed);
     }
     out = new Uint8Array(needed);
   }
 }
 
+/** The bytes that a call writes, which are only there until the next call. */
+export function written(call, given) {
+  return filled(call, given, (out, length) => out.subarray(0, length));
+}
+
 /** Bytes that were written, in an array of their own. */
-function bytes(found) {
-  return found.buffer === scratch.buffer ? found.slice() : found;
+function bytesOf(out, length) {
+  return out === scratch ? out.slice(0, length) : out.subarray(0, length);
+}
+
+function textOf(out, length) {
+  return texts.utf8(out, 0, length);
 }
 
 /** Bytes that were written, as a text. */
@@ -155,16 +221,28 @@ export function text(found) {
   return texts.utf8(found, 0, found.length);
 }
 
-/** A text as UTF-8. Half a surrogate, which has none, becomes a byte that is in no text; nothing after it matters. */
+/**
+ * A text as UTF-8, which is only there until the next one. Half a surrogate, which has none, becomes a byte that is in
+ * no text; nothing after it matters.
+ */
 function utf8Of(json) {
-  const end = json.search(/\p{Surrogate}/u);
-  if (end < 0) {
-    return encoder.encode(json);
+  if (isText(json)) {
+    return encoded(json);
   }
-  const before = encoder.encode(json.slice(0, end));
+  const end = json.search(/\p{Surrogate}/u);
+  const before = encoded(json.slice(0, end));
   const bytes = new Uint8Array(before.length + 1).fill(0xff);
   bytes.set(before);
   return bytes;
+}
+
+/** The same of a text without half a surrogate. The encoder makes an array each time, which takes longest of it. */
+function encoded(text) {
+  if (text.length > SHORT_TEXT) {
+    return encoder.encode(text);
+  }
+  scratchText ??= texts.unwritten(3 * SHORT_TEXT);
+  return scratchText.subarray(0, texts.writeUtf8(scratchText, text, 0));
 }
 
 /** The number of a schema. What is neither a number nor a name, the addon does not take. */

@@ -15,7 +15,7 @@ import {
 import { NOT_CANONICAL, fieldError, notKnown, wrongKind } from './errors.js';
 import { RECORDS } from './records.js';
 import { schemaNumber } from './schemas.js';
-import { texts } from './text.js';
+import { isText, texts } from './text.js';
 
 // The kinds of fields that are told apart here, by the numbers of the library.
 const U64 = FIELD_KINDS.indexOf('fieldUint64');
@@ -214,6 +214,7 @@ function known(schema, call) {
 }
 
 class Writer {
+  schema = 0;
   table = new Table(16);
   // the numbers of a table of so many entries, once they were needed
   parts = [];
@@ -222,6 +223,7 @@ class Writer {
   size = 0;
 
   payload(schema, value) {
+    this.schema = schema;
     this.count = 0;
     this.size = 0;
     this.record(RECORDS[schema], value, 0);
@@ -296,10 +298,10 @@ class Writer {
         if (typeof value !== 'bigint') {
           throw wrongKind(row.member ?? row.name, value, 'a bigint');
         }
-        if (value !== BigInt.asUintN(64, value)) {
-          throw wrongKind(row.member ?? row.name, value, 'a bigint of 64 bits');
-        }
         this.entry(row, level, 0);
+        if (value !== BigInt.asUintN(64, value)) {
+          throw fieldError(pathOf(RECORDS[this.schema], this.table, this.count - 1), 'outOfRange');
+        }
         this.table.numbers[FIELD_NUMBERS * (this.count - 1) + FIELD.value] = value;
         break;
       default: {
@@ -353,7 +355,7 @@ class Writer {
       return;
     }
     const written = texts.writeUtf8(this.bytes, value, this.size);
-    if (!isWellFormed(value)) {
+    if (!isText(value)) {
       // half a surrogate is in no text; the library says so of a byte that is in none
       this.bytes[this.size] = 0xff;
     }
@@ -380,11 +382,6 @@ class Writer {
       this.bytes = bytes;
     }
   }
-}
-
-/** Whether a text has no half of a surrogate. */
-function isWellFormed(text) {
-  return text.isWellFormed === undefined ? !/\p{Surrogate}/u.test(text) : text.isWellFormed();
 }
 
 /** The error that a field cannot be encoded, with the path that leads to it. */

@@ -7,8 +7,10 @@ import {
   frame,
   frameInto,
   fromJson,
+  headOf,
   header,
   notification,
+  requestsAck,
   schema,
   toJson,
   typeCode,
@@ -77,8 +79,8 @@ export class Message {
 
   get bytes() {
     // what came in no stream has the header of its type
-    const { version, code, payload, word } = this;
-    return joined(word === undefined ? header(version, code, payload.length) : wordBytes(word), payload);
+    const { version, code, payload } = this;
+    return joined(this.#high === undefined ? headOf(version, code, payload.length) : this.#head(), payload);
   }
 
   get type() {
@@ -87,7 +89,7 @@ export class Message {
 
   get message() {
     const number = schemaOf(this.version, this.code);
-    return number === undefined ? undefined : this.#read(() => recordOf(number, this.payload));
+    return number === undefined ? undefined : this.#record(number);
   }
 
   record(name) {
@@ -95,7 +97,7 @@ export class Message {
     if (this.code !== RECORDS[wanted].code || schema(this.version, this.code) !== wanted) {
       return undefined;
     }
-    return this.#read(() => recordOf(wanted, this.payload));
+    return this.#record(wanted);
   }
 
   get schema() {
@@ -155,6 +157,23 @@ export class Message {
     }
   }
 
+  /** The record of the payload, by the number of its schema. */
+  #record(number) {
+    try {
+      return recordOf(number, this.payload);
+    } catch (error) {
+      throw ofMessage(error, this.code, nameOf(this.code), this.#offset);
+    }
+  }
+
+  /** The header of a message of a stream. */
+  #head() {
+    const view = new DataView(new ArrayBuffer(8));
+    view.setUint32(0, this.#high);
+    view.setUint32(4, this.#low);
+    return new Uint8Array(view.buffer);
+  }
+
   toString() {
     return `${nameOf(this.code)} ${this.payload.length}${this.requestedAck ? ' ack' : ''}`;
   }
@@ -189,8 +208,7 @@ function schemaOf(version, code) {
 }
 
 function made(version, code, payload) {
-  // the flag is the high bit of the third byte
-  return new Message(version, code, payload, header(version, code, payload.length)[2] >= 0x80);
+  return new Message(version, code, payload, requestsAck(version, code));
 }
 
 /** The codes of types that have another schema at earlier versions. */

@@ -5,8 +5,8 @@ import { CALLS } from './module_calls.js';
 import { renew, useInstances } from './module_memory.js';
 
 /**
- * The calls over a compiled module. With `memoryLimit`, in bytes, no instance has more memory, and a call that would
- * need more is out of memory.
+ * The calls over a compiled module, which say that they copy what they are given. With `memoryLimit`, in bytes, no
+ * instance has more memory, and a call that would need more is out of memory.
  */
 export function callsOf(module, { memoryLimit } = {}) {
   useInstances(() => {
@@ -16,7 +16,8 @@ export function callsOf(module, { memoryLimit } = {}) {
     }
     return exports;
   });
-  return Object.fromEntries(Object.entries(CALLS).map(([name, call]) => [name, guarded(name, call)]));
+  const calls = Object.entries(CALLS).map(([name, call]) => [name, guarded(name, call)]);
+  return { ...Object.fromEntries(calls), copies: true };
 }
 
 /** A call that may trap, as where the stack of the engine ends: the next call has a new instance. */

@@ -61,8 +61,13 @@ export function firstOf(one, other, third = 0) {
   return one || other || third;
 }
 
+// Up to how many bytes or numbers a loop is faster than a call that copies them, and than one that needs a view too.
+const FEW_BYTES = 8;
+const FEW_BYTES_VIEWED = 24;
+const FEW_NUMBERS = 16;
+
 export function putBytes(value, length, at) {
-  if (length < 48) {
+  if (length <= FEW_BYTES) {
     for (let index = 0; index < length; index += 1) {
       bytes[at + index] = value[index];
     }
@@ -72,7 +77,7 @@ export function putBytes(value, length, at) {
 }
 
 export function putNumbers(numbers, count, at) {
-  if (count <= 16) {
+  if (count <= FEW_NUMBERS) {
     for (let index = 0; index < count; index += 1) {
       words[at / 8 + index] = numbers[index];
     }
@@ -85,14 +90,26 @@ export function putNumbers(numbers, count, at) {
 export function takeBytes(returned, out, length, at) {
   if (returned > 0 && returned <= length) {
     renewViews();
-    set(out, bytes.subarray(at, at + returned));
+    if (returned <= FEW_BYTES_VIEWED) {
+      for (let index = 0; index < returned; index += 1) {
+        out[index] = bytes[at + index];
+      }
+    } else {
+      set(out, bytes.subarray(at, at + returned));
+    }
   }
 }
 
 export function takeNumbers(numbers, count, at) {
   if (count > 0) {
     renewViews();
-    set(numbers, words.subarray(at / 8, at / 8 + count));
+    if (count <= FEW_NUMBERS) {
+      for (let index = 0; index < count; index += 1) {
+        numbers[index] = words[at / 8 + index];
+      }
+    } else {
+      set(numbers, words.subarray(at / 8, at / 8 + count));
+    }
   }
 }
 

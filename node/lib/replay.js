@@ -41,9 +41,10 @@ function optionsOf(ignored) {
 export class Replay {
   #version;
   #recorded;
-  // the recording is given to the library from the last command that was the same on, or from its beginning, so that
-  // the module copies no more of it than it reads: the numbers are of a recording that begins there
+  // the addon is given the whole recording. The module copies what it is given: what it reads of that, from the last
+  // command that was the same on, or from the beginning. Its numbers are of a recording that begins there
   #numbers = new BigUint64Array(REPLAY_NUMBERS);
+  #copy = new BigUint64Array(REPLAY_NUMBERS);
   #begin = 0;
   // the size of that command, and where the next one is: its offset and its size, or null if there is none; undefined
   // before it is looked for
@@ -78,19 +79,23 @@ export class Replay {
   check(item) {
     const { code, payload } = partsOf(item);
     const given = { call: 'check', code, payload };
-    const next = this.#found('check');
-    const recorded = this.#window(next);
+    const recorded = this.#given('check');
     // the replay goes on by its copy once all of the mismatch is there
-    const numbers = this.#numbers.slice();
+    const before = this.#numbers;
+    const numbers = this.#copy;
+    numbers.set(before);
     const said = checked(addon.replayCheck(code, recorded, payload, numbers, mismatchNumbers), given);
     const mismatch = said === 0 ? undefined : this.#mismatch(given, recorded);
-    if (numbers[REPLAY.index] > this.#numbers[REPLAY.index]) {
-      this.#begin += Number(numbers[REPLAY.recordedOffset]);
-      this.#size = next.size;
+    if (numbers[REPLAY.index] !== before[REPLAY.index]) {
+      if (addon.copies) {
+        this.#begin += Number(numbers[REPLAY.recordedOffset]);
+        this.#size = this.#next.size;
+        numbers[REPLAY.recordedOffset] = 0n;
+      }
       this.#next = undefined;
-      numbers[REPLAY.recordedOffset] = 0n;
     }
     this.#numbers = numbers;
+    this.#copy = before;
     return mismatch;
   }
 
@@ -105,7 +110,7 @@ export class Replay {
 
   finish() {
     const given = { call: 'finish', code: 0, payload: NOTHING };
-    const recorded = this.#window(this.#found('finish'));
+    const recorded = this.#given('finish');
     const left = checked(addon.replayFinish(recorded, this.#numbers, mismatchNumbers), given);
     return left === 0 ? undefined : this.#mismatch(given, recorded);
   }
@@ -118,9 +123,9 @@ export class Replay {
     return this.#next;
   }
 
-  /** Looks for the next command in ever more of the recording. */
+  /** Looks for the next command in the recording, where it is copied in ever more of it. */
   #look(given) {
-    for (let size = FIRST_LOOK + this.#size; ; size *= 2) {
+    for (let size = addon.copies ? FIRST_LOOK + this.#size : this.#recorded.length; ; size *= 2) {
       const bytes = this.#recorded.subarray(this.#begin, this.#begin + size);
       if (checked(addon.replayExpected(bytes, this.#numbers, commandNumbers), given) === 1) {
         const offset = this.#begin + Number(commandNumbers[COMMAND.offset]);
@@ -132,8 +137,12 @@ export class Replay {
     }
   }
 
-  /** The part of the recording from the last command that was the same to the end of the next one. */
-  #window(next) {
+  /** The recording, or where it is copied the part from the last command that was the same to the end of the next. */
+  #given(call) {
+    if (!addon.copies) {
+      return this.#recorded;
+    }
+    const next = this.#found(call);
     const end = next === null ? this.#begin + this.#size : next.offset + next.size;
     return this.#recorded.subarray(this.#begin, end);
   }

@@ -54,3 +54,8 @@ export const texts = {
     }
   },
 };
+
+/** Whether a string has no half of a surrogate, and so is a text. */
+export function isText(string) {
+  return string.isWellFormed === undefined ? !/\p{Surrogate}/u.test(string) : string.isWellFormed();
+}

@@ -149,19 +149,16 @@ static enum reading read_flag(napi_env env, enum parameter parameter, napi_value
  */
 static enum reading read_array(napi_env env, enum parameter parameter, napi_value value, napi_typedarray_type wanted,
                                const char *has_to_be, void **elements, size_t *length) {
-    bool is_array = false;
     bool is_own = false;
     bool is_detached = false;
     napi_typedarray_type type = wanted;
     napi_value buffer = NULL;
+    napi_status status = napi_get_typedarray_info(env, value, &type, length, elements, &buffer, NULL);
 
-    if (!succeeded(env, napi_is_typedarray(env, value, &is_array))) {
-        return THROWN;
-    }
-    if (!is_array) {
+    if (status == napi_invalid_arg) {
         return wrong_value(env, parameter, value, has_to_be);
     }
-    if (!succeeded(env, napi_get_typedarray_info(env, value, &type, length, elements, &buffer, NULL))) {
+    if (!succeeded(env, status)) {
         return THROWN;
     }
     if (type != wanted) {
@@ -173,7 +170,8 @@ static enum reading read_array(napi_env env, enum parameter parameter, napi_valu
     if (!is_own) {
         return wrong_kind(env, parameter, "a view on shared memory", "a copy of it");
     }
-    if (!succeeded(env, napi_is_detached_arraybuffer(env, buffer, &is_detached))) {
+    /* a view on a detached buffer has no elements */
+    if (*length == 0 && !succeeded(env, napi_is_detached_arraybuffer(env, buffer, &is_detached))) {
         return THROWN;
     }
     return is_detached ? wrong_kind(env, parameter, "a view on a detached buffer", has_to_be) : READ;

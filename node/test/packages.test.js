@@ -4,7 +4,9 @@ import assert from 'node:assert/strict';
 import test from 'node:test';
 
 import {
+  FieldError,
   Incomplete,
+  JsonError,
   Malformed,
   Message,
   MessageTooLong,
@@ -13,11 +15,13 @@ import {
   Replay,
   Skipped,
   Stream,
+  TooLong,
   Unknown,
   UnknownCode,
   compareJournals,
   isWellFormed,
   items,
+  readRecord,
   typeName,
   writeRecord,
 } from 'pendratsoa';
@@ -51,6 +55,78 @@ function nameOf(code) {
 /** A name as the lines have it, as recorded_ended. */
 function snake(name) {
   return name.replace(/[A-Z]/g, (letter) => `_${letter.toLowerCase()}`);
+}
+
+/** A name as JavaScript has it, as recordedEnded. */
+function camel(name) {
+  return name.replace(/_([a-z])/g, (_, letter) => letter.toUpperCase());
+}
+
+/** The text of a word; one that is none of UTF-8 is half a surrogate. */
+function stringOf(word) {
+  try {
+    return new TextDecoder('utf-8', { fatal: true, ignoreBOM: true }).decode(bytesOf(word));
+  } catch {
+    return '\udcff';
+  }
+}
+
+// The fields of records: how a word is read, and how a value is written. Those that are not here are numbers.
+const TEXT = [stringOf, wordOf];
+const FIELDS = {
+  id: [bytesOf, (value) => digits(value) || '-'],
+  debug_id: TEXT,
+  scope: TEXT,
+  target_invocation_id: TEXT,
+  entry_name: TEXT,
+  name: TEXT,
+  partial_state: [(word) => word === 'true', String],
+  duration_since_last_stored_entry: [BigInt, String],
+  headers: [
+    (word) => word.split(',').map((one) => headerOf(...one.split(':'))),
+    (headers) => headers.map(({ key, value }) => `${wordOf(key)}:${wordOf(value)}`).join(','),
+  ],
+  void: [() => ({}), () => '-'],
+  value: [(word) => ({ content: bytesOf(word) }), ({ content }) => digits(content) || '-'],
+  failure: [(word) => ({ code: Number(word) }), ({ code }) => String(code)],
+};
+const NUMBER = [Number, String];
+// The names of oneofs by their members; a field `value` is a member in one of the records.
+const ONEOFS = { idx: 'signalId', name: 'signalId', void: 'result', value: 'result', failure: 'result' };
+
+function headerOf(key, value) {
+  return { key: stringOf(key), value: stringOf(value) };
+}
+
+/** The record that has these fields. */
+function recordOf(name, words) {
+  const hasOneofs = name === 'SendSignalCommandMessage';
+  return Object.fromEntries(
+    words.map((word) => {
+      const [field, text] = word.split('=');
+      const [read] = FIELDS[field] ?? NUMBER;
+      const oneof = hasOneofs ? ONEOFS[field] : undefined;
+      return oneof === undefined ? [camel(field), read(text)] : [oneof, { case: field, value: read(text) }];
+    }),
+  );
+}
+
+// The fields that may be absent; the others are there if they are not their default.
+const OPTIONAL = ['scope', 'relatedCommandIndex', 'value', 'signalId', 'result'];
+
+/** The fields of a record that are there. */
+function fieldsOf(record) {
+  return Object.entries(record)
+    .filter(([name, value]) => (OPTIONAL.includes(name) ? value !== undefined : !isDefault(value)))
+    .map(([name, value]) => {
+      const [field, found] = 'case' in Object(value) ? [value.case, value.value] : [snake(name), value];
+      return `${field}=${(FIELDS[field] ?? NUMBER)[1](found)}`;
+    });
+}
+
+/** Whether a value is that of a field that is not written: zero, false, or empty; or one that is absent. */
+function isDefault(value) {
+  return value === undefined || value.length === 0 || value === 0 || value === 0n || value === false;
 }
 
 /** How a stream ends. */
@@ -221,6 +297,60 @@ const KINDS = {
       ...[snake(kind), index, recordedOffset, replayedOffset, wordOf(text)],
       ...fields.flatMap(({ name, recorded, replayed }) => [name, wordOf(recorded), wordOf(replayed)]),
     ].join(' ');
+  },
+
+  replay(version, ignore, recorded, replayed) {
+    const ignored = { ignorePayloads: ignore === 'yes', ignoreIds: ignore === 'ids' };
+    const replay = new Replay(Number(version), bytesOf(recorded), ignored);
+    const step = (mismatch) => {
+      const expected = replay.expected();
+      const next = expected === undefined ? [] : [expected.offset, expected.type];
+      return [mismatch === undefined ? 'none' : snake(mismatch.kind), replay.index, ...next].join(' ');
+    };
+    const steps = [step(undefined), ...itemsOf(version, replayed).map((item) => step(replay.check(item)))];
+    const left = replay.finish();
+    return `${steps.join(', ')}; ${left === undefined ? 'none' : `${snake(left.kind)} ${left.index}`}`;
+  },
+
+  encode(version, name, ...words) {
+    try {
+      return digits(Message.of(name.replace(/Message$/, ''), recordOf(name, words), Number(version)).bytes);
+    } catch (error) {
+      if (error instanceof Unknown) {
+        return 'unknown';
+      }
+      assert.ok(error instanceof FieldError, `${error}`);
+      return `${snake(error.reason)} ${snake(error.path)}`;
+    }
+  },
+
+  decode(name, word) {
+    try {
+      return fieldsOf(readRecord(name, bytesOf(word))).join(', ') || '-';
+    } catch (error) {
+      assert.ok(error instanceof Malformed, `${error}`);
+      return 'malformed';
+    }
+  },
+
+  json(version, type, word) {
+    try {
+      const message = Message.fromJson(type, bytesOf(word), Number(version));
+      assert.deepEqual([message.version, message.type], [Number(version), type]);
+      return digits(message.payload) || '-';
+    } catch (error) {
+      if (error instanceof Unknown) {
+        return 'unknown';
+      }
+      assert.ok(error instanceof JsonError, `${error}`);
+      return `${snake(error.reason)} ${error.offset ?? error.path}`.trimEnd();
+    }
+  },
+
+  limit(text) {
+    const error = thrown(() => new Stream(8, { maxMessageSize: Number(text) }));
+    assert.ok(error === undefined || error instanceof RangeError || error instanceof TooLong, `${error}`);
+    return error === undefined ? 'ok' : 'out_of_range';
   },
 
   number(what, text) {

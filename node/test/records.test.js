@@ -80,6 +80,8 @@ test('fields that cannot be encoded', () => {
     ['Failure', { code: -1 }, 'code'],
     ['Failure', { code: 2 ** 32 }, 'code'],
     ['ErrorMessage', { behavior: 2 ** 31 }, 'behavior'],
+    ['SleepCommandMessage', { wakeUpTime: 1n << 64n }, 'wakeUpTime'],
+    ['SleepCommandMessage', { wakeUpTime: -1n }, 'wakeUpTime'],
     ['InputCommandMessage', { headers: [{ key: 'a' }, { value: '\ud800' }] }, 'headers[1].value'],
     ['OutputCommandMessage', { result: { case: 'failure', value: { message: 'a\udfffb' } } }, 'failure.message'],
   ]) {
@@ -106,7 +108,6 @@ test('values of another kind', () => {
     ['Failure', null],
     ['Value', { content: 'text' }],
     ['SleepCommandMessage', { wakeUpTime: 5 }],
-    ['SleepCommandMessage', { wakeUpTime: 1n << 64n }],
     ['InputCommandMessage', { headers: {} }],
     ['OutputCommandMessage', { result: { case: 'none', value: {} } }],
     ['OutputCommandMessage', { result: {} }],

@@ -1,12 +1,13 @@
 """What every package promises beyond the calls: the cases of conformance/packages.cases, which its README specifies."""
 
 import asyncio
+import dataclasses
 import io
 import unittest
 
-import pendratsoa
-from pendratsoa import Incomplete, JournalError, Malformed, Message, NoId, NoResult, Replay, Skipped, Stream, TooLong
-from pendratsoa import Unknown, UnknownCode, compare_journals, is_well_formed, messages, type_name
+from pendratsoa import FieldError, Incomplete, JournalError, JsonError, Malformed, Message, NoId, NoResult, Replay
+from pendratsoa import Skipped, Stream, TooLong, Unknown, UnknownCode, compare_journals, is_well_formed, messages
+from pendratsoa import type_name
 from support import SET_STATE_COMMAND, TOP
 
 CASES = [
@@ -23,12 +24,76 @@ READS = {
     "notification": Message.notification,
 }
 KINDS = {Malformed: "malformed", NoId: "no_id", NoResult: "no_result"}
-NUMBERS = {"version": Stream, "code": type_name, "schema": lambda number: is_well_formed(number, b"")}
+NUMBERS = {
+    "version": Stream,
+    "code": type_name,
+    "schema": lambda number: is_well_formed(number, b""),
+}
+
+# how the word of a field is read, which is otherwise a number, and the members of each oneof
+FIELDS = {
+    "partial_state": lambda word: word == "true",
+    "id": lambda word: bytes_of(word),
+    "headers": lambda word: tuple(header_of(*one.split(":")) for one in word.split(",")),
+    "void": lambda word: messages.Void(),
+    "value": lambda word: messages.Value(bytes_of(word)),
+    "failure": lambda word: messages.Failure(code=int(word)),
+    **dict.fromkeys(
+        ("debug_id", "scope", "target_invocation_id", "name", "entry_name"), lambda word: text_of(word)
+    ),
+}
+ONEOFS = {"signal_id": ("idx", "name"), "result": ("void", "value", "failure")}
 
 
 def bytes_of(word):
     """The bytes of a word."""
     return b"" if word == "-" else bytes.fromhex(word)
+
+
+def text_of(word):
+    """The text of a word, which may be none of UTF-8."""
+    return bytes_of(word).decode(errors="surrogateescape")
+
+
+def header_of(key, value):
+    return messages.Header(text_of(key), text_of(value))
+
+
+def record_of(record, words):
+    """The record of a class that has these fields."""
+    attributes = {}
+    for word in words:
+        name, value = word.split("=")
+        oneof = next((one for one, members in ONEOFS.items() if name in members and hasattr(record, one)), name)
+        attributes[oneof] = FIELDS.get(name, int)(value)
+    return record(**attributes)
+
+
+def fields_of(record):
+    """The fields of a record that are there, which are not those with their default."""
+    for field in dataclasses.fields(record):
+        value = getattr(record, field.name)
+        if value != field.default:
+            yield f"{member_of(field.name, value)}={word_of(value)}"
+
+
+def member_of(name, value):
+    """The name of a field, or of a member of a oneof."""
+    if name == "signal_id":
+        return "name" if isinstance(value, str) else "idx"
+    return type(value).__name__.lower() if name == "result" else name
+
+
+def word_of(value):
+    """A value of a field as a word."""
+    if isinstance(value, tuple):
+        return ",".join(f"{word_of(header.key)}:{word_of(header.value)}" for header in value)
+    if isinstance(value, messages.Failure):
+        return str(value.code)
+    if isinstance(value, int):
+        return "true" if value is True else str(int(value))
+    data = getattr(value, "content", b"" if value == messages.Void() else value)
+    return (data.encode() if isinstance(data, str) else data).hex() or "-"
 
 
 def name_of(code):
@@ -204,12 +269,60 @@ class TestPackages(unittest.TestCase):
             words += field.name, field.recorded.encode().hex(), field.replayed.encode().hex()
         return " ".join(str(word) or "-" for word in words)
 
+    def replay_result(self, version, ignored, recorded, replayed):
+        replay = Replay(int(version), bytes_of(recorded), ignored == "yes", ignored == "ids")
+        steps = [self.step(replay, None)]
+        steps += [self.step(replay, replay.check(item)) for item in items_of(version, replayed)]
+        left = replay.finish()
+        end = "none" if left is None else f"{left.kind} {left.index}"
+        return f"{', '.join(steps)}; {end}"
+
+    def step(self, replay, mismatch):
+        """What is said of an item, and what comes next."""
+        words = ["none" if mismatch is None else mismatch.kind, replay.index]
+        expected = replay.expected()
+        if expected is not None:
+            words += expected.offset, expected.type
+        return " ".join(map(str, words))
+
+    def encode_result(self, version, name, *words):
+        try:
+            return record_of(getattr(messages, name), words).frame(int(version)).hex()
+        except Unknown:
+            return "unknown"
+        except FieldError as error:
+            return f"{error.reason} {error.path}"
+
+    def decode_result(self, name, word):
+        try:
+            return ", ".join(fields_of(getattr(messages, name).decode(bytes_of(word)))) or "-"
+        except Malformed:
+            return "malformed"
+
+    def json_result(self, version, name, word):
+        try:
+            message = Message.from_json(name, bytes_of(word), int(version))
+        except Unknown:
+            return "unknown"
+        except JsonError as error:
+            where = error.path if error.offset is None else error.offset
+            return f"{error.reason} {where}".rstrip()
+        self.assertEqual((message.version, message.type), (int(version), name))
+        return message.payload.hex() or "-"
+
     def number_result(self, what, number):
         error = raised(NUMBERS[what], int(number))
         if error is None:
             return "known"
         self.assertIs(type(error), Unknown)
         return "unknown"
+
+    def limit_result(self, number):
+        try:
+            Stream(8, max_message_size=int(number))
+        except (TooLong, ValueError):
+            return "out_of_range"
+        return "ok"
 
 
 class TestMadeByHand(unittest.TestCase):

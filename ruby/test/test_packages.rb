@@ -18,6 +18,11 @@ class TestPackages < Minitest::Test
     "schema" => ->(number) { Pendratsoa.well_formed?(number, "") }
   }.freeze
 
+  # The fields whose words are bytes or texts, and the members of each oneof.
+  BYTES = %w[id].freeze
+  TEXTS = %w[debug_id scope target_invocation_id name entry_name].freeze
+  ONEOFS = { signal_id: %w[idx name], result: %w[void value failure] }.freeze
+
   def test_the_cases
     assert_operator CASES.length, :>, 100
     CASES.each do |line|
@@ -183,6 +188,115 @@ class TestPackages < Minitest::Test
   # The bytes of a text as a word.
   def word_of(text)
     text.empty? ? "-" : text.unpack1("H*")
+  end
+
+  def replay_result(version, ignored, recorded, replayed)
+    options = { ignore_payloads: ignored == "yes", ignore_ids: ignored == "ids" }
+    replay = Pendratsoa::Replay.new(Integer(version), bytes_of(recorded), **options)
+    steps = [step(replay, nil)]
+    steps.concat(items_of(version, replayed).map { |item| step(replay, replay.check(item)) })
+    left = replay.finish
+    "#{steps.join(", ")}; #{left ? "#{left.kind} #{left.index}" : "none"}"
+  end
+
+  # What is said of an item, and what comes next.
+  def step(replay, mismatch)
+    expected = replay.expected
+    [mismatch ? mismatch.kind : "none", replay.index, expected&.offset, expected&.type].compact.join(" ")
+  end
+
+  def encode_result(version, name, *words)
+    record = Pendratsoa.const_get(name)
+    fields = words.to_h do |word|
+      field, value = word.split("=")
+      [attribute(record, field), value_of(field, value)]
+    end
+    record.new(**fields).frame(Integer(version)).unpack1("H*")
+  rescue Pendratsoa::Unknown
+    "unknown"
+  rescue Pendratsoa::FieldError => error
+    "#{error.reason} #{error.path}"
+  end
+
+  # The attribute of a record that has a field, or a member of a oneof.
+  def attribute(record, field)
+    oneof, = ONEOFS.find { |name, members| record.members.include?(name) && members.include?(field) }
+    oneof || field.to_sym
+  end
+
+  # The value of a word.
+  def value_of(field, word)
+    case field
+    when *BYTES then bytes_of(word)
+    when *TEXTS then text_of(word)
+    when "partial_state" then word == "true"
+    when "headers" then word.split(",").map { |one| header_of(*one.split(":")) }
+    when "void" then Pendratsoa::Void.new
+    when "value" then Pendratsoa::Value.new(content: bytes_of(word))
+    when "failure" then Pendratsoa::Failure.new(code: Integer(word))
+    else Integer(word)
+    end
+  end
+
+  def header_of(key, value)
+    Pendratsoa::Header.new(key: text_of(key), value: text_of(value))
+  end
+
+  # The text of a word, which may be none of UTF-8.
+  def text_of(word)
+    bytes_of(word).force_encoding(Encoding::UTF_8)
+  end
+
+  def decode_result(name, word)
+    record = Pendratsoa.const_get(name).decode(bytes_of(word))
+    found = record.to_h.reject { |field, value| value == record.class.defaults[field] }
+    return "-" if found.empty?
+
+    found.map { |field, value| "#{member_of(field, value)}=#{word_of_field(value)}" }.join(", ")
+  rescue Pendratsoa::Malformed
+    "malformed"
+  end
+
+  # The name of a field, or of a member of a oneof.
+  def member_of(field, value)
+    case field
+    when :signal_id then value.is_a?(String) ? "name" : "idx"
+    when :result then value.class.name.split("::").last.downcase
+    else field
+    end
+  end
+
+  # A value of a field as a word; of an enum its number.
+  def word_of_field(value)
+    case value
+    when Array then value.map { |header| "#{word_of(header.key)}:#{word_of(header.value)}" }.join(",")
+    when Pendratsoa::Void then "-"
+    when Pendratsoa::Value then word_of(value.content)
+    when Pendratsoa::Failure then value.code
+    when Symbol then Pendratsoa::ErrorBehavior.fetch(value)
+    when String then word_of(value)
+    else value
+    end
+  end
+
+  def json_result(version, type, word)
+    message = Pendratsoa::Message.from_json(type, bytes_of(word), version: Integer(version))
+    assert_equal [Integer(version), type], [message.version, message.type]
+    word_of(message.payload)
+  rescue Pendratsoa::Unknown
+    "unknown"
+  rescue Pendratsoa::JsonError => error
+    "#{error.reason} #{error.offset || error.path}".rstrip
+  end
+
+  def limit_result(number)
+    error = begin
+      Pendratsoa::Stream.new(max_message_size: Integer(number))
+      nil
+    rescue Pendratsoa::TooLong, ArgumentError => error
+      error
+    end
+    error ? "out_of_range" : "ok"
   end
 
   def number_result(what, number)

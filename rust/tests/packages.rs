@@ -8,9 +8,13 @@ use pendratsoa::messages::{
     SuspensionMessage, SuspensionMessageV6,
 };
 use pendratsoa::{
-    compare_journals, is_well_formed, type_name, Decoder, Error, Ignored, Item, Message, Mismatch,
-    Replay, VerdictKind,
+    compare_journals, is_well_formed, type_code, type_name, Decoder, Error, Ignored, Item,
+    JsonReason, Message, Mismatch, Replay, VerdictKind,
 };
+
+mod packages_records;
+
+use packages_records::{decode_case, encode_case};
 
 /// The bytes of a word.
 fn bytes(word: &str) -> Vec<u8> {
@@ -290,6 +294,86 @@ fn mismatch_case(words: &[&str]) -> String {
     line.join(" ")
 }
 
+fn replay_case(words: &[&str]) -> String {
+    let recorded = bytes(words[2]);
+    let version = words[0].parse().unwrap();
+    let ignored = Ignored {
+        payloads: words[1] == "yes",
+        ids: words[1] == "ids",
+    };
+    let mut replay = Replay::new(version, &recorded, ignored).unwrap();
+    let mut decoder = decoder(version, None);
+    decoder.feed(&bytes(words[3])).unwrap();
+    let mut steps = vec![step(&replay, None)];
+    for item in decoder.items() {
+        let said = replay.check(&item.unwrap()).unwrap();
+        steps.push(step(&replay, said));
+    }
+    let end = match replay.finish().unwrap() {
+        Some(left) => format!("{} {}", kind_of(left.kind), left.index),
+        None => "none".to_owned(),
+    };
+    format!("{}; {end}", steps.join(", "))
+}
+
+/// What is said of an item, and what comes next.
+fn step(replay: &Replay<'_>, said: Option<Mismatch>) -> String {
+    let kind = said.map_or("none", |mismatch| kind_of(mismatch.kind));
+    let index = replay.index();
+    match replay.expected().unwrap() {
+        Some(expected) => {
+            let offset = expected.offset().unwrap();
+            format!("{kind} {index} {offset} {}", name(Some(expected.code)))
+        }
+        None => format!("{kind} {index}"),
+    }
+}
+
+fn json_case(words: &[&str]) -> String {
+    let (version, mut payload) = (words[0].parse().unwrap(), Vec::new());
+    let message = type_code(words[1])
+        .and_then(|code| Message::from_json(version, code, bytes(words[2]), &mut payload));
+    match message {
+        Ok(message) => {
+            assert_eq!(
+                (message.version, name(Some(message.code))),
+                (version, words[1].to_owned())
+            );
+            word(message.payload)
+        }
+        Err(Error::Unknown(_)) => "unknown".to_owned(),
+        Err(Error::Json(error)) => {
+            let place = error.offset.map_or(error.path, |offset| offset.to_string());
+            format!("{} {place}", reason(error.reason))
+                .trim_end()
+                .to_owned()
+        }
+        Err(error) => error.to_string(),
+    }
+}
+
+fn reason(reason: JsonReason) -> &'static str {
+    match reason {
+        JsonReason::NotJson => "not_json",
+        JsonReason::UnknownMember => "unknown_member",
+        JsonReason::RepeatedMember => "repeated_member",
+        JsonReason::SeveralMembers => "several_members",
+        JsonReason::WrongKind => "wrong_kind",
+        JsonReason::OutOfRange => "out_of_range",
+        JsonReason::NotBase64 => "not_base64",
+        JsonReason::TooDeep => "too_deep",
+        reason => panic!("{reason:?}"),
+    }
+}
+
+fn limit_case(words: &[&str]) -> String {
+    match words[0].parse() {
+        Ok(limit) => Decoder::with_max_message_size(8, limit)
+            .map_or_else(|error| error.to_string(), |_| "ok".to_owned()),
+        Err(_) => "out_of_range".to_owned(),
+    }
+}
+
 fn number_case(words: &[&str]) -> String {
     let known = match (words[0], words[1].parse::<u32>(), words[1].parse::<u16>()) {
         ("version", Ok(version), _) => Decoder::new(version).map(|_| ()),
@@ -320,7 +404,12 @@ fn each_case_has_its_result() {
             "as" => as_case(&words[1..]),
             "compare" => compare_case(&words[1..]),
             "mismatch" => mismatch_case(&words[1..]),
+            "replay" => replay_case(&words[1..]),
+            "encode" => encode_case(&words[1..]),
+            "decode" => decode_case(&words[1..]),
+            "json" => json_case(&words[1..]),
             "number" => number_case(&words[1..]),
+            "limit" => limit_case(&words[1..]),
             kind => panic!("{kind}"),
         };
         assert_eq!(result, expected, "{line}");

@@ -94,6 +94,7 @@ same 'the refusals of docs/C.md' "$work/wanted" "$work/out"
 
 constants
 test_vectors conformance/*.txt conformance/json/*.txt conformance/replays/*.txt
+package_cases
 
 # The structs of messages: with sanitizers, where the compiler has them
 echo 'int main(void) { return 0; }' > "$work/nothing.c"

@@ -55,6 +55,15 @@ test_vectors() {
   counted 'the test vectors' $emulator "$work/test_vectors" "$work/schemas" < "$work/lines"
 }
 
+# package_cases: the cases of conformance/packages.cases, by the headers of C
+package_cases() {
+  compiled 'test_packages.c' -std=c99 -Wpedantic -Wconversion tests/c/test_packages.c "$prefix/lib/libpendratsoa.a" \
+    -o "$work/test_packages"
+  schemas
+  # shellcheck disable=SC2086 # the words are split
+  counted 'the cases of packages' $emulator "$work/test_packages" "$work/schemas" < conformance/packages.cases
+}
+
 # compile_hostile_calls: tests/c/hostile_calls.c as $work/hostile
 compile_hostile_calls() {
   compiled 'hostile_calls.c' -std=gnu99 tests/c/hostile_calls.c "$prefix/lib/libpendratsoa.a" \
