@@ -7,9 +7,9 @@ commands. Prints a row of a table: the CPU time of the maker; the page's size; u
 CPU time, the script's heap and the resident memory of the page's process; and the CPU time of a key, of a
 drawing of the overview, and of a first filter by a text. That is in Chromium.
 
-With --streams two streams of so many megabytes are chosen, which part at a command after nine tenths. Prints until the
-difference is said and until the page is there, the CPU time, the most resident memory of a process of the browser that
-is not its first, and how many addresses outside the page were requested.
+With --streams two streams of this many megabytes are chosen, which part at a command after nine tenths. Prints until
+the difference is said and until the page is there, the CPU time, the most resident memory of a process of the browser
+that is not its first, and how many addresses outside the page were requested.
 """
 import base64
 import contextlib
