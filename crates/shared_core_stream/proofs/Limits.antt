@@ -2,8 +2,9 @@
 use Rattle.std.proofs.Common.{◌≡◌, ℕ, ◌+◌, ◌-◌, ◌<◌, ◌≤◌, List, ◌++◌, length, take, drop, refl, sym, ap, ◌∙◌}
 use Rattle.std.proofs.Common.{Option, Some, None, Ok, Err, Bool, true, false, arith, subst, length-append}
 use Rattle.std.proofs.Common.{length-drop, leb, nat_lt, ◌^◌, [], min}
-use Rattle.std.specs.Prelude.{IfSome}
+use Rattle.std.specs.Prelude.{IfNone, IfSome}
 use Rattle.std.specs.Int.{w64, from_be_bytes}
+use Rattle.std.proofs.Math.Seq.{drop-append_seam}
 use Rattle.std.proofs.lemmas.List.{length-take-le}
 use Rattle.std.proofs.lemmas.Bool.{leb-true, leb-false, lt-ltb, le-ltb, ltb-false, ltb-true}
 use Rattle.shared_core_base.specs.declared.message_header.MessageHeader.{MessageHeader}
@@ -15,7 +16,7 @@ use Rattle.shared_core_stream.specs.declared.encoding.error.ItemError.TheVariant
 use Rattle.shared_core_stream.specs.Borrowed.{Announces, IsAtFront, announced_length, item_with, kind_announced}
 use Rattle.shared_core_stream.specs.declared.encoding.announced.Announced.{Announced}
 use Rattle.shared_core_stream.specs.declared.encoding.item_ref.ItemRef.{ItemRef}
-use Rattle.shared_core_stream.specs.Unread.{Unread, offset_of}
+use Rattle.shared_core_stream.specs.Unread.{Unread, held_bytes, offset_of}
 use Rattle.shared_core_stream.specs.Items.{HasPayload, PayloadIsNext, IsItem, TakesItem, NoItemBegins, body_length}
 use Rattle.shared_core_stream.specs.Items.{front_word, item_of, skips_unknown_messages}
 use Rattle.shared_core_stream.specs.Limits.{ReturnsWithin, offset_after, rejection}
@@ -318,6 +319,15 @@ module _ (state : Unread) (head rest : List ℕ) (word : ℕ) (announced : Annou
             (λ (o : Unread). record o { bytes = []; rejected = too_long_by o.version o.limit o.offset word }) same
             ∙ ap (λ (r : Option MessageTooLong). record state { bytes = []; rejected = r }) found,
       )
+
+-- what is pending after a header that is held
+pub after_held : (bytes pending : List ℕ) (head found : Option (List ℕ)) → 8 ≤ length bytes → held_bytes head ++ pending
+    ≡ bytes → IfSome found (λ front. (head ≡ Some front) × (length front ≡ 8) × (bytes ≡ front ++ pending))
+    → IfNone found ((head ≡ None) × (length pending < 8)) → pending ≡ drop 8 bytes
+after_held bytes pending head (Some front) long same (held, eight, splits) short =
+    sym (ap (drop 8) splits ∙ ap (λ n. drop n (front ++ pending)) (sym eight) ∙ drop-append_seam front pending)
+after_held bytes pending head None long same held (none, short) =
+    let all = rw none at same in absurd (omega (arith, ap length all, long, short))
 
 -- a decoder of these fields, if these bytes are pending
 abbrev pub with_pending : Version → ℕ → ℕ → Option MessageTooLong → List ℕ → Unread

@@ -1,9 +1,10 @@
 -- Lists of segments, and the bytes that they have joined.
 use Rattle.std.proofs.Common.{◌≡◌, ℕ, ◌+◌, ◌-◌, ◌<◌, ◌≤◌, ◌⊎◌, inl, inr, min, List, [], ◌∷◌, ◌++◌, length, get_or, take}
+use Rattle.std.proofs.Common.{Option, Some, None, slice_range, length-drop}
 use Rattle.std.proofs.Common.{drop, sym, ap, ◌∙◌, arith, zero, suc, append_assoc, length-append}
 use Rattle.std.specs.List.{concat}
 use Rattle.std.proofs.lemmas.Grind.{take_at_read}
-use Rattle.std.proofs.lemmas.List.{take_all, take_min, take-append-le, take-append-drop}
+use Rattle.std.proofs.lemmas.List.{take_all, take_min, take-append-le, take-append-drop, drop-append-le, drop-drop}
 use Rattle.std.proofs.lemmas.List.Folds.{concat-append}
 use Rattle.bytes.proofs.Chunks.{concat_push}
 use Rattle.bytes.proofs.Ranges.{take-append_past}
@@ -11,7 +12,10 @@ use Rattle.shared_core_base.specs.declared.version.Version.{Version}
 use Rattle.shared_core_stream.specs.declared.encoding.item.Item.{Item}
 use Rattle.std.proofs.lemmas.List.Elements.{All-push}
 use Rattle.shared_core_stream.specs.Items.{IsItemsThen}
+use Rattle.std.specs.Prelude.{IfOk, MatchOption, Result, Ok, Err}
+use Rattle.std.specs.declared.alloc.AllocError.{AllocError}
 use Rattle.shared_core_stream.specs.Segments.{AreSegments}
+use Rattle.shared_core_stream.specs.Unread.{LosesPayload}
 
 -- the first segments and the next one
 pub concat_next : (segments : List (List ℕ)) (i : ℕ) (segment : List ℕ) → i < length segments → segment ≡ get_or
@@ -106,3 +110,39 @@ copied_all front segments i count (inl enough) =
     ∙ ap (λ l. front ++ l) (sym (concat-append (take i segments) (drop i segments)) ∙ ap concat
     (take-append-drop i segments)))
 copied_all front segments i count (inr all) = ap (λ l. take count (front ++ concat l)) (take_all i segments all)
+
+-- ---- a header and the bytes after it are taken from the front chunk
+
+-- they are at the front of all chunks too
+pub front_payload : (front rest : List ℕ) (count : ℕ) → 8 + count ≤ length front → (8 ≤ length (front ++ rest))
+    × LosesPayload (front ++ rest) count (Some (slice_range front 8 (8 + count))) (drop (8 + count) front ++ rest)
+front_payload front rest count whole =
+    let head : drop 8 (front ++ rest) ≡ drop 8 front ++ rest = drop-append-le 8 front rest (omega (arith, whole)) in
+    let fits : count ≤ length (drop 8 front) = omega (arith, whole, length-drop 8 front) in (
+      omega (arith, whole, length-append front rest),
+      (
+        omega (arith, ap length head, length-append (drop 8 front) rest, fits),
+        ap (λ n. take n (drop 8 front)) (omega arith) ∙ sym (take-append-le count (drop 8 front) rest fits)
+            ∙ ap (take count) (sym head),
+        ap (λ l. l ++ rest) (sym (drop-drop count 8 front)) ∙ sym (drop-append-le count (drop 8 front) rest fits)
+            ∙ ap (drop count) (sym head),
+      ),
+    )
+
+-- the same, if other bytes come after the chunks
+pub payload_before : (old new more : List ℕ) (count : ℕ) (result : Result (Option (List ℕ)) AllocError)
+    → IfOk result (λ found. MatchOption found (new ≡ old)
+    (λ payload. (8 ≤ length old) × LosesPayload old count (Some payload) new))
+    → IfOk result (λ found. MatchOption found (new ++ more ≡ old ++ more)
+    (λ payload. (8 ≤ length (old ++ more)) × LosesPayload (old ++ more) count (Some payload) (new ++ more)))
+payload_before old new more count (Err failed) taken = tt
+payload_before old new more count (Ok None) same = ap (λ l. l ++ more) same
+payload_before old new more count (Ok (Some payload)) (whole, (fits, is, rest)) =
+    let head : drop 8 (old ++ more) ≡ drop 8 old ++ more = drop-append-le 8 old more whole in (
+      omega (arith, whole, length-append old more),
+      (
+        omega (arith, ap length head, length-append (drop 8 old) more, fits),
+        is ∙ sym (take-append-le count (drop 8 old) more fits) ∙ ap (take count) (sym head),
+        ap (λ l. l ++ more) rest ∙ sym (drop-append-le count (drop 8 old) more fits) ∙ ap (drop count) (sym head),
+      ),
+    )

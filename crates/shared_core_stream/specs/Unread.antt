@@ -1,5 +1,5 @@
 -- What a decoder holds.
-use Rattle.std.specs.Prelude.{◌≡◌, ℕ, ◌-◌, ◌^◌, min, List, [], Option, Some, None}
+use Rattle.std.specs.Prelude.{◌≡◌, ℕ, ◌-◌, ◌^◌, ◌<◌, ◌≤◌, min, List, [], length, take, drop, Option, Some, None}
 use Rattle.shared_core_base.specs.declared.version.Version.{Version}
 use Rattle.shared_core_stream.specs.declared.encoding.limit_error.MessageTooLong.{MessageTooLong}
 
@@ -29,6 +29,12 @@ held_bytes (Some head) = head
 abbrev pub held_length : Option (List ℕ) → ℕ
 held_length None = 0
 held_length (Some head) = 8
+
+-- A payload of a length was wanted after the first eight bytes: both were taken, or there are too few, and nothing was.
+abbrev pub LosesPayload : List ℕ → ℕ → Option (List ℕ) → List ℕ → Type 0
+LosesPayload old count None new = (length (drop 8 old) < count) × (new ≡ old)
+LosesPayload old count (Some payload) new =
+    (count ≤ length (drop 8 old)) × (payload ≡ take count (drop 8 old)) × (new ≡ drop count (drop 8 old))
 
 -- The offset of the pending bytes, if this many were received, and that many of them are pending.
 abbrev pub offset_of : ℕ → ℕ → ℕ

@@ -1,7 +1,8 @@
 //! The bytes that were received and that no item has taken.
 
 ghost use Rattle.std.specs.Prelude.{◌≡◌, ◌+◌, ◌^◌, ◌<◌, ◌≤◌, ◌↔◌, ◌++◌, [], length, IsTrue};
-ghost use Rattle.std.specs.Prelude.{take, drop, IfOk, IfErr, IsOk, OnOk, OnErr};
+ghost use Rattle.std.specs.Prelude.{take, drop, IfOk, IfErr, IfSome, IsOk, OnOk, OnErr, MatchOption, Some};
+ghost use Rattle.shared_core_stream.specs.Unread.{LosesPayload};
 
 use crate::shared_chunks::SharedChunks;
 use bytes::{Buf, Bytes, BytesMut};
@@ -123,6 +124,25 @@ impl PendingBytes {
         let mut head = [0; 8];
         self.copy_to_slice(&mut head);
         head
+    }
+
+    /// The first eight bytes, a header's, if the front chunk has them.
+    #[inline(always)]
+    pub(crate) fn front_head(&self) -> Option<[u8; 8]>
+        ensures { IfSome result (λ head. (8 ≤ length self.now) × (head ≡ take 8 self.now)) }
+    {
+        self.chunks.front_head()
+    }
+
+    /// Takes a header and the `count` bytes after it, and returns these, if the front chunk has both. Otherwise, and
+    /// with an `Err`, nothing is taken.
+    #[inline(always)]
+    pub(crate) fn split_after_head(&mut self, count: u32) -> Result<Option<Bytes>, AllocError>
+        ensures taken { IfOk result (λ found. MatchOption found (self.new ≡ self.old)
+            (λ payload. (8 ≤ length self.old) × LosesPayload self.old count (Some payload) self.new)) }
+        ensures rejected { OnErr result ((count ≤ length (drop 8 self.old)) × (self.new ≡ self.old)) }
+    {
+        self.chunks.split_after_head(count)
     }
 
     /// Takes the first `count` bytes: cut from the chunk or the block that has them all, otherwise joined in one copy.

@@ -1,9 +1,10 @@
 //! Chunks in a row, shared and not copied.
 
 ghost use Rattle.std.specs.Prelude.{◌≡◌, ◌+◌, ◌^◌, ◌<◌, ◌≤◌, ◌++◌, [], length};
-ghost use Rattle.std.specs.Prelude.{take, drop, All, IfOk, IfErr, IsOk, OnOk, OnErr};
+ghost use Rattle.std.specs.Prelude.{take, drop, All, IfOk, IfErr, IfSome, IsOk, OnOk, OnErr, MatchOption, Some};
 ghost use Rattle.std.specs.List.{concat};
 ghost use Rattle.shared_core_stream.specs.Segments.{AreSegments};
+ghost use Rattle.shared_core_stream.specs.Unread.{LosesPayload};
 
 use bytes::{Buf, Bytes};
 use shared_core_base::header::MessageHeader;
@@ -120,6 +121,33 @@ impl SharedChunks {
         head
     }
 
+    /// The first eight bytes, a header's, if the front segment has them.
+    #[inline(always)]
+    pub(crate) fn front_head(&self) -> Option<[u8; 8]>
+        ensures { IfSome result (λ head. (8 ≤ length self.now) × (head ≡ take 8 self.now)) }
+    {
+        self.front.as_slice().first_chunk::<8>().copied()
+    }
+
+    /// Takes a header and the `count` bytes after it, and returns these, if the front segment has both. Otherwise, and
+    /// with an `Err`, nothing is taken.
+    #[inline(always)]
+    pub(crate) fn split_after_head(&mut self, count: u32) -> Result<Option<Bytes>, AllocError>
+        ensures taken { IfOk result (λ found. MatchOption found (self.new ≡ self.old)
+            (λ payload. (8 ≤ length self.old) × LosesPayload self.old count (Some payload) self.new)) }
+        ensures rejected { OnErr result ((count ≤ length (drop 8 self.old)) × (self.new ≡ self.old)) }
+    {
+        let end = MessageHeader::SIZE + count as usize;
+        if self.front.len() < end {
+            return Ok(None);
+        }
+        let payload = self.front.slice(MessageHeader::SIZE..end)?;
+        self.front.advance(end);
+        self.len -= end;
+        drop_used_up(&mut self.front, &mut self.after);
+        Ok(Some(payload))
+    }
+
     /// Takes the first `count` bytes: cut from the front segment where it has them all, otherwise joined in one copy.
     /// An `Err` takes nothing.
     #[inline(always)]
@@ -188,8 +216,9 @@ fn append(bytes: &mut Vec<u8>, part: &[u8]) -> Result<(), AllocError>
     bytes.extend_from_slice(part)
 }
 
-/// The places of a queue that is never made smaller.
-const MIN_PLACES: usize = 64;
+/// The places of a queue that is never made smaller, in 16 KiB: those that a message of 1 MiB takes in chunks of 4 KiB.
+/// With fewer, each such message would have it grow and shrink again.
+const MIN_PLACES: usize = 512;
 
 /// Replaces a used front segment by the next one.
 #[inline(always)]

@@ -2,7 +2,7 @@
 
 ghost use Rattle.std.specs.Prelude.{◌≡◌, ◌+◌, ◌<◌, ◌≤◌, ◌++◌, length, drop, take, IfOk, IfSome, IfNone, OnErr};
 ghost use Rattle.std.specs.Prelude.{MatchOption, Some, None};
-ghost use Rattle.shared_core_stream.specs.Unread.{held_bytes, held_length};
+ghost use Rattle.shared_core_stream.specs.Unread.{held_bytes, held_length, LosesPayload};
 
 use crate::encoding::announced::Announced;
 use crate::encoding::{Item, ItemError, Items, MessageTooLong, PushError, RawMessage};
@@ -72,20 +72,69 @@ fn hold_head(head: &mut Option<[u8; 8]>, pending: &mut PendingBytes) -> Option<[
     Some(bytes)
 }
 
-/// Takes the held header and `count` bytes after it, if as many are pending. An `Err` takes nothing.
+/// The first eight bytes, if as many are there: those that are held, or those at the front of the pending bytes, which
+/// are held from now on only if the front chunk has not all of them.
+#[inline(always)]
+fn front_head(head: &mut Option<[u8; 8]>, pending: &mut PendingBytes) -> Option<[u8; 8]>
+    requires { length (held_bytes head.old) ≡ held_length head.old }
+    ensures same { held_bytes head.new ++ pending.new ≡ held_bytes head.old ++ pending.old }
+    ensures length { length (held_bytes head.new) ≡ held_length head.new }
+    ensures found { IfSome result (λ bytes. (length bytes ≡ 8)
+        × (held_bytes head.old ++ pending.old ≡ bytes ++ drop 8 (held_bytes head.new ++ pending.new))) }
+    ensures short { IfNone result (length (held_bytes head.old ++ pending.old) < 8) }
+{
+    if head.is_none() {
+        if let Some(front) = pending.front_head() {
+            return Some(front);
+        }
+    }
+    hold_head(head, pending)
+}
+
+/// Takes the first eight bytes and the `count` after them, and returns these, if as many are there. Otherwise, and with
+/// an `Err`, nothing is taken.
 #[inline(always)]
 fn take_payload(
     head: &mut Option<[u8; 8]>,
     pending: &mut PendingBytes,
+    count: u32,
+) -> Result<Option<Bytes>, AllocError>
+    requires held { length (held_bytes head.old) ≡ held_length head.old }
+    requires whole { 8 ≤ length (held_bytes head.old ++ pending.old) }
+    ensures taken { IfOk result (λ found.
+        LosesPayload (held_bytes head.old ++ pending.old) count found (held_bytes head.new ++ pending.new)) }
+    ensures rejected { OnErr result ((count ≤ length (drop 8 (held_bytes head.old ++ pending.old)))
+        × (held_bytes head.new ++ pending.new ≡ held_bytes head.old ++ pending.old)) }
+    ensures length { length (held_bytes head.new) ≡ held_length head.new }
+{
+    if head.is_none() {
+        // nearly always the front chunk has both
+        if let Some(payload) = pending.split_after_head(count)? {
+            return Ok(Some(payload));
+        }
+    }
+    // taken apart, so that what the other way returns need not be in memory
+    let Some(payload) = take_held_payload(head, pending, count as usize)? else {
+        return Ok(None);
+    };
+    Ok(Some(payload))
+}
+
+/// The same, where the header is held, or is from now on.
+fn take_held_payload(
+    head: &mut Option<[u8; 8]>,
+    pending: &mut PendingBytes,
     count: usize,
 ) -> Result<Option<Bytes>, AllocError>
-    ensures taken { IfOk result (λ found. MatchOption found
-        ((length pending.old < count) × (head.new ≡ head.old) × (pending.new ≡ pending.old))
-        (λ payload. (count ≤ length pending.old) × (payload ≡ take count pending.old)
-        × (head.new ≡ None) × (pending.new ≡ drop count pending.old))) }
-    ensures rejected { OnErr result
-        ((count ≤ length pending.old) × (head.new ≡ head.old) × (pending.new ≡ pending.old)) }
+    requires held { length (held_bytes head.old) ≡ held_length head.old }
+    requires whole { 8 ≤ length (held_bytes head.old ++ pending.old) }
+    ensures taken { IfOk result (λ found.
+        LosesPayload (held_bytes head.old ++ pending.old) count found (held_bytes head.new ++ pending.new)) }
+    ensures rejected { OnErr result ((count ≤ length (drop 8 (held_bytes head.old ++ pending.old)))
+        × (held_bytes head.new ++ pending.new ≡ held_bytes head.old ++ pending.old)) }
+    ensures length { length (held_bytes head.new) ≡ held_length head.new }
 {
+    hold_head(head, pending);
     if !pending.has(count) {
         return Ok(None);
     }
@@ -245,7 +294,7 @@ impl Decoder {
         ensures shorter { IfOk result (λ found.
             IfSome found (λ item. length self.new.bytes + 8 ≤ length self.old.bytes)) }
     {
-        let Some(front) = hold_head(&mut self.head, &mut self.pending) else {
+        let Some(front) = front_head(&mut self.head, &mut self.pending) else {
             // after a rejection nothing is pending
             return match self.rejected {
                 Some(_) => Err(ItemError::TooLong),
@@ -259,7 +308,7 @@ impl Decoder {
                 if length > self.limit {
                     return self.reject(*word);
                 }
-                let taken = take_payload(&mut self.head, &mut self.pending, length as usize)?;
+                let taken = take_payload(&mut self.head, &mut self.pending, length)?;
                 let Some(payload) = taken else {
                     return Ok(None);
                 };
@@ -269,13 +318,14 @@ impl Decoder {
                 if length > self.limit {
                     return self.reject(*word);
                 }
-                let skipped = take_payload(&mut self.head, &mut self.pending, length as usize)?;
+                let skipped = take_payload(&mut self.head, &mut self.pending, length)?;
                 let Some(payload) = skipped else {
                     return Ok(None);
                 };
                 Ok(Some(Item::Skipped(unknown.code(), payload)))
             }
             Announced::Unknown(unknown) => {
+                hold_head(&mut self.head, &mut self.pending);
                 self.head = None;
                 Ok(Some(Item::Unknown(unknown.code())))
             }
