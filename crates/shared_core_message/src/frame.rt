@@ -67,6 +67,8 @@ impl<M: RestateMessage> FramePayload for M {
 }
 
 /// The header of a record's frame. `PayloadTooLong` if the canonical payload has more than 4,294,967,295 bytes.
+// a call for each frame would have the header go through memory
+#[inline(always)]
 pub fn header_of<P: FramePayload>(
     payload: &P,
     requested_ack: Option<bool>,
@@ -91,6 +93,7 @@ pub fn header_of<P: FramePayload>(
 }
 
 /// Writes a header and the canonical payload of a record into a slice of exactly their length.
+#[inline(always)]
 pub fn fill_frame<P: FramePayload>(payload: &P, header: MessageHeader, out: &mut [u8])
     requires len { length out.old ≡ 8 + size table P.payload_schema (P.payload_parts payload.now) }
     ensures { out.new ≡ to_be_bytes w64 (word_of header)
