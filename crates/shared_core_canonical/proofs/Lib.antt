@@ -1,0 +1,10 @@
+pub mod Varints
+pub mod Readings
+pub mod Runs
+pub mod Allowed
+pub mod Lasts
+pub mod RowsWritten
+pub mod Lists
+pub mod Payloads
+pub mod Meanings
+pub mod WholePayloads

@@ -1,0 +1,95 @@
+-- Going over the records of a payload.
+use Rattle.std.proofs.Common.{◌≡◌, ℕ, List, [], ◌∷◌, ◌++◌, map, flat_map, Bool, true, false, cond, Option, Some, None}
+use Rattle.std.proofs.Common.{Result, Ok, Err, refl, sym, ap, ◌∙◌, append_assoc, append-nil}
+use Rattle.std.specs.List.{list_all}
+use Rattle.shared_core_wire.specs.declared.error.WireError.{WireError}
+use Rattle.shared_core_wire.specs.Grammar.{FieldRecord}
+use Rattle.shared_core_wire.specs.Reader.{record_list, record_at, sequence_past}
+use Rattle.shared_core_wire.specs.ReadRecords.{PlacedRecord, read_records, without_place}
+use Rattle.shared_core_wire.specs.Acceptance.{some_passes}
+use Rattle.shared_core_wire.specs.Overlay.{or_empty, payload_records}
+use Rattle.shared_core_wire.proofs.ReadRecords.{read_complete}
+use Rattle.shared_core_wire.proofs.RecordLists.{records_reads}
+use Rattle.shared_core_codec.specs.Checking.{all_read}
+use Rattle.shared_core_codec.proofs.Checked.{read_past}
+use Rattle.shared_core_canonical.specs.Rows.{records_of, records_read, AllPass}
+
+abbrev Items : Type 0
+Items = List (Result PlacedRecord WireError)
+
+-- ---- one record
+
+-- what is written of the next record, and of those after it
+pub one_more : (f : FieldRecord → List ℕ) (out new all : List ℕ) (r : PlacedRecord) (items later : Items) → items ≡ Ok r
+    ∷ later → new ≡ out ++ f r.field_record → out ++ flat_map f (records_of items) ≡ all → new ++ flat_map f
+    (records_of later) ≡ all
+one_more f out new all r items later e n h =
+    ap (λ (xs : List ℕ). xs ++ flat_map f (records_of later)) n
+    ∙ append_assoc out (f r.field_record) (flat_map f (records_of later))
+    ∙ sym (ap (λ (is : Items). out ++ flat_map f (records_of is)) e) ∙ h
+
+pub no_more : (f : FieldRecord → List ℕ) (out all : List ℕ) (e : WireError) (items later : Items) → items ≡ Err e ∷
+    later → out ++ flat_map f (records_of items) ≡ all → out ++ flat_map f (records_of later) ≡ all
+no_more f out all x items later e h = sym (ap (λ (is : Items). out ++ flat_map f (records_of is)) e) ∙ h
+
+pub at_end : (f : FieldRecord → List ℕ) (out all : List ℕ) (items : Items) → items ≡ [] → out ++ flat_map f
+    (records_of items) ≡ all → out ≡ all
+at_end f out all items e h =
+    sym (append-nil out) ∙ sym (ap (λ (is : Items). out ++ flat_map f (records_of is)) e) ∙ h
+
+pub passed : (test : FieldRecord → Bool) (r : PlacedRecord) (items later : Items) → items ≡ Ok r ∷ later → all_read test
+    items ≡ true → (test r.field_record ≡ true) × (all_read test later ≡ true)
+passed test r items later e h = by_test (test r.field_record) refl (sym (ap (all_read test) e) ∙ h)
+  where
+    by_test : (b : Bool) → test r.field_record ≡ b → cond b (all_read test later) false ≡ true → (b ≡ true)
+        × (all_read test later ≡ true)
+    by_test true t g = (refl, g)
+    by_test false t g = absurd cc
+
+pub failed : (test : FieldRecord → Bool) (x : WireError) (items later : Items) → items ≡ Err x ∷ later → all_read test
+    items ≡ true → ⊥
+failed test x items later e h = let g : false ≡ true = sym (ap (all_read test) e) ∙ h in absurd cc
+
+-- ---- all records
+
+pub weaker : (test other : FieldRecord → Bool) → ((r : FieldRecord) → test r ≡ true → other r ≡ true) → (items : Items)
+    → all_read test items ≡ true → all_read other items ≡ true
+weaker test other w [] h = refl
+weaker test other w (Ok r ∷ items) h =
+    let e = passed test r (Ok r ∷ items) items refl h in rw (w r.field_record e.0) (weaker test other w items e.1)
+weaker test other w (Err e ∷ items) h = absurd cc
+
+listed : (items : Items) (rs : List FieldRecord) → map without_place items ≡ map Ok rs → records_of items ≡ rs
+listed [] [] e = refl
+listed [] (r ∷ rs) e = absurd cc
+listed (Ok r ∷ items) [] e = absurd cc
+listed (Ok r ∷ items) (s ∷ rs) e =
+    let first : r.field_record ≡ s = cc in
+    let later : map without_place items ≡ map Ok rs = cc in
+    ap (λ (x : FieldRecord). x ∷ records_of items) first ∙ ap (λ (xs : List FieldRecord). s ∷ xs)
+    (listed items rs later)
+listed (Err x ∷ items) [] e = absurd cc
+listed (Err x ∷ items) (s ∷ rs) e = absurd cc
+
+pub record WhatIsRead (test : FieldRecord → Bool) (left : ℕ) (bytes : List ℕ) : Type 0 where
+  pub records : List FieldRecord
+  pub list : record_list left bytes ≡ Some records
+  pub pass : list_all test records ≡ true
+  pub read : records_read left bytes ≡ records
+
+found : (test : FieldRecord → Bool) (left : ℕ) (bytes : List ℕ) (o : Option (List FieldRecord)) → record_list left bytes
+    ≡ o → some_passes (list_all test) o ≡ true → WhatIsRead test left bytes
+unfolding read_records
+found test left bytes None e h = absurd cc
+found test left bytes (Some rs) e h = record {
+  records = rs;
+  list = e;
+  pass = h;
+  read = listed (read_records left bytes) rs ((read_complete left bytes rs).0 (records_reads left bytes rs e));
+}
+
+pub all_pass : (test : FieldRecord → Bool) (left : ℕ) (bytes : List ℕ) → AllPass test left bytes → WhatIsRead test left
+    bytes
+unfolding read_records record_list
+all_pass test left bytes h = found test left bytes (record_list left bytes) refl
+    (sym (read_past (record_at left) test _ bytes 0) ∙ h)

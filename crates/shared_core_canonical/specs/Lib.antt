@@ -1,0 +1,3 @@
+pub mod Rows
+pub mod Singles
+pub mod Payloads

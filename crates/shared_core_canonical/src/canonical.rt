@@ -1,0 +1,196 @@
+//! The canonical payloads of messages, row by row: each row takes a pass over the records, and what is written of them
+//! is appended. Those of nested messages are made by the same functions.
+
+ghost use Rattle.std.specs.Prelude.{◌≡◌, ◌++◌, true, None, IfOk, OnOk, flat_map};
+ghost use Rattle.shared_core_wire.specs.Acceptance.{accepts_payload, accepts_message, row_allows};
+ghost use Rattle.shared_core_wire.specs.Canonical.{canonical_payload};
+ghost use Rattle.shared_core_wire.specs.Overlay.{meaning};
+ghost use Rattle.shared_core_wire.specs.Schema.{Repeated};
+ghost use Rattle.shared_core_codec.specs.Canonicity.{is_plain};
+ghost use Rattle.shared_core_codec.specs.ProgramRows.{field_view, kind_view};
+ghost use Rattle.shared_core_canonical.specs.Rows.{records_read, nested_bytes, row_record, repeated_record};
+ghost use Rattle.shared_core_canonical.specs.Rows.{message_element, message_allows, AllPass};
+ghost use Rattle.shared_core_canonical.specs.Rows.{single_record, last_over};
+ghost use Rattle.shared_core_canonical.specs.Singles.{whole};
+ghost use Rattle.shared_core_wire.specs.Grammar.{content};
+ghost use Rattle.shared_core_wire.specs.View.{value_of};
+
+use crate::append::append_content;
+use crate::elements::{append_elements, append_run};
+use crate::single::{Single, append_scalar, content_of, read_last};
+use crate::source::Source;
+use shared_core_codec::any_table::{RowShape, SchemaRow, Schemas};
+use shared_core_codec::rows::{Field, Kind};
+use shared_core_wire::records::Records;
+use std::alloc::AllocError;
+
+/// The canonical payload of what a message means.
+#[cycle(message)]
+pub fn message<T: Schemas>(
+    schemas: &T,
+    schema: u32,
+    source: &Source<'_>,
+) -> Result<Vec<u8>, AllocError>
+    requires { accepts_payload (T.table schemas.now) source.now.left schema source.now.bytes.now ≡ true }
+    ensures { IfOk result (λ out. out.items ≡ canonical_payload (T.table schemas.now) schema
+        (meaning (T.table schemas.now) source.now.left schema source.now.bytes.now)) }
+{
+    let mut out = Vec::new(source.alloc);
+    let mut rest = schemas.rows_of(schema);
+    while let Some((row, after)) = rest.split_first() {
+        append_row(schemas, row, source, &mut out)?;
+        rest = after;
+    }
+    Ok(out)
+}
+
+/// Appends what is written of the records of a row.
+#[cycle(message)]
+fn append_row<T: Schemas>(
+    schemas: &T,
+    row: &T::Row,
+    source: &Source<'_>,
+    out: &mut Vec<u8>,
+) -> Result<(), AllocError>
+    requires { AllPass (λ r. row_allows (accepts_message (T.table schemas.now) source.now.left) r
+        (T.Row.view row.now)) source.now.left source.now.bytes.now }
+    ensures { OnOk result (out.new.items ≡ out.old.items
+        ++ row_record (nested_bytes (T.table schemas.now) source.now.left) (T.Row.view row.now)
+        (records_read source.now.left source.now.bytes.now)) }
+{
+    if let RowShape::Repeated(field) = row.shape() {
+        return append_repeated(schemas, *field, source, out);
+    }
+    append_single(schemas, row, source, out)
+}
+
+/// Appends what is written of the records of a row that is not repeated.
+#[cycle(message)]
+fn append_single<T: Schemas>(
+    schemas: &T,
+    row: &T::Row,
+    source: &Source<'_>,
+    out: &mut Vec<u8>,
+) -> Result<(), AllocError>
+    requires { AllPass (λ r. row_allows (accepts_message (T.table schemas.now) source.now.left) r
+        (T.Row.view row.now)) source.now.left source.now.bytes.now }
+    ensures { OnOk result (out.new.items ≡ out.old.items
+        ++ single_record (nested_bytes (T.table schemas.now) source.now.left) (is_plain (T.Row.view row.now))
+        (last_over (T.Row.view row.now) None (records_read source.now.left source.now.bytes.now))) }
+{
+    let mut joined = Vec::new(source.alloc);
+    let Some(last) = read_last(row, source, &mut joined)? else {
+        return Ok(());
+    };
+    let Kind::Message(schema) = last.field.kind else {
+        return append_scalar(out, is_plain(row), last.field, last.value);
+    };
+    let content = whole(&last, joined.as_slice());
+    let inner = nested(schemas, schema, source, content)?;
+    append_content(out, false, last.field.number, inner.as_slice())
+}
+
+/// Appends what is written of the records of a repeated field.
+#[cycle(message)]
+fn append_repeated<T: Schemas>(
+    schemas: &T,
+    field: Field,
+    source: &Source<'_>,
+    out: &mut Vec<u8>,
+) -> Result<(), AllocError>
+    requires { AllPass (λ r. row_allows (accepts_message (T.table schemas.now) source.now.left) r
+        (Repeated field.number (kind_view field.kind))) source.now.left source.now.bytes.now }
+    ensures { OnOk result (out.new.items ≡ out.old.items
+        ++ repeated_record (nested_bytes (T.table schemas.now) source.now.left) field.number (kind_view field.kind)
+        (records_read source.now.left source.now.bytes.now)) }
+{
+    match field.kind {
+        Kind::U32 => append_run(field.number, source, out),
+        Kind::Message(schema) => {
+            let messages = Messages {
+                number: field.number,
+                schema,
+            };
+            append_messages(schemas, messages, source, out)
+        }
+        _ => append_elements(field, source, out),
+    }
+}
+
+/// A repeated field whose elements are messages.
+#[derive(Clone, Copy)]
+struct Messages {
+    number: u32,
+    schema: u32,
+}
+
+/// Appends the records of a field whose elements are messages.
+#[cycle(message)]
+fn append_messages<T: Schemas>(
+    schemas: &T,
+    field: Messages,
+    source: &Source<'_>,
+    out: &mut Vec<u8>,
+) -> Result<(), AllocError>
+    requires { AllPass (message_allows (accepts_message (T.table schemas.now) source.now.left) field.number
+        field.schema) source.now.left source.now.bytes.now }
+    ensures { OnOk result (out.new.items ≡ out.old.items
+        ++ flat_map (message_element (nested_bytes (T.table schemas.now) source.now.left) field.number field.schema)
+        (records_read source.now.left source.now.bytes.now)) }
+{
+    for item in Records::within(source.bytes, source.left) {
+        let Ok(found) = item else {
+            continue;
+        };
+        if found.number != field.number {
+            continue;
+        }
+        let inner = nested(schemas, field.schema, source, content_of(found.value))?;
+        append_content(out, false, field.number, inner.as_slice())?;
+    }
+    Ok(())
+}
+
+/// The canonical payload of what the bytes of a nested message mean.
+#[cycle(message)]
+fn nested<T: Schemas>(
+    schemas: &T,
+    schema: u32,
+    source: &Source<'_>,
+    bytes: &[u8],
+) -> Result<Vec<u8>, AllocError>
+    requires { accepts_message (T.table schemas.now) source.now.left schema bytes.now ≡ true }
+    ensures { IfOk result (λ out. out.items
+        ≡ nested_bytes (T.table schemas.now) source.now.left schema bytes.now) }
+{
+    if source.left == 0 {
+        // no message may be nested here, so none is accepted
+        return Ok(Vec::new(source.alloc));
+    }
+    let inner = Source {
+        alloc: source.alloc,
+        bytes,
+        left: source.left - 1,
+    };
+    message(schemas, schema, &inner)
+}
+
+/// The contents that were joined, or else the last one.
+fn whole<'a>(last: &Single<'a>, joined: &'a [u8]) -> &'a [u8]
+    ensures { result.now ≡ whole (content (value_of last.now.value)) joined.now }
+{
+    if joined.is_empty() {
+        return content_of(last.value);
+    }
+    joined
+}
+
+/// Whether a row is a plain field, whose default is not written.
+fn is_plain<R: SchemaRow>(row: &R) -> bool
+    ensures { result ≡ is_plain (R.view row.now) }
+{
+    match row.shape() {
+        RowShape::Plain(_) => true,
+        _ => false,
+    }
+}

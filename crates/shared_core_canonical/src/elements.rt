@@ -1,0 +1,94 @@
+//! Repeated fields whose elements are not messages: what is written of their records.
+
+ghost use Rattle.std.specs.Prelude.{◌≡◌, ◌++◌, OnOk, flat_map, is_some, true};
+ghost use Rattle.shared_core_wire.specs.Reader.{packed_numbers};
+ghost use Rattle.shared_core_wire.specs.WrittenRecords.{content_record};
+ghost use Rattle.shared_core_codec.specs.ProgramRows.{kind_view};
+ghost use Rattle.shared_core_codec.specs.Checking.{field_record_of};
+ghost use Rattle.shared_core_canonical.specs.Rows.{records_read, scalar_element, found_varints, run_record};
+ghost use Rattle.shared_core_canonical.specs.Rows.{run_allows, AllPass};
+
+use crate::append::{append_content, append_varint};
+use crate::single::append_scalar;
+use crate::source::Source;
+use shared_core_codec::rows::Field;
+use shared_core_wire::record::WireValue;
+use shared_core_wire::records::{Record, Records};
+use shared_core_wire::varint::{low_32, read_varint};
+use std::alloc::AllocError;
+
+/// Appends the records of a field whose elements are written one by one.
+pub fn append_elements(
+    field: Field,
+    source: &Source<'_>,
+    out: &mut Vec<u8>,
+) -> Result<(), AllocError>
+    ensures { OnOk result (out.new.items ≡ out.old.items ++ flat_map
+        (scalar_element field.number (kind_view field.kind)) (records_read source.now.left source.now.bytes.now)) }
+{
+    for item in Records::within(source.bytes, source.left) {
+        let Ok(found) = item else {
+            continue;
+        };
+        append_element(field, &found, out)?;
+    }
+    Ok(())
+}
+
+/// Appends what a record adds to such a field.
+fn append_element(field: Field, found: &Record<'_>, out: &mut Vec<u8>) -> Result<(), AllocError>
+    ensures { OnOk result (out.new.items
+        ≡ out.old.items ++ scalar_element field.number (kind_view field.kind) (field_record_of found.now)) }
+{
+    if found.number != field.number {
+        return Ok(());
+    }
+    append_scalar(out, false, field, found.value)
+}
+
+/// Appends the record of a field whose elements are packed, unless there are none.
+pub fn append_run(number: u32, source: &Source<'_>, out: &mut Vec<u8>) -> Result<(), AllocError>
+    requires { AllPass (run_allows number) source.now.left source.now.bytes.now }
+    ensures { OnOk result (out.new.items ≡ out.old.items ++ content_record true number
+        (flat_map (run_record number) (records_read source.now.left source.now.bytes.now))) }
+{
+    let mut run = Vec::new(source.alloc);
+    for item in Records::within(source.bytes, source.left) {
+        let Ok(found) = item else {
+            continue;
+        };
+        append_run_part(number, &found, &mut run)?;
+    }
+    append_content(out, true, number, run.as_slice())
+}
+
+/// Appends what a record adds to a packed run.
+fn append_run_part(number: u32, found: &Record<'_>, run: &mut Vec<u8>) -> Result<(), AllocError>
+    requires { run_allows number (field_record_of found.now) ≡ true }
+    ensures { OnOk result (run.new.items ≡ run.old.items ++ run_record number (field_record_of found.now)) }
+{
+    if found.number != number {
+        return Ok(());
+    }
+    match found.value {
+        WireValue::Varint(value) => append_varint(run, low_32(value) as u64),
+        WireValue::Length(bytes) => append_packed(run, bytes),
+        _ => Ok(()),
+    }
+}
+
+/// Appends the numbers of a packed run.
+fn append_packed(run: &mut Vec<u8>, packed: &[u8]) -> Result<(), AllocError>
+    requires { is_some (packed_numbers packed.now) ≡ true }
+    ensures { OnOk result (run.new.items ≡ run.old.items ++ found_varints (packed_numbers packed.now)) }
+{
+    let mut rest = packed;
+    while !rest.is_empty() {
+        let Some((number, after)) = read_varint(rest) else {
+            return Ok(());
+        };
+        append_varint(run, low_32(number) as u64)?;
+        rest = after;
+    }
+    Ok(())
+}

@@ -1,0 +1,10 @@
+//! The canonical payload of any payload that a table of schemas accepts, by the rows of its schema: no record is made.
+#![tactic(auto)]
+
+mod append;
+mod canonical;
+mod elements;
+pub mod error;
+pub mod payload;
+mod single;
+mod source;
