@@ -1,4 +1,4 @@
--- Which payloads a reading reads.
+-- The test for canonical payloads.
 use Rattle.std.proofs.Common.{◌≡◌, ℕ, ◌<◌, ◌^◌, List, length, get_or, Bool, true, false, ◌&&◌, ◌||◌, refl, sym}
 use Rattle.std.proofs.lemmas.Bool.{lt-ltb, ltb-true, both_ways}
 use Rattle.shared_core_codec.specs.Canonicity.{IsCanonicalIn}
@@ -6,7 +6,7 @@ use Rattle.shared_core_codec.specs.Tables.{IsTable}
 use Rattle.shared_core_codec.proofs.CanonicityIn.{sound}
 use Rattle.shared_core_codec.proofs.CanonicityExactIn.{complete}
 use Rattle.shared_core_wire.specs.Schema.{Table}
-use Rattle.dump_lines.specs.Reading.{Reading, is_canonical_in, is_read}
+use Rattle.dump_lines.specs.Reading.{is_canonical_in}
 
 both : (b c : Bool) → b ≡ true → c ≡ true → (b && c) ≡ true
 both true c h k = k
@@ -16,23 +16,9 @@ each : (b c : Bool) → (b && c) ≡ true → (b ≡ true) × (c ≡ true)
 each true c h = (refl, h)
 each false c h = absurd (both_ways false refl h)
 
-either : (b c : Bool) → c ≡ true → (b || c) ≡ true
-either true c h = refl
-either false c h = h
-
-neither : (b c : Bool) → b ≡ false → c ≡ false → (b || c) ≡ false
-neither true c h k = h
-neither false c h k = k
-
 pub not_true : (b : Bool) → (b ≡ true → ⊥) → b ≡ false
 not_true true h = absurd (h refl)
 not_true false h = refl
-
--- a canonical payload is read
-pub canonical_is_read : (r : Reading) (s : ℕ) (payload : List ℕ) → IsTable r.table → IsCanonicalIn r.table s payload
-    → is_read r s payload ≡ true
-canonical_is_read r s payload valid h =
-    either r.reads_all _ (both _ _ (lt-ltb (length payload) (2 ^ 32) h.short) (complete r.table valid s payload h))
 
 -- what is not canonical does not pass the test
 pub not_canonical : (table : Table) (s : ℕ) (payload : List ℕ) → IsTable table → ((i : ℕ) → get_or payload i 0 < 256)
@@ -48,12 +34,3 @@ test_is table s payload true valid are_bytes to from =
     let h = to refl in sym (both _ _ (lt-ltb (length payload) (2 ^ 32) h.short) (complete table valid s payload h))
 test_is table s payload false valid are_bytes to from =
     sym (not_canonical table s payload valid are_bytes (λ h. both_ways false refl (from h)))
-
--- where only canonical payloads are read, another one is not
-pub other_is_unread : (r : Reading) (s : ℕ) (payload : List ℕ) → r.reads_all ≡ false
-    → is_canonical_in r.table s payload ≡ false → is_read r s payload ≡ false
-other_is_unread r s payload h k = neither r.reads_all _ h k
-
--- where each payload is read, any one is
-pub each_is_read : (r : Reading) (s : ℕ) (payload : List ℕ) → r.reads_all ≡ true → is_read r s payload ≡ true
-each_is_read r s payload h = rw h refl

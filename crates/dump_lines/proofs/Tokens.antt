@@ -17,8 +17,8 @@ use Rattle.shared_core_codec.specs.Tables.{IsAcceptedIn}
 use Rattle.shared_core_json.specs.Fields.{Names}
 use Rattle.shared_core_json.specs.Form.{json_with_in}
 use Rattle.dump_lines.specs.Lines.{ack_tokens, ack_members, header_json, header_members, header_tokens, meaning_json}
-use Rattle.dump_lines.specs.Lines.{payload_members_in, unread_members}
-use Rattle.dump_lines.specs.Reading.{Reading, is_read}
+use Rattle.dump_lines.specs.Lines.{payload_members_in, malformed_members}
+use Rattle.dump_lines.specs.Reading.{Reading}
 use Rattle.dump_lines.proofs.ReadPayloads.{not_true}
 
 pub then_tokens : (old new front rest : List Token) → new ≡ old ++ front → new ++ rest ≡ old ++ (front ++ rest)
@@ -30,18 +30,18 @@ then_ack old new None others e = then_tokens old new [] (members_tokens others) 
 then_ack old new (Some flag) others e = then_tokens old new (ack_tokens (Some flag)) (members_tokens others) e
 
 shown_message : (r : Reading) (texts : Bool) (schema : Option ℕ) (s : ℕ) (payload : List ℕ) → schema ≡ Some s
-    → IsAcceptedIn r.table s payload → is_read r s payload ≡ true → payload_members_in r texts schema payload ≡ member
-    (codes "message") (meaning_json r texts s payload) no_members
-shown_message r texts schema s payload e a h = rw (e, a, h) refl
+    → IsAcceptedIn r.table s payload → payload_members_in r texts schema payload ≡ member (codes "message")
+    (meaning_json r texts s payload) no_members
+shown_message r texts schema s payload e a = rw (e, a) refl
 
 -- the member of a canonical payload that means what a well-formed one does
 pub shown_canonical : (r : Reading) (texts : Bool) (schema : Option ℕ) (s : ℕ) (payload : List ℕ) (t : ℕ)
     (bytes : List ℕ) (table : Table) (names : Names) (old named new : List Token) → schema ≡ Some s
-    → IsAcceptedIn r.table s payload → is_read r s payload ≡ true → table ≡ r.table → names ≡ r.names → t ≡ s
+    → IsAcceptedIn r.table s payload → table ≡ r.table → names ≡ r.names → t ≡ s
     → meaning r.table 100 s bytes ≡ meaning r.table 100 s payload → named ≡ old ++ key (codes "message") ∷ []
     → new ≡ named ++ json_tokens (json_with_in table names texts t (meaning table 100 t bytes))
     → new ++ end_object ∷ [] ≡ old ++ members_tokens (payload_members_in r texts schema payload)
-shown_canonical r texts schema s payload t bytes table names old named new e a h at by k m n w =
+shown_canonical r texts schema s payload t bytes table names old named new e a at by k m n w =
     let json = json_tokens (meaning_json r texts s payload) in
     let written = w
     ∙ ap (λ (u : ℕ). named ++ json_tokens (json_with_in table names texts u (meaning table 100 u bytes))) k
@@ -50,17 +50,11 @@ shown_canonical r texts schema s payload t bytes table names old named new e a h
     ∙ ap (λ (v : Parts). named ++ json_tokens (json_with_in r.table r.names texts s v)) m in
     then_tokens named new json (end_object ∷ []) written
     ∙ then_tokens old named (key (codes "message") ∷ []) (json ++ end_object ∷ []) n
-    ∙ ap (λ (ms : Members). old ++ members_tokens ms) (sym (shown_message r texts schema s payload e a h))
+    ∙ ap (λ (ms : Members). old ++ members_tokens ms) (sym (shown_message r texts schema s payload e a))
 
 pub shown_malformed : (r : Reading) (texts : Bool) (schema : Option ℕ) (s : ℕ) (payload : List ℕ) → schema ≡ Some s → ¬
-    (IsAcceptedIn r.table s payload) → payload_members_in r texts schema payload ≡ unread_members (codes "malformed")
-    texts payload
+    (IsAcceptedIn r.table s payload) → payload_members_in r texts schema payload ≡ malformed_members texts payload
 shown_malformed r texts schema s payload e a = rw (e, not_true (accepts_payload r.table 100 s payload) a) refl
-
-pub shown_unread : (r : Reading) (texts : Bool) (schema : Option ℕ) (s : ℕ) (payload : List ℕ) → schema ≡ Some s
-    → IsAcceptedIn r.table s payload → is_read r s payload ≡ false → payload_members_in r texts schema payload
-    ≡ unread_members (codes "notCanonical") texts payload
-shown_unread r texts schema s payload e a h = rw (e, a, h) refl
 
 -- the head of a message, and what is after it
 pub head_then : (old a b c d x y z : List Token) (flag : Option Bool) (others : Members) → a ≡ old ++ x → b ≡ a ++ y → c

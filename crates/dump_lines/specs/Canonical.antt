@@ -1,11 +1,10 @@
 -- The result for a payload that is to be printed.
-use Rattle.std.specs.Prelude.{◌≡◌, ◌≤◌, ◌^◌, ◌⊎◌, ℕ, Bool, true, false, List, Option, Some, None, Result, Ok, Err}
-use Rattle.shared_core_wire.specs.Schema.{Table}
-use Rattle.shared_core_wire.specs.Canonical.{size}
+use Rattle.std.specs.Prelude.{◌≡◌, ℕ, List, Option, Some, None, Result, Ok, Err}
 use Rattle.shared_core_wire.specs.Overlay.{meaning}
 use Rattle.shared_core_codec.specs.Canonicity.{IsCanonicalIn}
 use Rattle.shared_core_codec.specs.Payloads.{IsAccepted}
 use Rattle.shared_core_codec.specs.Tables.{IsAcceptedIn}
+use Rattle.shared_core_canonical.specs.Payloads.{IsTooLongIn}
 use Rattle.shared_core_json.specs.declared.error.JsonError.{JsonError}
 use Rattle.shared_core_json.specs.declared.error.JsonError.TheVariants.{Malformed, TooLong, OutOfMemory}
 use Rattle.shared_core_json.specs.Payloads.{IsCanonicalOf, IsTooLong}
@@ -29,28 +28,15 @@ ReturnsEncoding schema payload canonical (Err OutOfMemory) = Unit {0}
 
 -- ---- for any reading
 
--- The same as `IsLongFor` by a table, where every well-formed payload is read; otherwise none is written anew.
-abbrev pub IsLongBy : Table → Bool → Option ℕ → List ℕ → Type 0
-IsLongBy table true schema payload =
-    (s : ℕ) × (schema ≡ Some s) × IsAcceptedIn table s payload × (2 ^ 32 ≤ size table s (meaning table 100 s payload))
-IsLongBy table false schema payload = ⊥
-
 -- The same as `IsLongFor` by a reading.
 abbrev pub IsLongForIn : Reading → Option ℕ → List ℕ → Type 0
-IsLongForIn reading schema payload = IsLongBy reading.table reading.reads_all schema payload
+IsLongForIn reading schema payload = (s : ℕ) × (schema ≡ Some s) × IsTooLongIn reading.table s payload
 
--- There is no schema, or the payload is well-formed for it, and only canonical payloads are read.
-abbrev pub IsUnread : Reading → Option ℕ → List ℕ → Type 0
-IsUnread reading None payload = Unit {0}
-IsUnread reading (Some s) payload = (reading.reads_all ≡ false) × IsAcceptedIn reading.table s payload
-
--- If every well-formed payload is read, the number of the schema is returned, and the canonical payload of what the
--- payload means is written; otherwise, and without a schema, None is returned. Malformed only if the payload is not
--- well-formed for the schema; TooLong only if that canonical payload is too long.
+-- The same as `ReturnsEncoding` by a reading.
 abbrev pub ReturnsEncodingIn : Reading → Option ℕ → List ℕ → List ℕ → Result (Option ℕ) JsonError → Type 0
-ReturnsEncodingIn reading schema payload canonical (Ok None) = IsUnread reading schema payload
-ReturnsEncodingIn reading schema payload canonical (Ok (Some s)) = (reading.reads_all ≡ true) × (schema ≡ Some s)
-    × IsAcceptedIn reading.table s payload × IsCanonicalIn reading.table s canonical
+ReturnsEncodingIn reading schema payload canonical (Ok None) = schema ≡ None
+ReturnsEncodingIn reading schema payload canonical (Ok (Some s)) = (schema ≡ Some s) × IsAcceptedIn reading.table s
+    payload × IsCanonicalIn reading.table s canonical
     × (meaning reading.table 100 s canonical ≡ meaning reading.table 100 s payload)
 ReturnsEncodingIn reading schema payload canonical (Err Malformed) = (s : ℕ) × (schema ≡ Some s) × ¬
     (IsAcceptedIn reading.table s payload)

@@ -15,7 +15,7 @@ use Rattle.shared_core_stream.specs.declared.encoding.item.Item.{Item}
 use Rattle.shared_core_stream.specs.declared.encoding.item.Item.TheVariants.{Message, Unknown, Skipped}
 use Rattle.shared_core_json.specs.Form.{byte_string_json, json_with_in}
 use Rattle.dump_lines.specs.declared.options.Options.{Options}
-use Rattle.dump_lines.specs.Reading.{Reading, is_read, protocol}
+use Rattle.dump_lines.specs.Reading.{Reading, protocol}
 use Rattle.dump_lines.specs.Spread.{json_text}
 
 -- The bytes of a header, in base64.
@@ -27,20 +27,19 @@ abbrev pub meaning_json : Reading → Bool → ℕ → List ℕ → Json
 meaning_json reading texts s payload = json_with_in reading.table reading.names texts s
     (meaning reading.table 100 s payload)
 
--- The members of a payload that is not read: why, and its bytes.
-abbrev pub unread_members : List ℕ → Bool → List ℕ → Members
-unread_members why texts payload =
-    member why (boolean true) (member (codes "bytes") (byte_string_json texts payload) no_members)
+-- The members of a malformed payload: that it is, and its bytes.
+abbrev pub malformed_members : Bool → List ℕ → Members
+malformed_members texts payload =
+    member (codes "malformed") (boolean true) (member (codes "bytes") (byte_string_json texts payload) no_members)
 
--- The members of a payload, with texts or without: for a message its JSON, or that it is malformed, or not canonical
--- where only canonical ones are read, and its bytes; without a schema, as of a custom entry, its bytes.
+-- The members of a payload, with texts or without: for a message its JSON, or that it is malformed, and its bytes;
+-- without a schema, as of a custom entry, its bytes.
 abbrev pub payload_members_in : Reading → Bool → Option ℕ → List ℕ → Members
 payload_members_in reading texts None payload = member (codes "bytes") (byte_string_json texts payload) no_members
 payload_members_in reading texts (Some s) payload =
     if accepts_payload reading.table 100 s payload
-    then (if is_read reading s payload then member (codes "message") (meaning_json reading texts s payload) no_members
-    else unread_members (codes "notCanonical") texts payload)
-    else unread_members (codes "malformed") texts payload
+    then member (codes "message") (meaning_json reading texts s payload) no_members
+    else malformed_members texts payload
 
 -- Members, with one before them for whether an acknowledgement is requested, if the type has that flag.
 abbrev pub ack_members : Option Bool → Members → Members

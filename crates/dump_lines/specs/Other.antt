@@ -1,5 +1,5 @@
 -- Another table of schemas for the messages of the protocol.
-use Rattle.std.specs.Prelude.{ℕ, false, List, Option, Some, None, slice_get}
+use Rattle.std.specs.Prelude.{ℕ, List, Option, Some, None, slice_get}
 use Rattle.shared_core_base.specs.declared.header.MessageType.{MessageType}
 use Rattle.shared_core_base.specs.declared.version.Version.{Version}
 use Rattle.shared_core_wire.specs.Schema.{Table}
@@ -17,11 +17,10 @@ abbrev pub schema_in : List (Option ℕ) → Option ℕ → Option ℕ
 schema_in schemas None = None
 schema_in schemas (Some s) = given (slice_get schemas s)
 
--- Reading by such a table: only canonical payloads are read.
+-- Reading by such a table.
 abbrev pub reading_by : Table → Names → List (Option ℕ) → Reading
 reading_by table names schemas = record {
   table = table;
   names = names;
   schema_at = λ version ty. schema_in schemas (schema_at version ty);
-  reads_all = false;
 }

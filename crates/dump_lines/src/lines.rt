@@ -17,7 +17,7 @@ ghost use Rattle.shared_core_codec.specs.Canonicity.{IsCanonicalIn};
 ghost use Rattle.shared_core_json.specs.Form.{byte_string_json};
 ghost use Rattle.dump_lines.specs.Lines.{payload_members_in, ack_tokens, header_tokens, item_members_in, item_json_in};
 ghost use Rattle.dump_lines.specs.Lines.{number_member, rest_members, skipped_members, unknown_members};
-ghost use Rattle.dump_lines.specs.Lines.{item_code as code_of_item, is_selected, unread_members};
+ghost use Rattle.dump_lines.specs.Lines.{item_code as code_of_item, is_selected, malformed_members};
 ghost use Rattle.dump_lines.specs.Reading.{is_canonical_in};
 
 use crate::message_table::MessageTable;
@@ -220,8 +220,8 @@ impl<'a, M: MessageTable> ItemWriter<'a, M> {
         Ok(())
     }
 
-    /// Writes the members of a payload that is not canonical: by the canonical encoding of what it means, or why there
-    /// is none, and the bytes.
+    /// Writes the members of a payload that is not canonical: by the canonical encoding of what it means, or that it is
+    /// malformed, and the bytes.
     fn write_encoded(
         &self,
         ty: MessageType,
@@ -229,9 +229,6 @@ impl<'a, M: MessageTable> ItemWriter<'a, M> {
         scratch: &mut Scratch,
         out: &mut Writer,
     ) -> Result<(), PrintError>
-        requires other { (s : ℕ)
-            × ((M.reading self.now.messages.now).schema_at self.now.options.now.version ty ≡ Some s)
-            × (is_canonical_in (M.reading self.now.messages.now).table s payload.now ≡ false) }
         ensures tokens { OnOk result (out.new.tokens ++ end_object ∷ [] ≡ out.old.tokens
             ++ members_tokens (payload_members_in (M.reading self.now.messages.now) self.now.options.now.texts
             ((M.reading self.now.messages.now).schema_at self.now.options.now.version ty) payload.now)) }
@@ -248,10 +245,8 @@ impl<'a, M: MessageTable> ItemWriter<'a, M> {
                 let known = CanonicalPayload::known_in(messages.table(), schema, canonical);
                 write_payload(out, &mut scratch.base64, texts, known)?;
             }
-            Ok(None) => write_unread(out, "notCanonical", texts, payload, &mut scratch.base64)?,
-            Err(JsonError::Malformed) => {
-                write_unread(out, "malformed", texts, payload, &mut scratch.base64)?;
-            }
+            Ok(None) => write_bytes(out, texts, payload, &mut scratch.base64)?,
+            Err(JsonError::Malformed) => write_malformed(out, texts, payload, &mut scratch.base64)?,
             Err(JsonError::TooLong) => return Err(PrintError::TooLong),
             Err(JsonError::OutOfMemory) => return Err(PrintError::OutOfMemory),
         }
@@ -267,20 +262,20 @@ fn is_canonical<M: MessageTable>(messages: &M, schema: u32, payload: &[u8]) -> b
     is_canonical_in(&messages.table(), schema, payload)
 }
 
-/// Writes the members of a payload that is not read: why, and its bytes.
-fn write_unread(
+/// Writes the members of a malformed payload: that it is, and its bytes.
+fn write_malformed(
     out: &mut Writer,
-    why: &str,
     texts: bool,
     payload: &Bytes,
     base64: &mut Vec<u8>,
 ) -> Result<(), AllocError>
     ensures tokens { OnOk result (out.new.tokens ++ end_object ∷ [] ≡ out.old.tokens
-        ++ members_tokens (unread_members why.now texts payload.now)) }
+        ++ members_tokens (malformed_members texts payload.now)) }
     ensures before { out.new.before ≡ out.old.before }
 {
-    write_flag(out, why, true)?;
-    write_bytes(out, texts, payload, base64)
+    write_flag(out, "malformed", true)?;
+    write_bytes(out, texts, payload, base64)?;
+    Ok(())
 }
 
 /// Writes the members of an unknown code after its offset.

@@ -30,9 +30,8 @@ pub trait MessageTable {
         ensures schema { result ≡ (reading self.now).schema_at version ty };
 
     /// Overwrites the buffer with the canonical payload of what a message's payload means, and returns the index of its
-    /// schema; `None` for an opaque payload, and for a well-formed one if only canonical payloads are read. `Malformed`
-    /// only if the payload is not well-formed, `TooLong` only if the canonical payload has more than 4,294,967,295
-    /// bytes.
+    /// schema; `None` for an opaque payload. `Malformed` only if the payload is not well-formed, `TooLong` only if the
+    /// canonical payload has more than 4,294,967,295 bytes.
     fn canonical_of(
         &self,
         alloc: Global,

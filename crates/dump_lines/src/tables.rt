@@ -8,15 +8,16 @@ use crate::message_table::MessageTable;
 use bytes::Bytes;
 use shared_core_base::header::MessageType;
 use shared_core_base::version::Version;
+use shared_core_canonical::error::CanonicalError;
+use shared_core_canonical::payload::canonical_payload_in;
 use shared_core_codec::any_table::ProtocolSchemas;
-use shared_core_codec::check::is_well_formed_in;
 use shared_core_fields::payload_table::TableRef;
 use shared_core_json::JsonError;
 use shared_core_json::named_schemas::NamedSchemas;
 use shared_core_message::schemas::schema_at;
 use std::alloc::Global;
 
-/// The protocol's own table. All well-formed payloads are read.
+/// The protocol's own table.
 #[derive(Drop)]
 pub struct ProtocolTable<'a, C> {
     /// What payloads that are not canonical need.
@@ -51,8 +52,7 @@ impl<'a, C: Canonicalizer> MessageTable for ProtocolTable<'a, C> {
     }
 }
 
-/// Another table for the messages of the protocol, as one with other field numbers. Only canonical payloads are read:
-/// there are no records of it.
+/// Another table for the messages of the protocol, as one with other field numbers.
 #[derive(Drop)]
 pub struct OtherTable<'a, T> {
     /// The table.
@@ -78,18 +78,24 @@ impl<'a, T: NamedSchemas> MessageTable for OtherTable<'a, T> {
 
     fn canonical_of(
         &self,
-        _alloc: Global,
+        alloc: Global,
         version: Version,
         ty: MessageType,
         payload: &Bytes,
-        _canonical: &mut Vec<u8>,
+        canonical: &mut Vec<u8>,
     ) -> Result<Option<u32>, JsonError> {
-        if let Some(schema) = self.schema_of(version, ty) {
-            if !is_well_formed_in(self.table, schema, payload.as_slice()) {
-                return Err(JsonError::Malformed);
+        let Some(schema) = self.schema_of(version, ty) else {
+            return Ok(None);
+        };
+        match canonical_payload_in(alloc, self.table, schema, payload.as_slice()) {
+            Ok(written) => {
+                *canonical = written;
+                Ok(Some(schema))
             }
+            Err(CanonicalError::Malformed) => Err(JsonError::Malformed),
+            Err(CanonicalError::TooLong) => Err(JsonError::TooLong),
+            Err(CanonicalError::OutOfMemory) => Err(JsonError::OutOfMemory),
         }
-        Ok(None)
     }
 }
 

@@ -35,15 +35,15 @@ use Rattle.make_lines.specs.Errors.{LineFault, at as fault_at}
 use Rattle.make_lines.specs.MadeAgain.{payload_again_in}
 use Rattle.make_lines.specs.Making.{making, messages_of}
 use Rattle.make_lines.proofs.ReadBack.{ReadsBack}
-use Rattle.dump_lines.specs.Lines.{payload_members_in, header_members, meaning_json, unread_members}
-use Rattle.dump_lines.specs.Reading.{Reading, is_read}
+use Rattle.dump_lines.specs.Lines.{payload_members_in, header_members, meaning_json, malformed_members}
+use Rattle.dump_lines.specs.Reading.{Reading}
 use Rattle.make_lines.specs.Lines.{then_read, read_map, unless, code_below, code_read, name_read, is_name_of, code_if}
 use Rattle.make_lines.specs.Lines.{code_said, has_flag, flag_said, nothing_if, bytes_said, message_fault, message_read}
 use Rattle.make_lines.specs.Lines.{message_said, word as said_word, word_fault, with_size, word_given}
 use Rattle.make_lines.specs.Lines.{checked_given, header_given, header_said, value_made}
 use Rattle.make_lines.proofs.HeaderWords.{Headed, word_small, word_bytes, word_is_bytes, other_length, four_of_word}
 use Rattle.make_lines.proofs.LineMembers.{Says, header_if, message_line, unknown_line, skipped_line, item_is}
-use Rattle.make_lines.proofs.LineMembers.{says_message, says_bytes, says_malformed, says_not_canonical, says_unknown}
+use Rattle.make_lines.proofs.LineMembers.{says_message, says_bytes, says_malformed, says_unknown}
 use Rattle.make_lines.proofs.LineMembers.{says_skipped}
 
 -- ---- codes, bytes and flags
@@ -285,13 +285,13 @@ module _ (bytes : List ℕ) (word : ℕ) (headed : Headed bytes word) where
 
       value_line : (s : ℕ) → reading.schema_at version ty ≡ Some s → accepts_payload reading.table 100 s (drop 8 bytes)
           ≡
-          true → is_read reading s (drop 8 bytes) ≡ true → message_said (making (messages_of reading values) version)
+          true → message_said (making (messages_of reading values) version)
           (word / 281474976710656) (meaning_json reading texts s (drop 8 bytes)) ≡ Ok
           (canonical_payload reading.table s (meaning reading.table 100 s (drop 8 bytes)))
-      value_line s e a r =
+      value_line s e a =
           let format = (messages_of reading values).format in
           let v = meaning reading.table 100 s (drop 8 bytes) in
-          let is = back.well s (drop 8 bytes) a r body_is_bytes in
+          let is = back.well s (drop 8 bytes) a body_is_bytes in
           let m = json_with_in reading.table reading.names texts s v in
           ap (λ (o : Option MessageType). then_read (message_read format m)
           (ok_or (option_and_then (reading.schema_at version) o) (fault_at (codes "message") NoSchema))) typed
@@ -310,16 +310,14 @@ module _ (bytes : List ℕ) (word : ℕ) (headed : Headed bytes word) where
           (says_bytes at (debug_name_of ty) (decimal (word / 281474976710656)) len (flag_of ty word)
           (header_text word written) (byte_string_json texts body) (byte_string_there texts body))
       message_line_back (Some s) e = by_test (accepts_payload reading.table 100 s (drop 8 bytes)) refl
-          (is_read reading s (drop 8 bytes)) refl
         where
-          by_test : (b : Bool) → accepts_payload reading.table 100 s (drop 8 bytes) ≡ b → (r : Bool) → is_read reading s
-              (drop 8 bytes) ≡ r → value_made (making (messages_of reading values) version) (line_with (cond b
-              (cond r (member (codes "message") (meaning_json reading texts s (drop 8 bytes)) no_members)
-              (unread_members (codes "notCanonical") texts (drop 8 bytes)))
-              (unread_members (codes "malformed") texts (drop 8 bytes))))
-              ≡ made_of (cond b (cond r (canonical_payload reading.table s
-              (meaning reading.table 100 s (drop 8 bytes))) (drop 8 bytes)) (drop 8 bytes))
-          by_test true a true r =
+          by_test : (b : Bool) → accepts_payload reading.table 100 s (drop 8 bytes) ≡ b → value_made
+              (making (messages_of reading values) version) (line_with (cond b
+              (member (codes "message") (meaning_json reading texts s (drop 8 bytes)) no_members)
+              (malformed_members texts (drop 8 bytes))))
+              ≡ made_of (cond b (canonical_payload reading.table s (meaning reading.table 100 s (drop 8 bytes)))
+              (drop 8 bytes))
+          by_test true a =
               let n = word / 281474976710656 in
               let v = meaning reading.table 100 s (drop 8 bytes) in
               let p = canonical_payload reading.table s v in
@@ -327,17 +325,11 @@ module _ (bytes : List ℕ) (word : ℕ) (headed : Headed bytes word) where
               (requests (flag_of ty word)) p (read_length (length p))
               (says_message at (debug_name_of ty) (decimal n) len (flag_of ty word) (header_text word written)
               (members_json_in reading.table reading.names texts (reading.names s) v (reading.table s)))
-              (typed_back n ty code_small typed) (flag_back n word ty _ typed) (value_line s e a r)
+              (typed_back n ty code_small typed) (flag_back n word ty _ typed) (value_line s e a)
               (header_back version written n (length p) (requests (flag_of ty word)) (typed_agrees word ty typed)
               (message_word (length p))))
               ∙ length_made (length p) p
-          by_test true a false r =
-              given_back (byte_string_json texts (drop 8 bytes)) (drop 8 bytes) _
-              (byte_string_back texts (drop 8 bytes) body_is_bytes)
-              (says_not_canonical at (debug_name_of ty) (decimal (word / 281474976710656)) len (flag_of ty word)
-              (header_text word written) (byte_string_json texts (drop 8 bytes))
-              (byte_string_there texts (drop 8 bytes)))
-          by_test false a r q =
+          by_test false a =
               given_back (byte_string_json texts (drop 8 bytes)) (drop 8 bytes) _
               (byte_string_back texts (drop 8 bytes) body_is_bytes)
               (says_malformed at (debug_name_of ty) (decimal (word / 281474976710656)) len (flag_of ty word)

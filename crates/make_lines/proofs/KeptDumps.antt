@@ -30,11 +30,11 @@ use Rattle.shared_core_json_reader.specs.Rows.{EnumValues, enum_values}
 use Rattle.make_lines.specs.Made.{AreLines, both, IsMade}
 use Rattle.make_lines.specs.MadeAgain.{payload_again, payload_again_in, with_payload, item_again_in, stream_again_in}
 use Rattle.make_lines.specs.MadeAgain.{IsKeptIn, AreKeptIn}
-use Rattle.make_lines.specs.MadeAgain.{ItemIsMadeAgain, DumpIsMadeAgain, KeepsStreams, ThereAndBack, IsMadeAgainBy}
+use Rattle.make_lines.specs.MadeAgain.{ItemIsMadeAgain, DumpIsMadeAgain, KeepsStreams, ThereAndBack, OtherThereAndBack}
 use Rattle.make_lines.specs.MadeAgain.{IsWhole}
 use Rattle.make_lines.specs.MadeAgain.{ItemIsMadeAgainIn, DumpIsMadeAgainIn, KeepsStreamsIn, ThereAndBackIn}
 use Rattle.make_lines.specs.Making.{making, messages_of}
-use Rattle.make_lines.proofs.ReadBack.{ReadsBack, protocol_back, other_back, other_again}
+use Rattle.make_lines.proofs.ReadBack.{ReadsBack, protocol_back, other_back}
 use Rattle.make_lines.proofs.HeaderWords.{Headed, word_bytes, other_length}
 use Rattle.make_lines.proofs.ItemLines.{typed_item, typed_length, other_item, other_length_of, headed_of, body_long}
 use Rattle.make_lines.proofs.ItemLines.{item_made}
@@ -191,44 +191,5 @@ there_and_back = there_and_back_in protocol enum_values protocol_back
 
 -- ---- another table
 
-module _ (reading : Reading) (values : EnumValues) (by : IsMadeAgainBy reading values) where
-  kept_one : (version : Version) (bytes : List ℕ) (item : Item) → IsItem version bytes item → IsBytes bytes → IsKeptIn
-      reading version item
-  kept_one version bytes item is small = subst (IsKeptIn reading version) (sym is.means)
-      (by_type (type_of (front_word bytes / 281474976710656)) refl)
-    where
-      body : IsBytes (drop 8 bytes)
-      body = back_bytes (take 8 bytes) (drop 8 bytes) (subst IsBytes (sym (take-append-drop 8 bytes)) small)
-
-      by_skip : (b : Bool) → IsKeptIn reading version (cond b
-          (Skipped (front_word bytes / 281474976710656) (drop 8 bytes))
-          (Unknown (front_word bytes / 281474976710656)))
-      by_skip true = tt
-      by_skip false = tt
-
-      by_type : (o : Option MessageType) → type_of (front_word bytes / 281474976710656) ≡ o → IsKeptIn reading version
-          (item_of version (front_word bytes) (drop 8 bytes))
-      by_type None none = subst (IsKeptIn reading version)
-          (sym (other_item version (front_word bytes) (drop 8 bytes) none)) (by_skip (skips_unknown_messages version))
-      by_type (Some ty) typed = subst (IsKeptIn reading version)
-          (sym (typed_item version (front_word bytes) (drop 8 bytes) ty typed))
-          (other_again reading values by (reading.schema_at version ty) (drop 8 bytes) body)
-
-  kept_all : (version : Version) (front : List ℕ) (items : List Item) → AreItems version front items → IsBytes front →
-      AreKeptIn reading version items
-  kept_all version front [] are small = tt
-  kept_all version front (item ∷ items) are small = (
-    kept_one version are.0 item are.2 (front_bytes are.0 are.1 (subst IsBytes are.4 small)),
-    kept_all version are.1 items are.3 (back_bytes are.0 are.1 (subst IsBytes are.4 small)),
-  )
-
-  pub other_there_and_back : (options : Options) (report : Report) (stream dump bytes : List ℕ)
-      (left after : Option (List ℕ)) → IsWhole options → IsBytes stream → length stream < 2 ^ 128 → IsDumpedIn reading
-      options (Ok report) stream dump left → IsMade (making (messages_of reading values) options.version) (Ok tt) dump
-      bytes after → bytes ≡ stream
-  other_there_and_back options report stream dump bytes left after whole small short dumped back =
-      let then = dumped.split.items_then in
-      (there_and_back_in reading values (other_back reading values by) options report stream dump bytes left after whole
-      small short dumped back).1
-      (kept_all options.version then.front dumped.items then.encoded (front_bytes then.front dumped.rest
-      (subst IsBytes then.whole small)))
+pub other_there_and_back : (options : Options) → OtherThereAndBack options
+other_there_and_back options reading values by = there_and_back_in reading values (other_back reading values by) options

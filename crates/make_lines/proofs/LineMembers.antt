@@ -227,57 +227,6 @@ module _ (at name code len : List ℕ) where
     has_unknown = refl;
   }
 
-  pub says_not_canonical : (flag : Option Bool) (header : Option (List ℕ)) (b : Json) → present b ≡ Some b
-      → Says (message_line at name code len flag header (member (codes "notCanonical") (boolean true)
-      (member (codes "bytes") b no_members))) (Some (string name)) (Some (number code)) (option_map boolean flag)
-      (option_map string header) None (Some b) None
-  unfolding shape_fault
-  says_not_canonical None None b there = record {
-    line = rw there refl;
-    rest = refl;
-    has_type = refl;
-    has_code = refl;
-    has_flag = refl;
-    has_header = refl;
-    has_message = refl;
-    has_bytes = rw there refl;
-    has_unknown = refl;
-  }
-  says_not_canonical None (Some h) b there = record {
-    line = rw there refl;
-    rest = refl;
-    has_type = refl;
-    has_code = refl;
-    has_flag = refl;
-    has_header = refl;
-    has_message = refl;
-    has_bytes = rw there refl;
-    has_unknown = refl;
-  }
-  says_not_canonical (Some f) None b there = record {
-    line = rw there refl;
-    rest = refl;
-    has_type = refl;
-    has_code = refl;
-    has_flag = refl;
-    has_header = refl;
-    has_message = refl;
-    has_bytes = rw there refl;
-    has_unknown = refl;
-  }
-  says_not_canonical (Some f) (Some h) b there = record {
-    line = rw there refl;
-    rest = refl;
-    has_type = refl;
-    has_code =
-        refl;
-    has_flag = refl;
-    has_header = refl;
-    has_message = refl;
-    has_bytes = rw there refl;
-    has_unknown = refl;
-  }
-
 -- the line of an unknown code
 abbrev pub unknown_line : List ℕ → List ℕ → Option (List ℕ) → Json
 unknown_line at code header =

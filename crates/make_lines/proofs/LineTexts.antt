@@ -27,8 +27,8 @@ use Rattle.shared_core_json_reader.proofs.Printed.{are_visible, visible_decimal,
 use Rattle.shared_core_json_reader.proofs.Printed.{TokensMay, tokens_may, printed_back}
 use Rattle.shared_core_json_reader.proofs.PrintedValues.{byte_string_may, value_may_in}
 use Rattle.base64.specs.GeneralPurpose.{IsBytes}
-use Rattle.dump_lines.specs.Lines.{ack_members, payload_members_in, meaning_json, unread_members}
-use Rattle.dump_lines.specs.Reading.{Reading, is_read}
+use Rattle.dump_lines.specs.Lines.{ack_members, payload_members_in, meaning_json, malformed_members}
+use Rattle.dump_lines.specs.Reading.{Reading}
 use Rattle.shared_core_json_reader.specs.Rows.{Format, EnumValues}
 use Rattle.make_lines.specs.Making.{Making, messages_of}
 use Rattle.make_lines.proofs.ReadBack.{ReadsBack}
@@ -187,17 +187,15 @@ pub payload_texts : (reading : Reading) (values : EnumValues) (back : ReadsBack 
     (payload_members_in reading texts schema payload)
 payload_texts reading values back texts None payload i = bytes_texts texts payload
 payload_texts reading values back texts (Some s) payload i = by_test (accepts_payload reading.table 100 s payload) refl
-    (is_read reading s payload) refl
   where
     format : Format
     format = (messages_of reading values).format
 
-    by_test : (b : Bool) → accepts_payload reading.table 100 s payload ≡ b → (r : Bool) → is_read reading s payload ≡ r
-        → AreTexts (cond b (cond r (member (codes "message") (meaning_json reading texts s payload) no_members)
-        (unread_members (codes "notCanonical") texts payload)) (unread_members (codes "malformed") texts payload))
-    by_test true a true r =
+    by_test : (b : Bool) → accepts_payload reading.table 100 s payload ≡ b → AreTexts (cond b
+        (member (codes "message") (meaning_json reading texts s payload) no_members) (malformed_members texts payload))
+    by_test true a =
         let v = meaning reading.table 100 s payload in
-        let is = back.well s payload a r i in
+        let is = back.well s payload a i in
         record {
           may = (
             IsUtf8-are_ascii (codes "message") refl,
@@ -206,9 +204,7 @@ payload_texts reading values back texts (Some s) payload i = by_test (accepts_pa
           );
           low = omega (arith, value_low format texts s v is.fits, is.low);
         }
-    by_test true a false r = true_texts (codes "notCanonical") _ (IsUtf8-are_ascii (codes "notCanonical") refl)
-        (bytes_texts texts payload)
-    by_test false a r q = true_texts (codes "malformed") _ (IsUtf8-are_ascii (codes "malformed") refl)
+    by_test false a = true_texts (codes "malformed") _ (IsUtf8-are_ascii (codes "malformed") refl)
         (bytes_texts texts payload)
 
 as_line : (ms : Members) → AreTexts ms → IsLineText (object ms)

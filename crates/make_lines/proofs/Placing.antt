@@ -70,8 +70,7 @@ own_place (suc (suc (suc (suc (suc (suc (suc (suc (suc (suc zero)))))))))) h = r
 own_place (suc (suc (suc (suc (suc (suc (suc (suc (suc (suc (suc zero))))))))))) h = refl
 own_place (suc (suc (suc (suc (suc (suc (suc (suc (suc (suc (suc (suc zero)))))))))))) h = refl
 own_place (suc (suc (suc (suc (suc (suc (suc (suc (suc (suc (suc (suc (suc zero))))))))))))) h = refl
-own_place (suc (suc (suc (suc (suc (suc (suc (suc (suc (suc (suc (suc (suc (suc zero)))))))))))))) h = refl
-own_place (suc (suc (suc (suc (suc (suc (suc (suc (suc (suc (suc (suc (suc (suc (suc i))))))))))))))) h = absurd
+own_place (suc (suc (suc (suc (suc (suc (suc (suc (suc (suc (suc (suc (suc (suc i)))))))))))))) h = absurd
     (omega arith)
 
 named_place : (key : List ℕ) (i : ℕ) → i < place_count → bytes_eq key (name_at i) ≡ true → place_of key ≡ Some i
@@ -109,8 +108,7 @@ known_name (suc (suc (suc (suc (suc (suc (suc (suc (suc (suc zero)))))))))) h = 
 known_name (suc (suc (suc (suc (suc (suc (suc (suc (suc (suc (suc zero))))))))))) h = refl
 known_name (suc (suc (suc (suc (suc (suc (suc (suc (suc (suc (suc (suc zero)))))))))))) h = refl
 known_name (suc (suc (suc (suc (suc (suc (suc (suc (suc (suc (suc (suc (suc zero))))))))))))) h = refl
-known_name (suc (suc (suc (suc (suc (suc (suc (suc (suc (suc (suc (suc (suc (suc zero)))))))))))))) h = refl
-known_name (suc (suc (suc (suc (suc (suc (suc (suc (suc (suc (suc (suc (suc (suc (suc i))))))))))))))) h =
+known_name (suc (suc (suc (suc (suc (suc (suc (suc (suc (suc (suc (suc (suc (suc i)))))))))))))) h =
     absurd (omega arith)
 
 pub known_place : (key : List ℕ) (i : ℕ) → place_of key ≡ Some i → is_known key ≡ true
@@ -127,8 +125,7 @@ unknown_place key e =
     let item = none_of _ _ (none_of _ _ (none_of _ _ (no 1 refl) (no 2 refl)) (no 6 refl)) (no 9 refl) in
     let more = none_of _ _ (no 5 refl) (no 4 refl) in
     let bytes = none_of _ _ (none_of _ _ (no 7 refl) (no 12 refl)) (no 11 refl) in
-    let passed = none_of _ _ (none_of _ _ (none_of _ _ (none_of _ _ (no 0 refl) (no 3 refl)) (no 8 refl)) (no 10 refl))
-    (no 14 refl) in
+    let passed = none_of _ _ (none_of _ _ (none_of _ _ (no 0 refl) (no 3 refl)) (no 8 refl)) (no 10 refl) in
     none_of _ _ (none_of _ _ (none_of _ _ (none_of _ _ item more) (no 13 refl)) bytes) passed
   where
     no : (i : ℕ) → ltb i place_count ≡ true → bytes_eq key (name_at i) ≡ false

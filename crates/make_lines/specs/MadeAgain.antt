@@ -19,21 +19,19 @@ use Rattle.dump_lines.specs.declared.options.Options.{Options}
 use Rattle.shared_core_stream.specs.Items.{front_word, IsItem, SplitsInto}
 use Rattle.stream_lines.specs.Printing.{item_size, all_lines}
 use Rattle.dump_lines.specs.Lines.{item_json_in, line_of_in, rest_line}
-use Rattle.dump_lines.specs.Reading.{Reading, is_read, protocol}
+use Rattle.dump_lines.specs.Reading.{Reading, protocol}
 use Rattle.make_lines.specs.Making.{making, messages_of}
 use Rattle.make_lines.specs.Lines.{line_made}
 use Rattle.stream_lines.specs.declared.report.Report.{Report}
 use Rattle.dump_lines.specs.Dump.{IsDumpedIn}
 use Rattle.make_lines.specs.Made.{both, made, AreLines, IsMade}
 
--- The payload of a schema as it is made again: of one that is read the canonical payload of what it means, of any other
--- one, or without a schema, the payload itself.
+-- The payload of a schema as it is made again: of a well-formed one the canonical payload of what it means, of any
+-- other one, or without a schema, the payload itself.
 abbrev pub payload_again_in : Reading → Option ℕ → List ℕ → List ℕ
 payload_again_in reading None payload = payload
 payload_again_in reading (Some s) payload = if accepts_payload reading.table 100 s payload then
-    (if is_read reading s payload then canonical_payload reading.table s (meaning reading.table 100 s payload) else
-    payload)
-    else payload
+    canonical_payload reading.table s (meaning reading.table 100 s payload) else payload
 
 -- The first four bytes of a header, which are the code and the flags, then the length of a payload, and the payload;
 -- nothing if it is too long for a header.
@@ -134,18 +132,15 @@ KeepsStreams = KeepsStreamsIn protocol
 abbrev pub ThereAndBack : Options → Type 0
 ThereAndBack = ThereAndBackIn protocol enum_values
 
--- ---- for another table: only its canonical payloads are read
+-- ---- for another table
 
 -- A dump by a table can be made again with these names of values: JSON can be read by the table and its names, which
--- are UTF-8, and only canonical payloads are read.
+-- are UTF-8.
 pub record IsMadeAgainBy (reading : Reading) (values : EnumValues) : Type 0 where
   pub readable : IsReadable (messages_of reading values).format
   pub utf8 : (s n : ℕ) → IsUtf8 (name_of (reading.names s) n)
-  pub only_canonical : reading.reads_all ≡ false
 
--- The dump of a stream by such a table is made again as the stream.
-abbrev pub IsMadeAgain : Options → Type 0
-IsMadeAgain options = (reading : Reading) (values : EnumValues) (report : Report) (stream dump bytes : List ℕ)
-    (left after : Option (List ℕ)) → IsMadeAgainBy reading values → IsWhole options → IsBytes stream → length stream < 2
-    ^ 128 → IsDumpedIn reading options (Ok report) stream dump left → IsMade
-    (making (messages_of reading values) options.version) (Ok tt) dump bytes after → bytes ≡ stream
+-- The same as `ThereAndBack` by such a table.
+abbrev pub OtherThereAndBack : Options → Type 0
+OtherThereAndBack options = (reading : Reading) (values : EnumValues) → IsMadeAgainBy reading values → ThereAndBackIn
+    reading values options

@@ -24,8 +24,8 @@ says_bytes key = (bytes_eq key (codes "bytes") || bytes_eq key (codes "payload")
 -- Whether a key is one of the others of a dump, which are ignored.
 abbrev pub is_passed_over : List ℕ → Bool
 is_passed_over key =
-    (((bytes_eq key (codes "offset") || bytes_eq key (codes "length")) || bytes_eq key (codes "malformed")) || bytes_eq
-    key (codes "skipped")) || bytes_eq key (codes "notCanonical")
+    ((bytes_eq key (codes "offset") || bytes_eq key (codes "length")) || bytes_eq key (codes "malformed")) || bytes_eq
+    key (codes "skipped")
 
 -- Whether a line may have a member with this key.
 abbrev pub is_known : List ℕ → Bool

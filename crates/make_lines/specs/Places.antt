@@ -10,11 +10,11 @@ abbrev pub names : List (List ℕ)
 names =
     codes "offset" ∷ codes "type" ∷ codes "code" ∷ codes "length" ∷ codes "requestedAck" ∷ codes "header" ∷
     codes "message" ∷ codes "bytes" ∷ codes "malformed" ∷ codes "unknown" ∷ codes "skipped" ∷ codes "rest" ∷
-    codes "payload" ∷ codes "ack" ∷ codes "notCanonical" ∷ []
+    codes "payload" ∷ codes "ack" ∷ []
 
 -- How many places there are.
 abbrev pub place_count : ℕ
-place_count = 15
+place_count = 14
 
 -- The name of a place.
 abbrev pub name_at : ℕ → List ℕ

@@ -5,7 +5,7 @@ ghost use Rattle.shared_core_base.specs.declared.version.Version.{Version};
 ghost use Rattle.shared_core_codec.specs.Canonicity.{IsCanonical};
 ghost use Rattle.dump_lines.specs.declared.options.Options.{Options};
 ghost use Rattle.make_lines.specs.MadeAgain.{payload_again, ItemIsMadeAgain};
-ghost use Rattle.make_lines.specs.MadeAgain.{DumpIsMadeAgain, IsMadeAgain, KeepsStreams, ThereAndBack};
+ghost use Rattle.make_lines.specs.MadeAgain.{DumpIsMadeAgain, KeepsStreams, OtherThereAndBack, ThereAndBack};
 
 /// The line of an item, in a dump with payloads, one object per line and the last line, means the item, with its header
 /// and its payload. A well-formed payload becomes the canonical one.
@@ -29,8 +29,7 @@ pub fn streams_go_there_and_back()
     ensures { (options : Options) → ThereAndBack options }
 {}
 
-/// What `make` makes by another table of what `dump` wrote by it, both having ended well, is that stream, with each
-/// payload as it was.
+/// The same by another table, by which JSON can be read.
 pub fn streams_of_other_tables_go_there_and_back()
-    ensures { (options : Options) → IsMadeAgain options }
+    ensures { (options : Options) → OtherThereAndBack options }
 {}

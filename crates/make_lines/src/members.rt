@@ -18,7 +18,7 @@ use std::alloc::Global;
 use std::marker::Model;
 
 /// How many places there are.
-pub const PLACES: usize = 15;
+pub const PLACES: usize = 14;
 
 /// The names of the members that a line may have, in the order in which a dump has them; the place of a name is its
 /// index.
@@ -37,7 +37,6 @@ static NAMES: [&str; PLACES] = [
     "rest",
     "payload",
     "ack",
-    "notCanonical",
 ];
 
 /// The place of the member `type`.

@@ -14,6 +14,7 @@ use crate::members::{BYTES, LINE, Line, MESSAGE, PAYLOAD, UNKNOWN};
 use crate::reject::{Fault, ItemFault};
 use json_table::Node;
 use shared_core_base::version::Version;
+use shared_core_json_reader::readable::TableSchema;
 use shared_core_json_reader::{Reason, payload_into_in, read_bytes};
 use std::alloc::Global;
 
@@ -57,7 +58,11 @@ fn message_of<M: LineTable>(
     let Some(schema) = coded.schema(version, messages) else {
         return Err(ItemFault::Line(Fault::at(MESSAGE, LineReason::NoSchema)));
     };
-    match payload_into_in(alloc, messages.table(), schema, message, payload) {
+    let of = TableSchema {
+        schemas: messages.table(),
+        schema,
+    };
+    match payload_into_in(alloc, of, message, payload) {
         Ok(()) => Ok(()),
         Err(reason) => Err(ItemFault::Message(schema, reason)),
     }

@@ -13,7 +13,7 @@ ghost use Rattle.make_lines.specs.Appending.{said_of, untyped, text_fault, messa
 use crate::error::{LineError, LineReason};
 use crate::members::{LINE, Line, MESSAGE, TYPE, name_at};
 use crate::text::is_cut_off;
-use shared_core_json_reader::readable::ReadableSchemas;
+use shared_core_json_reader::readable::{ReadableSchemas, TableSchema};
 use shared_core_json_reader::{JsonReadError, Reason, payload_of_node_in};
 use std::alloc::{AllocError, Global};
 
@@ -208,7 +208,7 @@ fn message_error<T: ReadableSchemas>(
     let Some(message) = line.given(MESSAGE) else {
         unreachable!();
     };
-    match payload_of_node_in(alloc, schemas, schema, &message) {
+    match payload_of_node_in(alloc, TableSchema { schemas, schema }, &message) {
         Ok(_) => unreachable!(),
         Err(error) => reject_inside(alloc, &error, "message"),
     }

@@ -2,5 +2,4 @@ use Rattle.make_lines.proofs.KeptDumps.{other_there_and_back}
 use Rattle.make_lines.proofs.laws.streams_of_other_tables_go_there_and_back.Goals as goal
 
 pub returns : goal.returns
-returns c options reading values report stream dump bytes left after by =
-    other_there_and_back reading values by options report stream dump bytes left after
+returns c = other_there_and_back
