@@ -7,6 +7,7 @@ pub mod FormatRows
 pub mod NamesApart
 pub mod Givens
 pub mod Placed
+pub mod EnumLists
 pub mod Levels
 pub mod FirstErrors
 pub mod Agreeing

@@ -1,6 +1,7 @@
 -- A whole text: the value that it is, and the payload that is appended for a value.
 use Rattle.std.proofs.Common.{◌≡◌, ℕ, ◌^◌, ◌<◌, length, List, [], Bool, true, false, cond, Option, Some, None}
-use Rattle.std.proofs.Common.{option_map, option_and_then, refl, sym, ap, subst, ◌∙◌, arith}
+use Rattle.std.proofs.Common.{option_map, option_and_then, refl, sym, ap, subst, ◌∙◌, arith, ◌≢◌, Result, Ok, Err}
+use Rattle.std.specs.Prelude.{MatchResult}
 use Rattle.std.specs.Str.{is_utf8}
 use Rattle.json.specs.Token.{Token}
 use Rattle.json.specs.Lex.{tokens}
@@ -13,7 +14,10 @@ use Rattle.shared_core_json_reader.proofs.FormatRows.{schemas_of}
 use Rattle.shared_core_json_reader.specs.Reading.{only_value, json_of_text, message_read}
 use Rattle.shared_core_json_reader.specs.Reading.{max_depth}
 use Rattle.shared_core_json_reader.specs.Appended.{message_bytes, after}
-use Rattle.shared_core_json_reader.specs.FirstError.{Step, PathError, message_error, path_text}
+use Rattle.shared_core_json_reader.specs.FirstError.{Step, PathError, message_error, path_text, trail_view}
+use Rattle.shared_core_json_reader.specs.FirstError.{HasError}
+use Rattle.shared_core_json_reader.specs.declared.error.Reason.TheVariants.{OutOfMemory}
+use Rattle.shared_core_json_reader.specs.declared.payload.Step as program
 use Rattle.shared_core_json_reader.specs.declared.error.Reason.{Reason}
 use Rattle.shared_core_json_reader.proofs.Agreeing.{message_agrees}
 use Rattle.shared_core_json_reader.proofs.Fitting.{some_map, message_fits}
@@ -84,6 +88,15 @@ pub error_of_value : (format : Format) (s : ℕ) (j : Json) (reason : Reason) (p
     × (value_error_in format s j ≡ Some (reason, text))
 error_of_value format s j reason path e =
     (path_text true path, ap (λ (o : Option PathError). option_map (λ (r : PathError). (r.0, path_text true r.1)) o) e)
+
+-- how a call for a value's message ended says the reason of the value's first error
+pub error_said : {A : Type 0} (format : Format) (s : ℕ) (j : Json) (r : Result A Reason) (trail : List program.Step)
+    → HasError r (message_error format 101 s j) trail
+    → MatchResult r (λ _. value_error_in format s j ≡ None)
+    (λ reason. reason ≢ OutOfMemory → (path : List ℕ) × (value_error_in format s j ≡ Some (reason, path)))
+error_said format s j (Ok x) trail h =
+    ap (λ (o : Option PathError). option_map (λ (e : PathError). (e.0, path_text true e.1)) o) h.0
+error_said format s j (Err reason) trail h = λ n. error_of_value format s j reason (trail_view trail) (h n)
 
 -- ---- the payload of a text
 

@@ -4,8 +4,8 @@ use Rattle.std.specs.String.{string_bytes}
 use Rattle.shared_core_json_reader.specs.declared.error.JsonReadError.{JsonReadError}
 use Rattle.shared_core_json_reader.specs.declared.error.Reason.{Reason}
 use Rattle.shared_core_json_reader.specs.declared.error.Reason.TheVariants.{NotJson, UnknownMember, RepeatedMember}
-use Rattle.shared_core_json_reader.specs.declared.error.Reason.TheVariants.{SeveralMembers, WrongKind, OutOfRange}
-use Rattle.shared_core_json_reader.specs.declared.error.Reason.TheVariants.{NotBase64, TooDeep, OutOfMemory}
+use Rattle.shared_core_json_reader.specs.declared.error.Reason.TheVariants.{SeveralMembers, WrongKind, UnknownName}
+use Rattle.shared_core_json_reader.specs.declared.error.Reason.TheVariants.{OutOfRange, NotBase64, TooDeep, OutOfMemory}
 
 -- The text of a reason.
 abbrev pub reason_text : Reason → List ℕ
@@ -14,6 +14,7 @@ reason_text UnknownMember = codes "unknown member"
 reason_text RepeatedMember = codes "repeated member"
 reason_text SeveralMembers = codes "several members of a oneof"
 reason_text WrongKind = codes "wrong kind of value"
+reason_text UnknownName = codes "neither a name of its enum nor a number"
 reason_text OutOfRange = codes "out of range"
 reason_text NotBase64 = codes "not base64"
 reason_text TooDeep = codes "too deep"

@@ -13,8 +13,8 @@ use Rattle.json.specs.Json.{no_members, member}
 use Rattle.shared_core_wire.specs.Schema.{Kind, U32, U64, Boolean, Enumeration, Text, ByteString, Message}
 use Rattle.shared_core_json_reader.specs.declared.error.Reason.{Reason}
 use Rattle.shared_core_json_reader.specs.declared.error.Reason.TheVariants.{NotJson, UnknownMember, RepeatedMember}
-use Rattle.shared_core_json_reader.specs.declared.error.Reason.TheVariants.{SeveralMembers, WrongKind, OutOfRange}
-use Rattle.shared_core_json_reader.specs.declared.error.Reason.TheVariants.{NotBase64, TooDeep, OutOfMemory}
+use Rattle.shared_core_json_reader.specs.declared.error.Reason.TheVariants.{SeveralMembers, WrongKind, UnknownName}
+use Rattle.shared_core_json_reader.specs.declared.error.Reason.TheVariants.{OutOfRange, NotBase64, TooDeep, OutOfMemory}
 use Rattle.shared_core_json_reader.specs.declared.error.JsonReadError.{JsonReadError}
 use Rattle.shared_core_json_reader.specs.declared.payload.Step as program
 use Rattle.shared_core_json_reader.specs.declared.payload.Step.TheVariants as variants
@@ -45,6 +45,15 @@ number_text_reason (Some s) = if ends_there (after_number s) then OutOfRange els
 abbrev pub number_reason : Json → Reason
 number_reason j = number_text_reason (number_text j)
 
+-- Why a value that should be of an enum is rejected, by its text, if it is one, and why no number is read of it.
+abbrev pub named_reason : Option (List ℕ) → Reason → Reason
+named_reason (Some s) WrongKind = UnknownName
+named_reason o reason = reason
+
+-- Why a value that should be of an enum is rejected: a text that is not that of a number is an unknown name.
+abbrev pub enum_reason : Json → Reason
+enum_reason j = named_reason (as_str j) (number_reason j)
+
 -- Why a text that should be base64 is rejected.
 abbrev pub base64_reason : Option (List ℕ) → Reason
 base64_reason None = WrongKind
@@ -69,7 +78,7 @@ abbrev pub single_error : (ℕ → Json → Option PathError) → Kind → List 
 single_error nested U32 values j = unread (unsigned_read 4294967296 j) (number_reason j)
 single_error nested U64 values j = unread (unsigned_read 18446744073709551616 j) (number_reason j)
 single_error nested Boolean values j = unread (boolean_read j) WrongKind
-single_error nested Enumeration values j = unread (enum_read values j) (number_reason j)
+single_error nested Enumeration values j = unread (enum_read values j) (enum_reason j)
 single_error nested Text values j = unread (text_read j) WrongKind
 single_error nested ByteString values j = unread (bytes_read j) (bytes_reason j)
 single_error nested (Message s) values j = nested s j
@@ -216,6 +225,7 @@ offset_of UnknownMember n = None
 offset_of RepeatedMember n = None
 offset_of SeveralMembers n = None
 offset_of WrongKind n = None
+offset_of UnknownName n = None
 offset_of OutOfRange n = None
 offset_of NotBase64 n = None
 offset_of TooDeep n = None

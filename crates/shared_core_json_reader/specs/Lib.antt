@@ -11,3 +11,4 @@ pub mod Readable
 pub mod FirstError
 pub mod Laws
 pub mod Loaded
+pub mod LoadedEnums

@@ -1,5 +1,5 @@
 -- Formats that are made at run time.
-use Rattle.std.specs.Prelude.{◌≡◌, ℕ, List, [], Some, None, Result, Ok, Err}
+use Rattle.std.specs.Prelude.{◌≡◌, ℕ, List, Some, None, Result, Ok, Err}
 use Rattle.shared_core_wire.specs.Schema.{Row, table_of}
 use Rattle.shared_core_codec.specs.TableErrors.{table_error}
 use Rattle.shared_core_json.specs.Fields.{names_at}
@@ -8,13 +8,9 @@ use Rattle.shared_core_json_reader.specs.declared.readable_error.ReadableError.T
 use Rattle.shared_core_json_reader.specs.Rows.{Format, EnumValues}
 use Rattle.shared_core_json_reader.specs.Readable.{unreadable_from}
 
--- No enum has names for its values.
-abbrev pub no_values : EnumValues
-no_values s n = []
-
--- The format of these schemas with these names of their fields.
-abbrev pub loaded_format : List (List Row) → List (List (ℕ × List ℕ)) → Format
-loaded_format schemas names = record { table = table_of schemas; names = names_at names; values = no_values }
+-- The format of these schemas with these names of their fields and of the values of their enums.
+abbrev pub loaded_format : List (List Row) → List (List (ℕ × List ℕ)) → EnumValues → Format
+loaded_format schemas names values = record { table = table_of schemas; names = names_at names; values = values }
 
 -- A table comes only if JSON can be read by the schemas with these names. Errors are the first schema whose names are
 -- wrong, and the first field that no table may have.

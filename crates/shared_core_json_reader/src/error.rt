@@ -17,6 +17,8 @@ pub enum Reason {
     SeveralMembers,
     /// A value is of another kind than its field.
     WrongKind,
+    /// A text is neither a name of a value of its field's enum nor a number.
+    UnknownName,
     /// A number is not whole, or is not in the range of its field.
     OutOfRange,
     /// A string is not base64.
@@ -40,6 +42,7 @@ impl fmt::Display for Reason {
             Reason::RepeatedMember => "repeated member",
             Reason::SeveralMembers => "several members of a oneof",
             Reason::WrongKind => "wrong kind of value",
+            Reason::UnknownName => "neither a name of its enum nor a number",
             Reason::OutOfRange => "out of range",
             Reason::NotBase64 => "not base64",
             Reason::TooDeep => "too deep",

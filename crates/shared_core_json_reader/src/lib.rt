@@ -10,10 +10,12 @@ mod enum_values;
 mod error;
 pub mod laws;
 mod lengths;
+mod loaded_enums;
 mod loaded_table;
 mod measure;
 mod members;
 mod name_checks;
+mod object;
 mod payload;
 mod read;
 pub mod readable;
@@ -25,6 +27,7 @@ mod short;
 
 pub use bytes::read_bytes;
 pub use error::{JsonReadError, Reason};
+pub use loaded_enums::{LoadedEnumField, LoadedEnums, LoadedValue};
 pub use loaded_table::{ReadableTable, readable_table};
 pub use read::{
     payload_into, payload_into_in, payload_of, payload_of_node, payload_of_node_in, short_table,

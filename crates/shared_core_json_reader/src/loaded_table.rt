@@ -1,14 +1,16 @@
 //! A table of schemas by which JSON is read, made at run time.
 
-ghost use Rattle.std.specs.Prelude.{◌≡◌, IfOk, refl};
+ghost use Rattle.std.specs.Prelude.{◌≡◌, ℕ, IfOk, true};
 ghost use Rattle.shared_core_codec.specs.LoadedRows.{schemas_view};
 ghost use Rattle.shared_core_json.specs.Fields.{names_at};
 ghost use Rattle.shared_core_json.specs.LoadedNames.{names_view, all_names_view};
-ghost use Rattle.shared_core_json_reader.specs.Loaded.{loaded_format, no_values, ReturnsTable};
+ghost use Rattle.shared_core_json_reader.specs.Loaded.{loaded_format, ReturnsTable};
+ghost use Rattle.shared_core_json_reader.specs.LoadedEnums.{enum_values};
 ghost use Rattle.shared_core_json_reader.specs.Places.{as_it_is, number_by};
-ghost use Rattle.shared_core_json_reader.specs.Readable.{AreNamed};
+ghost use Rattle.shared_core_json_reader.specs.Readable.{AreNamed, are_low};
 ghost use Rattle.shared_core_json_reader.specs.Reading.{original_name};
 
+use crate::loaded_enums::{LoadedEnums, value_named};
 use crate::members::is_original;
 use crate::name_checks::{first_unreadable, name_in};
 use crate::readable::ReadableSchemas;
@@ -20,13 +22,14 @@ use shared_core_json::loaded_names::LoadedName;
 use shared_core_json::names::Name;
 use std::alloc::Global;
 
-/// A table of schemas by which JSON is read, made at run time. It has no names of values of enums: these are read by
-/// their numbers only.
+/// A table of schemas by which JSON is read, made at run time.
 #[derive(Drop)]
 pub struct ReadableTable<T: Schemas> {
     schemas: T,
     names: Vec<Vec<LoadedName>>,
+    enums: LoadedEnums,
     ghost named: { AreNamed (T.table schemas) (names_at (all_names_view names.items)) },
+    ghost low: { (s n : ℕ) → are_low (enum_values enums s n) ≡ true },
 }
 
 impl<T: Schemas> ReadableTable<T> {
@@ -49,7 +52,7 @@ impl<T: Schemas> ReadableSchemas for ReadableTable<T> {
     ghost format = { λ t. record {
       table = T.table t.schemas;
       names = names_at (all_names_view t.names.items);
-      values = no_values;
+      values = enum_values t.enums;
     } };
 
     #[inline(always)]
@@ -74,11 +77,11 @@ impl<T: Schemas> ReadableSchemas for ReadableTable<T> {
         &[]
     }
 
-    fn value_named(&self, _schema: u32, _number: u32, _name: &str) -> Option<u32> {
-        None
+    fn value_named(&self, schema: u32, number: u32, name: &str) -> Option<u32> {
+        value_named(self.enums.values_of(schema, number), name)
     }
 
-    ghost readable = { λ t. record { names = t.named; rows = T.valid t.schemas; low = λ s n. refl } };
+    ghost readable = { λ t. record { names = t.named; rows = T.valid t.schemas; low = t.low } };
 }
 
 /// The number of the first of some names that is a key.
@@ -105,17 +108,19 @@ fn number_of_original(names: &[LoadedName], key: &str) -> Option<u32>
     None
 }
 
-/// The table of these schemas, by their index, with these names: those of each schema, in any order. The rules on
-/// schemas are those of `LoadedSchemas::new`. Besides, the names of a schema are those of its fields, and no key is a
-/// name of two fields of one schema: neither a name in lower camel case nor an original one. Compares each name of a
-/// schema with all others, and allocates the original name of each.
+/// The table of these schemas, by their index, with these names: those of each schema, in any order; and with these
+/// enums. The rules on schemas are those of `LoadedSchemas::new`. Besides, the names of a schema are those of its
+/// fields, and no key is a name of two fields of one schema: neither a name in lower camel case nor an original one.
+/// Nothing is asked of enums: if two values of one have a name, it is that of the first. Compares each name of a schema
+/// with all others, and allocates the original name of each.
 pub fn readable_table(
     alloc: Global,
     schemas: Vec<Vec<LoadedRow>>,
     names: Vec<Vec<LoadedName>>,
+    enums: LoadedEnums,
 ) -> Result<ReadableTable<LoadedSchemas>, ReadableError>
     ensures format { IfOk result (λ table. ⟦<ReadableTable<LoadedSchemas> as ReadableSchemas>⟧.format table
-        ≡ loaded_format (schemas_view schemas.items) (all_names_view names.items)) }
+        ≡ loaded_format (schemas_view schemas.items) (all_names_view names.items) (enum_values enums)) }
     ensures error { ReturnsTable (schemas_view schemas.items) (all_names_view names.items) result }
 {
     let found = match first_unreadable(alloc, names.as_slice(), schemas.as_slice()) {
@@ -126,7 +131,11 @@ pub fn readable_table(
         return Err(ReadableError::Names(schema));
     }
     match LoadedSchemas::new(schemas) {
-        Ok(schemas) => Ok(ReadableTable { schemas, names }),
+        Ok(schemas) => Ok(ReadableTable {
+            schemas,
+            names,
+            enums,
+        }),
         Err(error) => Err(ReadableError::Field(error)),
     }
 }

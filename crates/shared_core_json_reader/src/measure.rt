@@ -12,7 +12,8 @@ ghost use Rattle.shared_core_json_reader.specs.Places.{ArePlaces};
 use crate::bytes::decoded_len;
 use crate::lengths::{content_len, number_len};
 use crate::members::{PLACES, Places, find_places, likely};
-use crate::readable::ReadableSchemas;
+use crate::object::{Object, SingleField};
+use crate::readable::{ReadableSchemas, TableSchema};
 use crate::scalars::{extended, marked_text, read_boolean, read_enumeration, read_u32, read_u64};
 use json_table::{Items, Members, Node, Place, Shape};
 use shared_core_codec::any_table::{RowShape, SchemaRow};
@@ -43,11 +44,10 @@ impl Lengths {
 
     /// Returns how long the content of the message that is written next is likely to be: 0, if it is not nested deep.
     /// Messages may be nested `left` deep, itself included.
-    pub fn next<'t, 'a, T: ReadableSchemas>(
+    pub fn next<'a, T: ReadableSchemas>(
         &mut self,
-        schemas: &T,
-        schema: u32,
-        value: &Node<'t, 'a>,
+        of: &TableSchema<'a, T>,
+        value: &Node<'_, 'a>,
         left: u32,
     ) -> Result<u64, AllocError> {
         if left > LEVELS - SHALLOW {
@@ -56,7 +56,7 @@ impl Lengths {
         if left == LEVELS - SHALLOW {
             self.measured.clear();
             self.used = 0;
-            measure_message(&mut self.measured, schemas, schema, value, left)?;
+            measure_message(&mut self.measured, of, value, left)?;
         }
         if self.used >= self.measured.len() {
             return Ok(0);
@@ -69,11 +69,10 @@ impl Lengths {
 
 /// Measures a message and those within it. Returns the length of its content.
 #[cycle(measure)]
-fn measure_message<'t, 'a, T: ReadableSchemas>(
+fn measure_message<'a, T: ReadableSchemas>(
     lengths: &mut Vec<u64>,
-    schemas: &T,
-    schema: u32,
-    value: &Node<'t, 'a>,
+    of: &TableSchema<'a, T>,
+    value: &Node<'_, 'a>,
     levels: u32,
 ) -> Result<u64, AllocError> {
     let index = lengths.len();
@@ -84,7 +83,7 @@ fn measure_message<'t, 'a, T: ReadableSchemas>(
     let Shape::Object(members) = value.shape() else {
         return Ok(0);
     };
-    let length = measure_members(lengths, schemas, schema, &members, levels - 1)?;
+    let length = measure_members(lengths, of, members, levels - 1)?;
     if index < lengths.len() {
         lengths[index] = length;
     }
@@ -95,128 +94,148 @@ fn measure_message<'t, 'a, T: ReadableSchemas>(
 #[cycle(measure)]
 fn measure_members<'t, 'a, T: ReadableSchemas>(
     lengths: &mut Vec<u64>,
-    schemas: &T,
-    schema: u32,
-    members: &Members<'t, 'a>,
+    of: &TableSchema<'a, T>,
+    members: Members<'t, 'a>,
     left: u32,
 ) -> Result<u64, AllocError> {
-    let mut places = Places {
-        schema,
-        numbered: [Place::Absent; PLACES],
+    let mut object = Object {
+        schemas: of.schemas,
+        members,
+        places: Places {
+            schema: of.schema,
+            numbered: [Place::Absent; PLACES],
+        },
+        left,
     };
-    let Ok(()) = find_places(schemas, schema, members, &mut places.numbered) else {
+    let lent = &mut object;
+    let Ok(()) = find_places(
+        of.schemas,
+        of.schema,
+        &lent.members,
+        &mut lent.places.numbered,
+    ) else {
         return Ok(0);
     };
     let mut length: u64 = 0;
-    for row in schemas.rows_of(schema) {
-        length = length.saturating_add(measure_row(lengths, schemas, row, members, &places, left)?);
+    for row in of.schemas.rows_of(of.schema) {
+        length = length.saturating_add(measure_row(lengths, &object, row)?);
     }
     Ok(length)
 }
 
 /// Measures what an object gives a row of its schema.
 #[cycle(measure)]
-fn measure_row<'t, 'a, T: ReadableSchemas>(
+fn measure_row<'a, T: ReadableSchemas>(
     lengths: &mut Vec<u64>,
-    schemas: &T,
+    object: &Object<'_, 'a, T>,
     row: &T::Row,
-    members: &Members<'t, 'a>,
-    places: &Places,
-    left: u32,
 ) -> Result<u64, AllocError>
-    requires { ArePlaces (T.format schemas.now) members.now places.now }
+    requires { ArePlaces (T.format object.now.schemas.now) object.now.members object.now.places }
 {
     match row.shape() {
-        RowShape::Plain(field) => {
-            measure_given(lengths, schemas, true, field, members, places, left)
-        }
+        RowShape::Plain(field) => measure_given(
+            lengths,
+            object,
+            SingleField { field, plain: true },
+        ),
         RowShape::Optional(field) | RowShape::Repeated(field) => {
-            measure_given(lengths, schemas, false, field, members, places, left)
+            measure_given(
+                lengths,
+                object,
+                SingleField {
+                    field,
+                    plain: false,
+                },
+            )
         }
-        RowShape::OneOf(fields) => measure_oneof(lengths, schemas, fields, members, places, left),
+        RowShape::OneOf(fields) => measure_oneof(lengths, object, fields),
     }
 }
 
 /// Measures what an object gives a oneof of its schema.
 #[cycle(measure)]
-fn measure_oneof<'t, 'a, T: ReadableSchemas>(
+fn measure_oneof<'a, T: ReadableSchemas>(
     lengths: &mut Vec<u64>,
-    schemas: &T,
+    object: &Object<'_, 'a, T>,
     fields: &[Field],
-    members: &Members<'t, 'a>,
-    places: &Places,
-    left: u32,
 ) -> Result<u64, AllocError>
-    requires { ArePlaces (T.format schemas.now) members.now places.now }
+    requires { ArePlaces (T.format object.now.schemas.now) object.now.members object.now.places }
 {
     let mut length: u64 = 0;
     for field in fields {
-        let own = measure_given(lengths, schemas, false, field, members, places, left)?;
+        let own = measure_given(
+            lengths,
+            object,
+            SingleField {
+                field,
+                plain: false,
+            },
+        )?;
         length = length.saturating_add(own);
     }
     Ok(length)
 }
 
-/// Measures what an object gives a field.
+/// Measures what an object gives a field; elements of a list have no defaults.
 #[cycle(measure)]
-fn measure_given<'t, 'a, T: ReadableSchemas>(
+fn measure_given<'a, T: ReadableSchemas>(
     lengths: &mut Vec<u64>,
-    schemas: &T,
-    plain: bool,
-    field: &Field,
-    members: &Members<'t, 'a>,
-    places: &Places,
-    left: u32,
+    object: &Object<'_, 'a, T>,
+    single: SingleField<'_>,
 ) -> Result<u64, AllocError>
-    requires { ArePlaces (T.format schemas.now) members.now places.now }
+    requires { ArePlaces (T.format object.now.schemas.now) object.now.members object.now.places }
 {
-    let Some(value) = likely(schemas, members, places, field) else {
+    let field = single.field;
+    let Some(value) = likely(object.schemas, &object.members, &object.places, field) else {
         return Ok(0);
     };
     let Shape::Array(mut items) = value.shape() else {
-        return measure_value(lengths, schemas, plain, places.schema, field, &value, left);
+        return measure_value(lengths, object, single, &value);
     };
     if let Kind::U32 = field.kind {
         return Ok(content_len(true, field.number, run_len(&mut items)));
     }
+    let element = SingleField {
+        field,
+        plain: false,
+    };
     let mut length: u64 = 0;
     while let Some(item) = items.next() {
-        let own = measure_value(lengths, schemas, false, places.schema, field, &item, left)?;
-        length = length.saturating_add(own);
+        length = length.saturating_add(measure_value(lengths, object, element, &item)?);
     }
     Ok(length)
 }
 
-/// Measures the record of a value of a field of a schema.
+/// Measures the record of a value of a field of an object's schema.
 #[cycle(measure)]
-fn measure_value<'t, 'a, T: ReadableSchemas>(
+fn measure_value<'a, T: ReadableSchemas>(
     lengths: &mut Vec<u64>,
-    schemas: &T,
-    plain: bool,
-    schema: u32,
-    field: &Field,
-    value: &Node<'t, 'a>,
-    left: u32,
+    object: &Object<'_, 'a, T>,
+    single: SingleField<'_>,
+    value: &Node<'_, 'a>,
 ) -> Result<u64, AllocError> {
-    if let Kind::Message(nested) = field.kind {
-        let length = measure_message(lengths, schemas, nested, value, left)?;
-        return Ok(content_len(false, field.number, length));
+    if let Kind::Message(nested) = single.field.kind {
+        let of = TableSchema {
+            schemas: object.schemas,
+            schema: nested,
+        };
+        let length = measure_message(lengths, &of, value, object.left)?;
+        return Ok(content_len(false, single.field.number, length));
     }
-    Ok(single_len(schemas, plain, schema, field, value))
+    Ok(single_len(object, single, value))
 }
 
 /// The length of the record of a value that is not a message.
-fn single_len<'t, 'a, T: ReadableSchemas>(
-    schemas: &T,
-    plain: bool,
-    schema: u32,
-    field: &Field,
-    value: &Node<'t, 'a>,
+fn single_len<'a, T: ReadableSchemas>(
+    object: &Object<'_, 'a, T>,
+    single: SingleField<'_>,
+    value: &Node<'_, 'a>,
 ) -> u64 {
+    let SingleField { field, plain } = single;
     match field.kind {
         Kind::Text => content_len(plain, field.number, text_len(value)),
         Kind::ByteString => content_len(plain, field.number, bytes_len(value)),
-        _ => match read_number(schemas, schema, field, value) {
+        _ => match read_number(object, field, value) {
             Some(number) => number_len(plain, field.number, number),
             None => 0,
         },
@@ -224,19 +243,18 @@ fn single_len<'t, 'a, T: ReadableSchemas>(
 }
 
 /// The number that is written for a value.
-fn read_number<'t, 'a, T: ReadableSchemas>(
-    schemas: &T,
-    schema: u32,
+fn read_number<'a, T: ReadableSchemas>(
+    object: &Object<'_, 'a, T>,
     field: &Field,
-    value: &Node<'t, 'a>,
+    value: &Node<'_, 'a>,
 ) -> Option<u64> {
     match field.kind {
         Kind::U32 => Some(u64::from(read_u32(value).ok()?)),
         Kind::U64 => read_u64(value).ok(),
         Kind::Boolean => read_boolean(value).ok(),
         Kind::Enumeration => Some(extended(read_enumeration(
-            schemas,
-            schema,
+            object.schemas,
+            object.places.schema,
             field.number,
             value,
         ).ok()?)),

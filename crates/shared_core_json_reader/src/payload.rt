@@ -25,7 +25,8 @@ use crate::bytes::append_bytes;
 use crate::error::Reason;
 use crate::measure::Lengths;
 use crate::members::{PLACES, Places, find_places, given, is_absent, lacks};
-use crate::readable::ReadableSchemas;
+use crate::object::{Object, SingleField};
+use crate::readable::{ReadableSchemas, TableSchema};
 use crate::records::append_varint;
 use crate::rows::rows_of;
 use crate::scalars::{extended, read_boolean, read_enumeration, read_text, read_u32, read_u64};
@@ -42,19 +43,23 @@ pub enum Step<'a> {
     Element(usize),
 }
 
-/// What a walk over a value keeps: the path to the rejected value, from there outwards, once there is one.
+/// What a walk over a value makes: the bytes that it appends, and the path to the rejected value, from there outwards,
+/// once there is one.
 #[derive(Drop)]
 pub struct Walk<'a> {
+    pub out: Vec<u8>,
     pub trail: Vec<Step<'a>>,
     pub lengths: Lengths,
 }
 
 impl<'a> Walk<'a> {
-    /// A walk that is to begin.
-    pub fn new(alloc: Global) -> Walk<'a>
-        ensures { result.trail.items ≡ [] }
+    /// A walk that is to begin, and appends to these bytes.
+    pub fn new(alloc: Global, out: Vec<u8>) -> Walk<'a>
+        ensures out { result.out ≡ out }
+        ensures trail { result.trail.items ≡ [] }
     {
         Walk {
+            out,
             trail: Vec::new(alloc),
             lengths: Lengths::new(alloc),
         }
@@ -72,21 +77,22 @@ impl<'a> Walk<'a> {
         }
     }
 
-    /// Notes that an error is in the value of a field of a schema, and returns its reason.
+    /// Notes that an error is in the value of a field of an object, and returns its reason.
     #[cold]
     #[tactic(auto, using(crate::proofs::FirstErrors::trail_more))]
     fn note_field<T: ReadableSchemas>(
         &mut self,
-        schemas: &'a T,
-        schema: u32,
+        object: &Object<'_, 'a, T>,
         field: &Field,
         reason: Reason,
     ) -> Reason
         ensures { result ≢ Reason.OutOfMemory → (result ≡ reason)
             × (trail_view self.new.trail.items
-            ≡ Member (in_schema (T.format schemas.now) schema field.now).name ∷ trail_view self.old.trail.items) }
+            ≡ Member (in_schema (T.format object.now.schemas.now) object.now.places.schema field.now).name
+            ∷ trail_view self.old.trail.items) }
     {
-        self.note(Step::Member(schemas.name_of(schema, field.number)), reason)
+        let name = object.schemas.name_of(object.places.schema, field.number);
+        self.note(Step::Member(name), reason)
     }
 }
 
@@ -95,22 +101,20 @@ impl<'a> Walk<'a> {
 #[inline(always)]
 pub fn append_message<'a, T: ReadableSchemas>(
     walk: &mut Walk<'a>,
-    out: &mut Vec<u8>,
-    schemas: &'a T,
-    schema: u32,
+    of: TableSchema<'a, T>,
     value: &Node<'_, 'a>,
     levels: u32,
 ) -> Result<(), Reason>
     requires trail { walk.old.trail.items ≡ [] }
-    ensures appended { Appends result (message_bytes (T.format schemas.now) levels schema value.now) out.old.items
-        out.new.items }
-    ensures error { HasError result (message_error (T.format schemas.now) levels schema value.now)
+    ensures appended { Appends result (message_bytes (T.format of.entry.schemas.now) levels of.entry.schema value.now)
+        walk.old.out.items walk.new.out.items }
+    ensures error { HasError result (message_error (T.format of.entry.schemas.now) levels of.entry.schema value.now)
         walk.new.trail.items }
 {
     if levels == 0 {
         return Err(Reason::TooDeep);
     }
-    append_object(walk, out, schemas, schema, value, levels - 1)
+    append_object(walk, of, value, levels - 1)
 }
 
 /// Appends the records of an object of a schema.
@@ -118,112 +122,114 @@ pub fn append_message<'a, T: ReadableSchemas>(
 #[inline(always)]
 fn append_object<'a, T: ReadableSchemas>(
     walk: &mut Walk<'a>,
-    out: &mut Vec<u8>,
-    schemas: &'a T,
-    schema: u32,
+    of: TableSchema<'a, T>,
     value: &Node<'_, 'a>,
     left: u32,
 ) -> Result<(), Reason>
     requires trail { walk.old.trail.items ≡ [] }
-    ensures appended { Appends result (object_bytes (message_bytes (T.format schemas.now) left)
-        (named_rows (T.format schemas.now) schema) value.now)
-        out.old.items out.new.items }
-    ensures error { HasError result (object_error (message_error (T.format schemas.now) left)
-        (named_rows (T.format schemas.now) schema) value.now)
-        walk.new.trail.items }
+    ensures appended { Appends result (object_bytes (message_bytes (T.format of.entry.schemas.now) left)
+        (named_rows (T.format of.entry.schemas.now) of.entry.schema) value.now) walk.old.out.items walk.new.out.items }
+    ensures error { HasError result (object_error (message_error (T.format of.entry.schemas.now) left)
+        (named_rows (T.format of.entry.schemas.now) of.entry.schema) value.now) walk.new.trail.items }
 {
     let Shape::Object(members) = value.shape() else {
         return Err(Reason::WrongKind);
     };
-    append_members(walk, out, schemas, schema, &members, left)
+    append_members(walk, of, members, left)
 }
 
 /// Appends the records of the members of an object of a schema.
 #[cycle(message)]
-fn append_members<'a, T: ReadableSchemas>(
+fn append_members<'t, 'a, T: ReadableSchemas>(
     walk: &mut Walk<'a>,
-    out: &mut Vec<u8>,
-    schemas: &'a T,
-    schema: u32,
-    members: &Members<'_, 'a>,
+    of: TableSchema<'a, T>,
+    members: Members<'t, 'a>,
     left: u32,
 ) -> Result<(), Reason>
     requires trail { walk.old.trail.items ≡ [] }
-    ensures appended { Appends result (members_bytes (message_bytes (T.format schemas.now) left)
-        (named_rows (T.format schemas.now) schema)
-        members.now) out.old.items out.new.items }
-    ensures error { HasError result (members_error (message_error (T.format schemas.now) left)
-        (named_rows (T.format schemas.now) schema) members.now)
-        walk.new.trail.items }
+    ensures appended { Appends result (members_bytes (message_bytes (T.format of.entry.schemas.now) left)
+        (named_rows (T.format of.entry.schemas.now) of.entry.schema) members.entry)
+        walk.old.out.items walk.new.out.items }
+    ensures error { HasError result (members_error (message_error (T.format of.entry.schemas.now) left)
+        (named_rows (T.format of.entry.schemas.now) of.entry.schema) members.entry) walk.new.trail.items }
 {
-    let mut places = Places {
-        schema,
-        numbered: [Place::Absent; PLACES],
+    let mut object = Object {
+        schemas: of.schemas,
+        members,
+        places: Places {
+            schema: of.schema,
+            numbered: [Place::Absent; PLACES],
+        },
+        left,
     };
-    if let Err(key) = find_places(schemas, schema, members, &mut places.numbered) {
+    let lent = &mut object;
+    if let Err(key) = find_places(
+        of.schemas,
+        of.schema,
+        &lent.members,
+        &mut lent.places.numbered,
+    ) {
         return Err(walk.note(Step::Member(key), Reason::UnknownMember));
     }
-    append_rows(walk, out, schemas, members, &places, left)
+    append_rows(walk, &object)
 }
 
 /// Appends the records of the rows of an object's schema.
 #[cycle(message)]
-fn append_rows<'t, 'a, T: ReadableSchemas>(
+fn append_rows<'a, T: ReadableSchemas>(
     walk: &mut Walk<'a>,
-    out: &mut Vec<u8>,
-    schemas: &'a T,
-    members: &Members<'t, 'a>,
-    places: &Places,
-    left: u32,
+    object: &Object<'_, 'a, T>,
 ) -> Result<(), Reason>
     requires trail { walk.old.trail.items ≡ [] }
-    requires places { ArePlaces (T.format schemas.now) members.now places.now }
-    ensures appended { Appends result (rows_bytes (message_bytes (T.format schemas.now) left) members.now
-        (named_rows (T.format schemas.now) places.now.schema)) out.old.items out.new.items }
-    ensures error { HasError result
-        (rows_error (message_error (T.format schemas.now) left) members.now
-        (named_rows (T.format schemas.now) places.now.schema)) walk.new.trail.items }
+    requires places { ArePlaces (T.format object.now.schemas.now) object.now.members object.now.places }
+    ensures appended { Appends result (rows_bytes (message_bytes (T.format object.now.schemas.now) object.now.left)
+        object.now.members (named_rows (T.format object.now.schemas.now) object.now.places.schema))
+        walk.old.out.items walk.new.out.items }
+    ensures error { HasError result (rows_error (message_error (T.format object.now.schemas.now) object.now.left)
+        object.now.members (named_rows (T.format object.now.schemas.now) object.now.places.schema))
+        walk.new.trail.items }
 {
-    let rows = rows_of(schemas, places.schema);
+    let rows = rows_of(object.schemas, object.places.schema);
     for row in rows {
-        append_row(walk, out, schemas, row, members, places, left)?;
+        append_row(walk, object, row)?;
     }
     Ok(())
 }
 
 /// Appends the records of a row of an object's schema.
 #[cycle(message)]
-fn append_row<'t, 'a, T: ReadableSchemas>(
+fn append_row<'a, T: ReadableSchemas>(
     walk: &mut Walk<'a>,
-    out: &mut Vec<u8>,
-    schemas: &'a T,
+    object: &Object<'_, 'a, T>,
     row: &T::Row,
-    members: &Members<'t, 'a>,
-    places: &Places,
-    left: u32,
 ) -> Result<(), Reason>
     requires trail { walk.old.trail.items ≡ [] }
-    requires places { ArePlaces (T.format schemas.now) members.now places.now }
-    requires row { IsRowOf (T.format schemas.now) places.now.schema (T.Row.view row.now) }
-    ensures appended { Appends result (row_bytes (message_bytes (T.format schemas.now) left) members.now
-        (named_row (T.format schemas.now) places.now.schema (T.Row.view row.now)))
-        out.old.items out.new.items }
-    ensures error { HasError result
-        (row_error (message_error (T.format schemas.now) left) members.now
-        (named_row (T.format schemas.now) places.now.schema (T.Row.view row.now))) walk.new.trail.items }
+    requires places { ArePlaces (T.format object.now.schemas.now) object.now.members object.now.places }
+    requires row { IsRowOf (T.format object.now.schemas.now) object.now.places.schema (T.Row.view row.now) }
+    ensures appended { Appends result (row_bytes (message_bytes (T.format object.now.schemas.now) object.now.left)
+        object.now.members
+        (named_row (T.format object.now.schemas.now) object.now.places.schema (T.Row.view row.now)))
+        walk.old.out.items walk.new.out.items }
+    ensures error { HasError result (row_error (message_error (T.format object.now.schemas.now) object.now.left)
+        object.now.members
+        (named_row (T.format object.now.schemas.now) object.now.places.schema (T.Row.view row.now)))
+        walk.new.trail.items }
 {
-    if lacks(places, row) {
+    if lacks(&object.places, row) {
         return Ok(());
     }
     match row.shape() {
-        RowShape::Plain(field) => {
-            append_given(walk, out, schemas, true, field, members, places, left)
-        }
-        RowShape::Optional(field) => {
-            append_given(walk, out, schemas, false, field, members, places, left)
-        }
-        RowShape::Repeated(field) => append_list(walk, out, schemas, field, members, places, left),
-        RowShape::OneOf(fields) => append_oneof(walk, out, schemas, fields, members, places, left),
+        RowShape::Plain(field) => append_given(walk, object, SingleField { field, plain: true }),
+        RowShape::Optional(field) => append_given(
+            walk,
+            object,
+            SingleField {
+                field,
+                plain: false,
+            },
+        ),
+        RowShape::Repeated(field) => append_list(walk, object, field),
+        RowShape::OneOf(fields) => append_oneof(walk, object, fields),
     }
 }
 
@@ -231,122 +237,109 @@ fn append_row<'t, 'a, T: ReadableSchemas>(
 #[inline(always)]
 fn given_or_noted<'t, 'a, T: ReadableSchemas>(
     walk: &mut Walk<'a>,
-    schemas: &'a T,
+    object: &Object<'t, 'a, T>,
     field: &Field,
-    members: &Members<'t, 'a>,
-    places: &Places,
 ) -> Result<Option<Node<'t, 'a>>, Reason>
     requires trail { walk.old.trail.items ≡ [] }
-    requires places { ArePlaces (T.format schemas.now) members.now places.now }
-    requires field { IsOf (T.format schemas.now) places.now.schema
-        (in_schema (T.format schemas.now) places.now.schema field.now) }
+    requires places { ArePlaces (T.format object.now.schemas.now) object.now.members object.now.places }
+    requires field { IsOf (T.format object.now.schemas.now) object.now.places.schema
+        (in_schema (T.format object.now.schemas.now) object.now.places.schema field.now) }
     ensures given { MatchResult result
-        (λ found. given (in_schema (T.format schemas.now) places.now.schema field.now) members.now ≡ Some found)
+        (λ found. given (in_schema (T.format object.now.schemas.now) object.now.places.schema field.now)
+        object.now.members ≡ Some found)
         (λ reason. reason ≢ Reason.OutOfMemory
-        → given (in_schema (T.format schemas.now) places.now.schema field.now) members.now ≡ None) }
-    ensures trail { MatchResult result (λ _. walk.new.trail.items ≡ [])
+        → given (in_schema (T.format object.now.schemas.now) object.now.places.schema field.now)
+        object.now.members ≡ None) }
+    ensures walk { MatchResult result (λ _. walk.new ≡ walk.old)
         (λ reason. reason ≢ Reason.OutOfMemory → (reason ≡ Reason.RepeatedMember)
-        × (trail_view walk.new.trail.items ≡ Member (in_schema (T.format schemas.now) places.now.schema field.now).name
-        ∷ [])) }
+        × (trail_view walk.new.trail.items
+        ≡ Member (in_schema (T.format object.now.schemas.now) object.now.places.schema field.now).name ∷ [])) }
 {
-    match given(schemas, members, places, field) {
+    match given(object.schemas, &object.members, &object.places, field) {
         Ok(found) => Ok(found),
-        Err(reason) => Err(walk.note_field(schemas, places.schema, field, reason)),
+        Err(reason) => Err(walk.note_field(object, field, reason)),
     }
 }
 
-/// Appends the record of a field that is not repeated; a default is left out if the field is plain.
+/// Appends the record of a field that is not repeated.
 #[cycle(message)]
 #[inline(always)]
-fn append_given<'t, 'a, T: ReadableSchemas>(
+fn append_given<'a, T: ReadableSchemas>(
     walk: &mut Walk<'a>,
-    out: &mut Vec<u8>,
-    schemas: &'a T,
-    plain: bool,
-    field: &Field,
-    members: &Members<'t, 'a>,
-    places: &Places,
-    left: u32,
+    object: &Object<'_, 'a, T>,
+    single: SingleField<'_>,
 ) -> Result<(), Reason>
     requires trail { walk.old.trail.items ≡ [] }
-    requires places { ArePlaces (T.format schemas.now) members.now places.now }
-    requires field { IsOf (T.format schemas.now) places.now.schema
-        (in_schema (T.format schemas.now) places.now.schema field.now) }
+    requires places { ArePlaces (T.format object.now.schemas.now) object.now.members object.now.places }
+    requires field { IsOf (T.format object.now.schemas.now) object.now.places.schema
+        (in_schema (T.format object.now.schemas.now) object.now.places.schema single.field.now) }
     ensures appended { Appends result
-        (given_bytes (field_bytes (message_bytes (T.format schemas.now) left) plain
-        (in_schema (T.format schemas.now) places.now.schema field.now))
-        (given (in_schema (T.format schemas.now) places.now.schema field.now) members.now)) out.old.items
-        out.new.items }
+        (given_bytes (field_bytes (message_bytes (T.format object.now.schemas.now) object.now.left) single.entry.plain
+        (in_schema (T.format object.now.schemas.now) object.now.places.schema single.entry.field.now))
+        (given (in_schema (T.format object.now.schemas.now) object.now.places.schema single.entry.field.now)
+        object.now.members))
+        walk.old.out.items walk.new.out.items }
     ensures error { HasError result
-        (given_error (field_error (message_error (T.format schemas.now) left)
-        (in_schema (T.format schemas.now) places.now.schema field.now))
-        (in_schema (T.format schemas.now) places.now.schema field.now)
-        (given (in_schema (T.format schemas.now) places.now.schema field.now) members.now))
+        (given_error (field_error (message_error (T.format object.now.schemas.now) object.now.left)
+        (in_schema (T.format object.now.schemas.now) object.now.places.schema single.entry.field.now))
+        (in_schema (T.format object.now.schemas.now) object.now.places.schema single.entry.field.now)
+        (given (in_schema (T.format object.now.schemas.now) object.now.places.schema single.entry.field.now)
+        object.now.members))
         walk.new.trail.items }
 {
-    let value = match given(schemas, members, places, field) {
+    let field = single.field;
+    let value = match given(object.schemas, &object.members, &object.places, field) {
         Ok(Some(value)) => value,
         Ok(None) => return Ok(()),
-        Err(reason) => return Err(walk.note_field(schemas, places.schema, field, reason)),
+        Err(reason) => return Err(walk.note_field(object, field, reason)),
     };
-    match append_value(
-        walk,
-        out,
-        schemas,
-        plain,
-        places.schema,
-        field,
-        &value,
-        left,
-    ) {
+    match append_value(walk, object, single, &value) {
         Ok(()) => Ok(()),
-        Err(reason) => Err(walk.note_field(schemas, places.schema, field, reason)),
+        Err(reason) => Err(walk.note_field(object, field, reason)),
     }
 }
 
 /// Appends the record of a oneof of an object's schema.
 #[cycle(message)]
-fn append_oneof<'t, 'a, T: ReadableSchemas>(
+fn append_oneof<'a, T: ReadableSchemas>(
     walk: &mut Walk<'a>,
-    out: &mut Vec<u8>,
-    schemas: &'a T,
+    object: &Object<'_, 'a, T>,
     fields: &[Field],
-    members: &Members<'t, 'a>,
-    places: &Places,
-    left: u32,
 ) -> Result<(), Reason>
     requires trail { walk.old.trail.items ≡ [] }
-    requires places { ArePlaces (T.format schemas.now) members.now places.now }
-    requires row { IsRowOf (T.format schemas.now) places.now.schema (OneOf (map codec.field_view fields.now)) }
-    ensures appended { Appends result (oneof_bytes (message_bytes (T.format schemas.now) left) members.now false
-        (named_members (T.format schemas.now) places.now.schema fields.now)) out.old.items out.new.items }
-    ensures error { HasError result
-        (oneof_error (message_error (T.format schemas.now) left) members.now false
-        (named_members (T.format schemas.now) places.now.schema fields.now))
+    requires places { ArePlaces (T.format object.now.schemas.now) object.now.members object.now.places }
+    requires row { IsRowOf (T.format object.now.schemas.now) object.now.places.schema
+        (OneOf (map codec.field_view fields.now)) }
+    ensures appended { Appends result (oneof_bytes (message_bytes (T.format object.now.schemas.now) object.now.left)
+        object.now.members false
+        (named_members (T.format object.now.schemas.now) object.now.places.schema fields.now))
+        walk.old.out.items walk.new.out.items }
+    ensures error { HasError result (oneof_error (message_error (T.format object.now.schemas.now) object.now.left)
+        object.now.members false
+        (named_members (T.format object.now.schemas.now) object.now.places.schema fields.now))
         walk.new.trail.items }
 {
     let mut held = false;
     for field in fields {
-        if is_absent(places, field) {
+        if is_absent(&object.places, field) {
             continue;
         }
-        let Some(value) = given_or_noted(walk, schemas, field, members, places)? else {
+        let Some(value) = given_or_noted(walk, object, field)? else {
             continue;
         };
         if held {
-            return Err(walk.note_field(schemas, places.schema, field, Reason::SeveralMembers));
+            return Err(walk.note_field(object, field, Reason::SeveralMembers));
         }
         if let Err(reason) = append_value(
             walk,
-            out,
-            schemas,
-            false,
-            places.schema,
-            field,
+            object,
+            SingleField {
+                field,
+                plain: false,
+            },
             &value,
-            left,
         ) {
-            return Err(walk.note_field(schemas, places.schema, field, reason));
+            return Err(walk.note_field(object, field, reason));
         }
         held = true;
     }
@@ -355,37 +348,33 @@ fn append_oneof<'t, 'a, T: ReadableSchemas>(
 
 /// Appends the records of a repeated field.
 #[cycle(message)]
-fn append_list<'t, 'a, T: ReadableSchemas>(
+fn append_list<'a, T: ReadableSchemas>(
     walk: &mut Walk<'a>,
-    out: &mut Vec<u8>,
-    schemas: &'a T,
+    object: &Object<'_, 'a, T>,
     field: &Field,
-    members: &Members<'t, 'a>,
-    places: &Places,
-    left: u32,
 ) -> Result<(), Reason>
     requires trail { walk.old.trail.items ≡ [] }
-    requires places { ArePlaces (T.format schemas.now) members.now places.now }
-    requires field { IsOf (T.format schemas.now) places.now.schema
-        (in_schema (T.format schemas.now) places.now.schema field.now) }
+    requires places { ArePlaces (T.format object.now.schemas.now) object.now.members object.now.places }
+    requires field { IsOf (T.format object.now.schemas.now) object.now.places.schema
+        (in_schema (T.format object.now.schemas.now) object.now.places.schema field.now) }
     ensures appended { Appends result
-        (given_bytes (list_bytes (message_bytes (T.format schemas.now) left)
-        (in_schema (T.format schemas.now) places.now.schema field.now))
-        (given (in_schema (T.format schemas.now) places.now.schema field.now) members.now)) out.old.items
-        out.new.items }
+        (given_bytes (list_bytes (message_bytes (T.format object.now.schemas.now) object.now.left)
+        (in_schema (T.format object.now.schemas.now) object.now.places.schema field.now))
+        (given (in_schema (T.format object.now.schemas.now) object.now.places.schema field.now) object.now.members))
+        walk.old.out.items walk.new.out.items }
     ensures error { HasError result
-        (given_error (list_error (message_error (T.format schemas.now) left)
-        (in_schema (T.format schemas.now) places.now.schema field.now))
-        (in_schema (T.format schemas.now) places.now.schema field.now)
-        (given (in_schema (T.format schemas.now) places.now.schema field.now) members.now))
+        (given_error (list_error (message_error (T.format object.now.schemas.now) object.now.left)
+        (in_schema (T.format object.now.schemas.now) object.now.places.schema field.now))
+        (in_schema (T.format object.now.schemas.now) object.now.places.schema field.now)
+        (given (in_schema (T.format object.now.schemas.now) object.now.places.schema field.now) object.now.members))
         walk.new.trail.items }
 {
-    let Some(value) = given_or_noted(walk, schemas, field, members, places)? else {
+    let Some(value) = given_or_noted(walk, object, field)? else {
         return Ok(());
     };
-    match append_array(walk, out, schemas, places.schema, field, &value, left) {
+    match append_array(walk, object, field, &value) {
         Ok(()) => Ok(()),
-        Err(reason) => Err(walk.note_field(schemas, places.schema, field, reason)),
+        Err(reason) => Err(walk.note_field(object, field, reason)),
     }
 }
 
@@ -393,55 +382,52 @@ fn append_list<'t, 'a, T: ReadableSchemas>(
 #[cycle(message)]
 fn append_array<'a, T: ReadableSchemas>(
     walk: &mut Walk<'a>,
-    out: &mut Vec<u8>,
-    schemas: &'a T,
-    schema: u32,
+    object: &Object<'_, 'a, T>,
     field: &Field,
     value: &Node<'_, 'a>,
-    left: u32,
 ) -> Result<(), Reason>
     requires trail { walk.old.trail.items ≡ [] }
-    ensures appended { Appends result (list_bytes (message_bytes (T.format schemas.now) left)
-        (in_schema (T.format schemas.now) schema field.now) value.now)
-        out.old.items out.new.items }
-    ensures error { HasError result (list_error (message_error (T.format schemas.now) left)
-        (in_schema (T.format schemas.now) schema field.now) value.now)
+    ensures appended { Appends result (list_bytes (message_bytes (T.format object.now.schemas.now) object.now.left)
+        (in_schema (T.format object.now.schemas.now) object.now.places.schema field.now) value.now)
+        walk.old.out.items walk.new.out.items }
+    ensures error { HasError result (list_error (message_error (T.format object.now.schemas.now) object.now.left)
+        (in_schema (T.format object.now.schemas.now) object.now.places.schema field.now) value.now)
         walk.new.trail.items }
 {
     let Shape::Array(mut items) = value.shape() else {
         return Err(Reason::WrongKind);
     };
     if let Kind::U32 = field.kind {
-        return append_run(walk, out, field.number, &mut items);
+        return append_run(walk, field.number, &mut items);
     }
-    append_items(walk, out, schemas, schema, field, &mut items, left)
+    append_items(walk, object, field, &mut items)
 }
 
 /// Appends the records of the elements of an array.
 #[cycle(message)]
 fn append_items<'a, T: ReadableSchemas>(
     walk: &mut Walk<'a>,
-    out: &mut Vec<u8>,
-    schemas: &'a T,
-    schema: u32,
+    object: &Object<'_, 'a, T>,
     field: &Field,
     items: &mut Items<'_, 'a>,
-    left: u32,
 ) -> Result<(), Reason>
     requires trail { walk.old.trail.items ≡ [] }
-    ensures appended { Appends result
-        (items_bytes (message_bytes (T.format schemas.now) left) (in_schema (T.format schemas.now) schema field.now)
-        items.old)
-        out.old.items out.new.items }
-    ensures error { HasError result (items_error (message_error (T.format schemas.now) left)
-        (in_schema (T.format schemas.now) schema field.now) 0 items.old)
+    ensures appended { Appends result (items_bytes (message_bytes (T.format object.now.schemas.now) object.now.left)
+        (in_schema (T.format object.now.schemas.now) object.now.places.schema field.now) items.old)
+        walk.old.out.items walk.new.out.items }
+    ensures error { HasError result (items_error (message_error (T.format object.now.schemas.now) object.now.left)
+        (in_schema (T.format object.now.schemas.now) object.now.places.schema field.now) 0 items.old)
         walk.new.trail.items }
 {
+    let single = SingleField {
+        field,
+        plain: false,
+    };
     for index in 0..items.upper_bound() {
         let Some(item) = items.next() else {
             return Ok(());
         };
-        if let Err(reason) = append_value(walk, out, schemas, false, schema, field, &item, left) {
+        if let Err(reason) = append_value(walk, object, single, &item) {
             return Err(walk.note(Step::Element(index), reason));
         }
     }
@@ -449,35 +435,26 @@ fn append_items<'a, T: ReadableSchemas>(
 }
 
 /// Appends the numbers of an array, packed into one record.
-fn append_run<'a>(
-    walk: &mut Walk<'a>,
-    out: &mut Vec<u8>,
-    number: u32,
-    items: &mut Items<'_, 'a>,
-) -> Result<(), Reason>
+fn append_run<'a>(walk: &mut Walk<'a>, number: u32, items: &mut Items<'_, 'a>) -> Result<(), Reason>
     requires trail { walk.old.trail.items ≡ [] }
     ensures appended { Appends result (option_map (content_record true number) (run_bytes items.old))
-        out.old.items out.new.items }
+        walk.old.out.items walk.new.out.items }
     ensures error { HasError result (run_error 0 items.old) walk.new.trail.items }
 {
     if items.is_empty() {
         return Ok(());
     }
-    let place = append_prefix(out, number, 0)?;
-    let end = out.len();
-    append_numbers(walk, out, items)?;
-    put_length(out, place, end)?;
+    let place = append_prefix(&mut walk.out, number, 0)?;
+    let end = walk.out.len();
+    append_numbers(walk, items)?;
+    put_length(&mut walk.out, place, end)?;
     Ok(())
 }
 
 /// Appends the varints of the numbers of an array.
-fn append_numbers<'a>(
-    walk: &mut Walk<'a>,
-    out: &mut Vec<u8>,
-    items: &mut Items<'_, 'a>,
-) -> Result<(), Reason>
+fn append_numbers<'a>(walk: &mut Walk<'a>, items: &mut Items<'_, 'a>) -> Result<(), Reason>
     requires trail { walk.old.trail.items ≡ [] }
-    ensures appended { Appends result (run_bytes items.old) out.old.items out.new.items }
+    ensures appended { Appends result (run_bytes items.old) walk.old.out.items walk.new.out.items }
     ensures error { HasError result (run_error 0 items.old) walk.new.trail.items }
 {
     for index in 0..items.upper_bound() {
@@ -488,49 +465,55 @@ fn append_numbers<'a>(
             Ok(number) => number,
             Err(reason) => return Err(walk.note(Step::Element(index), reason)),
         };
-        append_varint(out, u64::from(number))?;
+        append_varint(&mut walk.out, u64::from(number))?;
     }
     Ok(())
 }
 
-/// Appends the record of a single value of a field of a schema; a default is left out if it is of a plain field.
+/// Appends the record of a single value of a field of an object's schema.
 #[cycle(message)]
 #[inline(always)]
 fn append_value<'a, T: ReadableSchemas>(
     walk: &mut Walk<'a>,
-    out: &mut Vec<u8>,
-    schemas: &'a T,
-    plain: bool,
-    schema: u32,
-    field: &Field,
+    object: &Object<'_, 'a, T>,
+    single: SingleField<'_>,
     value: &Node<'_, 'a>,
-    left: u32,
 ) -> Result<(), Reason>
     requires trail { walk.old.trail.items ≡ [] }
     ensures appended { Appends result
-        (field_bytes (message_bytes (T.format schemas.now) left) plain
-        (in_schema (T.format schemas.now) schema field.now) value.now)
-        out.old.items out.new.items }
-    ensures error { HasError result (field_error (message_error (T.format schemas.now) left)
-        (in_schema (T.format schemas.now) schema field.now) value.now)
+        (field_bytes (message_bytes (T.format object.now.schemas.now) object.now.left) single.entry.plain
+        (in_schema (T.format object.now.schemas.now) object.now.places.schema single.entry.field.now) value.now)
+        walk.old.out.items walk.new.out.items }
+    ensures error { HasError result (field_error (message_error (T.format object.now.schemas.now) object.now.left)
+        (in_schema (T.format object.now.schemas.now) object.now.places.schema single.entry.field.now) value.now)
         walk.new.trail.items }
 {
+    let SingleField { field, plain } = single;
     match field.kind {
-        Kind::U32 => append_number(out, plain, field.number, u64::from(read_u32(value)?))?,
-        Kind::U64 => append_number(out, plain, field.number, read_u64(value)?)?,
-        Kind::Boolean => append_number(out, plain, field.number, read_boolean(value)?)?,
+        Kind::U32 => append_number(
+            &mut walk.out,
+            plain,
+            field.number,
+            u64::from(read_u32(value)?),
+        )?,
+        Kind::U64 => append_number(&mut walk.out, plain, field.number, read_u64(value)?)?,
+        Kind::Boolean => append_number(&mut walk.out, plain, field.number, read_boolean(value)?)?,
         Kind::Enumeration => {
-            let bits = read_enumeration(schemas, schema, field.number, value)?;
-            append_number(out, plain, field.number, extended(bits))?;
+            let bits = read_enumeration(object.schemas, object.places.schema, field.number, value)?;
+            append_number(&mut walk.out, plain, field.number, extended(bits))?;
         }
-        Kind::Text => append_content(out, plain, field.number, read_text(value)?)?,
-        Kind::ByteString => append_bytes(out, plain, field.number, value)?,
+        Kind::Text => append_content(&mut walk.out, plain, field.number, read_text(value)?)?,
+        Kind::ByteString => append_bytes(&mut walk.out, plain, field.number, value)?,
         Kind::Message(nested) => {
-            let room = walk.lengths.next(schemas, nested, value, left)?;
-            let place = append_prefix(out, field.number, room)?;
-            let end = out.len();
-            append_message(walk, out, schemas, nested, value, left)?;
-            put_length(out, place, end)?;
+            let of = TableSchema {
+                schemas: object.schemas,
+                schema: nested,
+            };
+            let room = walk.lengths.next(&of, value, object.left)?;
+            let place = append_prefix(&mut walk.out, field.number, room)?;
+            let end = walk.out.len();
+            append_message(walk, of, value, object.left)?;
+            put_length(&mut walk.out, place, end)?;
         }
     }
     Ok(())

@@ -14,12 +14,13 @@ ghost use Rattle.shared_core_json_reader.specs.FirstError.{HasError, SaysError, 
 
 use crate::error::{JsonReadError, Reason};
 use crate::payload::{Step, Walk, append_message};
-use crate::readable::ReadableSchemas;
+use crate::readable::{ReadableSchemas, TableSchema};
 use json::{Reader, Scratch};
 use json_table::{Node, Table};
 use shared_core_codec::any_table::ProtocolSchemas;
 use shared_core_wire::records::LEVELS;
 use std::alloc::{AllocError, Global};
+use std::mem;
 
 /// How deep arrays and objects may be nested in a text; a message one hundred levels deep needs 202 at most.
 const MAX_DEPTH: usize = 1000;
@@ -157,50 +158,53 @@ pub fn table_of_text<'a>(
     }
 }
 
-/// Puts the canonical payload of what a value means for a schema of a table into a buffer, in place of what is there.
-fn write_payload<'a, T: ReadableSchemas>(
+/// Appends the canonical payload of what a value means for a schema of a table to the bytes of a walk that is to begin.
+fn append_payload<'a, T: ReadableSchemas>(
     walk: &mut Walk<'a>,
-    schemas: &'a T,
-    schema: u32,
+    of: TableSchema<'a, T>,
     node: &Node<'_, 'a>,
-    payload: &mut Vec<u8>,
 ) -> Result<(), Reason>
-    requires { walk.old.trail.items ≡ [] }
-    ensures ok { OnOk result (value_payload_in (T.format schemas.now) schema node.now ≡ Some payload.new.items) }
-    ensures means { OnOk result (Means (T.format schemas.now) schema node.now payload.new.items) }
+    requires out { walk.old.out.items ≡ [] }
+    requires trail { walk.old.trail.items ≡ [] }
+    ensures ok { OnOk result (value_payload_in (T.format of.entry.schemas.now) of.entry.schema node.now
+        ≡ Some walk.new.out.items) }
+    ensures means { OnOk result (Means (T.format of.entry.schemas.now) of.entry.schema node.now walk.new.out.items) }
     ensures rejected { IfErr result (λ reason. reason ≢ Reason.OutOfMemory
-        → value_payload_in (T.format schemas.now) schema node.now ≡ None) }
-    ensures error { HasError result (message_error (T.format schemas.now) 101 schema node.now)
+        → value_payload_in (T.format of.entry.schemas.now) of.entry.schema node.now ≡ None) }
+    ensures error { HasError result (message_error (T.format of.entry.schemas.now) 101 of.entry.schema node.now)
         walk.new.trail.items }
 {
-    payload.clear();
-    append_message(walk, payload, schemas, schema, node, LEVELS + 1)?;
+    append_message(walk, of, node, LEVELS + 1)?;
     Ok(())
 }
 
-/// Puts the canonical payload of what a JSON value means for a schema of a table, by its index, into a buffer, which is
-/// emptied first and grows where it has too little room. The error is the reason of that of `payload_of_node_in`,
-/// without the path; part of the payload may be in the buffer then.
+/// Puts the canonical payload of what a JSON value means for a schema of a table into a buffer, which is emptied first
+/// and grows where it has too little room. The error is the reason of that of `payload_of_node_in`, without the path;
+/// part of the payload may be in the buffer then.
 pub fn payload_into_in<'a, T: ReadableSchemas>(
     alloc: Global,
-    schemas: &'a T,
-    schema: u32,
+    of: TableSchema<'a, T>,
     node: &Node<'_, 'a>,
     payload: &mut Vec<u8>,
 ) -> Result<(), Reason>
-    ensures ok { OnOk result (value_payload_in (T.format schemas.now) schema node.now ≡ Some payload.new.items) }
+    ensures ok { OnOk result (value_payload_in (T.format of.entry.schemas.now) of.entry.schema node.now
+        ≡ Some payload.new.items) }
     // the payload is accepted, and means what the value means
-    ensures means { OnOk result (Means (T.format schemas.now) schema node.now payload.new.items) }
+    ensures means { OnOk result (Means (T.format of.entry.schemas.now) of.entry.schema node.now payload.new.items) }
     ensures rejected { IfErr result (λ reason. reason ≢ Reason.OutOfMemory
-        → value_payload_in (T.format schemas.now) schema node.now ≡ None) }
+        → value_payload_in (T.format of.entry.schemas.now) of.entry.schema node.now ≡ None) }
     // the reason of the first error of the value
-    ensures error { MatchResult result (λ _. value_error_in (T.format schemas.now) schema node.now ≡ None)
+    ensures error { MatchResult result
+        (λ _. value_error_in (T.format of.entry.schemas.now) of.entry.schema node.now ≡ None)
         (λ reason. reason ≢ Reason.OutOfMemory
-        → (path : List ℕ) × (value_error_in (T.format schemas.now) schema node.now ≡ Some (reason, path))) }
+        → (path : List ℕ)
+        × (value_error_in (T.format of.entry.schemas.now) of.entry.schema node.now ≡ Some (reason, path))) }
 {
-    let mut walk = Walk::new(alloc);
-    write_payload(&mut walk, schemas, schema, node, payload)?;
-    Ok(())
+    payload.clear();
+    let mut walk = Walk::new(alloc, mem::replace(payload, Vec::new(alloc)));
+    let result = append_payload(&mut walk, of, node);
+    *payload = walk.out;
+    result
 }
 
 /// The same for a schema of the protocol.
@@ -221,34 +225,39 @@ pub fn payload_into(
         (λ reason. reason ≢ Reason.OutOfMemory
         → (path : List ℕ) × (value_error schema node.now ≡ Some (reason, path))) }
 {
-    payload_into_in(alloc, &ProtocolSchemas, schema, node, payload)
+    let of = TableSchema {
+        schemas: &ProtocolSchemas,
+        schema,
+    };
+    payload_into_in(alloc, of, node, payload)
 }
 
-/// Returns the canonical payload of what a JSON value means for a schema of a table, by its index, as `payload_of` does
-/// for a text. Its errors are those of `Reason` except for `NotJson`, with a path that begins in the value.
+/// Returns the canonical payload of what a JSON value means for a schema of a table, as `payload_of` does for a text.
+/// Its errors are those of `Reason` except for `NotJson`, with a path that begins in the value.
 pub fn payload_of_node_in<'a, T: ReadableSchemas>(
     alloc: Global,
-    schemas: &'a T,
-    schema: u32,
+    of: TableSchema<'a, T>,
     node: &Node<'_, 'a>,
 ) -> Result<Vec<u8>, JsonReadError>
-    ensures ok { IfOk result (λ payload. value_payload_in (T.format schemas.now) schema node.now
+    ensures ok { IfOk result (λ payload. value_payload_in (T.format of.entry.schemas.now) of.entry.schema node.now
         ≡ Some payload.items) }
     // the payload is accepted, and means what the value means
-    ensures means { IfOk result (λ payload. Means (T.format schemas.now) schema node.now payload.items) }
+    ensures means { IfOk result
+        (λ payload. Means (T.format of.entry.schemas.now) of.entry.schema node.now payload.items) }
     ensures rejected { IfErr result (λ error. error.reason ≢ Reason.OutOfMemory
-        → value_payload_in (T.format schemas.now) schema node.now ≡ None) }
+        → value_payload_in (T.format of.entry.schemas.now) of.entry.schema node.now ≡ None) }
     // the first error of the value, and the path to the rejected value
-    ensures error { MatchResult result (λ _. value_error_in (T.format schemas.now) schema node.now ≡ None)
+    ensures error { MatchResult result
+        (λ _. value_error_in (T.format of.entry.schemas.now) of.entry.schema node.now ≡ None)
         (λ error. error.reason ≢ Reason.OutOfMemory
-        → SaysError error (value_error_in (T.format schemas.now) schema node.now)) }
+        → SaysError error (value_error_in (T.format of.entry.schemas.now) of.entry.schema node.now)) }
 {
-    let Ok(mut payload) = Vec::with_capacity(alloc, ROOM) else {
+    let Ok(room) = Vec::with_capacity(alloc, ROOM) else {
         return Err(error_at(alloc, Reason::OutOfMemory, 0));
     };
-    let mut walk = Walk::new(alloc);
-    match write_payload(&mut walk, schemas, schema, node, &mut payload) {
-        Ok(()) => Ok(payload),
+    let mut walk = Walk::new(alloc, room);
+    match append_payload(&mut walk, of, node) {
+        Ok(()) => Ok(walk.out),
         Err(reason) => Err(error_on(alloc, reason, &mut walk.trail)),
     }
 }
@@ -270,7 +279,11 @@ pub fn payload_of_node(
         (λ error. error.reason ≢ Reason.OutOfMemory
         → SaysError error (value_error schema node.now)) }
 {
-    payload_of_node_in(alloc, &ProtocolSchemas, schema, node)
+    let of = TableSchema {
+        schemas: &ProtocolSchemas,
+        schema,
+    };
+    payload_of_node_in(alloc, of, node)
 }
 
 /// Returns the canonical payload of what a JSON text means for the schema at this index of the table.

@@ -14,6 +14,13 @@ use shared_core_codec::any_table::{ProtocolSchemas, SchemaRow};
 use shared_core_codec::rows::{self, Row};
 use shared_core_json::names::{self, Name, names_of};
 
+/// A schema of a table, by its index.
+#[derive(Drop)]
+pub struct TableSchema<'a, T> {
+    pub schemas: &'a T,
+    pub schema: u32,
+}
+
 /// A table of schemas by which JSON is read. A key is a name of one field of its schema at most.
 pub trait ReadableSchemas {
     /// How it holds a row.

@@ -1,6 +1,7 @@
 //! The numbers, texts and bytes that single JSON values mean.
 
-ghost use Rattle.std.specs.Prelude.{◌≡◌, ◌<◌, ◌^◌, Some, None, map, option_map, decimal, IfSome, IfErr, MatchResult};
+ghost use Rattle.std.specs.Prelude.{◌≡◌, ◌<◌, ◌^◌, Some, None, map, option_map, option_and_then, decimal};
+ghost use Rattle.std.specs.Prelude.{IfSome, IfErr, MatchResult};
 ghost use Rattle.json.specs.Word.{after_minus};
 ghost use Rattle.shared_core_json_reader.specs.Rows.{value_view};
 ghost use Rattle.shared_core_wire.specs.Schema.{Enumeration};
@@ -9,7 +10,7 @@ ghost use Rattle.shared_core_json_reader.specs.Scalars.{number_text, whole_of_te
 ghost use Rattle.shared_core_json_reader.specs.Scalars.{unsigned_read, boolean_read, signed_bits};
 ghost use Rattle.shared_core_json_reader.specs.Scalars.{value_named, enum_read, text_read};
 ghost use Rattle.shared_core_json_reader.specs.Scalars.{only_text, marked_text};
-ghost use Rattle.shared_core_json_reader.specs.FirstError.{number_text_reason, number_reason};
+ghost use Rattle.shared_core_json_reader.specs.FirstError.{number_text_reason, number_reason, enum_reason};
 ghost use Rattle.shared_core_json_reader.specs.Views.{whole_view};
 
 use crate::error::Reason;
@@ -169,6 +170,16 @@ fn signed_bits(whole: Whole) -> Result<u32, Reason>
     Ok(whole.magnitude as u32)
 }
 
+/// The number of 32 bits with a sign that a value is, as its low 32 bits.
+fn read_signed(value: &Node<'_, '_>) -> Result<u32, Reason>
+    ensures value { MatchResult result
+        (λ bits. option_and_then signed_bits (whole_read value.now) ≡ Some bits)
+        (λ _. option_and_then signed_bits (whole_read value.now) ≡ None) }
+    ensures reason { IfErr result (λ reason. number_reason value.now ≡ reason) }
+{
+    signed_bits(read_whole(value)?)
+}
+
 /// The number of the value of an enum that has a name.
 pub fn value_named(values: &[EnumValue], name: &str) -> Option<u32>
     ensures { result ≡ value_named (map value_view values.now) name.now }
@@ -191,14 +202,19 @@ pub fn read_enumeration<T: ReadableSchemas>(
     ensures value { MatchResult result
         (λ bits. enum_read ((T.format schemas.now).values schema number) value.now ≡ Some bits)
         (λ _. enum_read ((T.format schemas.now).values schema number) value.now ≡ None) }
-    ensures reason { IfErr result (λ reason. number_reason value.now ≡ reason) }
+    ensures reason { IfErr result (λ reason. enum_reason value.now ≡ reason) }
 {
-    if let Some(name) = value.as_str() {
-        if let Some(bits) = schemas.value_named(schema, number, name) {
-            return Ok(bits);
-        }
+    let Some(name) = value.as_str() else {
+        return read_signed(value);
+    };
+    if let Some(bits) = schemas.value_named(schema, number, name) {
+        return Ok(bits);
     }
-    signed_bits(read_whole(value)?)
+    match read_signed(value) {
+        Ok(bits) => Ok(bits),
+        Err(Reason::WrongKind) => Err(Reason::UnknownName),
+        Err(reason) => Err(reason),
+    }
 }
 
 /// The number that is written for the low 32 bits of an enum: a negative one is sign-extended to 64 bits.

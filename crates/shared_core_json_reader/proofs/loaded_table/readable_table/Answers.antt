@@ -3,6 +3,7 @@ use Rattle.shared_core_codec.specs.LoadedRows.{schemas_view}
 use Rattle.shared_core_json.specs.Fields.{names_at}
 use Rattle.shared_core_json.specs.LoadedNames.{all_names_view}
 use Rattle.shared_core_json_reader.specs.Readable.{AreNamed, none_unreadable, unreadable_from}
+use Rattle.shared_core_json_reader.proofs.EnumLists.{enums_low}
 use Rattle.shared_core_json_reader.proofs.loaded_table.readable_table.Goals as goal
 
 pub invariant_of-result : goal.invariant_of-result
@@ -14,4 +15,5 @@ invariant_of-result c =
     record {
       named = subst (λ table. AreNamed table (names_at names)) (sym c.in-Ok-new.ensures.table)
           (none_unreadable 0 names (schemas_view c.args.schemas.items) none);
+      low = enums_low c.args.enums;
     }

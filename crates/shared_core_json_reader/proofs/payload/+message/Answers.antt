@@ -21,89 +21,104 @@ use Rattle.shared_core_json_reader.proofs.FirstErrors.{oneof_error_turn, oneof_e
 use Rattle.shared_core_json_reader.proofs.payload.+message.Goals as goal
 
 pub append_message-returns-then-levels-eq0-clause-appended : goal.append_message-returns-then-levels-eq0-clause-appended
-append_message-returns-then-levels-eq0-clause-appended g t c n = no_level
-    (g.T.ReadableSchemas.format c.args.schemas.now) c.args.levels c.args.schema
+append_message-returns-then-levels-eq0-clause-appended g t c n =
+    let format = g.T.ReadableSchemas.format c.args.of.schemas.now in
+    no_level
+    format c.args.levels c.args.of.schema
     c.args.value.now c.if-levels-eq0.true
 
 pub append_message-returns-clause-appended : goal.append_message-returns-clause-appended
 append_message-returns-clause-appended g t c =
-    subst (λ (o : Option (List ℕ)). Appends c.append_object.result o c.args.out.now.items c.append_object.new.out.items)
-    (at_level (g.T.ReadableSchemas.format c.args.schemas.now) c.args.levels c.args.schema c.args.value.now
+    let format = g.T.ReadableSchemas.format c.args.of.schemas.now in
+    subst (λ (o : Option (List ℕ)). Appends c.append_object.result o c.args.walk.now.out.items
+    c.append_object.new.walk.out.items)
+    (at_level format c.args.levels c.args.of.schema c.args.value.now
     (omega arith)) c.append_object.ensures.appended
 
 pub append_items-returns-clause-appended : goal.append_items-returns-clause-appended
 append_items-returns-clause-appended g t c =
-    items_end (message_bytes (g.T.ReadableSchemas.format c.args.schemas.now) c.args.left)
-    (in_schema (g.T.ReadableSchemas.format c.args.schemas.now) c.args.schema c.args.field.now) c.loop-index.items
-    c.loop-index.out.items _ (none_left c.loop-index.items (omega arith)) c.loop-index.invariant.0
+    let object = c.args.object.now in
+    let format = g.T.ReadableSchemas.format object.schemas.now in
+    items_end (message_bytes format object.left)
+    (in_schema format object.places.schema c.args.field.now) c.loop-index.items
+    c.loop-index.walk.out.items _ (none_left c.loop-index.items (omega arith)) c.loop-index.invariant.0
 
 pub append_items-returns-clause-error : goal.append_items-returns-clause-error
-append_items-returns-clause-error g t c = (
-  items_error_end (message_error (g.T.ReadableSchemas.format c.args.schemas.now) c.args.left)
-      (in_schema (g.T.ReadableSchemas.format c.args.schemas.now) c.args.schema c.args.field.now) c.loop-index.items
-      c.loop-index.index _
-      (none_left c.loop-index.items (omega arith)) c.loop-index.invariant.1,
-  c.loop-index.invariant.2,
-)
+append_items-returns-clause-error g t c =
+    let object = c.args.object.now in
+    let format = g.T.ReadableSchemas.format object.schemas.now in (
+      items_error_end (message_error format object.left)
+          (in_schema format object.places.schema c.args.field.now) c.loop-index.items
+          c.loop-index.index _
+          (none_left c.loop-index.items (omega arith)) c.loop-index.invariant.1,
+      c.loop-index.invariant.2,
+    )
 
 pub append_oneof-loop-field-preserved : goal.append_oneof-loop-field-preserved
 append_oneof-loop-field-preserved g t c =
+    let object = c.args.object.now in
+    let format = g.T.ReadableSchemas.format object.schemas.now in
     let xs = c.args.fields.now in
     let i = c.loop-field.field-index in
     let here = drop_more xs i _ c.loop-field-test.true in
-    let found = rw c.in-Some.is at c.in_ok-value.ensures.given in (
-      oneof_turn (g.T.ReadableSchemas.format c.args.schemas.now)
-          (message_bytes (g.T.ReadableSchemas.format c.args.schemas.now) c.args.left) c.args.members.now
-          c.args.places.now.schema xs i _
-          c.in-Some.value c.loop-field.held
-          c.loop-field.out.items c.append_value.new.out.items _ here found c.if-held.false
-          c.in_default-append_value.ensures.appended c.loop-field.invariant.0,
-      oneof_error_turn (g.T.ReadableSchemas.format c.args.schemas.now)
-          (message_error (g.T.ReadableSchemas.format c.args.schemas.now) c.args.left) c.args.members.now
-          c.args.places.now.schema xs i
-          _
+    let found = rw c.in-Some.is at c.in_ok-value.ensures.given in
+    let appended = rw c.in_ok-value.ensures.walk at c.in_default-append_value.ensures.appended in (
+      oneof_turn format (message_bytes format object.left) object.members object.places.schema xs i _ c.in-Some.value
+          c.loop-field.held c.loop-field.walk.out.items c.append_value.new.walk.out.items _ here found c.if-held.false
+          appended c.loop-field.invariant.0,
+      oneof_error_turn format (message_error format object.left) object.members object.places.schema xs i _
           c.in-Some.value c.loop-field.held _ here found c.if-held.false c.in_default-append_value.ensures.error.0
           c.loop-field.invariant.1,
       c.in_default-append_value.ensures.error.1,
     )
 
 pub append_message-returns-then-levels-eq0-clause-error : goal.append_message-returns-then-levels-eq0-clause-error
-append_message-returns-then-levels-eq0-clause-error g t c n = no_level_error
-    (g.T.ReadableSchemas.format c.args.schemas.now) c.args.levels c.args.schema
+append_message-returns-then-levels-eq0-clause-error g t c n =
+    let format = g.T.ReadableSchemas.format c.args.of.schemas.now in
+    no_level_error
+    format c.args.levels c.args.of.schema
     c.args.value.now c.args.walk.now.trail.items c.if-levels-eq0.true c.requires.trail
 
 pub append_message-returns-clause-error : goal.append_message-returns-clause-error
 append_message-returns-clause-error g t c =
+    let format = g.T.ReadableSchemas.format c.args.of.schemas.now in
     subst (λ (o : Option PathError). HasError c.append_object.result o c.append_object.new.walk.trail.items)
-    (at_level_error (g.T.ReadableSchemas.format c.args.schemas.now) c.args.levels c.args.schema c.args.value.now
+    (at_level_error format c.args.levels c.args.of.schema c.args.value.now
     (omega arith)) c.append_object.ensures.error
 
 pub append_members-returns-in-Err-clause-appended : goal.append_members-returns-in-Err-clause-appended
 append_members-returns-in-Err-clause-appended g t c n =
-    ap (λ b. cond b (rows_bytes (message_bytes (g.T.ReadableSchemas.format c.args.schemas.now) c.args.left)
-    c.args.members.now
-    (named_rows (g.T.ReadableSchemas.format c.args.schemas.now) c.args.schema)) None) c.in-Err.ensures.known
+    let format = g.T.ReadableSchemas.format c.args.of.schemas.now in
+    ap (λ b. cond b (rows_bytes (message_bytes format c.args.left)
+    c.args.members
+    (named_rows format c.args.of.schema)) None) c.in-Err.ensures.known
 
 pub append_members-returns-clause-appended : goal.append_members-returns-clause-appended
 append_members-returns-clause-appended g t c =
-    let nested = message_bytes (g.T.ReadableSchemas.format c.args.schemas.now) c.args.left in
-    let ms = c.args.members.now in
-    subst (λ (o : Option (List ℕ)). Appends c.append_rows.result o c.args.out.now.items c.append_rows.new.out.items)
+    let format = g.T.ReadableSchemas.format c.args.of.schemas.now in
+    let nested = message_bytes format c.args.left in
+    let ms = c.args.members in
+    subst (λ (o : Option (List ℕ)). Appends c.append_rows.result o c.args.walk.now.out.items
+    c.append_rows.new.walk.out.items)
     (sym (ap (λ b. cond b (rows_bytes nested ms
-    (named_rows (g.T.ReadableSchemas.format c.args.schemas.now) c.args.schema)) None) c.in_default.ensures.known))
+    (named_rows format c.args.of.schema)) None) c.in_default.ensures.known))
     c.append_rows.ensures.appended
 
 pub append_oneof-given_or_noted-requires-clause-field : goal.append_oneof-given_or_noted-requires-clause-field
 append_oneof-given_or_noted-requires-clause-field g t c =
-    oneof_field (g.T.ReadableSchemas.format c.args.schemas.now) c.args.places.now.schema c.loop-field.field-index
+    let object = c.args.object.now in
+    let format = g.T.ReadableSchemas.format object.schemas.now in
+    oneof_field format object.places.schema c.loop-field.field-index
     c.args.fields.now _ _ c.requires.row
     (drop_more c.args.fields.now c.loop-field.field-index _ c.loop-field-test.true)
 
 pub append_row-append_given-requires : goal.append_row-append_given-requires
 append_row-append_given-requires g t c =
-    let row = row_field (g.T.ReadableSchemas.format c.args.schemas.now) c.args.places.now.schema
+    let object = c.args.object.now in
+    let format = g.T.ReadableSchemas.format object.schemas.now in
+    let row = row_field format object.places.schema
     c.in-Plain.field.now.number (kind_view c.in-Plain.field.now.kind) (shape_view (Plain c.in-Plain.field)) refl
-    (subst (IsRowOf (g.T.ReadableSchemas.format c.args.schemas.now) c.args.places.now.schema)
+    (subst (IsRowOf format object.places.schema)
     (sym c.shape.ensures ∙ ap shape_view c.in-Plain.is) c.requires.row) in
     λ κs lives. (
       omega (arith, c.decreases),
@@ -112,10 +127,12 @@ append_row-append_given-requires g t c =
 
 pub append_row-append_given-requires-in-Optional : goal.append_row-append_given-requires-in-Optional
 append_row-append_given-requires-in-Optional g t c =
-    let row = row_field (g.T.ReadableSchemas.format c.args.schemas.now) c.args.places.now.schema
+    let object = c.args.object.now in
+    let format = g.T.ReadableSchemas.format object.schemas.now in
+    let row = row_field format object.places.schema
     c.in-Optional.field.now.number (kind_view c.in-Optional.field.now.kind) (shape_view (Optional c.in-Optional.field))
     refl
-    (subst (IsRowOf (g.T.ReadableSchemas.format c.args.schemas.now) c.args.places.now.schema)
+    (subst (IsRowOf format object.places.schema)
     (sym c.shape.ensures ∙ ap shape_view c.in-Optional.is) c.requires.row) in
     λ κs lives. (
       omega (arith, c.decreases),
@@ -124,10 +141,12 @@ append_row-append_given-requires-in-Optional g t c =
 
 pub append_row-append_list-requires : goal.append_row-append_list-requires
 append_row-append_list-requires g t c =
-    let row = row_field (g.T.ReadableSchemas.format c.args.schemas.now) c.args.places.now.schema
+    let object = c.args.object.now in
+    let format = g.T.ReadableSchemas.format object.schemas.now in
+    let row = row_field format object.places.schema
     c.in-Repeated.field.now.number (kind_view c.in-Repeated.field.now.kind) (shape_view (Repeated c.in-Repeated.field))
     refl
-    (subst (IsRowOf (g.T.ReadableSchemas.format c.args.schemas.now) c.args.places.now.schema)
+    (subst (IsRowOf format object.places.schema)
     (sym c.shape.ensures ∙ ap shape_view c.in-Repeated.is) c.requires.row) in
     λ κs lives. (
       omega (arith, c.decreases),
@@ -136,9 +155,11 @@ append_row-append_list-requires g t c =
 
 pub append_rows-append_row-requires : goal.append_rows-append_row-requires
 append_rows-append_row-requires g t c =
+    let object = c.args.object.now in
+    let format = g.T.ReadableSchemas.format object.schemas.now in
     let rows = c.rows_of-rows.result.now in
     let here = here_row rows c.loop-row.row-index c.row-item.result c.loop-row-test.true c.row-item.is in
-    let row = row_of (g.T.ReadableSchemas.format c.args.schemas.now) g.T.Row.SchemaRow.view c.args.places.now.schema
+    let row = row_of format g.T.Row.SchemaRow.view object.places.schema
     c.loop-row.row-index rows _ c.row-item.result c.rows_of-rows.ensures.rows here in
     λ κs lives. (
       omega (arith, c.decreases),
@@ -147,77 +168,87 @@ append_rows-append_row-requires g t c =
 
 pub append_rows-returns-in_err-append_row-clause-appended : goal.append_rows-returns-in_err-append_row-clause-appended
 append_rows-returns-in_err-append_row-clause-appended g t c =
+    let object = c.args.object.now in
+    let format = g.T.ReadableSchemas.format object.schemas.now in
     let l = c.loop-row in
-    stops c.from_residual.result c.in_err-append_row.field-0.0 _ c.args.out.now.items _ c.from_residual.ensures.1
-    (λ n. rows_stop (g.T.ReadableSchemas.format c.args.schemas.now) g.T.Row.SchemaRow.view
-    (message_bytes (g.T.ReadableSchemas.format c.args.schemas.now) c.args.left) c.args.members.now
-    c.args.places.now.schema
-    c.rows_of-rows.result.now l.row-index c.row-item.result _ l.out.items c.args.out.now.items _
+    stops c.from_residual.result c.in_err-append_row.field-0.0 _ c.args.walk.now.out.items _ c.from_residual.ensures.1
+    (λ n. rows_stop format g.T.Row.SchemaRow.view
+    (message_bytes format object.left) object.members
+    object.places.schema
+    c.rows_of-rows.result.now l.row-index c.row-item.result _ l.walk.out.items c.args.walk.now.out.items _
     (here_row c.rows_of-rows.result.now l.row-index c.row-item.result c.loop-row-test.true c.row-item.is) l.invariant.0
     (c.in_err-append_row.ensures.appended n))
 
 pub append_rows-returns-in_err-append_row-clause-error : goal.append_rows-returns-in_err-append_row-clause-error
 append_rows-returns-in_err-append_row-clause-error g t c =
+    let object = c.args.object.now in
+    let format = g.T.ReadableSchemas.format object.schemas.now in
     let l = c.loop-row in
-    let nested = message_error (g.T.ReadableSchemas.format c.args.schemas.now) c.args.left in
-    let ms = c.args.members.now in
+    let nested = message_error format object.left in
+    let ms = object.members in
     stops_error c.from_residual.result c.in_err-append_row.field-0.0
-    (rows_error nested ms (named_rows (g.T.ReadableSchemas.format c.args.schemas.now) c.args.places.now.schema))
+    (rows_error nested ms (named_rows format object.places.schema))
     c.append_row.new.walk.trail.items
     c.from_residual.ensures.1
-    (λ n. rows_error_stop (g.T.ReadableSchemas.format c.args.schemas.now) g.T.Row.SchemaRow.view nested ms
-    c.args.places.now.schema c.rows_of-rows.result.now l.row-index c.row-item.result _ _ _
+    (λ n. rows_error_stop format g.T.Row.SchemaRow.view nested ms
+    object.places.schema c.rows_of-rows.result.now l.row-index c.row-item.result _ _ _
     (here_row c.rows_of-rows.result.now l.row-index c.row-item.result c.loop-row-test.true c.row-item.is) l.invariant.1
     (c.in_err-append_row.ensures.error n))
 
 pub append_row-returns-then-lacks : goal.append_row-returns-then-lacks
 append_row-returns-then-lacks g t c =
+    let object = c.args.object.now in
+    let format = g.T.ReadableSchemas.format object.schemas.now in
     let row = g.T.Row.SchemaRow.view c.args.row.now in
     record {
       appended =
-          ap (after c.args.out.now.items) (lacks_row (g.T.ReadableSchemas.format c.args.schemas.now)
-          (g.met.T.ReadableSchemas.readable c.args.schemas.now)
-          (message_bytes (g.T.ReadableSchemas.format c.args.schemas.now) c.args.left) c.args.members.now
-          c.args.places.now
+          ap (after c.args.walk.now.out.items) (lacks_row format
+          (g.met.T.ReadableSchemas.readable object.schemas.now)
+          (message_bytes format object.left) object.members
+          object.places
           row c.requires.places c.requires.row (c.lacks.ensures c.if-lacks.true))
-          ∙ ap (λ (xs : List ℕ). Some xs) (append-nil c.args.out.now.items);
+          ∙ ap (λ (xs : List ℕ). Some xs) (append-nil c.args.walk.now.out.items);
       error = (
-        lacks_row_error (g.T.ReadableSchemas.format c.args.schemas.now)
-            (g.met.T.ReadableSchemas.readable c.args.schemas.now)
-            (message_error (g.T.ReadableSchemas.format c.args.schemas.now) c.args.left) c.args.members.now
-            c.args.places.now row c.requires.places c.requires.row (c.lacks.ensures c.if-lacks.true),
+        lacks_row_error format
+            (g.met.T.ReadableSchemas.readable object.schemas.now)
+            (message_error format object.left) object.members
+            object.places row c.requires.places c.requires.row (c.lacks.ensures c.if-lacks.true),
         c.requires.trail,
       );
     }
 
 pub append_oneof-loop-field-preserved-then-is_absent : goal.append_oneof-loop-field-preserved-then-is_absent
 append_oneof-loop-field-preserved-then-is_absent g t c =
+    let object = c.args.object.now in
+    let format = g.T.ReadableSchemas.format object.schemas.now in
     let xs = c.args.fields.now in
     let i = c.loop-field.field-index in
     let here = drop_more xs i _ c.loop-field-test.true in
-    let found = lacks_member (g.T.ReadableSchemas.format c.args.schemas.now)
-    (g.met.T.ReadableSchemas.readable c.args.schemas.now) i xs _ _ c.args.members.now c.args.places.now
+    let found = lacks_member format
+    (g.met.T.ReadableSchemas.readable object.schemas.now) i xs _ _ object.members object.places
     c.requires.places c.requires.row here
     (c.is_absent.ensures c.if-is_absent.true) in (
-      oneof_skip (g.T.ReadableSchemas.format c.args.schemas.now)
-          (message_bytes (g.T.ReadableSchemas.format c.args.schemas.now) c.args.left) c.args.members.now
-          c.args.places.now.schema xs i _ c.loop-field.held
-          c.loop-field.out.items _ here found c.loop-field.invariant.0,
-      oneof_error_skip (g.T.ReadableSchemas.format c.args.schemas.now)
-          (message_error (g.T.ReadableSchemas.format c.args.schemas.now) c.args.left) c.args.members.now
-          c.args.places.now.schema xs i _
+      oneof_skip format
+          (message_bytes format object.left) object.members
+          object.places.schema xs i _ c.loop-field.held
+          c.loop-field.walk.out.items _ here found c.loop-field.invariant.0,
+      oneof_error_skip format
+          (message_error format object.left) object.members
+          object.places.schema xs i _
           c.loop-field.held _ here found c.loop-field.invariant.1,
       c.loop-field.invariant.2,
     )
 
 pub append_items-returns-in-Err-clause-error : goal.append_items-returns-in-Err-clause-error
 append_items-returns-in-Err-clause-error g t c n =
-    let f = in_schema (g.T.ReadableSchemas.format c.args.schemas.now) c.args.schema c.args.field.now in
-    items_error_stop (message_error (g.T.ReadableSchemas.format c.args.schemas.now) c.args.left) f c.loop-index.items
+    let object = c.args.object.now in
+    let format = g.T.ReadableSchemas.format object.schemas.now in
+    let f = in_schema format object.places.schema c.args.field.now in
+    items_error_stop (message_error format object.left) f c.loop-index.items
     c.next.new.self c.in-Some.item
     c.loop-index.index _ (c.note.result, trail_view c.note.new.self.trail.items) c.in-Some.ensures
     c.loop-index.invariant.1 (within_noted (field_error
-    (message_error (g.T.ReadableSchemas.format c.args.schemas.now) c.args.left) f c.in-Some.item)
+    (message_error format object.left) f c.in-Some.item)
     (Element c.loop-index.index) c.in-Err.reason c.note.result c.append_value.new.walk.trail.items
     c.note.new.self.trail.items c.in-Err.ensures.error
     (λ m. (
@@ -228,13 +259,15 @@ append_items-returns-in-Err-clause-error g t c n =
 
 pub append_items-loop-index-preserved : goal.append_items-loop-index-preserved
 append_items-loop-index-preserved g t c =
-    let f = in_schema (g.T.ReadableSchemas.format c.args.schemas.now) c.args.schema c.args.field.now in
+    let object = c.args.object.now in
+    let format = g.T.ReadableSchemas.format object.schemas.now in
+    let f = in_schema format object.places.schema c.args.field.now in
     let appended = c.in_default-append_value.ensures in (
-      items_turn (message_bytes (g.T.ReadableSchemas.format c.args.schemas.now) c.args.left) f c.loop-index.items
+      items_turn (message_bytes format object.left) f c.loop-index.items
           c.next.new.self c.in-Some.item
-          c.loop-index.out.items c.append_value.new.out.items _ c.in-Some.ensures appended.appended
+          c.loop-index.walk.out.items c.append_value.new.walk.out.items _ c.in-Some.ensures appended.appended
           c.loop-index.invariant.0,
-      items_error_turn (message_error (g.T.ReadableSchemas.format c.args.schemas.now) c.args.left) f c.loop-index.items
+      items_error_turn (message_error format object.left) f c.loop-index.items
           c.next.new.self c.in-Some.item
           c.loop-index.index _ c.in-Some.ensures appended.error.0 c.loop-index.invariant.1,
       appended.error.1,
@@ -243,18 +276,19 @@ append_items-loop-index-preserved g t c =
 
 pub append_rows-loop-row-preserved : goal.append_rows-loop-row-preserved
 append_rows-loop-row-preserved g t c =
-    let format = g.T.ReadableSchemas.format c.args.schemas.now in
+    let object = c.args.object.now in
+    let format = g.T.ReadableSchemas.format object.schemas.now in
     let view = g.T.Row.SchemaRow.view in
     let l = c.loop-row in
-    let ms = c.args.members.now in
-    let s = c.args.places.now.schema in
+    let ms = object.members in
+    let s = object.places.schema in
     let xs = c.rows_of-rows.result.now in
     let x = c.row-item.result in
     let here = here_row xs l.row-index x c.loop-row-test.true c.row-item.is in
     let appended = c.in_ok-append_row.ensures in (
-      rows_turn format view (message_bytes format c.args.left) ms s xs l.row-index x _ l.out.items
-          c.append_row.new.out.items _ here appended.appended l.invariant.0,
-      rows_error_turn format view (message_error format c.args.left) ms s xs l.row-index x _ _ here
+      rows_turn format view (message_bytes format object.left) ms s xs l.row-index x _ l.walk.out.items
+          c.append_row.new.walk.out.items _ here appended.appended l.invariant.0,
+      rows_error_turn format view (message_error format object.left) ms s xs l.row-index x _ _ here
           appended.error.0 l.invariant.1,
       appended.error.1,
     )

@@ -4,7 +4,7 @@ use Rattle.shared_core_json_reader.proofs.FirstErrors.{run_error_end}
 use Rattle.shared_core_json_reader.proofs.payload.append_numbers.Goals as goal
 
 pub returns-clause-appended : goal.returns-clause-appended
-returns-clause-appended c = run_end c.loop-index.items c.loop-index.out.items _
+returns-clause-appended c = run_end c.loop-index.items c.loop-index.walk.out.items _
     (none_left c.loop-index.items (omega arith)) c.loop-index.invariant.0
 
 pub returns-clause-error : goal.returns-clause-error

@@ -6,7 +6,7 @@ use Rattle.shared_core_json_reader.proofs.payload.append_numbers.Given as goal
 
 abbrev pub invariant-loop-index : goal.invariant-loop-index
 invariant-loop-index l =
-    (after l.out.items (run_bytes l.items) ≡ after l.initial.out.items (run_bytes l.initial.items))
+    (after l.walk.out.items (run_bytes l.items) ≡ after l.initial.walk.out.items (run_bytes l.initial.items))
     × (run_error l.index l.items ≡ run_error 0 l.initial.items)
     × (l.walk.trail.items ≡ [])
     × (items_count l.items + l.index ≤ l.index-end)

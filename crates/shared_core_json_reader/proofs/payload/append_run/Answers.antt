@@ -11,8 +11,8 @@ returns-clause-appended c =
     (λ (b : Bool). MatchBool b (c.args.items.now ≡ no_items) (c.args.items.now ≢ no_items)) c.if-is_empty.false
     c.is_empty.ensures in
     let end : c.len-end.result ≡ length c.append_prefix.new.out.items = search rules in
-    run_put c.args.number c.in_ok-place.place c.len-end.result c.args.out.now.items
-    (c.args.out.now.items ++ key_bytes c.args.number 2) _ c.append_prefix.new.out.items c.put_length.new.out.items
-    c.append_numbers.new.out.items c.args.items.now some refl c.in_ok-place.ensures.place c.in_ok-place.ensures.bytes
-    end
+    run_put c.args.number c.in_ok-place.place c.len-end.result c.args.walk.now.out.items
+    (c.args.walk.now.out.items ++ key_bytes c.args.number 2) _ c.append_prefix.new.out.items
+    c.put_length.new.out.items c.append_numbers.new.walk.out.items c.args.items.now some refl
+    c.in_ok-place.ensures.place c.in_ok-place.ensures.bytes end
     c.in_ok-append_numbers.ensures.appended c.in_ok-put_length.ensures
