@@ -10,7 +10,7 @@
  *   or the entries of the table where there is room;
  * - the result is one that the header lists, and the same whatever the room;
  * - a failed allocation is JOURNAL_OUT_OF_MEMORY, and a call without a failed one never returns that; a call that does
- *   not list it allocates nothing, nor does journal_canonical of a canonical payload;
+ *   not list it allocates nothing, nor does journal_canonical or journal_frame of a canonical payload;
  * - no memory is held.
  *
  * Every fourth case is made on purpose, in turn for each kind of result of each call: each error that it lists but
@@ -487,6 +487,17 @@ static size_t numbers_written(int call, int64_t result) {
     }
 }
 
+/* Whether what was written is as long as the payload, or as its frame: then it is a copy if it ends with that. */
+static int may_be_copy(const struct request *request, size_t written) {
+    size_t length = request->source[0].length;
+
+    if (request->call == FRAME) {
+        int is_flattened = request->code == JOURNAL_TYPE_SUSPENSION && request->version < 7;
+        return written == length + 8 && !is_flattened;
+    }
+    return request->call == CANONICAL && written > 0 && written == length;
+}
+
 /* Makes a call with so much room, looks at all that the header says of any call, and keeps what was written. */
 static int64_t called(struct work *work, const struct request *request, size_t room, size_t numbers_room,
                       long failing) {
@@ -539,8 +550,9 @@ static int64_t called(struct work *work, const struct request *request, size_t r
     if (heap.allocations > 0 && !(listed[call].errors & BIT(OUT_OF_MEMORY))) {
         wrong(work, request, "it allocates", result);
     }
-    if (heap.allocations > 0 && call == CANONICAL && written > 0 && written == request->source[0].length &&
-        memcmp(work->slices[OUT].at, request->source[0].bytes, written) == 0) {
+    if (heap.allocations > 0 && may_be_copy(request, written) &&
+        memcmp(work->slices[OUT].at + (written - request->source[0].length), request->source[0].bytes,
+               request->source[0].length) == 0) {
         wrong(work, request, "it allocates for a canonical payload", result);
     }
     for (int i = 0; i < 2; i++) {
@@ -924,20 +936,22 @@ static void put_table_of(struct request *request, int kind) {
     }
 }
 
-/* A table of futures that are nested so deep, with so many names in the last one, that the lengths of the messages are
-   measured before they are written, in memory that is allocated. */
+#define A_LONG_NAME "a name of a signal that makes the payload long"
+
+/* A table of futures that are nested, with so many names in the last one that the lengths of the messages are measured
+   before they are written. */
 static void put_measured_table(struct request *request) {
     struct source *table = &request->source[1];
 
-    PUT(&request->source[0], "a name of a signal");
+    PUT(&request->source[0], A_LONG_NAME);
     request->schema = FUTURE_SCHEMA;
     table->length = 0;
     for (uint64_t level = 0; level < 8; level++) {
         put_field(table, level, FIELD_FUTURE_NESTED_FUTURES, JOURNAL_FIELD_MESSAGE, FUTURE_SCHEMA, 0, 0);
     }
-    for (int names = 0; names < 32; names++) {
+    for (int names = 0; names < 150; names++) {
         put_field(table, 8, FIELD_FUTURE_WAITING_NAMED_SIGNALS, JOURNAL_FIELD_STRING, 0, 0,
-                  sizeof "a name of a signal" - 1);
+                  sizeof A_LONG_NAME - 1);
     }
 }
 
@@ -998,7 +1012,7 @@ static void make_wanted(struct work *work, struct request *request, int kind, en
         put_text_of(request, kind);
         break;
     case PAYLOAD_OF_FIELDS:
-        if (error == OUT_OF_MEMORY) {
+        if (kind == 0 && one_of(work, 2)) {
             put_measured_table(request);
         } else {
             put_table_of(request, kind);
@@ -1017,7 +1031,7 @@ static void make_wanted(struct work *work, struct request *request, int kind, en
     if (error == MALFORMED || (call == IS_WELL_FORMED && !error && kind == 0)) {
         put_byte(first, 0x07);
     }
-    if (error == NOT_CANONICAL) {
+    if (error == NOT_CANONICAL || (error == OUT_OF_MEMORY && (call == CANONICAL || call == FRAME))) {
         PUT(first, "\x0A\x00");
     }
     if (error == MALFORMED_SECOND || (error == MALFORMED && listed[call].inputs > 1 && one_of(work, 2))) {

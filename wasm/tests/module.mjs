@@ -87,12 +87,6 @@ const signal = payloadOf('SignalNotificationMessage', { name: 'stop', value: { c
 const recorded = new Uint8Array(readFileSync(path.join(root, 'examples/streams/recorded')));
 const replayed = new Uint8Array(readFileSync(path.join(root, 'examples/streams/replayed_other_payload')));
 
-/** The entries of a payload, as a table. */
-function tableOf(schema, payload) {
-  const numbers = new BigUint64Array(6 * (payload.length + 1));
-  return numbers.slice(0, 6 * Math.max(0, calls.fields(schema, payload, numbers)));
-}
-
 /** Calls that allocate: the name, what they are given, how many numbers and bytes there is room for. */
 const allocating = [
   ...vectors('payload', 60).map(([name, payload]) => ['canonical', [schemaOf(name), hex(payload)], 0, 6000]),
@@ -106,17 +100,12 @@ const allocating = [
     ['headerEq', [codeOf(name), hex(one), hex(other), false], 0, undefined],
     ['difference', [codeOf(name), hex(one), hex(other)], 0, 6000],
   ]),
-  ...vectors('payload', 30).map(([name, payload]) => {
-    const schema = schemaOf(name);
-    return ['payloadOfFields', [schema, tableOf(schema, hex(payload)), hex(payload)], 2, 6000];
-  }),
   ['notification', [codeOf('SignalNotification'), signal], 4, 100],
   ['verdict', [8, recorded, replayed, false], 2, 6000],
   ['verdict', [8, recorded, recorded, false], 2, 6000],
   ['json', [schemaOf('Value'), long], 0, 200_000],
   ['canonical', [schemaOf('Value'), long], 0, 200_000],
   ['merge', [schemaOf('Value'), long, long], 0, 200_000],
-  ['payloadOfFields', [schemaOf('Value'), tableOf(schemaOf('Value'), long), long], 2, 200_000],
 ];
 
 /** What a call returns and writes. */

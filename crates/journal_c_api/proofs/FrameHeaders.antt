@@ -26,8 +26,8 @@ suspension_flag true suspension = refl
 suspension_flag false suspension = refl
 
 -- the flag of what is written is that of the type's headers
-flag_written : (ty : MessageType) (s : ℕ) (version : Version) (v : Parts) → (written_form ty s version v).requested_ack
-    ≡ flag_at version ty
+pub flag_written : (ty : MessageType) (s : ℕ) (version : Version) (v : Parts)
+    → (written_form ty s version v).requested_ack ≡ flag_at version ty
 flag_written ty s version v = elim ty as (λ ty. (written_form ty s version v).requested_ack ≡ flag_at version ty) [
   | Suspension ↦ suspension_flag (has_flat_suspensions version) v
   | _ ↦ refl
@@ -71,4 +71,5 @@ at_version (Some version) found payload frame held = of_type found version paylo
 -- a frame of journal_frame begins with the header of journal_header
 pub begins_frame : (version code : ℕ) (payload frame : List ℕ) → ReturnsFrame version code payload (Ok frame)
     → ReturnsHeader version code (length frame - 8) (Ok (take 8 frame))
-begins_frame version code payload frame held = at_version (supported_version version) (type_of code) payload frame held
+begins_frame version code payload frame held =
+    at_version (supported_version version) (type_of code) payload frame held.0

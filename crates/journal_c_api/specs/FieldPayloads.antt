@@ -1,5 +1,5 @@
 -- The result of the call that writes a table of fields as a payload.
-use Rattle.std.specs.Prelude.{◌≡◌, ◌≢◌, ℕ, ◌-◌, ◌<◌, ◌≤◌, true, false, nat_lt, List, [], ◌∷◌, length}
+use Rattle.std.specs.Prelude.{◌≡◌, ℕ, ◌-◌, ◌<◌, ◌≤◌, true, false, nat_lt, List, [], ◌∷◌, length}
 use Rattle.std.specs.Prelude.{Option, Some, None, Result, Ok, Err}
 use Rattle.shared_core_codec.specs.Table.{schema_count}
 use Rattle.shared_core_codec.specs.Canonicity.{IsCanonical}
@@ -8,7 +8,7 @@ use Rattle.shared_core_fields_writer.specs.declared.error.Reason.{Reason}
 use Rattle.shared_core_fields_writer.specs.declared.error.Reason.TheVariants as reasons
 use Rattle.shared_core_fields_writer.specs.Walk.{entries_payload}
 use Rattle.journal_c_api.specs.declared.outcome.CallError.{CallError}
-use Rattle.journal_c_api.specs.declared.outcome.CallError.TheVariants.{OutOfMemory, NoRoom, TooLong, UnknownSchema}
+use Rattle.journal_c_api.specs.declared.outcome.CallError.TheVariants.{NoRoom, TooLong, UnknownSchema}
 use Rattle.journal_c_api.specs.Outcomes.{written_over}
 
 -- What a table is written as: its payload, or the number of a kind and the index of the first entry that may not come.
@@ -26,7 +26,7 @@ abbrev pub writing_bytes : Writing → List ℕ
 writing_bytes (Payload payload) = payload
 writing_bytes (Rejected kind index) = []
 
--- The kind of a reason for which an entry may not come; the last two are reasons of whole tables.
+-- The kind of a reason for which an entry may not come; the last one is a reason of whole tables.
 abbrev pub rejected_kind : Reason → Option ℕ
 rejected_kind reasons.UnknownField = Some 1
 rejected_kind reasons.OutOfOrder = Some 2
@@ -38,7 +38,6 @@ rejected_kind reasons.OutOfBounds = Some 7
 rejected_kind reasons.WrongLevel = Some 8
 rejected_kind reasons.TooDeep = Some 9
 rejected_kind reasons.TooLong = None
-rejected_kind reasons.OutOfMemory = None
 
 -- A table is written as this for a schema: as the payload that its entries give, which is canonical; or as the kind of
 -- the reason for which one of them may not come, and the index of that entry.
@@ -52,17 +51,15 @@ IsWriting s es bytes (Rejected kind index) =
 abbrev pub GivesTooLong : ℕ → List FieldEntry → List ℕ → Type 0
 GivesTooLong s es bytes = (left : ℕ) × (entries_payload s es bytes ≡ Err (reasons.TooLong, left))
 
--- Why nothing is written for a table: its payload is too long, or an allocation failed.
+-- Why nothing is written for a table: its payload is too long.
 abbrev pub FailsTable : ℕ → List FieldEntry → List ℕ → CallError → Type 0
 FailsTable s es bytes TooLong = GivesTooLong s es bytes
-FailsTable s es bytes OutOfMemory = Unit {0}
 FailsTable s es bytes failure = ⊥
 
 -- The number of the kind of a reason for which an entry may not come, or the error for one of the whole table.
 abbrev pub SaysKind : Reason → Result ℕ CallError → Type 0
-SaysKind reason (Ok kind) = (reason ≢ reasons.OutOfMemory) × (rejected_kind reason ≡ Some kind)
+SaysKind reason (Ok kind) = rejected_kind reason ≡ Some kind
 SaysKind reason (Err TooLong) = reason ≡ reasons.TooLong
-SaysKind reason (Err OutOfMemory) = reason ≡ reasons.OutOfMemory
 SaysKind reason (Err failure) = ⊥
 
 -- Why the call is rejected: UnknownSchema if no schema has the number, otherwise NoRoom if there is room for fewer than

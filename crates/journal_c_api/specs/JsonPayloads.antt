@@ -32,6 +32,7 @@ kind_of reasons.UnknownMember = 2
 kind_of reasons.RepeatedMember = 3
 kind_of reasons.SeveralMembers = 4
 kind_of reasons.WrongKind = 5
+kind_of reasons.UnknownName = 5
 kind_of reasons.OutOfRange = 6
 kind_of reasons.NotBase64 = 7
 kind_of reasons.TooDeep = 8

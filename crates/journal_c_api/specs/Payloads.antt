@@ -1,10 +1,15 @@
 -- The result of the calls on payloads and frames.
-use Rattle.std.specs.Prelude.{◌≡◌, ◌⊎◌, ℕ, ◌^◌, ◌≤◌, nat_lt, true, List, [], ◌++◌, length, Vec, Option, Some, None}
-use Rattle.std.specs.Prelude.{Result, Ok, Err, MatchBool}
+use Rattle.std.specs.Prelude.{◌≡◌, ◌≢◌, ◌⊎◌, ℕ, ◌^◌, ◌≤◌, ◌<◌, nat_lt, Bool, true, false, List, [], ◌++◌, length, Vec}
+use Rattle.std.specs.Prelude.{Option, Some, None, Result, Ok, Err, MatchBool}
+use Rattle.std.specs.Int.{w64, to_be_bytes}
 use Rattle.std.specs.List.{All, concat}
 use Rattle.shared_core_base.specs.declared.version.Version.{Version}
 use Rattle.shared_core_base.specs.declared.header.MessageType.{MessageType}
+use Rattle.shared_core_base.specs.declared.header.MessageType.TheVariants.{Suspension}
+use Rattle.shared_core_base.specs.declared.message_header.MessageHeader.{MessageHeader}
+use Rattle.shared_core_base.specs.MessageHeader.{word_of}
 use Rattle.shared_core_base.specs.MessageType.{type_of}
+use Rattle.shared_core_base.specs.Version.{has_flat_suspensions}
 use Rattle.shared_core_wire.specs.Value.{Parts}
 use Rattle.shared_core_wire.specs.Canonical.{canonical_payload, size}
 use Rattle.shared_core_codec.specs.Table.{schemas, table}
@@ -127,7 +132,29 @@ abbrev pub ReturnsFrameAt : Option MessageType → Version → List ℕ → Resu
 ReturnsFrameAt (Some ty) version payload outcome = ReturnsFrameOf ty (message_schema ty) version payload outcome
 ReturnsFrameAt None version payload outcome = outcome ≡ Err UnknownType
 
+-- The result at the version that a number denotes, for the type that a code denotes.
+abbrev pub EncodesFrameAt : ℕ → ℕ → List ℕ → Result (List ℕ) CallError → Type 0
+EncodesFrameAt number code payload outcome =
+    AtVersion (supported_version number) outcome (λ version. ReturnsFrameAt (type_of code) version payload outcome)
+
+-- Messages of a type are written as other records at a version.
+abbrev pub is_flattened : Version → MessageType → Bool
+is_flattened version Suspension = has_flat_suspensions version
+is_flattened version ty = false
+
+-- No allocation fails for a payload that is canonical, where its type has no other record at the version.
+abbrev pub KeepsFrame : ℕ → ℕ → List ℕ → Result (List ℕ) CallError → Type 0
+KeepsFrame number code payload outcome = (version : Version) (ty : MessageType) (s : ℕ)
+    → supported_version number ≡ Some version → type_of code ≡ Some ty → is_flattened version ty ≡ false
+    → message_schema ty ≡ Some s → IsCanonical s payload → outcome ≢ Err OutOfMemory
+
 -- The result of journal_frame.
 abbrev pub ReturnsFrame : ℕ → ℕ → List ℕ → Result (List ℕ) CallError → Type 0
-ReturnsFrame number code payload outcome =
-    AtVersion (supported_version number) outcome (λ version. ReturnsFrameAt (type_of code) version payload outcome)
+ReturnsFrame number code payload outcome = EncodesFrameAt number code payload outcome × KeepsFrame number code payload
+    outcome
+
+-- The header, with the payload after it, is the result of journal_frame; without a header any result keeps the payload.
+abbrev pub CopiesFrame : ℕ → ℕ → List ℕ → Option MessageHeader → Type 0
+CopiesFrame number code payload (Some header) =
+    (length payload < 4294967296) × ReturnsFrame number code payload (Ok (to_be_bytes w64 (word_of header) ++ payload))
+CopiesFrame number code payload None = (outcome : Result (List ℕ) CallError) → KeepsFrame number code payload outcome

@@ -6,7 +6,6 @@ use crate::outcome::{CallError, write_over};
 use shared_core_codec::check::is_schema;
 use shared_core_fields::table::FieldEntry;
 use shared_core_fields_writer::{Reason, write_payload};
-use std::alloc::Global;
 
 /// The number of numbers that are written for a table.
 const WRITING_NUMBERS: usize = 2;
@@ -17,9 +16,8 @@ const WRITING_NUMBERS: usize = 2;
 /// are written nevertheless.
 ///
 /// `UnknownSchema` if no schema has the number, otherwise `NoRoom` if there is room for fewer than two numbers, before
-/// the table is read; `TooLong` if the payload would have more than 4,294,967,295 bytes.
+/// the table is read; `TooLong` if the payload would have more than 4,294,967,295 bytes. Nothing is allocated.
 pub fn write_payload_of_fields(
-    alloc: Global,
     schema: u32,
     fields: &[FieldEntry],
     bytes: &[u8],
@@ -34,7 +32,7 @@ pub fn write_payload_of_fields(
     if numbers.len() < WRITING_NUMBERS {
         return Err(CallError::NoRoom);
     }
-    match write_payload(alloc, schema, fields, bytes, out) {
+    match write_payload(schema, fields, bytes, out) {
         Ok(length) => {
             write_over(&[0, 0], numbers);
             Ok(length)
@@ -62,6 +60,5 @@ fn rejected_kind(reason: Reason) -> Result<u64, CallError>
         Reason::WrongLevel => 8,
         Reason::TooDeep => 9,
         Reason::TooLong => return Err(CallError::TooLong),
-        Reason::OutOfMemory => return Err(CallError::OutOfMemory),
     })
 }

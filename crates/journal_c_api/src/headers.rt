@@ -2,7 +2,7 @@
 
 ghost use Rattle.std.specs.Prelude.{◌≡◌};
 ghost use Rattle.journal_c_api.specs.Outcomes.{Writes};
-ghost use Rattle.journal_c_api.specs.Headers.{ReturnsHeader, flag_at};
+ghost use Rattle.journal_c_api.specs.Headers.{ReturnsHeader, flag_at, header_at};
 
 use crate::outcome::{CallError, version_of, write_over};
 use shared_core::header::{MessageHeader, MessageType};
@@ -22,13 +22,19 @@ pub fn write_header(
 {
     let version = version_of(version)?;
     let ty = MessageType::try_from(code)?;
-    let header = match requested_ack(version, ty) {
-        Some(flag) => MessageHeader::new_with_requested_ack(ty, flag, payload_length),
-        None => MessageHeader::new(ty, payload_length),
-    };
-    let bytes = header.to_bytes();
+    let bytes = header_at(version, ty, payload_length).to_bytes();
     write_over(&bytes, out);
     Ok(bytes.len())
+}
+
+/// The header that a type's messages have at a version, by the length of the payload.
+pub(crate) fn header_at(version: Version, ty: MessageType, payload_length: u32) -> MessageHeader
+    ensures { result ≡ header_at version ty payload_length }
+{
+    match requested_ack(version, ty) {
+        Some(flag) => MessageHeader::new_with_requested_ack(ty, flag, payload_length),
+        None => MessageHeader::new(ty, payload_length),
+    }
 }
 
 /// The flag of a type's headers at a version.

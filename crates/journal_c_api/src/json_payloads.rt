@@ -115,7 +115,7 @@ fn not_taken(error: JsonReadError) -> Result<Reading, CallError>
         Reason::RepeatedMember => 3,
         Reason::SeveralMembers => 4,
         // the text is JSON, so `NotJson` does not occur
-        Reason::WrongKind | Reason::NotJson => 5,
+        Reason::WrongKind | Reason::UnknownName | Reason::NotJson => 5,
         Reason::OutOfRange => 6,
         Reason::NotBase64 => 7,
         Reason::TooDeep => 8,

@@ -8,7 +8,6 @@ ghost use Rattle.journal_c_api.specs.Outcomes.{Returns};
 use journal_c_api::fields::FieldEntry;
 use journal_c_api::outcome::outcome_of;
 use journal_c_api::{field_payloads, fields};
-use std::alloc::Global;
 
 /// Writes the fields of a canonical payload as a table, those within a message after it, and of a packed run an entry
 /// for each number. Returns how many entries the payload has, at most as many as it has bytes; the first ones are
@@ -27,13 +26,11 @@ pub extern "C" fn journal_fields(schema: u32, payload: &[u8], fields: &mut [Fiel
 /// entries after it. A plain field that is the default may come, and is left out. Writes two numbers, and as bytes the
 /// payload; if there is no room for it, the numbers are written nevertheless. A rejected table is not an error of the
 /// call: the kind of the result has the reason for its first entry that may not come, and there are no bytes. Returns
-/// how many bytes there are.
+/// how many bytes there are. It does not allocate.
 ///
-/// Errors, in order of precedence: JOURNAL_UNKNOWN_SCHEMA, JOURNAL_NO_ROOM, JOURNAL_TOO_LONG; JOURNAL_OUT_OF_MEMORY may
-/// replace each after JOURNAL_NO_ROOM.
+/// Errors, in order of precedence: JOURNAL_UNKNOWN_SCHEMA, JOURNAL_NO_ROOM, JOURNAL_TOO_LONG.
 #[unsafe(no_mangle)]
 pub extern "C" fn journal_payload_of_fields(
-    alloc: Global,
     schema: u32,
     fields: &[FieldEntry],
     bytes: &[u8],
@@ -42,5 +39,5 @@ pub extern "C" fn journal_payload_of_fields(
 ) -> i64
     ensures { Returns result (WritesPayload schema fields.now bytes.now writing.old writing.new out.old out.new) }
 {
-    outcome_of(field_payloads::write_payload_of_fields(alloc, schema, fields, bytes, writing, out))
+    outcome_of(field_payloads::write_payload_of_fields(schema, fields, bytes, writing, out))
 }

@@ -27,7 +27,8 @@ pub extern "C" fn journal_header(
 
 /// Decodes a payload for the named type that has the code, and writes the frame of that message at a version: its
 /// header, and the canonical payload after it. A suspension is decoded by its schema from version 7 on, and written by
-/// that of the version. Returns the frame's length in bytes.
+/// that of the version. Returns the frame's length in bytes. A payload that is canonical is copied: then nothing is
+/// allocated, except for a suspension before version 7.
 ///
 /// Errors, in order of precedence: JOURNAL_UNKNOWN_VERSION, JOURNAL_UNKNOWN_TYPE if the code is that of no named type,
 /// JOURNAL_MALFORMED, JOURNAL_TOO_LONG; JOURNAL_OUT_OF_MEMORY may replace each after JOURNAL_UNKNOWN_TYPE.

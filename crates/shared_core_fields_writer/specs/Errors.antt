@@ -5,7 +5,6 @@ use Rattle.shared_core_fields_writer.specs.declared.error.Reason.{Reason}
 use Rattle.shared_core_fields_writer.specs.declared.error.Reason.TheVariants.{UnknownField, OutOfOrder, SeveralMembers}
 use Rattle.shared_core_fields_writer.specs.declared.error.Reason.TheVariants.{WrongKind, OutOfRange, NotUtf8}
 use Rattle.shared_core_fields_writer.specs.declared.error.Reason.TheVariants.{OutOfBounds, WrongLevel, TooDeep, TooLong}
-use Rattle.shared_core_fields_writer.specs.declared.error.Reason.TheVariants.{OutOfMemory}
 
 -- The text of a reason.
 abbrev pub reason_text : Reason → List ℕ
@@ -19,7 +18,6 @@ reason_text OutOfBounds = codes "out of bounds"
 reason_text WrongLevel = codes "wrong level"
 reason_text TooDeep = codes "too deep"
 reason_text TooLong = codes "too long"
-reason_text OutOfMemory = codes "out of memory"
 
 -- The text of an error.
 abbrev pub error_text : FieldsError → List ℕ

@@ -2,7 +2,7 @@
 use Rattle.std.specs.Prelude.{◌≡◌, ◌≤◌, ℕ, zero, suc, Bool, true, false, ◌&&◌, List, [], ◌∷◌, ◌++◌, length, take, drop}
 use Rattle.std.specs.Prelude.{nat_lt, nat_eq, flat_map, if◌then◌else◌, Option, Some, None, Result, Ok, Err, MatchResult}
 use Rattle.shared_core_wire.specs.Encoding.{shortest_varint}
-use Rattle.shared_core_wire.specs.Schema.{Kind, Row, U32, U64, Boolean, Enumeration, Text, ByteString, Message}
+use Rattle.shared_core_wire.specs.Schema.{Row, U32}
 use Rattle.shared_core_wire.specs.WrittenRecords.{number_record, content_record}
 use Rattle.shared_core_fields_writer.specs.Room.{Wrote}
 use Rattle.shared_core_codec.specs.Table.{table}

@@ -1,6 +1,5 @@
 //! The error of writing a payload from a table of fields.
 
-use std::alloc::AllocError;
 use std::error::Error;
 use std::fmt;
 
@@ -27,8 +26,6 @@ pub enum Reason {
     TooDeep,
     /// The payload has more than 4,294,967,295 bytes.
     TooLong,
-    /// An allocation failed.
-    OutOfMemory,
 }
 
 impl fmt::Display for Reason {
@@ -49,19 +46,7 @@ impl fmt::Display for Reason {
             Reason::WrongLevel => "wrong level",
             Reason::TooDeep => "too deep",
             Reason::TooLong => "too long",
-            Reason::OutOfMemory => "out of memory",
         })
-    }
-}
-
-impl From<AllocError> for Reason {
-    ghost use Rattle.std.specs.Prelude.{◌≡◌};
-    ghost use Rattle.shared_core_fields_writer.specs.declared.error.Reason.TheVariants.{OutOfMemory};
-
-    ghost from_gives = { λ _ reason. reason ≡ OutOfMemory };
-
-    fn from(_error: AllocError) -> Reason {
-        Reason::OutOfMemory
     }
 }
 

@@ -18,6 +18,7 @@ ghost use Rattle.shared_core_fields_writer.specs.Walk.{Continues};
 use crate::entry::{Given, given_value, next_of};
 use crate::error::Reason;
 use crate::flat::write_flat;
+use crate::measure::{MOST_NOTED, SHORT, known_length, measure};
 use crate::room::{write_content, write_key, write_length, write_number, write_varint};
 use shared_core_codec::canonical::NextField;
 use shared_core_codec::rows::{Kind, rows_of};
@@ -26,12 +27,15 @@ use shared_core_fields::table::FieldEntry;
 use shared_core_wire::records::LEVELS;
 use shared_core_wire::varint::varint_len;
 
-/// The entries of a table, the bytes that they point to, and how long the content of their messages was measured to be,
-/// by their index. If it was measured, room is left for that many bytes, otherwise for less than 128.
+/// The entries of a table, the bytes that they point to, and whether the content of messages is measured before it is
+/// written. If it is, room is left for the length that it has, otherwise for one below 128. Some lengths are known: of
+/// the messages whose entries begin at an index and those after it; 0 of another entry.
 #[derive(Clone, Copy)]
 pub(crate) struct Source<'a> {
     pub entries: &'a [FieldEntry],
     pub bytes: &'a [u8],
+    pub is_measured: bool,
+    pub first: usize,
     pub lengths: &'a [u64],
 }
 
@@ -46,15 +50,6 @@ pub(crate) struct Place {
 
 /// The level of the deepest entries that may come.
 const MOST_LEVELS: u64 = LEVELS as u64;
-
-/// The length that the content of the entry at an index was measured to have, or 0.
-fn measured(source: &Source<'_>, index: usize) -> u64 {
-    if index < source.lengths.len() {
-        source.lengths[index]
-    } else {
-        0
-    }
-}
 
 /// Writes the records of the entries of a message, which are at a level.
 #[cycle(message)]
@@ -132,19 +127,76 @@ fn write_field(
             if entry.level >= MOST_LEVELS {
                 return Err(Reason::TooDeep);
             }
-            let likely = measured(source, at.entry);
             at.byte = write_key(out, at.byte, number, LENGTH);
             at.entry += 1;
-            write_nested(out, at, source, inner, entry.level + 1, likely)?;
+            write_nested(out, at, source, inner, entry.level + 1)?;
         }
     }
     Ok(())
 }
 
-/// Writes the length of a message, which is most likely this, and the records of its entries.
+/// Writes the length of a message within another one, and the records of its entries.
 #[cycle(message)]
 #[inline(always)]
 fn write_nested(
+    out: &mut [u8],
+    at: &mut Place,
+    source: &Source<'_>,
+    schema: u32,
+    level: u64,
+) -> Result<(), Reason>
+    requires start { at.old.entry ≤ length source.now.entries.now }
+    requires levels { level ≤ 100 }
+    ensures written { Nests result (walk source.now.bytes.now schema (table schema) None Nothing level (100 - level)
+        (entries_from source.now at.old.entry)) out.old at.old.byte out.new at.new.byte
+        (entries_from source.now at.new.entry) }
+    ensures rest { OnOk result (entries_from source.now at.new.entry
+        ≡ rest_of level (entries_from source.now at.old.entry)) }
+    ensures end { at.new.entry ≤ length source.now.entries.now }
+    ensures more { OnOk result (at.old.entry ≤ at.new.entry) }
+{
+    match known_length(source, at.entry) {
+        Some(likely) => write_likely(out, at, source, schema, level, likely),
+        None => write_measured(out, at, source, schema, level),
+    }
+}
+
+/// The same after it was measured. What is within it is measured too if it is long.
+#[cycle(message)]
+#[inline(never)]
+fn write_measured(
+    out: &mut [u8],
+    at: &mut Place,
+    source: &Source<'_>,
+    schema: u32,
+    level: u64,
+) -> Result<(), Reason>
+    requires start { at.old.entry ≤ length source.now.entries.now }
+    requires levels { level ≤ 100 }
+    ensures written { Nests result (walk source.now.bytes.now schema (table schema) None Nothing level (100 - level)
+        (entries_from source.now at.old.entry)) out.old at.old.byte out.new at.new.byte
+        (entries_from source.now at.new.entry) }
+    ensures rest { OnOk result (entries_from source.now at.new.entry
+        ≡ rest_of level (entries_from source.now at.old.entry)) }
+    ensures end { at.new.entry ≤ length source.now.entries.now }
+    ensures more { OnOk result (at.old.entry ≤ at.new.entry) }
+{
+    let mut lengths = [0; MOST_NOTED];
+    let first = at.entry;
+    let likely = measure(&mut lengths, first, source, schema, level);
+    let source = Source {
+        is_measured: likely > SHORT,
+        first,
+        lengths: &lengths,
+        ..*source
+    };
+    write_likely(out, at, &source, schema, level, likely)
+}
+
+/// The same of one whose length is most likely this.
+#[cycle(message)]
+#[inline(always)]
+fn write_likely(
     out: &mut [u8],
     at: &mut Place,
     source: &Source<'_>,
@@ -201,7 +253,7 @@ fn write_within(
     write_message(out, at, source, schema, level)
 }
 
-/// Writes a message again that is shorter than it was measured to be, and looks at no length of what was measured.
+/// Writes a message again that is shorter than it was measured to be, and measures nothing within it.
 #[cycle(message)]
 #[cold]
 #[inline(never)]
@@ -223,6 +275,7 @@ fn write_again(
     ensures more { OnOk result (at.old.entry ≤ at.new.entry) }
 {
     let source = Source {
+        is_measured: false,
         lengths: &[],
         ..*source
     };

@@ -27,7 +27,7 @@ returns-in_ok-kind-in-Err c =
       sym c.if-not-is_schema.ensures,
       omega arith,
       Rejected c.in_ok-kind-in-Err.kind c.in-Err.error.index,
-      (c.in-Err.error.reason, e.error k.0, e.index, k.1),
+      (c.in-Err.error.reason, e.error, e.index, k),
       refl,
       c.write_over-in-Err.ensures,
       e.unchanged ∙ nothing (nat_le 0 (length c.args.out.now)) c.args.out.now,

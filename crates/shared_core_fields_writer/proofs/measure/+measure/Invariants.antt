@@ -7,8 +7,9 @@ decreases-measure_message l = 2 * l.depth + 1
 abbrev pub decreases-measure_field : goal.decreases-measure_field
 decreases-measure_field l = 2 * l.depth
 
-abbrev pub invariant-measure_message-loop-at : goal.invariant-measure_message-loop-at
-invariant-measure_message-loop-at l = (l.initial.at ≤ l.at) × (l.at ≤ length l.source.entries.now)
+abbrev pub invariant-measure_message-loop-measuring : goal.invariant-measure_message-loop-measuring
+invariant-measure_message-loop-measuring l =
+    (l.initial.measuring.at ≤ l.measuring.at) × (l.measuring.at ≤ length l.source.entries.now)
 
-abbrev pub decreases-measure_message-loop-at : goal.decreases-measure_message-loop-at
-decreases-measure_message-loop-at l = length l.source.entries.now - l.at
+abbrev pub decreases-measure_message-loop-measuring : goal.decreases-measure_message-loop-measuring
+decreases-measure_message-loop-measuring l = length l.source.entries.now - l.measuring.at

@@ -1,8 +1,8 @@
 use Rattle.std.proofs.Common.{◌-◌, ◌≤◌, length}
 use Rattle.shared_core_fields_writer.proofs.measure.measure_run.Given as goal
 
-abbrev pub invariant-loop-at : goal.invariant-loop-at
-invariant-loop-at l = (l.initial.at ≤ l.at) × (l.at ≤ length l.source.entries.now)
+abbrev pub invariant-loop-measuring : goal.invariant-loop-measuring
+invariant-loop-measuring l = (l.initial.measuring.at ≤ l.measuring.at) × (l.measuring.at ≤ length l.source.entries.now)
 
-abbrev pub decreases-loop-at : goal.decreases-loop-at
-decreases-loop-at l = length l.source.entries.now - l.at
+abbrev pub decreases-loop-measuring : goal.decreases-loop-measuring
+decreases-loop-measuring l = length l.source.entries.now - l.measuring.at

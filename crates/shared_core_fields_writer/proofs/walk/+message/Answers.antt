@@ -97,8 +97,8 @@ write_field-returns-in_ok-write_nested-in-Message-clause-rest t c =
     ∙ rest_rest c.args.entry.now.level (entries_from c.args.source.now (c.args.at.now.entry + 1))
     ∙ rest_past c.args.entry.now.level _ _ c.args.entry.now c.requires.entry refl
 
-pub write_nested-returns-then-not-is_room-clause-written : goal.write_nested-returns-then-not-is_room-clause-written
-write_nested-returns-then-not-is_room-clause-written t c =
+pub write_likely-returns-then-not-is_room-clause-written : goal.write_likely-returns-then-not-is_room-clause-written
+write_likely-returns-then-not-is_room-clause-written t c =
     let v = c.write_varint-start.ensures.written in
     let m = c.in_ok-write_within.ensures.written in
     nests_over c.write_again.result _ c.args.out.now c.write_within.new.out c.write_again.new.out c.args.at.now.byte
@@ -106,20 +106,20 @@ write_nested-returns-then-not-is_room-clause-written t c =
     (less_stays c.args.at.now.byte c.write_varint-start.result c.write_within.new.out c.write_varint-start.new.out v.up
     m.2.before ∙ v.before) c.write_again.ensures.written
 
-pub write_nested-write_length-at-requires-clause-room : goal.write_nested-write_length-at-requires-clause-room
-write_nested-write_length-at-requires-clause-room t c = omega
+pub write_likely-write_length-at-requires-clause-room : goal.write_likely-write_length-at-requires-clause-room
+write_likely-write_length-at-requires-clause-room t c = omega
     (arith, some_bytes c.args.likely, c.write_varint-start.ensures.written.count)
 
-pub write_nested-write_length-at-requires-clause-few : goal.write_nested-write_length-at-requires-clause-few
-write_nested-write_length-at-requires-clause-few t c =
+pub write_likely-write_length-at-requires-clause-few : goal.write_likely-write_length-at-requires-clause-few
+write_likely-write_length-at-requires-clause-few t c =
     let fits : (c.args.likely < 128) ⊎ ((c.write_varint-start.result - c.args.at.now.byte ≤ length (shortest_varint
     (c.write_within.new.at.byte - c.write_varint-start.result))) × (c.write_within.new.at.byte <
     18446744073709551615)) = c.if-not-is_room.ensures refl in
     few_bytes c.args.at.now.byte c.write_varint-start.result c.write_within.new.at.byte c.args.likely
     c.write_varint-start.ensures.written.up c.write_varint-start.ensures.written.count fits
 
-pub write_nested-returns-clause-written : goal.write_nested-returns-clause-written
-write_nested-returns-clause-written t c =
+pub write_likely-returns-clause-written : goal.write_likely-returns-clause-written
+write_likely-returns-clause-written t c =
     let v = c.write_varint-start.ensures.written in
     let m = c.in_ok-write_within.ensures.written in
     let fits : (c.args.likely < 128) ⊎ ((c.write_varint-start.result - c.args.at.now.byte ≤ length (shortest_varint

@@ -6,19 +6,25 @@ use Rattle.shared_core_fields_writer.specs.Walk.{Nothing, onto, walk, entries_fr
 use Rattle.shared_core_fields_writer.proofs.walk.+message.Given as goal
 
 abbrev pub decreases-write_message : goal.decreases-write_message
-decreases-write_message l = 4 * (100 - l.level) + 2
+decreases-write_message l = 6 * (100 - l.level) + 2
 
 abbrev pub decreases-write_field : goal.decreases-write_field
-decreases-write_field l = 4 * (100 - l.entry.now.level) + 1
+decreases-write_field l = 6 * (100 - l.entry.now.level) + 1
 
 abbrev pub decreases-write_nested : goal.decreases-write_nested
-decreases-write_nested l = 4 * (100 - l.level) + 4
+decreases-write_nested l = 6 * (100 - l.level) + 6
+
+abbrev pub decreases-write_measured : goal.decreases-write_measured
+decreases-write_measured l = 6 * (100 - l.level) + 5
+
+abbrev pub decreases-write_likely : goal.decreases-write_likely
+decreases-write_likely l = 6 * (100 - l.level) + 4
 
 abbrev pub decreases-write_within : goal.decreases-write_within
-decreases-write_within l = 4 * (100 - l.level) + 3
+decreases-write_within l = 6 * (100 - l.level) + 3
 
 abbrev pub decreases-write_again : goal.decreases-write_again
-decreases-write_again l = 4 * (100 - l.level) + 3
+decreases-write_again l = 6 * (100 - l.level) + 3
 
 abbrev pub invariant-write_message-loop-at : goal.invariant-write_message-loop-at
 invariant-write_message-loop-at l =

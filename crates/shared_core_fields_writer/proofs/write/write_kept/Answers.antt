@@ -6,10 +6,10 @@ use Rattle.shared_core_fields_writer.proofs.GivenRows.{means_given}
 use Rattle.shared_core_fields_writer.proofs.Whole.{front_written, front_kept}
 use Rattle.shared_core_fields_writer.proofs.write.write_kept.Goals as goal
 
-pub returns-in-Ok-clause-payload : goal.returns-in-Ok-clause-payload
-returns-in-Ok-clause-payload c =
+pub returns-then-length-out-clause-payload : goal.returns-then-length-out-clause-payload
+returns-then-length-out-clause-payload c =
     let payload : List ℕ = c.put.new.out in
-    let gives = c.in-Ok.ensures.payload in
+    let gives = c.put.ensures in
     let same : c.in_ok-length.length ≡ length payload = omega
     (arith, length-take-le c.in_ok-length.length c.args.out.now c.if-length-out.true) in
     let are : (i d : ℕ) → i < length payload → get_or payload i d < 256 = payload_bytes c.args.schema
