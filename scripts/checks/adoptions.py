@@ -290,14 +290,15 @@ def renames(check: Check) -> None:
         ("Failure.cod=Failure.code", "there is no field of Failure cod there; similar names are code"),
         ("Failure.code=Failure.coed", "there is no field of Failure coed here; similar names are code"),
         ("Failure.code=Failur.code", "there is no message Failur here; similar names are Failure"),
+        ("Datum=Value Failure=value_message", "value_message has another name there already"),
     ):
         try:
-            taken(check, "renames", text, (word,))
+            taken(check, "renames", text, word.split())
             problems = []
         except Refused as refused:
             problems = refused.problems
         check.case(f"--rename {word}", any(said in problem for problem in problems), problems)
-    adoption, _, _ = taken(check, "renames", text, ("Datum=Value", "Datum.body=Value.content"))
+    adoption, _, _ = taken(check, "renames", text, ("Datum=valueMessage", "Datum.body=Value.content"))
     ours = next(field for field in adoption.pairs.ours["Value"].fields if field.name == "content")
     number = adoption.written.taken[ours.line].number
     check.case("a message and a field that are called otherwise", number == 9, number)

@@ -4,11 +4,12 @@ import re
 from generators.model import COMMANDS, NOTIFICATIONS
 
 # How a comment says a code: in one number, as a sum, or as numbers whose bits are joined. The second number may be
-# hexadecimal without saying so. Without a colon or a sign of equality, only a hexadecimal number is one.
+# hexadecimal without saying so. Without a colon or a sign of equality, only a hexadecimal number is one. Words are of
+# ASCII. The crate descriptor_set reads the same for `journal`; the check schema compares both.
 CODE = re.compile(
     r"\b(?:message )?(?:type|code)(?:\s*[:=]\s*|\s+(?=(?:`|<code>)?0x))(?:`|<code>)?(?P<first>0x[0-9A-F]+|\d+)"
     r"(?:\s*(?P<sign>[+|])\s*(?P<second>0x[0-9A-F]+|[0-9A-F]+))?\b(?:`|</code>)?\.?",
-    re.I,
+    re.I | re.A,
 )
 
 

@@ -20,20 +20,28 @@ EXAMPLES, LAST_FLAT = 8, 6
 
 
 class Renames:
-    """What is called otherwise there: messages, and fields of our messages, by the names here."""
+    """What is called otherwise there: messages, and fields of our messages, by the names here. A message here may be
+    written as any file may write it; a second name for one is not taken."""
 
-    def __init__(self, words):
-        self.messages, self.fields, self.words = {}, {}, {}
+    def __init__(self, words, ours):
+        self.messages, self.fields, self.words, self.twice = {}, {}, {}, []
+        named = {plain(name): name for name in ours}
         for word in words:
             theirs, _, ours = word.partition("=")
             message, _, field = theirs.partition(".")
             if field:
                 home, _, name = ours.rpartition(".")
-                self.fields[home or message, name] = field
-                self.words[home or message, name] = word
+                home = named.get(plain(home or message), home or message)
+                self.add(self.fields, (home, name), field, word)
             else:
-                self.messages[ours] = theirs
-                self.words[ours] = word
+                self.add(self.messages, named.get(plain(ours), ours), theirs, word)
+
+    def add(self, names, key, theirs, word):
+        """Takes note of a name there, if there is none yet."""
+        if key in names:
+            self.twice.append(f"--rename {word}: {word.partition('=')[2]} has another name there already")
+        names.setdefault(key, theirs)
+        self.words.setdefault(key, word)
 
 
 class Pairs:
@@ -46,7 +54,7 @@ class Pairs:
         # the fields of a group are within the message that has it
         groups = {field.type_name for message in theirs.messages for field in message.fields if field.kind == "group"}
         self.theirs = {message.name: message for message in theirs.messages if message.name not in groups}
-        self.renames = Renames(words)
+        self.renames = Renames(words, self.ours)
         self.found = self.paired()
         # the name here of a message there; of an enum, by the fields that hold both
         self.names = {other.name: name for name, other in reversed(self.found.items())}
@@ -78,7 +86,7 @@ class Pairs:
 
     def check_renames(self):
         """Rejects names that are nowhere."""
-        wrong = []
+        wrong = list(self.renames.twice)
         for ours, theirs in self.renames.messages.items():
             wrong += self.unknown(ours, theirs, self.theirs, "message")
             wrong += self.unknown(ours, ours, self.ours, "message", "here")

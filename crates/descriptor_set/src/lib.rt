@@ -2,15 +2,19 @@
 //! table of schemas of its messages, also with the names of their fields in JSON.
 #![tactic(auto)]
 
+mod codes;
+mod comments;
 mod error;
 mod fault;
 mod field;
+pub mod laws;
 mod names;
 mod read;
 mod schemas;
 mod set;
 mod table;
 
+pub use codes::SaidCode;
 pub use error::{DescriptorError, Place};
 pub use field::{FieldDescriptor, FieldKind, Presence};
 pub use read::{MOST_BYTES, MOST_FIELDS, MOST_NAME_BYTES, read_set};

@@ -4,6 +4,7 @@ ghost use Rattle.std.specs.Prelude.{◌≡◌, false, IfErr, IsOk, IsTrue};
 ghost use Rattle.descriptor_set.specs.Descriptors.{IsDescriptorSet};
 ghost use Rattle.descriptor_set.specs.Errors.{is_malformed};
 
+use crate::comments::Comments;
 use crate::error::{DescriptorError, Place};
 use crate::fault::{place_of_fault, text_in};
 use crate::field::{FieldDescriptor, FieldKind, Presence};
@@ -57,6 +58,23 @@ struct Scope<'a> {
     file: usize,
     is_proto3: bool,
     name: &'a str,
+    /// The path of its message in the file; empty if it is in none.
+    path: &'a [u32],
+    comments: &'a Comments,
+}
+
+/// The path of the message at an index of a field of messages, within a scope.
+fn path_of(
+    alloc: Global,
+    scope: &Scope<'_>,
+    field: u32,
+    index: u32,
+) -> Result<Vec<u32>, AllocError> {
+    let mut path = Vec::new(alloc);
+    path.extend_from_slice(scope.path)?;
+    path.push(field)?;
+    path.push(index)?;
+    Ok(path)
 }
 
 /// What is read so far.
@@ -82,18 +100,26 @@ impl Reading {
     fn append_file(&mut self, bytes: &[u8]) -> Result<(), DescriptorError>
         ensures { IfErr result (λ error. is_malformed error ≡ false) }
     {
+        let comments = Comments::of(self.alloc, bytes)?;
         let scope = Scope {
             file: self.files.len(),
             is_proto3: text_in(bytes, 12) == "proto3",
             name: text_in(bytes, 2),
+            path: &[],
+            comments: &comments,
         };
         let name = String::from_str(self.alloc, text_in(bytes, 1))?;
         self.files.push(name)?;
+        let mut index: u32 = 0;
         for item in Records::within(bytes, LEVELS) {
             if let Ok(found) = item {
                 if let WireValue::Length(content) = found.value {
                     match found.number {
-                        4 => self.append_message(&scope, content, LEVELS)?,
+                        4 => {
+                            let path = path_of(self.alloc, &scope, 4, index)?;
+                            self.append_message(&scope, path, content, LEVELS)?;
+                            index = index.saturating_add(1);
+                        }
                         5 => self.append_enum(&scope, content)?,
                         _ => {}
                     }
@@ -103,11 +129,12 @@ impl Reading {
         Ok(())
     }
 
-    /// Appends a message, and those within it, which may be nested `left` deep.
+    /// Appends a message of a path, and those within it, which may be nested `left` deep.
     #[cycle(left)]
     fn append_message(
         &mut self,
         scope: &Scope<'_>,
+        path: Vec<u32>,
         bytes: &[u8],
         left: u32,
     ) -> Result<(), DescriptorError>
@@ -131,11 +158,14 @@ impl Reading {
             return Err(DescriptorError::TooManyFields(self.place(scope, name.as_str())?));
         }
         fields.sort_by(|field, other| field.number.cmp(&other.number))?;
+        let codes = scope.comments.codes_of(self.alloc, &path)?;
         if left > 0 {
             let within = Scope {
                 file: scope.file,
                 is_proto3: scope.is_proto3,
                 name: name.as_str(),
+                path: path.as_slice(),
+                comments: scope.comments,
             };
             self.append_nested(&within, bytes, left - 1)?;
         }
@@ -144,6 +174,7 @@ impl Reading {
             file: scope.file,
             fields,
             is_map_entry,
+            codes,
         })?;
         Ok(())
     }
@@ -158,11 +189,16 @@ impl Reading {
     ) -> Result<(), DescriptorError>
         ensures { IfErr result (λ error. is_malformed error ≡ false) }
     {
+        let mut index: u32 = 0;
         for item in Records::within(bytes, LEVELS) {
             if let Ok(found) = item {
                 if let WireValue::Length(content) = found.value {
                     match found.number {
-                        3 => self.append_message(scope, content, left)?,
+                        3 => {
+                            let path = path_of(self.alloc, scope, 3, index)?;
+                            self.append_message(scope, path, content, left)?;
+                            index = index.saturating_add(1);
+                        }
                         4 => self.append_enum(scope, content)?,
                         _ => {}
                     }

@@ -30,12 +30,13 @@ macro_rules! field {
 /// FileDescriptorSet: file.
 static SET_ROWS: [Row; 1] = [Row::Repeated(field!(1, Kind::Message(1)))];
 
-/// FileDescriptorProto: name, package, message_type, enum_type, syntax.
-static FILE_ROWS: [Row; 5] = [
+/// FileDescriptorProto: name, package, message_type, enum_type, source_code_info, syntax.
+static FILE_ROWS: [Row; 6] = [
     Row::Optional(field!(1, Kind::Text)),
     Row::Optional(field!(2, Kind::Text)),
     Row::Repeated(field!(4, Kind::Message(2))),
     Row::Repeated(field!(5, Kind::Message(5))),
+    Row::Optional(field!(9, Kind::Message(7))),
     Row::Optional(field!(12, Kind::Text)),
 ];
 
@@ -76,6 +77,16 @@ static VALUE_ROWS: [Row; 2] = [
     Row::Optional(field!(2, Kind::Enumeration)),
 ];
 
+/// SourceCodeInfo: location.
+static SOURCE_ROWS: [Row; 1] = [Row::Repeated(field!(1, Kind::Message(8)))];
+
+/// SourceCodeInfo.Location: path, leading_comments, trailing_comments. A comment may be of any encoding.
+static LOCATION_ROWS: [Row; 3] = [
+    Row::Repeated(field!(1, Kind::U32)),
+    Row::Optional(field!(3, Kind::ByteString)),
+    Row::Optional(field!(4, Kind::ByteString)),
+];
+
 /// The rows of the schema at an index; past the last one there are none.
 fn rows_of(schema: u32) -> &'static [Row]
     ensures { rows_view result ≡ descriptors schema }
@@ -88,6 +99,8 @@ fn rows_of(schema: u32) -> &'static [Row]
         4 => &OPTIONS_ROWS,
         5 => &ENUM_ROWS,
         6 => &VALUE_ROWS,
+        7 => &SOURCE_ROWS,
+        8 => &LOCATION_ROWS,
         _ => &[],
     }
 }

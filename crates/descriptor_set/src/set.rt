@@ -1,5 +1,6 @@
 //! What is read of a set.
 
+use crate::codes::SaidCode;
 use crate::field::FieldDescriptor;
 use crate::names::find_message;
 
@@ -14,6 +15,9 @@ pub struct MessageDescriptor {
     pub fields: Vec<FieldDescriptor>,
     /// Whether it is the entry of a map.
     pub is_map_entry: bool,
+    /// The codes of its type that a comment says: the one above it, or else the one after its opening brace, or else
+    /// the one above its first field. There are none if the set has no comments.
+    pub codes: Vec<SaidCode>,
 }
 
 /// A value of an enum.

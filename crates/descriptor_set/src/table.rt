@@ -2,6 +2,7 @@
 
 use crate::error::{DescriptorError, Place};
 use crate::field::{FieldDescriptor, FieldKind, Presence};
+use crate::names::find_enum;
 use crate::read::place_in;
 use crate::set::{DescriptorSet, MessageDescriptor};
 use shared_core_codec::loaded_rows::LoadedRow;
@@ -10,7 +11,9 @@ use shared_core_codec::rows::{Field, Kind};
 use shared_core_codec::table_error::{TableError, TableFault};
 use shared_core_json::loaded_names::LoadedName;
 use shared_core_json::named_table::NamedTable;
-use shared_core_json_reader::{ReadableError, ReadableTable, readable_table};
+use shared_core_json_reader::{
+    LoadedEnumField, LoadedEnums, LoadedValue, ReadableError, ReadableTable, readable_table,
+};
 use std::alloc::{AllocError, Global};
 
 /// Why a table has no row for a field.
@@ -238,6 +241,38 @@ fn names_of(alloc: Global, set: &DescriptorSet) -> Result<Vec<Vec<LoadedName>>, 
     Ok(names)
 }
 
+/// The values of each enum of a set, and the fields of each message that have an enum of the set.
+fn enums_of(alloc: Global, set: &DescriptorSet) -> Result<LoadedEnums, AllocError> {
+    let enums = set.enums.as_slice();
+    let mut fields = Vec::new(alloc);
+    for message in &set.messages {
+        let mut own = Vec::new(alloc);
+        for field in &message.fields {
+            if field.kind == FieldKind::Enumeration {
+                if let Some(index) = find_enum(enums, field.type_name.as_str()) {
+                    own.push(LoadedEnumField {
+                        number: field.number,
+                        index,
+                    })?;
+                }
+            }
+        }
+        fields.push(own)?;
+    }
+    let mut values = Vec::new(alloc);
+    for descriptor in enums {
+        let mut own = Vec::new(alloc);
+        for value in &descriptor.values {
+            own.push(LoadedValue {
+                name: String::from_str(alloc, value.name.as_str())?,
+                number: value.number.cast_unsigned(),
+            })?;
+        }
+        values.push(own)?;
+    }
+    Ok(LoadedEnums { fields, values })
+}
+
 /// `table_of`, with the names that its fields have in JSON.
 pub fn named_table_of(
     alloc: Global,
@@ -257,13 +292,19 @@ pub fn named_table_of(
     }
 }
 
-/// `table_of`, with the names by which JSON is read. Another error: `SharedName`, of the first message in which two
-/// fields have one name in JSON.
+/// `table_of`, with the names by which JSON is read: of its fields, and of the values of its enums. Another error:
+/// `SharedName`, of the first message in which two fields have one name in JSON.
 pub fn readable_table_of(
     alloc: Global,
     set: &DescriptorSet,
 ) -> Result<ReadableTable<LoadedSchemas>, DescriptorError> {
-    match readable_table(alloc, all_rows_of(alloc, set)?, names_of(alloc, set)?) {
+    let enums = enums_of(alloc, set)?;
+    match readable_table(
+        alloc,
+        all_rows_of(alloc, set)?,
+        names_of(alloc, set)?,
+        enums,
+    ) {
         Ok(readable) => Ok(readable),
         Err(ReadableError::Field(error)) => Err(named(alloc, set, &error)?),
         Err(ReadableError::Names(schema)) => {

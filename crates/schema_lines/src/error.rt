@@ -1,5 +1,6 @@
 //! The errors of writing the table.
 
+use crate::renames::RenameFault;
 use descriptor_set::DescriptorError;
 use std::alloc::{AllocError, AllocFailed};
 use std::error::Error;
@@ -11,6 +12,8 @@ use stream_lines::output::OutputFailed;
 pub enum SchemaError {
     /// No table of schemas comes of the bytes.
     Descriptor(DescriptorError),
+    /// Something is wrong with the rename of this index.
+    Rename(usize, RenameFault),
     /// A write failed.
     Output,
     OutOfMemory,
@@ -20,6 +23,7 @@ impl fmt::Display for SchemaError {
     fn fmt<W: fmt::Write>(&self, f: &mut fmt::Formatter<W>) -> fmt::Result {
         match self {
             SchemaError::Descriptor(error) => write!(f, "{error}"),
+            SchemaError::Rename(_, fault) => write!(f, "{fault}"),
             SchemaError::Output => write!(f, "output failed"),
             SchemaError::OutOfMemory => write!(f, "out of memory"),
         }

@@ -12,12 +12,15 @@ use std::alloc::{AllocError, Global};
 use terminal_text::{Escapes, push_escaped};
 
 /// The rows of all messages: first the protocol's with their fields, then those that only the set has.
-pub(crate) fn all_rows(alloc: Global, set: &DescriptorSet) -> Result<Vec<Row>, AllocError> {
-    let pairs = Pairs::of(alloc, set)?;
+pub(crate) fn all_rows(
+    alloc: Global,
+    set: &DescriptorSet,
+    pairs: &Pairs,
+) -> Result<Vec<Row>, AllocError> {
     let mut table = Table {
         alloc,
         set,
-        pairs: &pairs,
+        pairs,
         rows: Vec::new(alloc),
     };
     for schema in 0..MESSAGE_COUNT {

@@ -1,4 +1,4 @@
-use Rattle.std.proofs.Common.{ℕ, ◌+◌, ◌*◌}
+use Rattle.std.proofs.Common.{◌+◌, ◌*◌}
 use Rattle.descriptor_set.proofs.read.Reading.+left.Given as goal
 
 abbrev pub decreases-append_message : goal.decreases-append_message
