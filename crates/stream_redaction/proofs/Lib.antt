@@ -1,3 +1,4 @@
 pub mod Accepted
 pub mod Kept
 pub mod Redacting
+pub mod Splitting

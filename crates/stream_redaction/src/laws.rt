@@ -7,10 +7,13 @@ ghost use Rattle.shared_core_base.specs.declared.version.Version.{Version};
 ghost use Rattle.shared_core_wire.specs.Grammar.{FieldRecord, IsRecordListWithin};
 ghost use Rattle.shared_core_wire.specs.Schema.{Row};
 ghost use Rattle.shared_core_message.specs.Schemas.{is_well_formed_at};
+ghost use Rattle.shared_core_stream.specs.Items.{SplitsInto};
+ghost use Rattle.shared_core_stream.specs.declared.encoding.item.Item.{Item as AnyItem};
 ghost use Rattle.stream_redaction.specs.declared.key.Key.{Key as AnyKey};
 ghost use Rattle.stream_redaction.specs.Redaction.{redacted_nested, redacted_payload, redacted_record};
 ghost use Rattle.stream_redaction.specs.Redaction.{redacted_records};
 ghost use Rattle.stream_redaction.specs.Replacement.{replacement};
+ghost use Rattle.stream_redaction.specs.Streams.{AreBytes, IsAlike, item_redacted, redacted_rest, stream_redacted};
 
 /// What a content is replaced by has as many bytes, and is a text.
 pub fn replacements_fit()
@@ -34,4 +37,16 @@ pub fn redacted_payloads_are_alike()
     ensures well_formed { (key : AnyKey) (version : Version) (ty : MessageType) (payload : List ℕ)
         → is_well_formed_at version ty (redacted_payload key version ty payload)
         ≡ is_well_formed_at version ty payload }
+{}
+
+/// What is written for a whole stream splits, at the same version, into as many items, in the same order: each has the
+/// kind, the type or code, the flags and the length that it had, and its payload redacted. The trailing bytes are those
+/// that no item begins with either. (A slice is of bytes.)
+pub fn redacted_streams_split_alike()
+    ensures split { (key : AnyKey) (version : Version) (stream rest : List ℕ) (items : List AnyItem)
+        → AreBytes stream → SplitsInto version stream items rest
+        → SplitsInto version (stream_redacted key version stream items rest)
+        (map (item_redacted key version) items) (redacted_rest rest) }
+    ensures alike { (key : AnyKey) (version : Version) (item : AnyItem)
+        → IsAlike item (item_redacted key version item) }
 {}
