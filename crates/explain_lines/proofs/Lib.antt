@@ -1,3 +1,4 @@
+pub mod Fronts
 pub mod Explaining
 pub mod Going
 pub mod Records

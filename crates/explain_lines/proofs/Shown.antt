@@ -19,3 +19,11 @@ pub joined : {T E : Type 0} (r : Result T E) (old mid new a b : List ℕ) → mi
     OnOk r (new ≡ old ++ (a ++ b))
 joined (Ok x) old mid new a b e h = h ∙ (ap (λ (t : List ℕ). t ++ b) e ∙ append_assoc old a b)
 joined (Err x) old mid new a b e h = h
+
+pub joined_five : (old t u v w new a b c d e : List ℕ) → t ≡ old ++ a → u ≡ t ++ b → v ≡ u ++ c → w ≡ v ++ d
+    → new ≡ w ++ e → new ≡ old ++ (a ++ (b ++ (c ++ (d ++ e))))
+joined_five old t u v w new a b c d e f g h i j =
+    j ∙ ap (λ (l : List ℕ). l ++ e) i ∙ append_assoc v d e
+    ∙ ap (λ (l : List ℕ). l ++ (d ++ e)) h ∙ append_assoc u c (d ++ e)
+    ∙ ap (λ (l : List ℕ). l ++ (c ++ (d ++ e))) g ∙ append_assoc t b (c ++ (d ++ e))
+    ∙ ap (λ (l : List ℕ). l ++ (b ++ (c ++ (d ++ e)))) f ∙ append_assoc old a (b ++ (c ++ (d ++ e)))

@@ -1,6 +1,5 @@
 -- The lines of an explanation.
-use Rattle.std.specs.Prelude.{ℕ, ◌+◌, ◌-◌, ◌^◌, false, List, [], ◌∷◌, ◌++◌, length, codes, decimal, flat_map, min}
-use Rattle.std.specs.Fmt.{format_spec, padded, padded_integral}
+use Rattle.std.specs.Prelude.{ℕ, ◌+◌, ◌-◌, ◌^◌, List, [], ◌∷◌, ◌++◌, length, codes, decimal, flat_map, min, replicate}
 use Rattle.explain_lines.specs.declared.piece.FieldAt.{FieldAt}
 use Rattle.explain_lines.specs.Texts.{byte_text, dots, front}
 
@@ -17,7 +16,11 @@ bytes_of (line ∷ lines) = line.bytes ++ bytes_of lines
 
 -- A number to the right of ten columns.
 abbrev pub in_columns : ℕ → List ℕ
-in_columns n = padded_integral (format_spec 32 3 0 10 (2 ^ 64 - 1)) false [] (decimal n)
+in_columns n = replicate (10 - length (decimal n)) 32 ++ decimal n
+
+-- A text, and spaces up to this number of columns.
+abbrev pub filled : ℕ → List ℕ → List ℕ
+filled columns text = text ++ replicate (columns - length text) 32
 
 -- Bytes in hexadecimal digits, each with a space after it.
 abbrev pub spaced_bytes : List ℕ → List ℕ
@@ -25,9 +28,7 @@ spaced_bytes bytes = flat_map (λ byte. byte_text byte ++ codes " ") bytes
 
 -- The first eight bytes, two dots if there are more, and spaces up to the column at which the text begins.
 unfoldable pub bytes_text : List ℕ → List ℕ
-bytes_text bytes =
-    padded (format_spec 32 1 0 27 (2 ^ 64 - 1))
-    (spaced_bytes (front 8 bytes) ++ dots 8 bytes)
+bytes_text bytes = filled 27 (spaced_bytes (front 8 bytes) ++ dots 8 bytes)
 
 -- The indentation of what is within these fields.
 abbrev pub indentation : List FieldAt → List ℕ

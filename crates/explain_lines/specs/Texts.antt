@@ -1,7 +1,7 @@
 -- What lines say of their bytes.
 use Rattle.std.specs.Prelude.{ℕ, ◌-◌, ◌/◌, ◌%◌, ◌^◌, Bool, false, nat_lt, List, [], ◌∷◌, ◌++◌, length, take, codes}
 use Rattle.std.specs.Prelude.{decimal, flat_map, ◌==◌, if◌then◌else◌, Option, Some, None}
-use Rattle.std.specs.Fmt.{digits, format_spec, padded_integral}
+use Rattle.std.specs.Fmt.{digit_glyph, digits}
 use Rattle.std.specs.Str.Lossy.{utf8_lossy}
 use Rattle.terminal_text.specs.Texts.{escaped_text}
 use Rattle.terminal_text.specs.declared.texts.Escapes.TheVariants as escapes
@@ -67,7 +67,7 @@ number_text field n k = field_text field 0 ++ (codes ": " ++ (decimal n ++ readi
 
 -- Two hexadecimal digits of a byte.
 abbrev pub byte_text : ℕ → List ℕ
-byte_text byte = padded_integral (format_spec 32 0 4 2 (2 ^ 64 - 1)) false [] (digits 16 false byte)
+byte_text byte = digit_glyph false (byte / 16) ∷ digit_glyph false (byte % 16) ∷ []
 
 -- The number of bytes of which the first is the lowest, in hexadecimal digits.
 abbrev pub low_first_text : List ℕ → List ℕ

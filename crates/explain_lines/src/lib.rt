@@ -2,6 +2,7 @@
 //! without a schema.
 #![tactic(auto)]
 
+mod columns;
 mod fault;
 pub mod laws;
 mod lines;

@@ -3,17 +3,15 @@
 ghost use Rattle.std.specs.Prelude.{◌≡◌, ◌+◌, ◌-◌, ◌^◌, ◌∷◌, ◌++◌, [], length, min, take, codes, OnOk, Ok};
 ghost use Rattle.std.specs.String.{string_bytes};
 ghost use Rattle.explain_lines.specs.Explanation.{fault, fault_text};
-ghost use Rattle.explain_lines.specs.Lines.{bytes_text, counted, indentation, line_front, offset_at, spaced_bytes};
+ghost use Rattle.explain_lines.specs.Lines.{counted, line_front, offset_at};
 ghost use Rattle.explain_lines.specs.Reasons.{reason_text};
 ghost use Rattle.explain_lines.specs.State.{told, Adds, Explains};
 ghost use Rattle.explain_lines.specs.Texts.{path_text, piece_text};
 
-use crate::piece::{FieldAt, Piece, dots, front, push_name, push_piece};
+use crate::columns::push_front;
+use crate::piece::{FieldAt, Piece, push_name, push_piece};
 use crate::reason::Reason;
 use std::alloc::{AllocError, Global};
-
-/// The most bytes that a line shows.
-const MOST_BYTES: usize = 8;
 
 /// Lines in the making.
 #[derive(Drop)]
@@ -27,10 +25,8 @@ pub struct Lines {
     pub count: u128,
     /// The fields that these bytes are within.
     path: Vec<FieldAt>,
-    /// A buffer for a line.
+    /// A buffer for what a line says.
     line: String,
-    /// A buffer for bytes in hexadecimal digits.
-    digits: String,
 }
 
 impl Lines {
@@ -43,7 +39,6 @@ impl Lines {
             count: 0,
             path: Vec::new(alloc),
             line: String::new(alloc),
-            digits: String::new(alloc),
         }
     }
 
@@ -68,6 +63,7 @@ impl Lines {
         } ∷ []) }
     {
         self.push_front(bytes)?;
+        self.line.clear();
         push_piece(self.alloc, &mut self.line, piece)?;
         self.end_line(bytes.len())
     }
@@ -78,6 +74,7 @@ impl Lines {
         ensures { Explains self.old self.new result (fault self.old.path.items (reason_text reason)) }
     {
         self.push_front(&[])?;
+        self.line.clear();
         push_fault(&mut self.line, self.path.as_slice(), reason)?;
         self.end_line(0)?;
         Ok(true)
@@ -101,36 +98,19 @@ impl Lines {
         self.path.truncate(size);
     }
 
-    /// Overwrites the line with what it begins with: the offset, the first of its bytes, and an indentation.
-    #[tactic(auto, using(crate::proofs::Shown::appended), unfolding(crate::specs::Lines::line_front))]
+    /// Appends what a line begins with: the offset, the first of its bytes, and an indentation.
     fn push_front(&mut self, bytes: &[u8]) -> Result<(), AllocError>
-        ensures line { OnOk result (string_bytes self.new.line
-            ≡ line_front (offset_at self.old.from self.old.count) self.old.path.items bytes.now) }
-        ensures told { OnOk result (told self.new ≡ told self.old) }
+        ensures text { OnOk result (self.new.text.items ≡ self.old.text.items
+            ++ line_front (offset_at self.old.from self.old.count) self.old.path.items bytes.now) }
+        ensures from { OnOk result (self.new.from ≡ self.old.from) }
+        ensures count { OnOk result (self.new.count ≡ self.old.count) }
         ensures path { OnOk result (self.new.path ≡ self.old.path) }
     {
         let at = self.from.saturating_add(self.count);
-        self.line.clear();
-        write!(self.line, "{at:>10}  ")?;
-        self.push_digits(bytes)?;
-        push_indentation(&mut self.line, self.path.as_slice())
+        push_front(&mut self.text, at, self.path.as_slice(), bytes)
     }
 
-    /// Appends the first of some bytes, and spaces up to the column at which the text begins.
-    #[tactic(auto, unfolding(crate::specs::Lines::bytes_text))]
-    fn push_digits(&mut self, bytes: &[u8]) -> Result<(), AllocError>
-        ensures line { OnOk result (string_bytes self.new.line ≡ string_bytes self.old.line ++ bytes_text bytes.now) }
-        ensures told { OnOk result (told self.new ≡ told self.old) }
-        ensures path { OnOk result (self.new.path ≡ self.old.path) }
-    {
-        self.digits.clear();
-        push_bytes(&mut self.digits, front(bytes, MOST_BYTES))?;
-        self.digits.push_str(dots(bytes, MOST_BYTES))?;
-        let digits = self.digits.as_str();
-        write!(self.line, "{digits:<27}")
-    }
-
-    /// Ends the line, which has this number of bytes.
+    /// Appends what a line says, and ends the line, which has this number of bytes.
     fn end_line(&mut self, size: usize) -> Result<(), AllocError>
         ensures text { OnOk result (self.new.text.items
             ≡ self.old.text.items ++ (string_bytes self.old.line ++ codes "\n")) }
@@ -143,28 +123,6 @@ impl Lines {
         self.count = self.count.saturating_add(size as u128);
         Ok(())
     }
-}
-
-/// Appends bytes in hexadecimal digits, each with a space after it.
-fn push_bytes(text: &mut String, bytes: &[u8]) -> Result<(), AllocError>
-    ensures { OnOk result (string_bytes text.new ≡ string_bytes text.old ++ spaced_bytes bytes.now) }
-{
-    for byte in bytes {
-        write!(text, "{byte:02x} ")?;
-    }
-    Ok(())
-}
-
-/// Appends the indentation of what is within these fields.
-#[tactic(auto, using(crate::proofs::Shown::indented, crate::proofs::Shown::appended))]
-fn push_indentation(text: &mut String, path: &[FieldAt]) -> Result<(), AllocError>
-    ensures { OnOk result (string_bytes text.new ≡ string_bytes text.old ++ indentation path.now) }
-{
-    for field in path {
-        let _field = field;
-        text.push_str("  ")?;
-    }
-    Ok(())
 }
 
 /// Appends what the line of a fault within some fields says.

@@ -1,6 +1,6 @@
 //! What a line says of its bytes.
 
-ghost use Rattle.std.specs.Prelude.{◌≡◌, ◌++◌, length, OnOk};
+ghost use Rattle.std.specs.Prelude.{◌≡◌, ◌++◌, decimal, length, OnOk};
 ghost use Rattle.std.specs.String.{string_bytes};
 ghost use Rattle.explain_lines.specs.Texts.{field_text, fixed_wire, flags_text, group_start_text, group_end_text};
 ghost use Rattle.explain_lines.specs.Texts.{header_text, kind_seen};
@@ -10,6 +10,8 @@ ghost use Rattle.explain_lines.specs.Texts.{quoted_text};
 ghost use Rattle.explain_lines.specs.Texts.{reading_text};
 ghost use Rattle.explain_lines.specs.Texts.{field_name as name_of_field};
 
+use crate::columns::hex_digit;
+use itoa::Buffer;
 use shared_core_codec::rows::Kind;
 use shared_core_json::names::name_of;
 use shared_core_wire::varint::low_32;
@@ -61,7 +63,8 @@ pub fn push_piece(alloc: Global, text: &mut String, piece: Piece<'_>) -> Result<
         Piece::CutHeader => text.push_str("a part of a header"),
         Piece::Number(field, number, kind) => {
             push_field(text, field, 0)?;
-            write!(text, ": {number}")?;
+            text.push_str(": ")?;
+            push_number(text, number)?;
             push_reading(text, number, kind)
         }
         Piece::Fixed(field, bytes) => {
@@ -71,14 +74,25 @@ pub fn push_piece(alloc: Global, text: &mut String, piece: Piece<'_>) -> Result<
         }
         Piece::Length(field, size, what) => {
             push_field(text, field, 2)?;
-            write!(text, ", length {size}: {what}")
+            text.push_str(", length ")?;
+            push_number(text, size as u64)?;
+            text.push_str(": ")?;
+            text.push_str(what)
         }
         Piece::GroupStart(field) => push_group(text, field),
         Piece::GroupEnd(field) => push_group_end(text, field),
         Piece::Quoted(bytes) => push_quoted(alloc, text, bytes),
-        Piece::Element(number) => write!(text, "{number}"),
+        Piece::Element(number) => push_number(text, number),
         Piece::Rest => text.push_str("not explained"),
     }
+}
+
+/// Appends a number. A format takes several times as long.
+fn push_number(text: &mut String, number: u64) -> Result<(), AllocError>
+    ensures { OnOk result (string_bytes text.new ≡ string_bytes text.old ++ decimal number) }
+{
+    let mut buffer = Buffer::new();
+    text.push_str(buffer.format(number))
 }
 
 /// Appends the parts of a header.
@@ -90,8 +104,8 @@ fn push_header(text: &mut String, word: u64, asks: bool) -> Result<(), AllocErro
     write!(text, "type 0x{code:x}")?;
     push_flags(text, word / 0x1_0000_0000 % 0x1_0000)?;
     text.push_str(ack_words(asks))?;
-    let length = low_32(word);
-    write!(text, ", length {length}")
+    text.push_str(", length ")?;
+    push_number(text, u64::from(low_32(word)))
 }
 
 /// What a header has of a request for an acknowledgement.
@@ -120,11 +134,11 @@ fn push_flags(text: &mut String, flags: u64) -> Result<(), AllocError>
 fn push_field(text: &mut String, field: FieldAt, wire: u8) -> Result<(), AllocError>
     ensures { OnOk result (string_bytes text.new ≡ string_bytes text.old ++ field_text field wire) }
 {
-    let number = field.number;
-    let name = name_of(field.schema, number);
-    write!(text, "field {number}")?;
-    push_after_space(text, name)?;
-    write!(text, ", wire type {wire}")
+    text.push_str("field ")?;
+    push_number(text, u64::from(field.number))?;
+    push_after_space(text, name_of(field.schema, field.number))?;
+    text.push_str(", wire type ")?;
+    push_number(text, u64::from(wire))
 }
 
 /// Appends a name after a space, if it is not empty.
@@ -134,17 +148,17 @@ fn push_after_space(text: &mut String, name: &str) -> Result<(), AllocError>
     if name.len() == 0 {
         return Ok(());
     }
-    write!(text, " {name}")
+    text.push_str(" ")?;
+    text.push_str(name)
 }
 
 /// Appends a field's name, or its number if its schema does not have it.
 pub fn push_name(text: &mut String, field: FieldAt) -> Result<(), AllocError>
     ensures { OnOk result (string_bytes text.new ≡ string_bytes text.old ++ name_of_field field) }
 {
-    let number = field.number;
-    let name = name_of(field.schema, number);
+    let name = name_of(field.schema, field.number);
     if name.len() == 0 {
-        write!(text, "{number}")
+        push_number(text, u64::from(field.number))
     } else {
         text.push_str(name)
     }
@@ -212,7 +226,8 @@ fn push_low_first(text: &mut String, bytes: &[u8]) -> Result<(), AllocError>
         return Ok(());
     };
     push_low_first(text, rest)?;
-    write!(text, "{byte:02x}")
+    text.push(char::from(hex_digit(byte / 16)))?;
+    text.push(char::from(hex_digit(byte % 16)))
 }
 
 /// Appends the first bytes of a text, or of bytes that may be one, in quotes. Characters that a terminal may take as
