@@ -156,7 +156,7 @@ def program_page(program):
     text, heading = section(read("docs/PROGRAMS.md"), program.called)
     _, *rest = blocks(text)
     parts = {"DESCRIPTION": "", programs.heading(program): "", "EXIT STATUS": "", "EXAMPLES": ""}
-    parts[programs.heading(program)] = "".join(tagged(tag, said) for tag, said in program.items())
+    parts[programs.heading(program)] = "".join(tagged(tag, said) for tag, said in program.all_items())
     part = "DESCRIPTION"
     for kind, block in rest:
         if kind == "item" or block.startswith("!["):
@@ -172,6 +172,9 @@ def program_page(program):
         elif block.startswith("For example, "):
             part = "EXAMPLES"
         parts[part] += ".PP\n" + filled(block)
+    for _, block in blocks(section(read("docs/PROGRAMS.md"), "All programs")[0]):
+        if block.startswith("The status "):
+            parts["EXIT STATUS"] += ".PP\n" + filled(block)
     # a subcommand's page says it
     is_whole = program.name != programs.JOURNAL
     terminal = prose(section(read("docs/PROGRAMS.md"), "On a terminal")[0]) if is_whole else ""

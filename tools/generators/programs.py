@@ -41,7 +41,11 @@ class Argument:
         self.page = entry["page"]
         self.value = entry.get("value")
         self.has_versions = entry.get("values") == "versions"
-        self.values = VERSIONS if self.has_versions else entry.get("values", [])
+        self.takes_auto = entry.get("values") == "versions or auto"
+        if self.has_versions or self.takes_auto:
+            self.values = [*VERSIONS, "auto"] if self.takes_auto else VERSIONS
+        else:
+            self.values = entry.get("values", [])
         self.default = entry.get("default")
         self.is_repeated = entry.get("repeated", False)
         self.is_required = entry.get("required", False)
@@ -91,8 +95,8 @@ class Argument:
 
     def shown_value(self, is_whole):
         """Its value as a page shows it; where it is said whole, by all that it may be."""
-        if self.has_versions:
-            return f"{self.values[0]}..{self.values[-1]}"
+        if self.has_versions or self.takes_auto:
+            return f"{VERSIONS[0]}..{VERSIONS[-1]}{'|auto' if self.takes_auto else ''}"
         return "|".join(self.values) if is_whole and self.values else self.value
 
     def synopsis(self):
@@ -173,10 +177,12 @@ class Program:
         """What a page says of each argument, or of each subcommand: its tag, and a text."""
         if self.name == JOURNAL:
             return [(f"`{each.command}`", each.about) for each in subcommands()]
-        return [
-            *((argument.tag(), argument.page) for argument in self.arguments),
-            ("`--help`, `--version`", common()["page"]),
-        ]
+        return [(argument.tag(), argument.page) for argument in self.arguments]
+
+    def all_items(self):
+        """The same, with what every program has."""
+        common_item = [] if self.name == JOURNAL else [("`--help`, `--version`", common()["page"])]
+        return [*self.items(), *common_item]
 
     def after_help(self):
         """What the help ends with."""
@@ -251,10 +257,12 @@ def shared_arguments(own):
         for code in each.arguments_as_data():
             users.setdefault(code, []).append(each)
     names = {}
+    taken = {each.constant for each in own}
     for code, each in users.items():
         if len(each) > 1:
             name = re.search('name: "(.*?)"', code)[1].upper().replace("-", "_")
-            names[code] = name if name not in names.values() else f"{name}_OF_{each[0].constant}"
+            names[code] = f"{name}_OF_{each[0].constant}" if name in taken else name
+            taken.add(name)
     return names
 
 

@@ -6,8 +6,8 @@
     protobuf_dumps.py --random SEED COUNT PROGRAM [WORD..]
         COUNT random payloads of each message type in one stream, dumped by the program and printed by protobuf
     protobuf_dumps.py --other PROTO SEED COUNT PROGRAM [WORD..]
-        the same by the messages of another .proto file, of whose payloads the program prints the canonical ones; its
-        subcommand make makes the dump again
+        the same by the messages of another .proto file, which have the names here or their codes, as Type1026; its
+        subcommand make makes a stream of the dump, and that is dumped with the same payloads
 
 It needs protoc and python3's protobuf (Debian's protobuf-compiler and python3-protobuf). Nothing of this project's own
 code takes part: payloads are those of conformance/records.txt, which protoc made, and what protobuf makes of random
@@ -69,14 +69,6 @@ def printed(kind, payload):
     return in_rows(message.DESCRIPTOR, json_format.MessageToDict(message, use_integers_for_enums=True))
 
 
-def is_canonical(kind, payload):
-    """Whether protobuf writes what a payload means as the payload, without fields that the message does not have."""
-    message = kind()
-    message.ParseFromString(payload)
-    message.DiscardUnknownFields()
-    return message.SerializeToString() == payload
-
-
 def in_rows(kind, shown):
     """What protobuf prints of a message, a member of a oneof at the least number of that, where the schema has it."""
     def place(field):
@@ -109,11 +101,10 @@ def header_of(more, plain):
 
 
 class Stream:
-    """A stream, and the lines of its dump: of all payloads, or of the canonical ones."""
+    """A stream, and the lines of its dump."""
 
-    def __init__(self, kinds, root=ROOT, reads_all=True):
+    def __init__(self, kinds, root=ROOT):
         self.kinds = kinds
-        self.reads_all = reads_all
         self.codes = types(root)
         self.bytes = b""
         self.lines = []
@@ -122,10 +113,14 @@ class Stream:
         self.lines.append(text_of({"offset": len(self.bytes), **members}))
         self.bytes += more
 
+    def kind_of(self, name):
+        """The message of a type, by its name or by its code."""
+        return getattr(self.kinds, name + "Message", None) or getattr(self.kinds, f"Type{self.codes[name]}")
+
     def message(self, name, payload, flag=0, kind=None):
         """A message of a type, which is read as the kind, or else as the message of its name."""
         code = self.codes[name]
-        read_as = getattr(self.kinds, kind or name + "Message")
+        read_as = getattr(self.kinds, kind) if kind else self.kind_of(name)
         value = printed(read_as, payload)
         head = {"type": name, "code": code, "length": len(payload)}
         if name == "ProposeRunCompletion":
@@ -133,8 +128,6 @@ class Stream:
         shown = {"message": value}
         if value is None:
             shown = {"malformed": True, "bytes": base64_of(payload)}
-        elif not self.reads_all and not is_canonical(read_as, payload):
-            shown = {"notCanonical": True, "bytes": base64_of(payload)}
         more = frame(code, payload, flag)
         plain = frame(code, payload, 0x8000 if head.get("requestedAck") else 0)
         self.put(more, **head, **header_of(more, plain), **shown)
@@ -252,12 +245,23 @@ def payload_of(r, kind):
     return payload
 
 
-def dump_random(stream, seed, count, command):
+def payloads_of(dump):
+    """What the lines of a dump have, without where items are and how long they are, which a header says too."""
+    found = []
+    for line in dump.splitlines():
+        members = {key: value for key, value in json.loads(line).items() if key not in ("offset", "length")}
+        if "header" in members:
+            members["header"] = base64.b64decode(members["header"])[:4]
+        found.append(members)
+    return found
+
+
+def dump_random(stream, seed, count, command, is_made=False):
     r = random.Random(seed)
     for _ in range(count):
         for name in stream.codes:
             flag = r.choice([0, 0, 0, 0x8000, 1, r.getrandbits(16)])
-            stream.message(name, payload_of(r, getattr(stream.kinds, name + "Message")), flag)
+            stream.message(name, payload_of(r, stream.kind_of(name)), flag)
     rest, end = r.randbytes(r.randrange(2, 8)), len(stream.bytes)
     given, wanted = stream.end(rest)
     called = itertools.takewhile(lambda word: not word.startswith("-"), command[1:])
@@ -277,11 +281,12 @@ def dump_random(stream, seed, count, command):
     if run.returncode != 0 or len(lines) != len(stream.lines) or run.stderr.decode() != told:
         failed += 1
         print(f"failed: status {run.returncode}, {len(lines)} lines, standard error: {run.stderr.decode()}")
-    if not stream.reads_all:
+    if is_made:
         made = subprocess.run([command[0], "make", *command[2:]], input=run.stdout, capture_output=True, check=False)
-        is_again = made.returncode == 0 and made.stdout == given
-        passed, failed = passed + is_again, failed + (not is_again)
-        if not is_again:
+        again = subprocess.run(command, input=made.stdout, capture_output=True, check=False)
+        is_same = made.returncode == 0 and payloads_of(again.stdout) == payloads_of(run.stdout)
+        passed, failed = passed + is_same, failed + (not is_same)
+        if not is_same:
             print(f"failed: made again: status {made.returncode}, standard error: {made.stderr.decode()}")
     print(f"{passed} passed, {failed} failed")
     return 1 if failed else 0
@@ -290,8 +295,8 @@ def dump_random(stream, seed, count, command):
 def main():
     words = sys.argv[1:]
     if words[:1] == ["--other"] and len(words) >= 5:
-        stream = Stream(load(pathlib.Path(words[1])), reads_all=False)
-        return dump_random(stream, int(words[2]), int(words[3]), words[4:])
+        stream = Stream(load(pathlib.Path(words[1])))
+        return dump_random(stream, int(words[2]), int(words[3]), words[4:], is_made=True)
     kinds = load()
     if words[:1] == ["--random"] and len(words) >= 4:
         return dump_random(Stream(kinds), int(words[1]), int(words[2]), words[3:])

@@ -30,22 +30,29 @@ pub fn encoding_of(matches: &ArgMatches<'_>) -> Option<Encoding>
 }
 
 /// A reader whose progress is shown, and which is decoded if it is text. The fault of a text is reported once, on the
-/// standard error.
+/// standard error, with the path of the file. What reads on then has no more to say of it.
 #[derive(Drop)]
 pub struct Decoding<'a, R> {
     decoded: Decoded<Watched<'a, R>>,
+    path: &'a str,
     progress: &'a Progress<'a>,
     is_reported: bool,
 }
 
 impl<'a, R> Decoding<'a, R> {
-    /// Reads from this reader, which has text of this encoding, or else the bytes.
-    pub fn new(reader: R, encoding: Option<Encoding>, progress: &'a Progress<'a>) -> Decoding<'a, R>
+    /// Reads from this reader, that of a path, which has text of this encoding, or else the bytes.
+    pub fn new(
+        reader: R,
+        path: &'a str,
+        encoding: Option<Encoding>,
+        progress: &'a Progress<'a>,
+    ) -> Decoding<'a, R>
         ensures reader { result.decoded.reader.reader ≡ reader }
         ensures position { result.decoded.position ≡ first_position encoding }
     {
         Decoding {
             decoded: Decoded::new(Watched::new(reader, progress), encoding),
+            path,
             progress,
             is_reported: false,
         }
@@ -59,7 +66,8 @@ impl<'a, R> Decoding<'a, R> {
             && !self.is_reported
         {
             self.is_reported = true;
-            self.progress.report(fault);
+            let path = self.path;
+            self.progress.report(format_args!("{path}: {fault}"));
         }
     }
 }

@@ -23,7 +23,7 @@ pub use crate::input::{Input, OpenError, input_size, is_stdin_open, note_termina
 pub use crate::max_message::max_message_of;
 pub use crate::pipe::Pipe;
 pub use crate::progress::{Progress, Watched};
-pub use crate::protocol::protocol_of;
+pub use crate::protocol::{is_auto, protocol_of};
 use clap::Error;
 use clap::error::ErrorKind;
 use std::fmt::Display;

@@ -35,6 +35,8 @@ pub struct Progress<'a> {
     next: Cell<u128>,
     /// Whether the line is on the terminal.
     is_shown: Cell<bool>,
+    /// Whether it was reported what is wrong with the input.
+    has_reported: Cell<bool>,
 }
 
 impl<'a> Progress<'a> {
@@ -53,6 +55,7 @@ impl<'a> Progress<'a> {
             read: Cell::new(0),
             next: Cell::new(FIRST_SHOWN),
             is_shown: Cell::new(false),
+            has_reported: Cell::new(false),
         }
     }
 
@@ -112,7 +115,13 @@ impl<'a> Progress<'a> {
     /// Reports what is wrong with the input, in place of the line.
     pub fn report<T: Display + Drop>(&self, what: T) {
         self.clear();
+        self.has_reported.set(true);
         note(self.rt, self.program, what);
+    }
+
+    /// Whether it was reported what is wrong with the input, so that a failed input needs no further word.
+    pub fn has_reported(&self) -> bool {
+        self.has_reported.get()
     }
 }
 

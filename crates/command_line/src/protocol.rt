@@ -1,6 +1,6 @@
 //! The value of the option `--protocol`.
 
-ghost use Rattle.std.specs.Prelude.{◌≡◌, ◌≤◌, Some, None, IfSome, decimal};
+ghost use Rattle.std.specs.Prelude.{◌≡◌, ◌≢◌, ◌≤◌, Some, None, IfSome, codes, decimal, false, true};
 ghost use Rattle.clap.specs.Matches.{found_of};
 ghost use Rattle.shared_core_base.specs.Version.{version_number};
 ghost use Rattle.shared_core_base.specs.declared.version.Version.{Version as AnyVersion};
@@ -20,6 +20,17 @@ pub fn protocol_of(matches: &ArgMatches<'_>) -> Version
     match matches.get_str("protocol").and_then(version_of) {
         Some(version) => version,
         None => Version::V8,
+    }
+}
+
+/// Whether the value of the option is `auto`: the version is to be one that the streams fit.
+pub fn is_auto(matches: &ArgMatches<'_>) -> bool
+    ensures auto { protocol_value (found_of matches.now) ≡ Some (codes "auto") → result ≡ true }
+    ensures other { protocol_value (found_of matches.now) ≢ Some (codes "auto") → result ≡ false }
+{
+    match matches.get_str("protocol") {
+        Some("auto") => true,
+        _ => false,
     }
 }
 

@@ -1,7 +1,7 @@
 //! What subcommands have in common: how one is called, and how it reports.
 
 use clap::Error;
-use command_line::{Input, OpenError, fail, note, note_terminal, open, report};
+use command_line::{Input, OpenError, Progress, fail, note, note_terminal, open, report};
 use std::fmt::Display;
 use std::process::ExitCode;
 
@@ -32,6 +32,14 @@ impl<'a> Call<'a> {
     /// Prints why it fails, as `note` does, and returns the status.
     pub fn fail<T: Display + Drop>(&self, why: T, status: u8) -> ExitCode {
         fail(self.rt, self.name, why, status)
+    }
+
+    /// Prints why reading failed, unless it was reported already what is wrong with the input, and returns the status.
+    pub fn fail_reading<T: Display + Drop>(&self, why: T, progress: &Progress<'_>) -> ExitCode {
+        if progress.has_reported() {
+            return ExitCode::from(self.failure);
+        }
+        self.fail(why, self.failure)
     }
 
     /// Prints what is wrong with the arguments, or the help or the version that they request, and returns the status.

@@ -6,9 +6,10 @@ ghost use Rattle.shared_core_base.specs.Version.{version_number};
 
 use crate::call::Call;
 use crate::definitions;
+use crate::fitting::{Asked, version_of};
 use crate::parts::File;
 use clap::Error;
-use command_line::{Pipe, encoding_of, max_message_of, protocol_of};
+use command_line::{Pipe, encoding_of, is_auto, max_message_of, protocol_of};
 use encoded_input::Encoding;
 use shared_core::encoding::RawMessage;
 use shared_core_base::version::Version;
@@ -24,6 +25,8 @@ struct Arguments<'a> {
     paths: Vec<&'a str>,
     /// The version of the protocol.
     version: Version,
+    /// Whether the version is to be the newest that all files fit.
+    is_auto: bool,
     /// The greatest length of a payload that is taken.
     limit: u32,
     /// How the files are written, if they are text.
@@ -63,6 +66,7 @@ fn parse_arguments<'a>(
     Ok(Arguments {
         paths,
         version: protocol_of(&matches),
+        is_auto: is_auto(&matches),
         limit,
         encoding: encoding_of(&matches),
     })
@@ -123,13 +127,23 @@ fn write(call: &Call<'_>, parsed: &Arguments<'_>, joined: &Joined) -> Result<(),
 
 /// Parses the arguments, joins the files, and returns the status.
 pub fn run(call: &Call<'_>) -> ExitCode {
-    let parsed = match parse_arguments(call.rt.alloc(), call.name, call.words) {
+    let mut parsed = match parse_arguments(call.rt.alloc(), call.name, call.words) {
         Ok(parsed) => parsed,
         Err(error) => return call.report(&error),
     };
     if call.rt.stdout().is_terminal() {
         return call.fail("the stream is not written to a terminal: redirect it", 2);
     }
+    let asked = Asked {
+        version: parsed.version,
+        is_auto: parsed.is_auto,
+        limit: parsed.limit,
+        encoding: parsed.encoding,
+    };
+    parsed.version = match version_of(call, &asked, parsed.paths.as_slice()) {
+        Ok(version) => version,
+        Err(status) => return status,
+    };
     match join(call, &parsed) {
         Ok(joined) => match write(call, &parsed, &joined) {
             Ok(()) => ExitCode::SUCCESS,

@@ -6,10 +6,11 @@ ghost use Rattle.shared_core_base.specs.Version.{version_number};
 
 use crate::call::Call;
 use crate::definitions;
+use crate::fitting::{Asked, version_of};
 use crate::parts::{File, LACKING};
 use clap::error::ErrorKind;
 use clap::{ArgMatches, Command, Error};
-use command_line::{Pipe, encoding_of, fail, max_message_of, protocol_of};
+use command_line::{Pipe, encoding_of, fail, is_auto, max_message_of, protocol_of};
 use std::alloc::Global;
 use std::io::IsTerminal;
 use std::process::ExitCode;
@@ -19,6 +20,8 @@ use stream_parts::{Located, Range};
 #[derive(Drop)]
 struct Arguments<'a> {
     file: File<'a>,
+    /// Whether the version is to be the newest that the stream fits.
+    is_auto: bool,
     range: Range,
 }
 
@@ -77,6 +80,7 @@ fn parse_arguments<'a>(
             limit,
             encoding: encoding_of(&matches),
         },
+        is_auto: is_auto(&matches),
         range,
     })
 }
@@ -138,11 +142,25 @@ pub fn run(call: &Call<'_>) -> ExitCode {
     if call.rt.stdout().is_terminal() {
         return call.fail("the stream is not written to a terminal: redirect it", 2);
     }
-    match parsed.file.locate(call, parsed.range) {
+    let asked = Asked {
+        version: parsed.file.version,
+        is_auto: parsed.is_auto,
+        limit: parsed.file.limit,
+        encoding: parsed.file.encoding,
+    };
+    let version = match version_of(call, &asked, &[parsed.file.path]) {
+        Ok(version) => version,
+        Err(status) => return status,
+    };
+    let file = File {
+        version,
+        ..parsed.file
+    };
+    match file.locate(call, parsed.range) {
         Ok(located) if parsed.range.is_lacking(located.all.commands) => {
-            fail_lacking(call, parsed.file.path, parsed.range, located.all.commands)
+            fail_lacking(call, file.path, parsed.range, located.all.commands)
         }
-        Ok(located) => match write(call, &parsed.file, &located) {
+        Ok(located) => match write(call, &file, &located) {
             Ok(()) => ExitCode::SUCCESS,
             Err(status) => status,
         },

@@ -7,9 +7,10 @@ use crate::beginning::{Beginning, Begun};
 use crate::call::Call;
 use crate::definitions;
 use crate::dump::Records;
+use crate::fitting::{Asked, all_fitting};
 use clap::Error;
 use command_line::{
-    Decoding, Input, Pipe, Progress, encoding_of, fail, input_size, max_message_of, note,
+    Decoding, Input, Pipe, Progress, encoding_of, fail, input_size, is_auto, max_message_of, note,
     protocol_of,
 };
 use encoded_input::Encoding;
@@ -33,6 +34,8 @@ struct Arguments<'a> {
     /// The paths of the streams; `-` is the standard input.
     paths: Vec<&'a str>,
     version: Version,
+    /// Whether the version of each stream is to be the newest that it fits.
+    is_auto: bool,
     /// The greatest length of a payload that is taken.
     limit: u32,
     /// How the files are written, if they are text.
@@ -40,17 +43,16 @@ struct Arguments<'a> {
 }
 
 impl<'a> Arguments<'a> {
-    /// How a stream is read.
-    fn options(&self) -> Options
+    /// How the streams are read.
+    fn asked(&self) -> Asked
         requires { 5 ≤ version_number self.now.version }
-        ensures version { 5 ≤ version_number result.version }
-        ensures low { 1 ≤ result.chunk_size }
-        ensures high { result.chunk_size ≤ 65536 }
+        ensures { 5 ≤ version_number result.version }
     {
-        Options {
+        Asked {
             version: self.version,
+            is_auto: self.is_auto,
             limit: self.limit,
-            chunk_size: CHUNK,
+            encoding: self.encoding,
         }
     }
 }
@@ -75,6 +77,7 @@ fn parse_arguments<'a>(
     Ok(Arguments {
         paths,
         version: protocol_of(&matches),
+        is_auto: is_auto(&matches),
         limit,
         encoding: encoding_of(&matches),
     })
@@ -107,22 +110,23 @@ fn report_rest(call: &Call<'_>, version: Version, beginning: &Beginning, found: 
     }
 }
 
-/// Describes an input.
-fn describe_input(
-    call: &Call<'_>,
-    options: &Options,
-    encoding: Option<Encoding>,
-    input: Input,
-) -> Ended
-    requires version { 5 ≤ version_number options.now.version }
-    requires low { 1 ≤ options.now.chunk_size }
-    requires high { options.now.chunk_size ≤ 65536 }
+/// Describes the input of a path, of a version.
+fn describe_input(call: &Call<'_>, asked: &Asked, path: &str, input: Input) -> Ended
+    requires { 5 ≤ version_number asked.now.version }
 {
+    let options = Options {
+        version: asked.version,
+        limit: asked.limit,
+        chunk_size: CHUNK,
+    };
     let progress = Progress::beside_output(call.rt, call.name, input_size(&input));
     let beginning = Beginning::new();
-    let mut input = Begun::new(Decoding::new(input, encoding, &progress), &beginning);
+    let mut input = Begun::new(
+        Decoding::new(input, path, asked.encoding, &progress),
+        &beginning,
+    );
     let mut output = Pipe::new(call.rt.stdout());
-    let described = describe(call.rt.alloc(), options, &Records, &mut input, &mut output);
+    let described = describe(call.rt.alloc(), &options, &Records, &mut input, &mut output);
     progress.clear();
     match described {
         Ok(found) => {
@@ -131,7 +135,7 @@ fn describe_input(
         }
         // the reader has closed the output, so nothing is reported
         Err(PrintError::Output) if output.is_broken() => Ended::Closed,
-        Err(error) => Ended::Failed(call.fail(error, call.failure)),
+        Err(error) => Ended::Failed(call.fail_reading(error, &progress)),
     }
 }
 
@@ -147,12 +151,8 @@ fn heading(alloc: Global, path: &str, is_first: bool) -> Result<String, AllocErr
     Ok(text)
 }
 
-/// Writes a heading.
-fn write_heading(call: &Call<'_>, path: &str, is_first: bool) -> Ended {
-    let text = match heading(call.rt.alloc(), path, is_first) {
-        Ok(text) => text,
-        Err(error) => return Ended::Failed(fail(call.rt, call.name, error, call.failure)),
-    };
+/// Writes a text, a line or more.
+fn write_text(call: &Call<'_>, text: &str) -> Ended {
     let mut output = Pipe::new(call.rt.stdout());
     match write_whole(&mut output, text.as_bytes()) {
         Ok(()) => Ended::Whole,
@@ -161,34 +161,48 @@ fn write_heading(call: &Call<'_>, path: &str, is_first: bool) -> Ended {
     }
 }
 
+/// Writes a heading.
+fn write_heading(call: &Call<'_>, path: &str, is_first: bool) -> Ended {
+    match heading(call.rt.alloc(), path, is_first) {
+        Ok(text) => write_text(call, text.as_str()),
+        Err(error) => Ended::Failed(fail(call.rt, call.name, error, call.failure)),
+    }
+}
+
+/// Writes which versions a stream fits.
+fn write_fits(call: &Call<'_>, numbers: &str) -> Ended {
+    match format!(in call.rt.alloc(); "fits: {numbers}\n") {
+        Ok(text) => write_text(call, text.as_str()),
+        Err(error) => Ended::Failed(fail(call.rt, call.name, error, call.failure)),
+    }
+}
+
 /// Describes the stream of a path.
-fn describe_path(
-    call: &Call<'_>,
-    options: &Options,
-    encoding: Option<Encoding>,
-    path: &str,
-) -> Ended
-    requires version { 5 ≤ version_number options.now.version }
-    requires low { 1 ≤ options.now.chunk_size }
-    requires high { options.now.chunk_size ≤ 65536 }
+fn describe_path(call: &Call<'_>, asked: &Asked, path: &str) -> Ended
+    requires { 5 ≤ version_number asked.now.version }
 {
     match call.open(path) {
-        Ok(input) => describe_input(call, options, encoding, input),
+        Ok(input) => describe_input(call, asked, path, input),
         Err(error) => Ended::Failed(call.fail(error, UNOPENED)),
+    }
+}
+
+/// Describes the stream of a path, after which versions it fits, by the newest of these.
+fn describe_fitting(call: &Call<'_>, asked: &Asked, path: &str) -> Ended {
+    let (version, numbers) = match all_fitting(call, asked, path) {
+        Ok(found) => found,
+        Err(status) => return Ended::Failed(status),
+    };
+    match write_fits(call, numbers) {
+        Ended::Whole => describe_path(call, &Asked { version, ..*asked }, path),
+        ended => ended,
     }
 }
 
 /// Describes the streams, and returns the status: 0, or that of the last stream that has another one. Where the output
 /// fails, it is the last.
-fn describe_all(
-    call: &Call<'_>,
-    options: &Options,
-    encoding: Option<Encoding>,
-    paths: &[&str],
-) -> ExitCode
-    requires version { 5 ≤ version_number options.now.version }
-    requires low { 1 ≤ options.now.chunk_size }
-    requires high { options.now.chunk_size ≤ 65536 }
+fn describe_all(call: &Call<'_>, asked: &Asked, paths: &[&str]) -> ExitCode
+    requires { 5 ≤ version_number asked.now.version }
 {
     let mut status = ExitCode::SUCCESS;
     for (index, path) in paths.iter().enumerate() {
@@ -199,7 +213,12 @@ fn describe_all(
                 Ended::Closed => return ExitCode::from(call.failure),
             }
         }
-        match describe_path(call, options, encoding, *path) {
+        let ended = if asked.is_auto {
+            describe_fitting(call, asked, *path)
+        } else {
+            describe_path(call, asked, *path)
+        };
+        match ended {
             Ended::Whole => {}
             Ended::Failed(failed) => status = failed,
             Ended::Closed => return ExitCode::from(call.failure),
@@ -211,12 +230,7 @@ fn describe_all(
 /// Parses the arguments, describes the streams, and returns the status.
 pub fn run(call: &Call<'_>) -> ExitCode {
     match parse_arguments(call.rt.alloc(), call.name, call.words) {
-        Ok(parsed) => describe_all(
-            call,
-            &parsed.options(),
-            parsed.encoding,
-            parsed.paths.as_slice(),
-        ),
+        Ok(parsed) => describe_all(call, &parsed.asked(), parsed.paths.as_slice()),
         Err(error) => call.report(&error),
     }
 }

@@ -1,14 +1,154 @@
-//! Descriptor sets: reading one of a file, and reporting why there is none.
+//! Descriptor sets: which one a call names, reading it, and reporting why there is none.
 
 use crate::call::Call;
+use crate::similar::push_similar;
+use clap::error::ErrorKind;
+use clap::{ArgMatches, Command, Error};
 use command_line::{Input, fail};
-use descriptor_set::{DescriptorError, DescriptorSet, MOST_BYTES, read_set};
-use std::alloc::Global;
+use descriptor_set::{DescriptorError, DescriptorSet, MOST_BYTES, named_table_of, read_set};
+use dump_lines::OtherTable;
+use schema_lines::{MESSAGE_NAMES, Rename, RenameFault, SchemaError, last_name, schemas_of};
+use shared_core_codec::loaded_table::LoadedSchemas;
+use shared_core_json::named_table::NamedTable;
+use std::alloc::{AllocError, Global};
+use std::env::{self, VarError};
 use std::io::{self, Read};
 use std::process::ExitCode;
 
 /// The status if a set is not there, or is none.
 const NO_SET: u8 = 2;
+
+/// The variable of the environment that names a set where no option does.
+const VARIABLE: &str = "PENDRATSOA_SCHEMA";
+
+/// By what payloads are read, as options say it.
+#[derive(Drop)]
+pub struct SchemaArguments<'a> {
+    /// The path of a descriptor set, or `-` for the standard input.
+    pub path: Option<&'a str>,
+    /// Which messages have other names there.
+    pub renames: Vec<Rename<'a>>,
+}
+
+/// The options `--schema` and `--rename`. The error is a rename of another form.
+pub fn schema_arguments<'a>(
+    alloc: Global,
+    command: &mut Command<'_>,
+    matches: &ArgMatches<'a>,
+) -> Result<SchemaArguments<'a>, Error> {
+    Ok(SchemaArguments {
+        path: matches.get_str("schema"),
+        renames: renames_of(alloc, command, matches)?,
+    })
+}
+
+/// The option `--rename`. The error is one of another form.
+pub fn renames_of<'a>(
+    alloc: Global,
+    command: &mut Command<'_>,
+    matches: &ArgMatches<'a>,
+) -> Result<Vec<Rename<'a>>, Error> {
+    let mut renames = Vec::new(alloc);
+    for word in matches.get_strs("rename").unwrap_or(&[]) {
+        let word: &'a str = *word;
+        let Some(rename) = Rename::of(word) else {
+            let why = format!(in alloc; "--rename {word} is not THEIRS=OURS")?;
+            return Err(command.error(ErrorKind::InvalidValue, why.as_str())?);
+        };
+        renames.push(rename)?;
+    }
+    Ok(renames)
+}
+
+/// The path of the set by which the payloads of an input are read: that of the option, or else of the variable; `None`
+/// for the protocol's own description. If there is none for a reason, reports it, and the error is the status.
+pub fn schema_path(
+    call: &Call<'_>,
+    schema: &SchemaArguments<'_>,
+    input: &str,
+) -> Result<Option<String>, ExitCode> {
+    let path = match path_of(call, schema.path) {
+        Ok(path) => path,
+        Err(VarError::OutOfMemory) => return Err(call.fail("out of memory", call.failure)),
+        Err(_) => {
+            return Err(fail(
+                call.rt,
+                call.name,
+                format_args!("{VARIABLE} is not UTF-8"),
+                NO_SET,
+            ));
+        }
+    };
+    match why_not(path.as_ref().map(|path| path.as_str()), schema, input) {
+        Some(why) => Err(call.fail(why, NO_SET)),
+        None => Ok(path),
+    }
+}
+
+/// Why there is no set by which an input is read.
+fn why_not(path: Option<&str>, schema: &SchemaArguments<'_>, input: &str) -> Option<&'static str> {
+    match path {
+        Some(path) if path == "-" && input == "-" => {
+            Some("either the input or the descriptor set can come from the standard input")
+        }
+        None if !schema.renames.is_empty() => Some("--rename is of a set, which --schema names"),
+        _ => None,
+    }
+}
+
+/// The path of an option, or else of the variable, if that is not empty.
+fn path_of(call: &Call<'_>, option: Option<&str>) -> Result<Option<String>, VarError> {
+    if let Some(path) = option {
+        return Ok(Some(String::from_str(call.rt.alloc(), path)?));
+    }
+    match env::var(call.rt, VARIABLE) {
+        Ok(path) => {
+            if path.is_empty() {
+                Ok(None)
+            } else {
+                Ok(Some(path))
+            }
+        }
+        Err(VarError::NotPresent) => Ok(None),
+        Err(error) => Err(error),
+    }
+}
+
+/// The table of a descriptor set, and which of its messages are those of the protocol.
+#[derive(Drop)]
+pub struct OtherMessages {
+    table: NamedTable<LoadedSchemas>,
+    schemas: Vec<Option<u32>>,
+}
+
+impl OtherMessages {
+    /// By what a stream is dumped.
+    pub fn table(&self) -> OtherTable<'_, NamedTable<LoadedSchemas>> {
+        OtherTable {
+            table: &self.table,
+            schemas: self.schemas.as_slice(),
+        }
+    }
+}
+
+/// Reads the set of a file, and finds the messages of the protocol in it. If there is a fault, reports it, and the
+/// error is the status.
+pub fn read_messages(
+    call: &Call<'_>,
+    path: &str,
+    renames: &[Rename<'_>],
+) -> Result<OtherMessages, ExitCode> {
+    let alloc = call.rt.alloc();
+    let set = read_descriptors(call, path)?;
+    let table = match named_table_of(alloc, &set) {
+        Ok(table) => table,
+        Err(error) => return Err(fail_descriptors(call, path, error)),
+    };
+    match schemas_of(alloc, &set, renames) {
+        Ok(schemas) => Ok(OtherMessages { table, schemas }),
+        Err(error) => Err(fail_schema(call, &set, renames, error)),
+    }
+}
 
 /// Reads a set of a file, or of the standard input if the path is `-`. If there is none, reports why, and the error is
 /// the status.
@@ -49,6 +189,51 @@ pub fn fail_descriptors(call: &Call<'_>, path: &str, error: DescriptorError) -> 
         DescriptorError::OutOfMemory => call.fail(error, call.failure),
         error => fail(call.rt, call.name, format_args!("{path}: {error}"), NO_SET),
     }
+}
+
+/// Reports why the messages of a set are not found, and returns the status.
+pub fn fail_schema(
+    call: &Call<'_>,
+    set: &DescriptorSet,
+    renames: &[Rename<'_>],
+    error: SchemaError,
+) -> ExitCode {
+    if let SchemaError::Rename(index, fault) = error {
+        if let Some(rename) = renames.get(index) {
+            return match rename_text(call.rt.alloc(), set, rename, fault) {
+                Ok(text) => call.fail(text, NO_SET),
+                Err(error) => call.fail(error, call.failure),
+            };
+        }
+    }
+    call.fail(error, call.failure)
+}
+
+/// What is wrong with a rename, and the names that are like one that is not there.
+fn rename_text(
+    alloc: Global,
+    set: &DescriptorSet,
+    rename: &Rename<'_>,
+    fault: RenameFault,
+) -> Result<String, AllocError> {
+    let (theirs, ours) = (rename.theirs, rename.ours);
+    let mut text = format!(in alloc; "--rename {theirs}={ours}: ")?;
+    match fault {
+        RenameFault::UnknownHere => {
+            write!(text, "there is no message {ours} here")?;
+            push_similar(alloc, &mut text, ours, &MESSAGE_NAMES)?;
+        }
+        RenameFault::UnknownThere => {
+            write!(text, "there is no message {theirs} there")?;
+            let mut names = Vec::new(alloc);
+            for message in &set.messages {
+                names.push(last_name(message.name.as_str()))?;
+            }
+            push_similar(alloc, &mut text, theirs, names.as_slice())?;
+        }
+        RenameFault::Twice => write!(text, "{ours} has another name there already")?,
+    }
+    Ok(text)
 }
 
 /// Reads an input as far as a set may be long, and a byte more.

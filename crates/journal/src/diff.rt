@@ -8,8 +8,10 @@ mod inputs;
 
 use crate::beginning::{Beginning, Begun};
 use crate::call::Call;
+use crate::descriptors::{OtherMessages, read_messages, schema_path};
 use crate::diff::arguments::{Arguments, ValuesChoice, parse_arguments};
 use crate::diff::inputs::{Inputs, closed_side, open_both};
+use crate::fitting::{Asked, NOT_BY_A_SET, version_of};
 use command_line::{Decoding, Pipe, Progress, has_color};
 use diff_lines::{
     DiffError, DiffOptions, Findings, Form, Look, Names, Trouble, diff, empty_note, no_item_note,
@@ -118,7 +120,7 @@ fn options_of<'a>(call: &Call<'_>, parsed: &Arguments<'a>, is_terminal: bool) ->
 }
 
 /// Compares the two inputs, prints the verdict and returns its status.
-fn run_parsed(call: &Call<'_>, parsed: &Arguments<'_>, inputs: Inputs) -> ExitCode
+fn run_parsed<'a>(call: &Call<'a>, parsed: &Arguments<'a>, inputs: Inputs) -> ExitCode
     requires { 5 ≤ version_number parsed.now.version }
 {
     let progress = Progress::new(call.rt, call.name, inputs.size());
@@ -134,7 +136,7 @@ fn run_parsed(call: &Call<'_>, parsed: &Arguments<'_>, inputs: Inputs) -> ExitCo
             parsed.version,
             parsed.limit,
             Begun::new(
-                Decoding::new(inputs.recorded, parsed.encoding, &progress),
+                Decoding::new(inputs.recorded, parsed.recorded, inputs.encoding, &progress),
                 &beginnings.recorded,
             ),
         ),
@@ -143,7 +145,7 @@ fn run_parsed(call: &Call<'_>, parsed: &Arguments<'_>, inputs: Inputs) -> ExitCo
             parsed.version,
             parsed.limit,
             Begun::new(
-                Decoding::new(inputs.replayed, parsed.encoding, &progress),
+                Decoding::new(inputs.replayed, parsed.replayed, inputs.encoding, &progress),
                 &beginnings.replayed,
             ),
         ),
@@ -165,21 +167,62 @@ fn run_parsed(call: &Call<'_>, parsed: &Arguments<'_>, inputs: Inputs) -> ExitCo
         }
         // the reader has closed the output, so nothing is reported
         Err(DiffError::Output) if output.is_broken() => ExitCode::from(call.failure),
+        // it was reported what is wrong with the input
+        Err(_) if progress.has_reported() => ExitCode::from(call.failure),
         Err(error) => end_without(call, parsed.version, error, &beginnings),
     }
 }
 
 /// Parses the arguments, compares the journals, and returns the status.
 pub fn run(call: &Call<'_>) -> ExitCode {
-    let parsed = match parse_arguments(call.rt.alloc(), call.name, call.words) {
+    let mut parsed = match parse_arguments(call.rt.alloc(), call.name, call.words) {
         Ok(parsed) => parsed,
         Err(error) => return call.report(&error),
     };
     if let Some(side) = closed_side(call.rt, &parsed) {
         return call.fail(ReaderError::Read(side), call.failure);
     }
-    match open_both(call.rt, &parsed) {
-        Ok(inputs) => run_parsed(call, &parsed, inputs),
+    let path = match schema_path(call, &parsed.schema, standard_input(&parsed)) {
+        Ok(path) => path,
+        Err(status) => return status,
+    };
+    if let Some(path) = path {
+        if parsed.is_auto {
+            return call.fail(NOT_BY_A_SET, 2);
+        }
+        return match read_messages(call, path.as_str(), parsed.schema.renames.as_slice()) {
+            Ok(messages) => run_by(call, &parsed, Some(&messages)),
+            Err(status) => status,
+        };
+    }
+    let asked = Asked {
+        version: parsed.version,
+        is_auto: parsed.is_auto,
+        limit: parsed.limit,
+        encoding: parsed.encoding,
+    };
+    parsed.version = match version_of(call, &asked, &[parsed.recorded, parsed.replayed]) {
+        Ok(version) => version,
+        Err(status) => return status,
+    };
+    run_by(call, &parsed, None)
+}
+
+/// The path of the journal that comes from the standard input, or else of the recorded one.
+fn standard_input<'a>(parsed: &Arguments<'a>) -> &'a str {
+    if parsed.replayed == "-" {
+        return parsed.replayed;
+    }
+    parsed.recorded
+}
+
+/// Opens both journals, whose payloads are read by these messages or else by the protocol's, compares them, and returns
+/// the status.
+fn run_by(call: &Call<'_>, parsed: &Arguments<'_>, messages: Option<&OtherMessages>) -> ExitCode
+    requires { 5 ≤ version_number parsed.now.version }
+{
+    match open_both(call, parsed, messages) {
+        Ok(inputs) => run_parsed(call, parsed, inputs),
         Err(error) => call.fail(error, 2),
     }
 }

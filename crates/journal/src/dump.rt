@@ -9,15 +9,12 @@ mod suggestions;
 
 use crate::beginning::{Beginning, Begun};
 use crate::call::Call;
-use crate::descriptors::{fail_descriptors, read_descriptors};
+use crate::descriptors::{read_messages, schema_path};
 use crate::dump::arguments::{Arguments, parse_arguments};
 pub use crate::dump::canonical::Records;
+use crate::fitting::{Asked, NOT_BY_A_SET, version_of};
 use command_line::{Decoding, Input, Pipe, Progress, input_size, note};
-use descriptor_set::named_table_of;
-use dump_lines::{
-    MOST_SHOWN, MessageTable, Options, OtherTable, ProtocolTable, dump, dump_on_terminal,
-};
-use schema_lines::schemas_of;
+use dump_lines::{MOST_SHOWN, MessageTable, Options, ProtocolTable, dump, dump_on_terminal};
 use std::io::IsTerminal;
 use std::process::ExitCode;
 use stream_lines::{PrintError, Report, Trouble};
@@ -102,7 +99,10 @@ fn run_parsed<M: MessageTable>(
     };
     let progress = Progress::beside_output(call.rt, call.name, input_size(&input));
     let beginning = Beginning::new();
-    let mut input = Begun::new(Decoding::new(input, parsed.encoding, &progress), &beginning);
+    let mut input = Begun::new(
+        Decoding::new(input, parsed.path, parsed.encoding, &progress),
+        &beginning,
+    );
     let is_terminal = call.rt.stdout().is_terminal();
     let mut output = Pipe::new(Escaping::new(
         call.rt.alloc(),
@@ -120,7 +120,7 @@ fn run_parsed<M: MessageTable>(
         Ok(found) => end(call, &options, &beginning, &found),
         // the reader has closed the output, so nothing is reported
         Err(PrintError::Output) if output.is_broken() => ExitCode::from(call.failure),
-        Err(error) => call.fail(error, call.failure),
+        Err(error) => call.fail_reading(error, &progress),
     }
 }
 
@@ -138,40 +138,40 @@ fn run_by<M: MessageTable>(call: &Call<'_>, parsed: &Arguments<'_>, messages: &M
 fn run_by_set(call: &Call<'_>, parsed: &Arguments<'_>, path: &str) -> ExitCode
     requires { 5 ≤ version_number parsed.now.version }
 {
-    let alloc = call.rt.alloc();
-    let set = match read_descriptors(call, path) {
-        Ok(set) => set,
-        Err(status) => return status,
-    };
-    let table = match named_table_of(alloc, &set) {
-        Ok(table) => table,
-        Err(error) => return fail_descriptors(call, path, error),
-    };
-    let schemas = match schemas_of(alloc, &set) {
-        Ok(schemas) => schemas,
-        Err(error) => return call.fail(error, call.failure),
-    };
-    let messages = OtherTable {
-        table: &table,
-        schemas: schemas.as_slice(),
-    };
-    run_by(call, parsed, &messages)
+    match read_messages(call, path, parsed.schema.renames.as_slice()) {
+        Ok(messages) => run_by(call, parsed, &messages.table()),
+        Err(status) => status,
+    }
 }
 
 /// Parses the arguments, dumps the stream, and returns the status.
 pub fn run(call: &Call<'_>) -> ExitCode {
-    let parsed = match parse_arguments(call.rt.alloc(), call.name, call.words) {
+    let mut parsed = match parse_arguments(call.rt.alloc(), call.name, call.words) {
         Ok(parsed) => parsed,
         Err(error) => return call.report(&error),
     };
-    match parsed.schema {
-        Some(path) => run_by_set(call, &parsed, path),
-        None => run_by(
-            call,
-            &parsed,
-            &ProtocolTable {
-                canonicalizer: &Records,
-            },
-        ),
+    let path = match schema_path(call, &parsed.schema, parsed.path) {
+        Ok(path) => path,
+        Err(status) => return status,
+    };
+    if let Some(path) = path {
+        if parsed.is_auto {
+            return call.fail(NOT_BY_A_SET, 2);
+        }
+        return run_by_set(call, &parsed, path.as_str());
     }
+    let asked = Asked {
+        version: parsed.version,
+        is_auto: parsed.is_auto,
+        limit: parsed.limit,
+        encoding: parsed.encoding,
+    };
+    parsed.version = match version_of(call, &asked, &[parsed.path]) {
+        Ok(version) => version,
+        Err(status) => return status,
+    };
+    let messages = ProtocolTable {
+        canonicalizer: &Records,
+    };
+    run_by(call, &parsed, &messages)
 }

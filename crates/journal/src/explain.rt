@@ -5,10 +5,12 @@ ghost use Rattle.shared_core_base.specs.Version.{version_number};
 
 use crate::call::Call;
 use crate::definitions;
+use crate::fitting::{Asked, version_of};
 use clap::Error;
 use clap::error::ErrorKind;
 use command_line::{
-    Decoding, Input, Pipe, Progress, encoding_of, fail, input_size, max_message_of, protocol_of,
+    Decoding, Input, Pipe, Progress, encoding_of, fail, input_size, is_auto, max_message_of,
+    protocol_of,
 };
 use encoded_input::Encoding;
 use explain_lines::{Options, explain};
@@ -29,6 +31,8 @@ struct Arguments<'a> {
     path: &'a str,
     /// How the file is written, if it is text.
     encoding: Option<Encoding>,
+    /// Whether the version is to be the newest that the stream fits.
+    is_auto: bool,
     options: Options,
 }
 
@@ -53,6 +57,7 @@ fn parse_arguments<'a>(
     Ok(Arguments {
         path: matches.get_str("file").unwrap_or("-"),
         encoding: encoding_of(&matches),
+        is_auto: is_auto(&matches),
         options: Options {
             version: protocol_of(&matches),
             limit,
@@ -76,12 +81,11 @@ fn end(call: &Call<'_>, options: &Options, found: &Report) -> ExitCode {
 }
 
 /// Explains the input, and returns the status.
-fn run_parsed(call: &Call<'_>, parsed: &Arguments<'_>, input: Input) -> ExitCode
-    requires { 5 ≤ version_number parsed.now.options.version }
+fn run_parsed(call: &Call<'_>, parsed: &Arguments<'_>, options: &Options, input: Input) -> ExitCode
+    requires { 5 ≤ version_number options.now.version }
 {
-    let options = &parsed.options;
     let progress = Progress::beside_output(call.rt, call.name, input_size(&input));
-    let mut input = Decoding::new(input, parsed.encoding, &progress);
+    let mut input = Decoding::new(input, parsed.path, parsed.encoding, &progress);
     let mut output = Pipe::new(call.rt.stdout());
     let explained = explain(call.rt.alloc(), options, &mut input, &mut output);
     progress.clear();
@@ -89,7 +93,7 @@ fn run_parsed(call: &Call<'_>, parsed: &Arguments<'_>, input: Input) -> ExitCode
         Ok(found) => end(call, options, &found),
         // the reader has closed the output, so nothing is reported
         Err(PrintError::Output) if output.is_broken() => ExitCode::from(call.failure),
-        Err(error) => call.fail(error, call.failure),
+        Err(error) => call.fail_reading(error, &progress),
     }
 }
 
@@ -99,8 +103,22 @@ pub fn run(call: &Call<'_>) -> ExitCode {
         Ok(parsed) => parsed,
         Err(error) => return call.report(&error),
     };
+    let asked = Asked {
+        version: parsed.options.version,
+        is_auto: parsed.is_auto,
+        limit: parsed.options.limit,
+        encoding: parsed.encoding,
+    };
+    let version = match version_of(call, &asked, &[parsed.path]) {
+        Ok(version) => version,
+        Err(status) => return status,
+    };
+    let options = Options {
+        version,
+        ..parsed.options
+    };
     match call.open(parsed.path) {
-        Ok(input) => run_parsed(call, &parsed, input),
+        Ok(input) => run_parsed(call, &parsed, &options, input),
         Err(error) => call.fail(error, 2),
     }
 }

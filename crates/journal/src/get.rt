@@ -7,11 +7,13 @@ use crate::beginning::{Beginning, Begun};
 use crate::call::Call;
 use crate::definitions;
 use crate::dump::Records;
+use crate::fitting::{Asked, version_of};
 use crate::similar::push_similar;
 use clap::error::ErrorKind;
 use clap::{ArgMatches, Command, Error};
 use command_line::{
-    Decoding, Input, Pipe, Progress, encoding_of, fail, input_size, max_message_of, protocol_of,
+    Decoding, Input, Pipe, Progress, encoding_of, fail, input_size, is_auto, max_message_of,
+    protocol_of,
 };
 use encoded_input::Encoding;
 use field_paths::{Answer, Request, get};
@@ -32,12 +34,14 @@ const UNWRITABLE: u8 = 2;
 const LACKING: u8 = 1;
 
 /// The parsed arguments.
-#[derive(Drop)]
+#[derive(Clone, Copy, Drop)]
 struct Arguments<'a> {
     /// The path of the stream, or `-` for the standard input.
     file: &'a str,
     /// How the file is written, if it is text.
     encoding: Option<Encoding>,
+    /// Whether the version is to be the newest that the stream fits.
+    is_auto: bool,
     /// How the stream is read.
     options: Options,
     /// The index of the item.
@@ -63,6 +67,7 @@ fn parse_arguments<'a>(
     Ok(Arguments {
         file: matches.get_str("file").unwrap_or("-"),
         encoding: encoding_of(&matches),
+        is_auto: is_auto(&matches),
         options: Options {
             version: protocol_of(&matches),
             limit,
@@ -177,7 +182,10 @@ fn run_with(call: &Call<'_>, parsed: &Arguments<'_>, input: Input) -> ExitCode
 {
     let progress = Progress::beside_output(call.rt, call.name, input_size(&input));
     let beginning = Beginning::new();
-    let mut input = Begun::new(Decoding::new(input, parsed.encoding, &progress), &beginning);
+    let mut input = Begun::new(
+        Decoding::new(input, parsed.file, parsed.encoding, &progress),
+        &beginning,
+    );
     let mut output = Pipe::new(call.rt.stdout());
     let request = Request {
         options: parsed.options,
@@ -190,7 +198,7 @@ fn run_with(call: &Call<'_>, parsed: &Arguments<'_>, input: Input) -> ExitCode
         Ok(answer) => end(call, parsed, &beginning, answer),
         // the reader has closed the output, so nothing is reported
         Err(PrintError::Output) if output.is_broken() => ExitCode::from(call.failure),
-        Err(error) => call.fail(error, call.failure),
+        Err(error) => call.fail_reading(error, &progress),
     }
 }
 
@@ -206,6 +214,21 @@ pub fn run(call: &Call<'_>) -> ExitCode {
             UNWRITABLE,
         );
     }
+    let asked = Asked {
+        version: parsed.options.version,
+        is_auto: parsed.is_auto,
+        limit: parsed.options.limit,
+        encoding: parsed.encoding,
+    };
+    let version = match version_of(call, &asked, &[parsed.file]) {
+        Ok(version) => version,
+        Err(status) => return status,
+    };
+    let options = Options {
+        version,
+        ..parsed.options
+    };
+    let parsed = Arguments { options, ..parsed };
     match call.open(parsed.file) {
         Ok(input) => run_with(call, &parsed, input),
         Err(error) => call.fail(error, 2),

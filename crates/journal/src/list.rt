@@ -6,9 +6,10 @@ ghost use Rattle.shared_core_base.specs.Version.{version_number};
 use crate::beginning::{Beginning, Begun};
 use crate::call::Call;
 use crate::definitions;
+use crate::fitting::{Asked, version_of};
 use clap::Error;
 use command_line::{
-    Decoding, Input, Pipe, Progress, encoding_of, input_size, max_message_of, protocol_of,
+    Decoding, Input, Pipe, Progress, encoding_of, input_size, is_auto, max_message_of, protocol_of,
 };
 use encoded_input::Encoding;
 use list_lines::{Options, list};
@@ -27,6 +28,8 @@ struct Arguments<'a> {
     path: &'a str,
     /// The version of the protocol.
     version: Version,
+    /// Whether the version is to be the newest that the stream fits.
+    is_auto: bool,
     /// The greatest length of a payload that is taken.
     limit: u32,
     /// How the file is written, if it is text.
@@ -47,6 +50,7 @@ fn parse_arguments<'a>(
     Ok(Arguments {
         path: matches.get_str("file").unwrap_or("-"),
         version: protocol_of(&matches),
+        is_auto: is_auto(&matches),
         limit,
         encoding: encoding_of(&matches),
     })
@@ -71,7 +75,10 @@ fn run_parsed(call: &Call<'_>, parsed: &Arguments<'_>, input: Input) -> ExitCode
     };
     let progress = Progress::beside_output(call.rt, call.name, input_size(&input));
     let beginning = Beginning::new();
-    let mut input = Begun::new(Decoding::new(input, parsed.encoding, &progress), &beginning);
+    let mut input = Begun::new(
+        Decoding::new(input, parsed.path, parsed.encoding, &progress),
+        &beginning,
+    );
     let mut output = Pipe::new(call.rt.stdout());
     let listed = list(call.rt.alloc(), &options, &mut input, &mut output);
     progress.clear();
@@ -79,15 +86,25 @@ fn run_parsed(call: &Call<'_>, parsed: &Arguments<'_>, input: Input) -> ExitCode
         Ok(found) => end(call, parsed.version, &beginning, &found),
         // the reader has closed the output, so nothing is reported
         Err(PrintError::Output) if output.is_broken() => ExitCode::from(call.failure),
-        Err(error) => call.fail(error, call.failure),
+        Err(error) => call.fail_reading(error, &progress),
     }
 }
 
 /// Parses the arguments, lists the stream, and returns the status.
 pub fn run(call: &Call<'_>) -> ExitCode {
-    let parsed = match parse_arguments(call.rt.alloc(), call.name, call.words) {
+    let mut parsed = match parse_arguments(call.rt.alloc(), call.name, call.words) {
         Ok(parsed) => parsed,
         Err(error) => return call.report(&error),
+    };
+    let asked = Asked {
+        version: parsed.version,
+        is_auto: parsed.is_auto,
+        limit: parsed.limit,
+        encoding: parsed.encoding,
+    };
+    parsed.version = match version_of(call, &asked, &[parsed.path]) {
+        Ok(version) => version,
+        Err(status) => return status,
     };
     match call.open(parsed.path) {
         Ok(input) => run_parsed(call, &parsed, input),

@@ -12,6 +12,7 @@ mod descriptors;
 mod diff;
 mod dump;
 mod explain;
+mod fitting;
 mod get;
 mod list;
 mod make;

@@ -2,9 +2,10 @@
 
 use crate::call::Call;
 use crate::definitions;
-use crate::descriptors::{fail_descriptors, read_descriptors};
+use crate::descriptors::{
+    SchemaArguments, fail_descriptors, fail_schema, read_descriptors, schema_arguments, schema_path,
+};
 use clap::Error;
-use clap::error::ErrorKind;
 use command_line::{Input, Pipe, Progress, Watched, fail, input_size, protocol_of};
 use descriptor_set::readable_table_of;
 use make_lines::{LineTable, MakeError, OtherLines, make};
@@ -20,9 +21,8 @@ use std::process::ExitCode;
 struct Arguments<'a> {
     /// The path of the lines, or `-` for the standard input.
     path: &'a str,
-    /// The path of the descriptor set by which messages are read, or `-` for the standard input; `None` for the
-    /// protocol's own description.
-    schema: Option<&'a str>,
+    /// By what messages are read.
+    schema: SchemaArguments<'a>,
     /// The version of the protocol.
     version: Version,
 }
@@ -35,16 +35,9 @@ fn parse_arguments<'a>(
 ) -> Result<Arguments<'a>, Error> {
     let mut command = definitions::MAKE.command(alloc, name)?.no_binary_name(true);
     let matches = command.try_get_matches_from_mut(words)?;
-    let path = matches.get_str("file").unwrap_or("-");
-    let schema = matches.get_str("schema");
-    if path == "-" && schema == Some("-") {
-        return Err(command.error(
-            ErrorKind::ArgumentConflict,
-            "either the lines or the descriptor set can come from the standard input",
-        )?);
-    }
+    let schema = schema_arguments(alloc, &mut command, &matches)?;
     Ok(Arguments {
-        path,
+        path: matches.get_str("file").unwrap_or("-"),
         schema,
         version: protocol_of(&matches),
     })
@@ -113,9 +106,10 @@ fn run_by_set(call: &Call<'_>, parsed: &Arguments<'_>, path: &str) -> ExitCode {
         Ok(table) => table,
         Err(error) => return fail_descriptors(call, path, error),
     };
-    let schemas = match schemas_of(alloc, &set) {
+    let renames = parsed.schema.renames.as_slice();
+    let schemas = match schemas_of(alloc, &set, renames) {
         Ok(schemas) => schemas,
-        Err(error) => return call.fail(error, call.failure),
+        Err(error) => return fail_schema(call, &set, renames, error),
     };
     let messages = OtherLines {
         table: &table,
@@ -133,8 +127,12 @@ pub fn run(call: &Call<'_>) -> ExitCode {
     if call.rt.stdout().is_terminal() {
         return call.fail("the stream is not written to a terminal: redirect it", 2);
     }
-    match parsed.schema {
-        Some(path) => run_by_set(call, &parsed, path),
+    let path = match schema_path(call, &parsed.schema, parsed.path) {
+        Ok(path) => path,
+        Err(status) => return status,
+    };
+    match path {
+        Some(path) => run_by_set(call, &parsed, path.as_str()),
         None => run_by(call, &parsed, &ProtocolSchemas),
     }
 }

@@ -38,7 +38,7 @@ pub struct File<'a> {
 
 impl<'a> File<'a> {
     /// Opens the file. A pipe is none, since it can be read only once.
-    fn open(&self, call: &Call<'_>) -> Result<Input, ExitCode> {
+    pub fn open(&self, call: &Call<'_>) -> Result<Input, ExitCode> {
         let path = self.path;
         match call.open(path) {
             Ok(input) if input_size(&input).is_some() => Ok(input),
@@ -65,9 +65,15 @@ impl<'a> File<'a> {
         };
         let progress = Progress::beside_output(call.rt, call.name, input_size(&input));
         let beginning = Beginning::new();
-        let mut input = Begun::new(Decoding::new(input, self.encoding, &progress), &beginning);
+        let mut input = Begun::new(
+            Decoding::new(input, self.path, self.encoding, &progress),
+            &beginning,
+        );
         let located = locate(call.rt.alloc(), &options, range, &mut input);
         progress.clear();
+        if progress.has_reported() {
+            return Err(ExitCode::from(call.failure));
+        }
         self.check(call, &beginning, located)
     }
 
@@ -137,13 +143,15 @@ impl<'a> File<'a> {
     ) -> Result<(), ExitCode> {
         let input = self.open(call)?;
         let progress = Progress::beside_output(call.rt, call.name, input_size(&input));
-        let mut input = Decoding::new(input, self.encoding, &progress);
+        let mut input = Decoding::new(input, self.path, self.encoding, &progress);
         let copied = copy_part(call.rt.alloc(), part, &mut input, output);
         progress.clear();
         let path = self.path;
         match copied {
             Ok(()) => Ok(()),
             Err(CopyError::Output) => Err(fail_output(call, output)),
+            // it was reported what is wrong with the input
+            Err(_) if progress.has_reported() => Err(ExitCode::from(call.failure)),
             Err(error) => Err(fail(
                 call.rt,
                 call.name,

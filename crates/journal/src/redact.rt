@@ -6,9 +6,10 @@ ghost use Rattle.shared_core_base.specs.Version.{version_number};
 use crate::beginning::{Beginning, Begun};
 use crate::call::Call;
 use crate::definitions;
+use crate::fitting::{Asked, version_of};
 use clap::Error;
 use command_line::{
-    Decoding, Input, Pipe, Progress, encoding_of, fail, input_size, max_message_of, note,
+    Decoding, Input, Pipe, Progress, encoding_of, fail, input_size, is_auto, max_message_of, note,
     protocol_of,
 };
 use encoded_input::Encoding;
@@ -38,6 +39,8 @@ struct Arguments<'a> {
     secret: Option<&'a str>,
     /// The version of the protocol.
     version: Version,
+    /// Whether the version is to be the newest that the stream fits.
+    is_auto: bool,
     /// The greatest length of a payload that is taken.
     limit: u32,
     /// How the file is written, if it is text.
@@ -61,6 +64,7 @@ fn parse_arguments<'a>(
         path: matches.get_str("file").unwrap_or("-"),
         secret: matches.get_str("key"),
         version: protocol_of(&matches),
+        is_auto: is_auto(&matches),
         limit,
         encoding: encoding_of(&matches),
     })
@@ -109,19 +113,17 @@ fn end(call: &Call<'_>, version: Version, beginning: &Beginning, found: &Report)
 }
 
 /// Writes the input with its contents replaced, and returns the status.
-fn run_with(
-    call: &Call<'_>,
-    options: &Options,
-    encoding: Option<Encoding>,
-    input: Input,
-) -> ExitCode
+fn run_with(call: &Call<'_>, parsed: &Arguments<'_>, options: &Options, input: Input) -> ExitCode
     requires version { 5 ≤ version_number options.now.version }
     requires low { 1 ≤ options.now.chunk_size }
     requires high { options.now.chunk_size ≤ 65536 }
 {
     let progress = Progress::beside_output(call.rt, call.name, input_size(&input));
     let beginning = Beginning::new();
-    let mut input = Begun::new(Decoding::new(input, encoding, &progress), &beginning);
+    let mut input = Begun::new(
+        Decoding::new(input, parsed.path, parsed.encoding, &progress),
+        &beginning,
+    );
     let mut output = Pipe::new(call.rt.stdout());
     let written = redact(call.rt.alloc(), options, &mut input, &mut output);
     progress.clear();
@@ -129,19 +131,29 @@ fn run_with(
         Ok(found) => end(call, options.version, &beginning, &found),
         // the reader has closed the output, so nothing is reported
         Err(PrintError::Output) if output.is_broken() => ExitCode::from(call.failure),
-        Err(error) => call.fail(error, call.failure),
+        Err(error) => call.fail_reading(error, &progress),
     }
 }
 
 /// Parses the arguments, writes the stream, and returns the status.
 pub fn run(call: &Call<'_>) -> ExitCode {
-    let parsed = match parse_arguments(call.rt.alloc(), call.name, call.words) {
+    let mut parsed = match parse_arguments(call.rt.alloc(), call.name, call.words) {
         Ok(parsed) => parsed,
         Err(error) => return call.report(&error),
     };
     if call.rt.stdout().is_terminal() {
         return call.fail("the stream is not written to a terminal: redirect it", 2);
     }
+    let asked = Asked {
+        version: parsed.version,
+        is_auto: parsed.is_auto,
+        limit: parsed.limit,
+        encoding: parsed.encoding,
+    };
+    parsed.version = match version_of(call, &asked, &[parsed.path]) {
+        Ok(version) => version,
+        Err(status) => return status,
+    };
     let key = match key_of(call, parsed.secret) {
         Ok(key) => key,
         Err(status) => return status,
@@ -153,7 +165,7 @@ pub fn run(call: &Call<'_>) -> ExitCode {
         key,
     };
     match call.open(parsed.path) {
-        Ok(input) => run_with(call, &options, parsed.encoding, input),
+        Ok(input) => run_with(call, &parsed, &options, input),
         Err(error) => call.fail(error, 2),
     }
 }

@@ -3,12 +3,12 @@
 
 use crate::call::Call;
 use crate::definitions;
-use crate::descriptors::{fail_descriptors, read_descriptors};
+use crate::descriptors::{fail_descriptors, fail_schema, read_descriptors, renames_of};
 use clap::Error;
 use command_line::Pipe;
-use schema_lines::{SchemaError, write_schema};
+use descriptor_set::DescriptorSet;
+use schema_lines::{Rename, SchemaError, write_schema};
 use std::alloc::Global;
-use std::io::Stdout;
 use std::process::ExitCode;
 
 /// The parsed arguments.
@@ -16,6 +16,8 @@ use std::process::ExitCode;
 struct Arguments<'a> {
     /// The path of the set, or `-` for the standard input.
     path: &'a str,
+    /// Which messages have other names in the set.
+    renames: Vec<Rename<'a>>,
 }
 
 /// Parses the arguments. The error is an invalid argument, or a request for the help or the version.
@@ -24,21 +26,26 @@ fn parse_arguments<'a>(
     name: &'static str,
     words: &'a [String],
 ) -> Result<Arguments<'a>, Error> {
-    let command = definitions::SCHEMA
+    let mut command = definitions::SCHEMA
         .command(alloc, name)?
         .no_binary_name(true);
-    let matches = command.try_get_matches_from(words)?;
+    let matches = command.try_get_matches_from_mut(words)?;
     Ok(Arguments {
         path: matches.get_str("file").unwrap_or("-"),
+        renames: renames_of(alloc, &mut command, &matches)?,
     })
 }
 
 /// Reports why there is no table, and returns the status.
-fn end(call: &Call<'_>, path: &str, error: SchemaError, output: &Pipe<Stdout>) -> ExitCode {
+fn end(
+    call: &Call<'_>,
+    parsed: &Arguments<'_>,
+    set: &DescriptorSet,
+    error: SchemaError,
+) -> ExitCode {
     match error {
-        SchemaError::Output if output.is_broken() => ExitCode::from(call.failure),
-        SchemaError::Descriptor(error) => fail_descriptors(call, path, error),
-        error => call.fail(error, call.failure),
+        SchemaError::Descriptor(error) => fail_descriptors(call, parsed.path, error),
+        error => fail_schema(call, set, parsed.renames.as_slice(), error),
     }
 }
 
@@ -54,8 +61,10 @@ pub fn run(call: &Call<'_>) -> ExitCode {
         Err(status) => return status,
     };
     let mut output = Pipe::new(call.rt.stdout());
-    match write_schema(alloc, &set, &mut output) {
+    match write_schema(alloc, &set, parsed.renames.as_slice(), &mut output) {
         Ok(()) => ExitCode::SUCCESS,
-        Err(error) => end(call, parsed.path, error, &output),
+        // the reader has closed the output, so nothing is reported
+        Err(SchemaError::Output) if output.is_broken() => ExitCode::from(call.failure),
+        Err(error) => end(call, &parsed, &set, error),
     }
 }

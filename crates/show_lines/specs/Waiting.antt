@@ -66,10 +66,13 @@ abbrev pub waiting_after : Option ℕ → Shown → Waiting → Waiting
 waiting_after None half waiting = waiting
 waiting_after (Some id) half waiting = waiting_with id half (other_half half.is_command id waiting) waiting
 
--- The line of a command that nothing has completed; none of a notification, or of an item without a line.
-abbrev pub open_line : Shown → List ℕ
-open_line half = if half.is_command && half.is_selected then codes "open " ++ (half.text ++ codes "\n") else []
+-- The line of a command that nothing has completed, with the id for which it waits; none of a notification, or of an
+-- item without a line.
+abbrev pub open_line : ℕ → Shown → List ℕ
+open_line id half =
+    if half.is_command && half.is_selected
+    then codes "open id " ++ (decimal id ++ (codes ": " ++ (half.text ++ codes "\n"))) else []
 
 -- The lines of the commands that nothing has completed.
 abbrev pub open_lines : Waiting → List ℕ
-open_lines waiting = flat_map (λ entry. open_line entry.1) waiting
+open_lines waiting = flat_map (λ entry. open_line entry.0 entry.1) waiting

@@ -11,6 +11,7 @@ ghost use Rattle.show_lines.specs.Waiting.{coming_view, halves_view, half_view, 
 ghost use Rattle.show_lines.specs.Waiting.{open_lines, other_half, waiting_after, waiting_with};
 
 use crate::facts::Facts;
+use itoa::Buffer;
 use std::alloc::{AllocError, Global};
 use std::collections::BTreeMap;
 
@@ -178,18 +179,22 @@ impl Waiting {
         ensures { OnOk result (lines.new.items ≡ lines.old.items ++ open_lines (halves_view self.now.halves.entries)) }
     {
         for entry in self.halves.iter() {
-            push_open_line(lines, entry.1)?;
+            push_open_line(lines, *entry.0, entry.1)?;
         }
         Ok(())
     }
 }
 
-/// Appends the line of a command that nothing has completed; nothing of a notification, or of an item without a line.
-fn push_open_line(lines: &mut Vec<u8>, half: &Half) -> Result<(), AllocError>
-    ensures { OnOk result (lines.new.items ≡ lines.old.items ++ open_line (half_view half.now)) }
+/// Appends the line of a command that nothing has completed, with the id for which it waits; nothing of a notification,
+/// or of an item without a line.
+fn push_open_line(lines: &mut Vec<u8>, id: u32, half: &Half) -> Result<(), AllocError>
+    ensures { OnOk result (lines.new.items ≡ lines.old.items ++ open_line id (half_view half.now)) }
 {
     if half.is_command && half.is_selected {
-        lines.extend_from_slice(b"open ")?;
+        let mut buffer = Buffer::new();
+        lines.extend_from_slice(b"open id ")?;
+        lines.extend_from_slice(buffer.format(id).as_bytes())?;
+        lines.extend_from_slice(b": ")?;
         lines.extend_from_slice(half.text.as_bytes())?;
         lines.extend_from_slice(b"\n")?;
     }

@@ -26,7 +26,7 @@ _journal_command_list() {
     case ${COMP_WORDS[COMP_CWORD - 1]} in
         --input) mapfile -t COMPREPLY < <(compgen -W 'hex base64' -- "$word") ;;
         --max-message) mapfile -t COMPREPLY < <(compgen -W '' -- "$word") ;;
-        --protocol) mapfile -t COMPREPLY < <(compgen -W '5 6 7 8 9' -- "$word") ;;
+        --protocol) mapfile -t COMPREPLY < <(compgen -W '5 6 7 8 9 auto' -- "$word") ;;
         *) [[ $word != -* ]] || mapfile -t COMPREPLY < <(compgen -W '--input --max-message --protocol --help --version' -- "$word") ;;
     esac
 }
@@ -35,18 +35,20 @@ _journal_dump() {
     case ${COMP_WORDS[COMP_CWORD - 1]} in
         --input) mapfile -t COMPREPLY < <(compgen -W 'hex base64' -- "$word") ;;
         --max-message) mapfile -t COMPREPLY < <(compgen -W '' -- "$word") ;;
-        --protocol) mapfile -t COMPREPLY < <(compgen -W '5 6 7 8 9' -- "$word") ;;
+        --protocol) mapfile -t COMPREPLY < <(compgen -W '5 6 7 8 9 auto' -- "$word") ;;
+        --rename) mapfile -t COMPREPLY < <(compgen -W '' -- "$word") ;;
         --schema) mapfile -t COMPREPLY < <(compgen -W '' -- "$word") ;;
         --type) mapfile -t COMPREPLY < <(compgen -W 'Start Suspension Error End ProposeRunCompletion AwaitingOn ProposeRunCompletionAck GetStateEphemeralCommand GetStateEphemeralNotification InputCommand OutputCommand GetLazyStateCommand SetStateCommand ClearStateCommand ClearAllStateCommand GetLazyStateKeysCommand GetEagerStateCommand GetEagerStateKeysCommand GetPromiseCommand PeekPromiseCommand CompletePromiseCommand SleepCommand CallCommand OneWayCallCommand SendSignalCommand RunCommand AttachInvocationCommand GetInvocationOutputCommand CompleteAwakeableCommand GetLazyStateCompletionNotification GetLazyStateKeysCompletionNotification GetPromiseCompletionNotification PeekPromiseCompletionNotification CompletePromiseCompletionNotification SleepCompletionNotification CallCompletionNotification CallInvocationIdCompletionNotification RunCompletionNotification AttachInvocationCompletionNotification GetInvocationOutputCompletionNotification SignalNotification' -- "$word") ;;
-        *) [[ $word != -* ]] || mapfile -t COMPREPLY < <(compgen -W '--input --max-message --no-payload --pretty --protocol --schema --strict --text --type --help --version' -- "$word") ;;
+        *) [[ $word != -* ]] || mapfile -t COMPREPLY < <(compgen -W '--input --max-message --no-payload --pretty --protocol --rename --schema --strict --text --type --help --version' -- "$word") ;;
     esac
 }
 _journal_make() {
     local word=${COMP_WORDS[COMP_CWORD]}
     case ${COMP_WORDS[COMP_CWORD - 1]} in
         --protocol) mapfile -t COMPREPLY < <(compgen -W '5 6 7 8 9' -- "$word") ;;
+        --rename) mapfile -t COMPREPLY < <(compgen -W '' -- "$word") ;;
         --schema) mapfile -t COMPREPLY < <(compgen -W '' -- "$word") ;;
-        *) [[ $word != -* ]] || mapfile -t COMPREPLY < <(compgen -W '--protocol --schema --help --version' -- "$word") ;;
+        *) [[ $word != -* ]] || mapfile -t COMPREPLY < <(compgen -W '--protocol --rename --schema --help --version' -- "$word") ;;
     esac
 }
 _journal_diff() {
@@ -55,9 +57,11 @@ _journal_diff() {
         --values) mapfile -t COMPREPLY < <(compgen -W 'auto short whole' -- "$word") ;;
         --input) mapfile -t COMPREPLY < <(compgen -W 'hex base64 dump' -- "$word") ;;
         --max-message) mapfile -t COMPREPLY < <(compgen -W '' -- "$word") ;;
+        --rename) mapfile -t COMPREPLY < <(compgen -W '' -- "$word") ;;
+        --schema) mapfile -t COMPREPLY < <(compgen -W '' -- "$word") ;;
         --color) mapfile -t COMPREPLY < <(compgen -W 'auto always never' -- "$word") ;;
-        --protocol) mapfile -t COMPREPLY < <(compgen -W '5 6 7 8 9' -- "$word") ;;
-        *) [[ $word != -* ]] || mapfile -t COMPREPLY < <(compgen -W '--all --verdict --values --ignore-ids --ignore-payloads --input --max-message --strict --json --color --protocol --help --version' -- "$word") ;;
+        --protocol) mapfile -t COMPREPLY < <(compgen -W '5 6 7 8 9 auto' -- "$word") ;;
+        *) [[ $word != -* ]] || mapfile -t COMPREPLY < <(compgen -W '--all --verdict --values --ignore-ids --ignore-payloads --input --max-message --rename --schema --strict --json --color --protocol --help --version' -- "$word") ;;
     esac
 }
 _journal_show() {
@@ -68,7 +72,7 @@ _journal_show() {
         --where) mapfile -t COMPREPLY < <(compgen -W '' -- "$word") ;;
         --input) mapfile -t COMPREPLY < <(compgen -W 'hex base64' -- "$word") ;;
         --max-message) mapfile -t COMPREPLY < <(compgen -W '' -- "$word") ;;
-        --protocol) mapfile -t COMPREPLY < <(compgen -W '5 6 7 8 9' -- "$word") ;;
+        --protocol) mapfile -t COMPREPLY < <(compgen -W '5 6 7 8 9 auto' -- "$word") ;;
         *) [[ $word != -* ]] || mapfile -t COMPREPLY < <(compgen -W '--commands --failures --open --from --to --where --input --max-message --protocol --help --version' -- "$word") ;;
     esac
 }
@@ -78,7 +82,7 @@ _journal_command_cut() {
         --from) mapfile -t COMPREPLY < <(compgen -W '' -- "$word") ;;
         --input) mapfile -t COMPREPLY < <(compgen -W 'hex base64' -- "$word") ;;
         --max-message) mapfile -t COMPREPLY < <(compgen -W '' -- "$word") ;;
-        --protocol) mapfile -t COMPREPLY < <(compgen -W '5 6 7 8 9' -- "$word") ;;
+        --protocol) mapfile -t COMPREPLY < <(compgen -W '5 6 7 8 9 auto' -- "$word") ;;
         --to) mapfile -t COMPREPLY < <(compgen -W '' -- "$word") ;;
         *) [[ $word != -* ]] || mapfile -t COMPREPLY < <(compgen -W '--from --input --max-message --protocol --to --help --version' -- "$word") ;;
     esac
@@ -88,7 +92,7 @@ _journal_command_cat() {
     case ${COMP_WORDS[COMP_CWORD - 1]} in
         --input) mapfile -t COMPREPLY < <(compgen -W 'hex base64' -- "$word") ;;
         --max-message) mapfile -t COMPREPLY < <(compgen -W '' -- "$word") ;;
-        --protocol) mapfile -t COMPREPLY < <(compgen -W '5 6 7 8 9' -- "$word") ;;
+        --protocol) mapfile -t COMPREPLY < <(compgen -W '5 6 7 8 9 auto' -- "$word") ;;
         *) [[ $word != -* ]] || mapfile -t COMPREPLY < <(compgen -W '--input --max-message --protocol --help --version' -- "$word") ;;
     esac
 }
@@ -98,7 +102,7 @@ _journal_command_redact() {
         --key) mapfile -t COMPREPLY < <(compgen -W '' -- "$word") ;;
         --input) mapfile -t COMPREPLY < <(compgen -W 'hex base64' -- "$word") ;;
         --max-message) mapfile -t COMPREPLY < <(compgen -W '' -- "$word") ;;
-        --protocol) mapfile -t COMPREPLY < <(compgen -W '5 6 7 8 9' -- "$word") ;;
+        --protocol) mapfile -t COMPREPLY < <(compgen -W '5 6 7 8 9 auto' -- "$word") ;;
         *) [[ $word != -* ]] || mapfile -t COMPREPLY < <(compgen -W '--key --input --max-message --protocol --help --version' -- "$word") ;;
     esac
 }
@@ -107,7 +111,7 @@ _journal_command_describe() {
     case ${COMP_WORDS[COMP_CWORD - 1]} in
         --input) mapfile -t COMPREPLY < <(compgen -W 'hex base64' -- "$word") ;;
         --max-message) mapfile -t COMPREPLY < <(compgen -W '' -- "$word") ;;
-        --protocol) mapfile -t COMPREPLY < <(compgen -W '5 6 7 8 9' -- "$word") ;;
+        --protocol) mapfile -t COMPREPLY < <(compgen -W '5 6 7 8 9 auto' -- "$word") ;;
         *) [[ $word != -* ]] || mapfile -t COMPREPLY < <(compgen -W '--input --max-message --protocol --help --version' -- "$word") ;;
     esac
 }
@@ -116,7 +120,7 @@ _journal_command_get() {
     case ${COMP_WORDS[COMP_CWORD - 1]} in
         --input) mapfile -t COMPREPLY < <(compgen -W 'hex base64' -- "$word") ;;
         --max-message) mapfile -t COMPREPLY < <(compgen -W '' -- "$word") ;;
-        --protocol) mapfile -t COMPREPLY < <(compgen -W '5 6 7 8 9' -- "$word") ;;
+        --protocol) mapfile -t COMPREPLY < <(compgen -W '5 6 7 8 9 auto' -- "$word") ;;
         *) [[ $word != -* ]] || mapfile -t COMPREPLY < <(compgen -W '--input --max-message --protocol --help --version' -- "$word") ;;
     esac
 }
@@ -126,14 +130,15 @@ _journal_command_explain() {
         --at) mapfile -t COMPREPLY < <(compgen -W '' -- "$word") ;;
         --input) mapfile -t COMPREPLY < <(compgen -W 'hex base64' -- "$word") ;;
         --max-message) mapfile -t COMPREPLY < <(compgen -W '' -- "$word") ;;
-        --protocol) mapfile -t COMPREPLY < <(compgen -W '5 6 7 8 9' -- "$word") ;;
+        --protocol) mapfile -t COMPREPLY < <(compgen -W '5 6 7 8 9 auto' -- "$word") ;;
         *) [[ $word != -* ]] || mapfile -t COMPREPLY < <(compgen -W '--at --input --max-message --protocol --raw --help --version' -- "$word") ;;
     esac
 }
 _journal_command_schema() {
     local word=${COMP_WORDS[COMP_CWORD]}
     case ${COMP_WORDS[COMP_CWORD - 1]} in
-        *) [[ $word != -* ]] || mapfile -t COMPREPLY < <(compgen -W '--help --version' -- "$word") ;;
+        --rename) mapfile -t COMPREPLY < <(compgen -W '' -- "$word") ;;
+        *) [[ $word != -* ]] || mapfile -t COMPREPLY < <(compgen -W '--rename --help --version' -- "$word") ;;
     esac
 }
 complete -o default -F _journal journal

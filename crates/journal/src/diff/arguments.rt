@@ -4,9 +4,10 @@ ghost use Rattle.std.specs.Prelude.{◌≤◌, IfOk};
 ghost use Rattle.shared_core_base.specs.Version.{version_number};
 
 use crate::definitions;
+use crate::descriptors::{SchemaArguments, schema_arguments};
 use clap::error::ErrorKind;
 use clap::{ArgMatches, Command, Error};
-use command_line::{ColorChoice, color_of, encoding_of, max_message_of, protocol_of};
+use command_line::{ColorChoice, color_of, encoding_of, is_auto, max_message_of, protocol_of};
 use encoded_input::Encoding;
 use shared_core_base::version::Version;
 use std::alloc::Global;
@@ -23,7 +24,7 @@ pub enum ValuesChoice {
 }
 
 /// The parsed arguments.
-#[derive(Debug, Clone, Copy, Drop)]
+#[derive(Drop)]
 pub struct Arguments<'a> {
     /// The path of the recorded journal, or `-` for the standard input.
     pub recorded: &'a str,
@@ -31,12 +32,16 @@ pub struct Arguments<'a> {
     pub replayed: &'a str,
     /// The version of the protocol of both journals.
     pub version: Version,
+    /// Whether the version is to be the newest that both journals fit.
+    pub is_auto: bool,
     /// The greatest length of a payload that is taken.
     pub limit: u32,
     /// How both files are written, if they are text.
     pub encoding: Option<Encoding>,
     /// Whether both are dumps.
     pub is_dump: bool,
+    /// By what descriptor set the payloads of both are read.
+    pub schema: SchemaArguments<'a>,
     /// Whether all that moved is printed, wherever the output goes.
     pub is_all: bool,
     /// Whether the verdict is, wherever the output goes.
@@ -65,11 +70,12 @@ pub fn parse_arguments<'a>(
 {
     let mut command = definitions::DIFF.command(alloc, name)?.no_binary_name(true);
     let matches = command.try_get_matches_from_mut(words)?;
-    arguments_of(&mut command, &matches)
+    arguments_of(alloc, &mut command, &matches)
 }
 
 /// The arguments by what was found of them.
 fn arguments_of<'a>(
+    alloc: Global,
     command: &mut Command<'_>,
     matches: &ArgMatches<'a>,
 ) -> Result<Arguments<'a>, Error>
@@ -98,14 +104,24 @@ fn arguments_of<'a>(
             "--all prints what moved instead of the verdict, so --verdict cannot be there too",
         )?);
     }
+    let is_dump = matches.get_str("input") == Some("dump");
+    if is_dump && is_auto(matches) {
+        return Err(command.error(
+            ErrorKind::ArgumentConflict,
+            "--protocol auto reads streams, and not dumps",
+        )?);
+    }
     let limit = max_message_of(command, matches)?;
+    let schema = schema_arguments(alloc, command, matches)?;
     Ok(Arguments {
         recorded,
         replayed,
         version: protocol_of(matches),
+        is_auto: is_auto(matches),
         limit,
         encoding: encoding_of(matches),
-        is_dump: matches.get_str("input") == Some("dump"),
+        is_dump,
+        schema,
         is_all,
         is_verdict,
         values: values_of(matches),

@@ -4,10 +4,11 @@ ghost use Rattle.std.specs.Prelude.{◌≤◌, IfOk};
 ghost use Rattle.shared_core_base.specs.Version.{version_number};
 
 use crate::definitions;
+use crate::descriptors::{SchemaArguments, schema_arguments};
 use crate::dump::suggestions::unknown_type;
 use clap::error::ErrorKind;
 use clap::{ArgMatches, Command, Error};
-use command_line::{encoding_of, max_message_of, protocol_of};
+use command_line::{encoding_of, is_auto, max_message_of, protocol_of};
 use encoded_input::Encoding;
 use shared_core_base::header::MessageType;
 use shared_core_base::version::Version;
@@ -18,11 +19,12 @@ use std::alloc::{AllocError, Global};
 pub struct Arguments<'a> {
     /// The path of the stream, or `-` for the standard input.
     pub path: &'a str,
-    /// The path of the descriptor set by which payloads are read, or `-` for the standard input; `None` for the
-    /// protocol's own description.
-    pub schema: Option<&'a str>,
+    /// By what payloads are read.
+    pub schema: SchemaArguments<'a>,
     /// The version of the protocol.
     pub version: Version,
+    /// Whether the version is to be the newest that the stream fits.
+    pub is_auto: bool,
     /// The greatest length of a payload that is taken.
     pub limit: u32,
     /// How the file is written, if it is text.
@@ -94,18 +96,12 @@ fn arguments_of<'a>(
 {
     let codes = codes_of(alloc, command, matches)?;
     let limit = max_message_of(command, matches)?;
-    let path = matches.get_str("file").unwrap_or("-");
-    let schema = matches.get_str("schema");
-    if path == "-" && schema == Some("-") {
-        return Err(command.error(
-            ErrorKind::ArgumentConflict,
-            "either the stream or the descriptor set can come from the standard input",
-        )?);
-    }
+    let schema = schema_arguments(alloc, command, matches)?;
     Ok(Arguments {
-        path,
+        path: matches.get_str("file").unwrap_or("-"),
         schema,
         version: protocol_of(matches),
+        is_auto: is_auto(matches),
         limit,
         encoding: encoding_of(matches),
         codes,

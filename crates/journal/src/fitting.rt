@@ -1,0 +1,225 @@
+//! The version of files that are read by `--protocol auto`: the newest one that all of them fit.
+
+ghost use Rattle.std.specs.Prelude.{◌≤◌, IfOk};
+ghost use Rattle.shared_core_base.specs.Version.{version_number};
+
+use crate::call::Call;
+use crate::parts::File;
+use command_line::{Decoding, Progress, fail, input_size, note};
+use encoded_input::Encoding;
+use shared_core_base::version::Version;
+use std::fmt;
+use std::process::ExitCode;
+use stream_lines::{Report, Trouble};
+use stream_versions::{Options, check, fits};
+
+/// The number of bytes that are read at a time.
+const CHUNK: usize = 65536;
+
+/// The status if no version fits, or a file cannot be read twice.
+const UNFIT: u8 = 2;
+
+/// Why no version is found of files whose payloads are read by a descriptor set.
+pub const NOT_BY_A_SET: &str =
+    "--protocol auto reads payloads by the protocol's own description, and not by a descriptor set";
+
+/// How the files of a call are read.
+#[derive(Clone, Copy, Drop)]
+pub struct Asked {
+    /// The version of the protocol, where it is given.
+    pub version: Version,
+    /// Whether the version is to be the newest that the files fit.
+    pub is_auto: bool,
+    /// The greatest length of a payload that is taken.
+    pub limit: u32,
+    /// How the files are written, if they are text.
+    pub encoding: Option<Encoding>,
+}
+
+impl Asked {
+    /// The file of a path, of a version.
+    fn file<'p>(&self, path: &'p str, version: Version) -> File<'p>
+        requires { 5 ≤ version_number version }
+        ensures { 5 ≤ version_number result.version }
+    {
+        File {
+            path,
+            version,
+            limit: self.limit,
+            encoding: self.encoding,
+        }
+    }
+}
+
+/// What does not fit a version in the file of a path.
+#[derive(Drop)]
+struct Misfit<'p> {
+    path: &'p str,
+    found: Report,
+}
+
+// a path is text of others, so this has no output that a contract could name
+impl<'p> fmt::Display for Misfit<'p> {
+    fn fmt<W: fmt::Write>(&self, f: &mut fmt::Formatter<W>) -> fmt::Result {
+        let path = self.path;
+        match self.found.trouble {
+            Some((offset, Trouble::UnknownCode(code))) => {
+                write!(
+                    f,
+                    "{path}: offset {offset}: unknown protocol.message code 0x{code:x}"
+                )
+            }
+            Some((offset, Trouble::Malformed(ty))) => {
+                let name = ty.debug_name();
+                write!(
+                    f,
+                    "{path}: offset {offset}: the payload of {name} is not well-formed"
+                )
+            }
+            None => {
+                let (offset, count) = (self.found.end, self.found.rest);
+                let bytes = if count == 1 { "byte" } else { "bytes" };
+                write!(
+                    f,
+                    "{path}: offset {offset}: {count} {bytes} after the last whole item"
+                )
+            }
+        }
+    }
+}
+
+/// What does not fit the version of a file in it. The error is the status, after what is wrong was reported.
+fn report_of(call: &Call<'_>, file: &File<'_>) -> Result<Report, ExitCode>
+    requires { 5 ≤ version_number file.now.version }
+{
+    let input = file.open(call)?;
+    let options = Options {
+        version: file.version,
+        limit: file.limit,
+        chunk_size: CHUNK,
+    };
+    let progress = Progress::beside_output(call.rt, call.name, input_size(&input));
+    let mut input = Decoding::new(input, file.path, file.encoding, &progress);
+    let checked = check(call.rt.alloc(), &options, &mut input);
+    progress.clear();
+    match checked {
+        Ok(report) => Ok(report),
+        // it was reported what is wrong with the input
+        Err(_) if progress.has_reported() => Err(ExitCode::from(call.failure)),
+        Err(error) => {
+            let path = file.path;
+            Err(fail(
+                call.rt,
+                call.name,
+                format_args!("{path}: {error}"),
+                call.failure,
+            ))
+        }
+    }
+}
+
+/// What does not fit a version in the first of some files with such a thing; none if they all fit. The error is the
+/// status, after what is wrong was reported.
+fn misfit_of<'p>(
+    call: &Call<'_>,
+    asked: &Asked,
+    paths: &[&'p str],
+    version: Version,
+) -> Result<Option<Misfit<'p>>, ExitCode>
+    requires { 5 ≤ version_number version }
+{
+    for path in paths {
+        let found = report_of(call, &asked.file(*path, version))?;
+        if !fits(&found) {
+            return Ok(Some(Misfit { path: *path, found }));
+        }
+    }
+    Ok(None)
+}
+
+/// Says which version is taken, and returns it.
+fn taken(call: &Call<'_>, version: Version) -> Version
+    requires { 5 ≤ version_number version }
+    ensures { 5 ≤ version_number result }
+{
+    let number = version.number();
+    note(call.rt, call.name, format_args!("read as version {number}"));
+    version
+}
+
+/// The version of the files: the one that is asked for, or the newest that they fit, which is reported. All versions
+/// that a stream fits read it to the same items (`fitting_versions_agree` of `stream_versions`). The error is the
+/// status, after it was reported why no version fits, or what else is wrong.
+pub fn version_of(call: &Call<'_>, asked: &Asked, paths: &[&str]) -> Result<Version, ExitCode>
+    requires { 5 ≤ version_number asked.now.version }
+    ensures { IfOk result (λ version. 5 ≤ version_number version) }
+{
+    if !asked.is_auto {
+        return Ok(asked.version);
+    }
+    newest(call, asked, paths)
+}
+
+/// The newest version that the files fit. What fits version 7 or 8 fits 9 too, and 5 and 6 fit alike (`fits_go_on`), so
+/// two are tried; the third is for the error.
+fn newest(call: &Call<'_>, asked: &Asked, paths: &[&str]) -> Result<Version, ExitCode>
+    ensures { IfOk result (λ version. 5 ≤ version_number version) }
+{
+    let Some(last) = misfit_of(call, asked, paths, Version::V9)? else {
+        return Ok(taken(call, Version::V9));
+    };
+    let Some(first) = misfit_of(call, asked, paths, Version::V6)? else {
+        return Ok(taken(call, Version::V6));
+    };
+    match misfit_of(call, asked, paths, Version::V8)? {
+        Some(middle) => Err(fail_unfit(call, &first, &middle, &last)),
+        None => Ok(taken(call, Version::V8)),
+    }
+}
+
+/// Reports why no version fits, and returns the status.
+fn fail_unfit(
+    call: &Call<'_>,
+    first: &Misfit<'_>,
+    middle: &Misfit<'_>,
+    last: &Misfit<'_>,
+) -> ExitCode {
+    fail(
+        call.rt,
+        call.name,
+        format_args!("no version fits: 9: {last}; 7 and 8: {middle}; 5 and 6: {first}"),
+        UNFIT,
+    )
+}
+
+/// The newest version that a file fits, and the numbers of all. The error is as of `version_of`.
+pub fn all_fitting(
+    call: &Call<'_>,
+    asked: &Asked,
+    path: &str,
+) -> Result<(Version, &'static str), ExitCode>
+    ensures { IfOk result (λ found. 5 ≤ version_number found.0) }
+{
+    let paths = [path];
+    let first = misfit_of(call, asked, &paths, Version::V6)?;
+    let middle = misfit_of(call, asked, &paths, Version::V8)?;
+    let Some(last) = misfit_of(call, asked, &paths, Version::V9)? else {
+        return Ok((
+            taken(call, Version::V9),
+            numbers(first.is_none(), middle.is_none()),
+        ));
+    };
+    match (&first, &middle) {
+        (Some(first), Some(middle)) => Err(fail_unfit(call, first, middle, &last)),
+        _ => Ok((taken(call, Version::V6), "5, 6")),
+    }
+}
+
+/// The numbers of the versions that a stream fits: 9, the first two or not, and the middle two or not.
+fn numbers(has_first: bool, has_middle: bool) -> &'static str {
+    match (has_first, has_middle) {
+        (true, _) => "5, 6, 7, 8, 9",
+        (false, true) => "7, 8, 9",
+        (false, false) => "9",
+    }
+}
