@@ -88,7 +88,8 @@ func NewDecoder(reader io.Reader, version int) *Decoder {
 // the last item is not whole, it is an *IncompleteError, which wraps io.ErrUnexpectedEOF: errors.Is finds that one. An
 // error of the reader is returned as it is, after all items before it.
 //
-// An error loses nothing: the next call continues where the stream ended, since a reader may have more by then.
+// None of these loses anything: the next call continues where the stream ended, since a reader may have more by then. A
+// *MessageTooLong ends the stream, and is the error of each later call.
 func (d *Decoder) Next() (Item, error) {
 	for {
 		item, missing, err := d.take()

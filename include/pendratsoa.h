@@ -318,7 +318,8 @@ int64_t journal_header(uint32_t version, uint16_t code, uint32_t payload_length,
 /*
  * Decodes a payload for the named type that has the code, and writes the frame of that message at a version: its
  * header, and the canonical payload after it. A suspension is decoded by its schema from version 7 on, and written by
- * that of the version. Returns the frame's length in bytes.
+ * that of the version. Returns the frame's length in bytes. A payload that is canonical is copied: then nothing is
+ * allocated, except for a suspension before version 7.
  *
  * Errors, in order of precedence: JOURNAL_UNKNOWN_VERSION, JOURNAL_UNKNOWN_TYPE if the code is that of no named type,
  * JOURNAL_MALFORMED, JOURNAL_TOO_LONG; JOURNAL_OUT_OF_MEMORY may replace each after JOURNAL_UNKNOWN_TYPE.
@@ -461,10 +462,9 @@ struct journal_writing {
  * entries after it. A plain field that is the default may come, and is left out. Writes two numbers, and as bytes the
  * payload; if there is no room for it, the numbers are written nevertheless. A rejected table is not an error of the
  * call: the kind of the result has the reason for its first entry that may not come, and there are no bytes. Returns
- * how many bytes there are.
+ * how many bytes there are. It does not allocate.
  *
- * Errors, in order of precedence: JOURNAL_UNKNOWN_SCHEMA, JOURNAL_NO_ROOM, JOURNAL_TOO_LONG; JOURNAL_OUT_OF_MEMORY may
- * replace each after JOURNAL_NO_ROOM.
+ * Errors, in order of precedence: JOURNAL_UNKNOWN_SCHEMA, JOURNAL_NO_ROOM, JOURNAL_TOO_LONG.
  */
 int64_t journal_payload_of_fields(uint32_t schema, const struct journal_field *fields, size_t count,
                                   const uint8_t *bytes, size_t length, struct journal_writing *writing,

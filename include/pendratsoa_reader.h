@@ -6,15 +6,15 @@
  *
  *     struct journal_reader reader = journal_reader_of(8, 1048576);
  *     struct journal_reader_item item;
- *     int64_t result;
+ *     int64_t result = 0;
  *
- *     while ((count = fread(chunk, 1, sizeof chunk, stdin)) > 0 &&
- *            journal_reader_feed(&reader, chunk, count) == 0) {
+ *     while (result == 0 && (count = fread(chunk, 1, sizeof chunk, stdin)) > 0 &&
+ *            (result = journal_reader_feed(&reader, chunk, count)) == 0) {
  *         while ((result = journal_reader_next(&reader, &item)) == 1) {
  *             .. item.item, item.payload, item.offset ..
  *         }
  *     }
- *     .. result, journal_reader_pending(&reader) ..
+ *     .. result, journal_reader_pending(&reader), journal_reader_header(&reader, &code, &length) ..
  *     journal_reader_free(&reader);
  *
  * A journal_memory is memory that grows, for arenas of pendratsoa_messages.h and for what a call writes.
@@ -113,6 +113,23 @@ static inline size_t journal_reader_pending(const struct journal_reader *reader)
 }
 
 /*
+ * What the header says that the pending bytes begin with: the code of its type, and the length of its payload in bytes.
+ * After journal_reader_next it is that of an item which is too long, or at the end of a stream not whole. Returns false,
+ * and writes nothing, if less than a header is pending.
+ */
+static inline bool journal_reader_header(const struct journal_reader *reader, uint16_t *code, uint32_t *length) {
+    const uint8_t *header;
+
+    if (journal_reader_pending(reader) < 8) {
+        return false;
+    }
+    header = reader->memory.bytes + reader->begin;
+    *code = (uint16_t)(header[0] << 8 | header[1]);
+    *length = (uint32_t)header[4] << 24 | (uint32_t)header[5] << 16 | (uint32_t)header[6] << 8 | header[7];
+    return true;
+}
+
+/*
  * Room for `count` bytes, into which a chunk of the stream may be read; journal_reader_came takes how many were. The
  * pending bytes are moved to the front where that makes room. Returns null, and loses nothing, if an allocation fails.
  */
@@ -155,8 +172,8 @@ static inline int64_t journal_reader_feed(struct journal_reader *reader, const u
  * Takes the next item. Returns 1 if one is there, and 0 if no whole one is there yet.
  *
  * Its errors are those of journal_next_within: JOURNAL_UNKNOWN_VERSION, JOURNAL_TOO_LONG as soon as the header is there
- * of an item whose payload has more than the limit. Nothing is taken then; the item that is too long begins at
- * reader->offset.
+ * of an item whose payload has more than the limit. Nothing is taken then: the item begins at reader->offset, and
+ * journal_reader_header has its code and its length.
  */
 static inline int64_t journal_reader_next(struct journal_reader *reader, struct journal_reader_item *found) {
     const size_t pending = journal_reader_pending(reader);

@@ -90,6 +90,9 @@ version=$(cat "$top/VERSION")
 soname=libpendratsoa.so.${version%%.*}
 calls=$(awk '/^int64_t journal_/ { sub(/^int64_t /, ""); sub(/\(.*/, ""); print }' \
   "$header" "$top/include/pendratsoa_messages.h")
+# the names that the man page has
+explained=$(sed -n -e 's/^int64_t \(journal_[a-z_]*\)(.*/\1/p' \
+  -e 's/^static inline .*[ *]\(journal_reader_[a-z]*\)(.*/\1/p' "$header" "$top/include/pendratsoa_reader.h")
 
 # library_files, program_files: what is installed, below PREFIX
 library_files() {
@@ -99,7 +102,7 @@ library_files() {
   printf "$libdir/%s\n" libpendratsoa.a "libpendratsoa.so.$version" "$soname" libpendratsoa.so pkgconfig/pendratsoa.pc \
     cmake/pendratsoa/pendratsoa-config.cmake cmake/pendratsoa/pendratsoa-config-version.cmake
   # shellcheck disable=SC2086 # the names are split
-  printf 'share/man/man3/%s.3\n' $calls
+  printf 'share/man/man3/%s.3\n' $explained
 }
 program_files() {
   for program in $programs $scripts; do
@@ -239,7 +242,7 @@ ln -sfn "libpendratsoa.so.$version" "$target/$libdir/$soname"
 ln -sfn "$soname" "$target/$libdir/libpendratsoa.so"
 place "$top/share/man/man3/pendratsoa.3" 644 share/man/man3/pendratsoa.3
 echo '.so man3/pendratsoa.3' > "$work/call.3"
-for call in $calls; do
+for call in $explained; do
   place "$work/call.3" 644 "share/man/man3/$call.3"
 done
 for program in $programs; do

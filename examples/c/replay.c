@@ -73,6 +73,18 @@ static int print_mismatch(const struct journal_mismatch *found) {
     return found->kind > JOURNAL_VERDICT_HEADER_MISMATCH ? 2 : 1;
 }
 
+/* Prints why the replay cannot be read to its end, by the item in which that is. */
+static void print_end(const struct journal_reader *reader, int64_t result) {
+    uint16_t code;
+    uint32_t size;
+
+    fprintf(stderr, "replay: offset %" PRIu64, reader->offset);
+    if (journal_reader_header(reader, &code, &size)) {
+        fprintf(stderr, ": type 0x%04x, %" PRIu32 " bytes", (unsigned)code, size);
+    }
+    fprintf(stderr, ": %s\n", result < 0 ? "too long" : ferror(stdin) ? "the input failed" : "the stream ended here");
+}
+
 int main(int argc, char **argv) {
     FILE *file = argc > 1 ? fopen(argv[1], "rb") : NULL;
     struct journal_reader reader = journal_reader_of(argc > 2 ? (uint32_t)atoi(argv[2]) : 8, LIMIT);
@@ -108,8 +120,8 @@ int main(int argc, char **argv) {
             }
         }
     }
-    if (result == 0 && (ferror(stdin) || journal_reader_pending(&reader) > 0)) {
-        fputs("replay: the replay cannot be read to its end\n", stderr);
+    if (result == JOURNAL_TOO_LONG || (result == 0 && (ferror(stdin) || journal_reader_pending(&reader) > 0))) {
+        print_end(&reader, result);
         return 2;
     }
     if (result == 0 && (result = journal_replay_finish(recorded.bytes, length, &replay, JOURNAL_REPLAY_NUMBERS, &found,

@@ -55,11 +55,15 @@ class NoRoom(JournalError):
 
 
 class TooLong(JournalError, OverflowError):
-    """A payload has, or would have, more than 4,294,967,295 bytes, which no header can say; or a message received has
-    more than the limit of its stream.
+    """A payload has, or would have, more than 4,294,967,295 bytes, which no header can say; or, as a `MessageTooLong`,
+    more than the limit of its stream."""
 
-    Then `code` is that of its type, `length` the length of its payload and `limit` the limit, and `offset` is where the
-    message begins in the stream, all in bytes. Otherwise they are None.
+
+class MessageTooLong(TooLong):
+    """The payload of a message has more bytes than the limit of its stream.
+
+    `code` is that of its type, `length` the length of its payload by its header and `limit` the limit, and `offset` is
+    where its header begins in the stream, all in bytes.
     """
 
     def __init__(
@@ -68,10 +72,10 @@ class TooLong(JournalError, OverflowError):
         call: Optional[str] = None,
         argument: Optional[str] = None,
         value: object = None,
-        code: Optional[int] = None,
-        length: Optional[int] = None,
-        limit: Optional[int] = None,
-        offset: Optional[int] = None,
+        code: int = 0,
+        length: int = 0,
+        limit: int = 0,
+        offset: int = 0,
     ) -> None:
         super().__init__(*texts, call=call, argument=argument, value=value)
         self.code = code

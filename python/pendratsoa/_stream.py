@@ -5,7 +5,7 @@ from __future__ import annotations
 import inspect
 from typing import AsyncIterator, Awaitable, Callable, Iterator, NoReturn, Optional, Protocol, Union, cast
 
-from ._errors import Incomplete, TooLong
+from ._errors import Incomplete, MessageTooLong, TooLong
 from ._fast import pending_of
 from ._items import Item, name_of
 from ._kinds import BytesLike
@@ -48,9 +48,9 @@ class Stream:
     Each loop over it continues where the one before stopped, and ends when no whole item is left. More may be fed at
     any time, within the loop too. Several threads may use one stream; each item then comes to one of them.
 
-    A message whose payload has more than `max_message_size` bytes is a `TooLong` as soon as its header came, and ends
-    the stream: what came is dropped, and from then on each loop, `feed`, `read` and `finish` raise the same error. None
-    is not a limit.
+    A message whose payload has more than `max_message_size` bytes is a `MessageTooLong` as soon as its header came, and
+    ends the stream: what came is dropped, and from then on each loop, `feed`, `read` and `finish` raise the same error.
+    None is not a limit.
     """
 
     def __init__(self, version: int = 8, max_message_size: Optional[int] = None) -> None:
@@ -59,7 +59,7 @@ class Stream:
         self._limit = None if max_message_size is None else self._request.length("max_message_size")
         # what came and is in no item yet, which may be used by several threads; the error that ended the stream
         self._pending = pending_of(self._version, self._limit)
-        self._ended: Optional[TooLong] = None
+        self._ended: Optional[MessageTooLong] = None
         # that there is no such version is known before anything came
         self._next()
 
@@ -174,18 +174,18 @@ class Stream:
             raise self._request.unexpected(f"an item of the kind {number}")
         self._check()
         if isinstance(self._request.refused(number), TooLong) and self._limit is not None:
-            self._ended = self._too_long(self._pending.head())
+            self._ended = self._too_long(self._pending.head(), self._limit)
             raise self._ended
         # no name here holds the error, which holds this frame
         raise self._request.refused(number)
 
-    def _too_long(self, head: bytes) -> TooLong:
+    def _too_long(self, head: bytes, limit: int) -> MessageTooLong:
         """The error of the message of a header, which is longer than the limit."""
         code, length, offset = int.from_bytes(head[:2], "big"), int.from_bytes(head[4:], "big"), self._pending.offset()
         what = f"a message of type {code:#06x} at offset {offset} has {length} bytes"
-        error = self._request.error(TooLong, f"{what}, more than the limit of {self._limit}", "max_message_size")
-        assert isinstance(error, TooLong)
-        error.code, error.length, error.limit, error.offset = code, length, self._limit, offset
+        error = self._request.error(MessageTooLong, f"{what}, more than the limit of {limit}", "max_message_size")
+        assert isinstance(error, MessageTooLong)
+        error.code, error.length, error.limit, error.offset = code, length, limit, offset
         return error
 
 

@@ -3,7 +3,7 @@
 import dataclasses
 from typing import Optional, Union
 
-from pendratsoa import Incomplete, Item, Malformed, Message, TooLong, Verdict, VerdictKind
+from pendratsoa import Incomplete, Item, Malformed, Message, MessageTooLong, Verdict, VerdictKind
 from pendratsoa.messages import (
     ErrorBehavior,
     ErrorMessage,
@@ -32,10 +32,9 @@ def compared(verdict: Verdict) -> str:
     return kind if verdict.kind == "same" or verdict.kind is VerdictKind.BAD_RECORDED else verdict.text
 
 
-def limited(error: TooLong, malformed: Malformed) -> int:
-    error.limit + 1  # type: ignore[operator]
+def limited(error: MessageTooLong, malformed: Malformed) -> int:
     malformed.offset + 1  # type: ignore[operator]
-    return 0 if error.limit is None or error.length is None else error.length - error.limit
+    return error.code + error.offset + error.length - error.limit
 
 
 def ended(error: Incomplete) -> int:

@@ -6,8 +6,8 @@ import io
 import unittest
 
 from pendratsoa import FieldError, Incomplete, JournalError, JsonError, Malformed, Message, NoId, NoResult, Replay
-from pendratsoa import Skipped, Stream, TooLong, Unknown, UnknownCode, compare_journals, is_well_formed, messages
-from pendratsoa import type_name
+from pendratsoa import MessageTooLong, Skipped, Stream, TooLong, Unknown, UnknownCode
+from pendratsoa import compare_journals, is_well_formed, messages, type_name
 from support import SET_STATE_COMMAND, TOP
 
 CASES = [
@@ -119,7 +119,7 @@ def listing(items, ended):
         end = "whole"
     elif isinstance(ended, Incomplete):
         end = f"incomplete {ended.offset} {ended.rest} {name_of(ended.code)}"
-    elif isinstance(ended, TooLong):
+    elif isinstance(ended, MessageTooLong):
         end = f"too_long {ended.offset} {name_of(ended.code)} {ended.length}"
     else:
         raise ended
@@ -204,7 +204,7 @@ class TestPackages(unittest.TestCase):
 
     def checked(self, stream, chunks, found, ended):
         """The listing of what came. The error stays, and the items are the first bytes of the stream."""
-        if isinstance(ended, TooLong):
+        if isinstance(ended, MessageTooLong):
             for call in (stream.finish, lambda: next(iter(stream)), lambda: stream.feed(b"x")):
                 self.assertIs(raised(call), ended)
         elif ended is not None:

@@ -10,7 +10,8 @@ import threading
 import tracemalloc
 import unittest
 
-from pendratsoa import JournalError, Malformed, Message, Skipped, Stream, TooLong, UnknownCode, canonical
+from pendratsoa import JournalError, Malformed, Message, MessageTooLong, Skipped, Stream, TooLong, UnknownCode
+from pendratsoa import canonical
 from pendratsoa._library import library
 from support import CALL_COMMAND, INPUT, INPUT_COMMAND, INPUT_LENGTH, RECORDED, STREAM, UNKNOWN_WORD
 from support import replaced, returning
@@ -164,7 +165,7 @@ class TestFeeding(unittest.TestCase):
         stream.feed(INPUT + endless)
         found = []
         for _ in range(2):
-            with self.assertRaises(TooLong) as ended:
+            with self.assertRaises(MessageTooLong) as ended:
                 for item in stream:
                     found.append(item)
             text = "Stream: a message of type 0x0000 at offset {} has 4294967295 bytes, more than the limit of {}"
@@ -176,10 +177,10 @@ class TestFeeding(unittest.TestCase):
             self.assertEqual(stream.rest, 0)
         self.assertEqual(found, EXPECTED[:1])
         for call in (lambda: stream.feed(b"x"), stream.finish, lambda: list(stream.read(io.BytesIO(), strict=True))):
-            with self.assertRaises(TooLong):
+            with self.assertRaises(MessageTooLong):
                 call()
         for strict in (False, True):
-            with self.assertRaises(TooLong):
+            with self.assertRaises(MessageTooLong):
                 list(Stream(max_message_size=INPUT_LENGTH - 1).read(io.BytesIO(INPUT), strict=strict))
         unlimited = Stream()
         unlimited.feed(endless)
@@ -188,8 +189,7 @@ class TestFeeding(unittest.TestCase):
             Stream(max_message_size=-1)
         with self.assertRaises(TooLong) as ended:
             Stream(max_message_size=1 << 32)
-        error = ended.exception
-        self.assertEqual((error.code, error.length, error.limit, error.offset), (None, None, None, None))
+        self.assertIs(type(ended.exception), TooLong)
 
     def test_its_version(self):
         self.assertEqual([Stream(version).version for version in range(5, 10)], list(range(5, 10)))

@@ -111,7 +111,7 @@ class TestPackages < Minitest::Test
   def end_of(stream, ended)
     case ended
     when nil then "whole"
-    when Pendratsoa::TooLong
+    when Pendratsoa::MessageTooLong
       assert_same(ended, raised { stream.finish })
       assert_same(ended, raised { stream.first })
       assert_same(ended, raised { stream.feed("x") })

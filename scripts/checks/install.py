@@ -72,6 +72,8 @@ class Installation:
         self.check = check
         self.prefix = check.work / "a prefix"
         self.calls = re.findall(r"^int64_t (journal_[a-z_]*)\(", pathlib.Path("include/pendratsoa.h").read_text(), re.M)
+        reader = pathlib.Path("include/pendratsoa_reader.h").read_text()
+        self.calls += re.findall(r"^static inline .*\b(journal_reader_[a-z]+)\(", reader, re.M)
         self.pages = (*INSTALLED, *crates.PAGES, "pendratsoa", *self.calls)
 
     def install(self, name: str, *words: str | pathlib.Path, **env: str) -> None:
@@ -97,6 +99,8 @@ class Installation:
         pages = self.prefix / "share" / "man"
         for name in self.pages:
             self.check.case(f"the man page of {name}", any(pages.rglob(f"{name}.[13]")))
+        names = {page.stem for page in (pages / "man3").iterdir()}
+        self.check.case("no other man page of the library", names == {"pendratsoa", *self.calls}, names)
         if self.check.has("man", "the man pages by man"):
             env = {**os.environ, "LC_ALL": "C", "MANPATH": str(pages), "MANWIDTH": "80"}
             for name in self.pages:
@@ -117,7 +121,7 @@ class Installation:
         return sorted(checks.run(["bash", "-c", COMPLETE, "bash", folder, *words]).out.decode().splitlines())
 
     def bash(self) -> None:
-        """Completion in bash: the options are those that the program's help lists."""
+        """Completion in bash: the options and versions are those that the program's help lists."""
         if not self.check.has("bash", "completion in bash"):
             return
         by_word = [name.split("_") for name in (*crates.LINKS, *crates.PAGES)]
@@ -128,7 +132,9 @@ class Installation:
             options = sorted(set(re.findall("--[a-z-]+", text)))
             self.check.same(f"the options of {name} in bash", options, self.completed(*words, "--"))
             if name != "journal":
-                versions = [str(version) for version in range(5, 10)]
+                listed = re.search(r"--protocol .*?\[possible values: ([^]]*)\]", text, re.DOTALL)
+                # the help of journal_view has no list
+                versions = re.split(r",\s+", listed[1]) if listed else [str(version) for version in range(5, 10)]
                 self.check.same(f"the versions of {name} in bash", versions, self.completed(*words, "--protocol", ""))
         names = sorted(["list", "redact", "describe", "get", "explain", "schema", *(words[1] for words in by_word)])
         self.check.same("the subcommands of journal help in bash", names, self.completed("journal", "help", ""))

@@ -62,7 +62,7 @@ static const struct {
     [FIELDS] = {"journal_fields", 1, 0, JOURNAL_FIELD_NUMBERS, 0, 0, 0, 1u << UNKNOWN_SCHEMA | 1u << MALFORMED | 1u <<
         NOT_CANONICAL, 1},
     [PAYLOAD_OF_FIELDS] = {"journal_payload_of_fields", 2, JOURNAL_WRITING_NUMBERS, 0, 1, 0, 0, 1u << UNKNOWN_SCHEMA |
-        1u << NO_ROOM | 1u << OUT_OF_MEMORY | 1u << TOO_LONG, 10},
+        1u << NO_ROOM | 1u << TOO_LONG, 10},
     [NOTIFICATION] = {"journal_notification", 1, JOURNAL_NOTIFICATION_NUMBERS, 0, 1, 0, 0, 1u << UNKNOWN_TYPE | 1u <<
         NO_ROOM | 1u << OUT_OF_MEMORY | 1u << MALFORMED | 1u << NO_ID | 1u << NO_RESULT | 1u << TOO_LONG, 15},
     [HEADER_EQ] = {"journal_header_eq", 2, 0, 0, 0, 0, 0, 1u << UNKNOWN_TYPE | 1u << OUT_OF_MEMORY | 1u << MALFORMED |

@@ -2,9 +2,9 @@
  * Checks pendratsoa_reader.h: test_reader VERSION STREAM..
  *
  * Each stream is read in chunks of every length up to 40, by each of the two ways in. The items and their offsets are
- * those of journal_next over the whole stream, and so are the trailing bytes. Every third allocation fails, after which
- * the same bytes are given again. Within a limit that is one byte less than a payload has, the reader ends at the first
- * such message, and the error stays. The last line is 'N passed, M failed'.
+ * those of journal_next over the whole stream, and so are the trailing bytes, with their header. Every third allocation
+ * fails, after which the same bytes are given again. Within a limit that is one byte less than a payload has, the
+ * reader ends at the first such message, and the error stays. The last line is 'N passed, M failed'.
  */
 #include <stdio.h>
 #include <stdlib.h>
@@ -53,6 +53,20 @@ static int give(struct journal_reader *reader, const uint8_t *chunk, size_t leng
     return 0;
 }
 
+/* Whether the header of a reader is that of the bytes which are pending, and is there if they have one. */
+static int has_header(const struct journal_reader *reader, const uint8_t *pending, size_t length) {
+    uint16_t code = 0xABCD;
+    uint32_t size = 0x12345678;
+    const int is_there = journal_reader_header(reader, &code, &size);
+    const uint64_t wanted_code = length < 8 ? 0xABCD : (uint64_t)pending[0] * 256 + pending[1];
+    uint64_t wanted_size = length < 8 ? 0x12345678 : 0;
+
+    for (size_t at = 4; length >= 8 && at < 8; at++) {
+        wanted_size = wanted_size * 256 + pending[at];
+    }
+    return is_there == (length >= 8) && code == wanted_code && size == wanted_size;
+}
+
 /* Whether the items of a stream in chunks are those of the whole, within a limit. */
 static int reads(uint32_t version, uint32_t limit, const uint8_t *stream, size_t length, size_t chunk, int is_copied) {
     struct journal_reader reader = journal_reader_of(version, limit);
@@ -72,6 +86,7 @@ static int reads(uint32_t version, uint32_t limit, const uint8_t *stream, size_t
                        found.payload_length == item.size - item.payload && found.payload_length <= limit;
             begin += (size_t)item.size;
         }
+        is_right = is_right && has_header(&reader, stream + begin, journal_reader_pending(&reader));
     }
     wanted = journal_next_within(version, limit, stream + begin, length - begin, &item, JOURNAL_ITEM_NUMBERS);
     is_right = is_right && wanted != 0 && reader.offset == begin;

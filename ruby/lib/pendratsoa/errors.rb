@@ -39,14 +39,17 @@ module Pendratsoa
   # A slice for numbers was too short. This gem never passes such a slice.
   class NoRoom < Error; end
 
-  # A payload has, or would have, more than 4,294,967,295 bytes, which no header can say; or a message received has
-  # more than the limit of its stream.
-  class TooLong < Error
-    # Of such a message the code of its type, the length of its payload, the limit, and where the message begins in the
-    # stream, all in bytes; otherwise nil.
+  # A payload has, or would have, more than 4,294,967,295 bytes, which no header can say; or, as a MessageTooLong, more
+  # than the limit of its stream.
+  class TooLong < Error; end
+
+  # The payload of a message has more bytes than the limit of its stream.
+  class MessageTooLong < TooLong
+    # The code of its type, the length of its payload by its header, the limit, and where its header begins in the
+    # stream, all in bytes.
     attr_reader :code, :length, :limit, :offset
 
-    def initialize(message = nil, code: nil, length: nil, limit: nil, offset: nil, **details)
+    def initialize(message = nil, code: 0, length: 0, limit: 0, offset: 0, **details)
       super(message, **details)
       @code = code
       @length = length

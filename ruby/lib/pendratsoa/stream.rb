@@ -10,9 +10,9 @@ module Pendratsoa
   # Each loop over it continues where the one before stopped, and ends when no whole item is left. More may be fed at
   # any time, within the loop too. Several threads may use one stream; each item then comes to one of them.
   #
-  # A message whose payload has more than `max_message_size` bytes raises TooLong as soon as its header came, and ends
-  # the stream: what came is dropped, and from then on each loop, `feed`, `read` and `finish` raise the same error. nil
-  # is not a limit.
+  # A message whose payload has more than `max_message_size` bytes raises MessageTooLong as soon as its header came, and
+  # ends the stream: what came is dropped, and from then on each loop, `feed`, `read` and `finish` raise the same error.
+  # nil is not a limit.
   class Stream
     include Enumerable
 
