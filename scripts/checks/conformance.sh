@@ -25,7 +25,8 @@ input() {
 
 input > "$work/lines"
 unproved_crate vectors \
-  shared_core shared_core_fields shared_core_fields_writer shared_core_codec shared_core_base replay_bench bytes hex
+  shared_core shared_core_canonical shared_core_fields shared_core_fields_writer shared_core_codec shared_core_base \
+  replay_bench bytes hex
 sources tests/vectors "$crate/src"
 keeping_kit "$work"
 # the program is kept; here it is run without input

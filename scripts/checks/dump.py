@@ -234,19 +234,6 @@ def example() -> str:
     return "".join(re.findall(r"(?m)^    (.*\n)", shown[1] if shown else ""))
 
 
-def recipe(dump: Program) -> None:
-    """The command of docs/PROGRAMS.md that writes a value to a file, as it stands there."""
-    if not dump.check.has("jq", "the recipe of docs/PROGRAMS.md"):
-        return
-    page = (checks.ROOT / "docs" / "PROGRAMS.md").read_text()
-    command = re.search(r"(?m)^    journal (dump .* \| base64 -d) > parameter$", page)
-    bytes_said = re.search(r"this writes the bytes `(.*)`:", page)
-    words = f"{dump.path} {command[1]}" if command else "false"
-    run = checks.run(["sh", "-c", words.replace(f"{dump.path} dump", str(dump.path))], cwd=checks.ROOT)
-    is_right = run == checks.Run(0, bytes_said[1].encode() if bytes_said else b"", b"")
-    dump.check.case("the recipe of docs/PROGRAMS.md", is_right, run)
-
-
 def pretty_beside_jq(dump: Program) -> None:
     """Each object with --pretty is as jq prints it."""
     if not dump.check.has("jq", "--pretty beside jq"):
@@ -302,7 +289,6 @@ def main(check: checks.Check) -> None:
         for words, lines, *complaints in cases:
             dump.ends(words, lines, said(*complaints), status)
     dump.ends("--pretty --text --type InputCommand replay", example(), what="in docs/PROGRAMS.md")
-    recipe(dump)
     pretty_beside_jq(dump)
 
     stored = (STORED / "stdin").read_bytes()

@@ -80,7 +80,7 @@ REJECTED: tuple[tuple[str, Words, str], ...] = (
     ("journal_diff", "--values long recorded recorded", "invalid value 'long' for '--values <HOW>'"),
     ("journal_diff", "--all --verdict recorded recorded", "--all prints what moved instead of the verdict"),
     ("journal_dump", "--protocol 4 replay", "invalid value '4' for '--protocol <VERSION>'"),
-    ("journal_dump", "--protocol 4 replay", "[possible values: 5, 6, 7, 8, 9]"),
+    ("journal_dump", "--protocol 4 replay", "[possible values: 5, 6, 7, 8, 9, auto]"),
     ("journal_dump", "--type Nothing replay",
      f"{TYPES} 'Nothing'; names are those of a dump, as InputCommand or CustomEntry(64513)"),
     ("journal_dump", "--type input replay", f"{TYPES} 'input'; did you mean InputCommand?"),

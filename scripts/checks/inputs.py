@@ -53,18 +53,21 @@ FAULTS = (
     ("base64", BASE64 + b"\n" + BASE64, True, "offset 13: this character is not a digit"),
 )
 
-# Words, the status, and the lines of the standard error, after the name; the standard input is a text in base64.
+# Words, the status, and the line of the standard error, after the name; the standard input is a text in base64.
 NO_DIGIT = "offset 10: this character is not a digit"
 SAID = (
-    ("list --input hex -", 1, (NO_DIGIT, "input failed")),
-    ("show --input=hex", 1, (NO_DIGIT, "input failed")),
-    ("dump --input hex", 1, (NO_DIGIT, "input failed")),
-    ("redact --key k --input hex", 1, (NO_DIGIT, "input failed")),
-    ("diff --input hex - recorded.hex", 2, (NO_DIGIT, "reading the recorded journal failed")),
-    ("diff --input hex recorded.hex -", 2, (NO_DIGIT, "reading the replayed journal failed")),
-    ("cut --input hex recorded.base64", 2, (NO_DIGIT, "recorded.base64: input failed")),
-    ("cat --input base64 recorded.base64 recorded.hex", 2,
-     ("offset 0: this character is not a digit", "recorded.hex: input failed")),
+    ("list --input hex -", 1, f"-: {NO_DIGIT}"),
+    ("show --input=hex", 1, f"-: {NO_DIGIT}"),
+    ("dump --input hex", 1, f"-: {NO_DIGIT}"),
+    ("describe --input hex recorded.base64", 1, f"recorded.base64: {NO_DIGIT}"),
+    ("explain --input hex recorded.base64", 1, f"recorded.base64: {NO_DIGIT}"),
+    ("get --input hex recorded.base64 0 value", 1, f"recorded.base64: {NO_DIGIT}"),
+    ("redact --key k --input hex", 1, f"-: {NO_DIGIT}"),
+    ("diff --input hex - recorded.hex", 2, f"-: {NO_DIGIT}"),
+    ("diff --input hex recorded.hex -", 2, f"-: {NO_DIGIT}"),
+    ("cut --input hex recorded.base64", 2, f"recorded.base64: {NO_DIGIT}"),
+    ("cat --input base64 recorded.base64 recorded.hex", 2, "recorded.hex: offset 0: this character is not a digit"),
+    ("list --protocol auto --input hex recorded.base64", 1, f"recorded.base64: {NO_DIGIT}"),
 )
 
 # Words that are invalid.
@@ -157,11 +160,11 @@ def main(check: checks.Check) -> None:
     of_files(journal)
     for encoding, text, has_end, fault in FAULTS:
         journal.ends(f"list --input {encoding}", "End 0\n" if has_end else "",
-                     f"journal list: {fault}\njournal list: input failed\n", 1, given=text, what=f"of {text!r}")
+                     f"journal list: -: {fault}\n", 1, given=text, what=f"of {text!r}")
     text = made["recorded.base64"]
-    for words, status, lines in SAID:
+    for words, status, line in SAID:
         found = journal.run(words, text)
-        said = "".join(f"journal {words.split()[0]}: {line}\n" for line in lines)
+        said = f"journal {words.split()[0]}: {line}\n"
         check.case(words, found.status == status and found.err.decode() == said, found)
     for words, said in INVALID:
         found = journal.run(words, text)

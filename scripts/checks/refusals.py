@@ -99,7 +99,7 @@ def main(check: checks.Check) -> None:
     lines = (
         b'#0 InputCommand "input"\n', b'#1 SetStateCommand "counter" "1"\n', b'#2 CallCommand Greeter greet "hello"\n',
         b'#3 CallCompletionNotification "hi" completes #2 CallCommand Greeter greet "hello"\n',
-        b'#4 OutputCommand "done"\n', b'open the invocation id of #2 CallCommand Greeter greet "hello"\n',
+        b'#4 OutputCommand "done"\n', b'open id 1: the invocation id of #2 CallCommand Greeter greet "hello"\n',
     )
     refusals.each_fails("journal_show", "", "recorded", checks.Run(0, b"".join(lines), b""), 1, begins=True)
     made = checks.Run(0, (STREAMS / "replay").read_bytes(), b"")

@@ -15,6 +15,8 @@ installed_library
 
 # the tests read the other folders next to their own
 cp -R ruby conformance examples include proto "$work"
+# what `make ruby` leaves there: a gem, and the library and the module that it is made of
+rm -rf "$work/ruby/"*.gem "$work/ruby/lib/pendratsoa/"*.so "$work/ruby/lib/pendratsoa/"[0-9]*
 top=$PWD
 cd "$work/ruby" || exit 1
 

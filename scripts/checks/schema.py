@@ -3,17 +3,23 @@
 
 protoc makes a set of each .proto file of tests/adopt, and of the protocol's own. The tables are next to those files.
 protoc also makes payloads by those files. Protobuf prints the same of random payloads of all message types, by a
-description that has other numbers; for this, Python's protobuf is needed. Each dump is made again as the same bytes.
+description that has other numbers, and by one that has other names too, which codes or renames say. It reads the same
+of JSON with names of values of enums; for these, Python's protobuf is needed. Each dump is made again as the same
+bytes. scripts/adopt.sh reads the same codes in comments.
 """
 from __future__ import annotations
 
-import base64
 import json
+import os
 import pathlib
+import random
 import re
 import subprocess
 
 import checks
+from adoption import codes
+from adoption.pairs import Pairs
+from generators import descriptors, proto
 from programs import Program
 
 ADOPT = checks.ROOT / "tests" / "adopt"
@@ -37,7 +43,7 @@ SHARED = (
     ("awkward", 0xFBFF, "SignalNotificationMessage", 'name: "s" value { }'),
 )
 
-# Texts of messages, and what is printed of them; where they are not read, the member before the bytes.
+# Texts of messages, and what is printed of them.
 OTHERS = (
     ("other", 0x0402, "GetLazyStateCommandMessage", 'key: "k" name: "n"', {"theKey": "aw==", "name": "n"}),
     ("other", 0x0401, "OutputCommandMessage", 'success { content: "x" }', {"success": {"content": "eA=="}}),
@@ -47,17 +53,104 @@ OTHERS = (
      {"value": {"body": "Yg==", "contentType": "t"}, "nothing": {}}),
     ("awkward", 0, "StartMessage", 'retry_count_since_last_stored_entry: -1 state_map { key: "k" }',
      {"stateMap": [{"key": "aw=="}], "retryCountSinceLastStoredEntry": -1}),
+)
+
+# Texts whose joined payloads are one that is not canonical, and what is printed of it.
+JOINED = (
     # a field that has no form is passed over as an unknown number is
-    ("awkward", 0, "StartMessage", "random_seed: 1", "notCanonical"),
-    ("other", 0, "StartMessage", 'id: "i" random_seed: 1', "notCanonical"),
+    ("awkward", 0, "StartMessage", ("random_seed: 1",), {}),
+    ("other", 0, "StartMessage", ('id: "i" random_seed: 1',), {"id": "aQ=="}),
     # each number of a list that is not packed is a record
-    ("awkward", 1, "SuspensionMessage", "awaiting_on { waiting_completions: 1 }", "notCanonical"),
+    ("awkward", 1, "SuspensionMessage", ("awaiting_on { waiting_completions: 1 }",),
+     {"awaitingOn": {"waitingCompletions": [1]}}),
+    # lists are joined and messages are merged; of all else the last one counts, and of a oneof the last member
+    ("awkward", 1, "SuspensionMessage",
+     ("awaiting_on { waiting_completions: [1, 2] }", 'awaiting_on { waiting_completions: 3 waiting_signals: 4 }'),
+     {"awaitingOn": {"waitingCompletions": [1, 2, 3], "waitingSignals": [4]}}),
+    ("awkward", 0x0400, "InputCommandMessage",
+     ('value { body: "b" } headers { key: "k" }', 'name: "m" headers { }', 'name: "n" value { content_type: "t" }'),
+     {"headers": [{"key": "k"}, {}], "name": "n", "value": {"body": "Yg==", "contentType": "t"}}),
+    ("awkward", 0x0401, "OutputCommandMessage", ("failure { code: 5 }", 'failure { message: "m" }'),
+     {"failure": {"code": 5, "message": "m"}}),
+    ("other", 0x8002, "GetLazyStateCompletionNotificationMessage", ("void { }", "value { } completion_id: 7"),
+     {"completionId": 7, "value": {}}),
+)
+
+# Messages in JSON with values of enums by their names or numbers, and as texts; a name may be another one's alias.
+ENUMS = (
+    ("other", 2, "ErrorMessage", '{"behavior":"NEVER"}', "behavior: NEVER"),
+    ("other", 2, "ErrorMessage", '{"code":1,"behavior":"RETRY"}', "code: 1"),
+    ("other", 2, "ErrorMessage", '{"behavior":"3"}', "behavior: PAUSE"),
+    ("other", 2, "ErrorMessage", '{"behavior":-7}', "behavior: -7"),
+    ("other", 2, "ErrorMessage", '{"behavior":null}', ""),
+    ("awkward", 2, "Error", '{"behavior":"HOLD","relatedCommandType":"MESSAGE_KIND_UNSPECIFIED"}',
+     "behavior: PAUSE related_command_type: MESSAGE_KIND_UNSPECIFIED"),
+    ("awkward", 2, "Error", '{"behavior":"DEFAULT","relatedCommandType":"COMMAND"}', "related_command_type: COMMAND"),
+    ("awkward", 1, "SuspensionMessage",
+     '{"awaitingOn":{"combinatorType":"ALL","nestedFutures":[{"combinatorType":"ANY"}]}}',
+     "awaiting_on { combinator_type: ALL nested_futures { combinator_type: ANY } }"),
+)
+
+# Values of enums that are rejected, with what is said of them.
+NO_ENUMS = (
+    ("other", "ErrorMessage", '{"behavior":"never"}', "behavior: neither a name of its enum nor a number"),
+    ("other", "ErrorMessage", '{"behavior":""}', "behavior: neither a name of its enum nor a number"),
+    ("other", "ErrorMessage", '{"behavior":" NEVER"}', "behavior: neither a name of its enum nor a number"),
+    ("other", "ErrorMessage", '{"behavior":"HOLD"}', "behavior: neither a name of its enum nor a number"),
+    ("other", "ErrorMessage", '{"behavior":["NEVER"]}', "behavior: wrong kind of value"),
+    ("other", "ErrorMessage", '{"behavior":2147483648}', "behavior: out of range"),
+    ("awkward", "Error", '{"relatedCommandType":"PAUSE"}',
+     "relatedCommandType: neither a name of its enum nor a number"),
+    ("awkward", "SuspensionMessage", '{"awaitingOn":{"nestedFutures":[{},{"combinatorType":"all"}]}}',
+     "awaitingOn.nestedFutures[1].combinatorType: neither a name of its enum nor a number"),
 )
 
 # A file, and one that imports it.
 HEAD = 'syntax = "proto3";\npackage a;\n'
 MISSING = "part.proto", f"{HEAD}message Part {{ bytes content = 1; }}\n"
 IMPORTING = "whole.proto", f'{HEAD}import "part.proto";\nmessage Whole {{ Part part = 1; }}\n'
+
+# Parts of comments that say codes: before the word, the word, what is before a number, and what is after one.
+COMMENTS = (
+    ("", "", "", "A message. ", "A message of the type ", "sub", "_", "("),
+    ("Type", "Type", "type", "CODE", "message type", "Message Code", "types", "kind"),
+    (": ", ": ", ":", " ", " = ", "=", "   ", ": `", " : <code>", " <CODE>", " `", "", " is "),
+    ("", "", ".", "`", "</code>.", " and more", "x", " + ", " | zz", "_1", " +1g"),
+)
+
+# A code in numbers: whole, or in two parts.
+NUMBERS = (
+    "0x{code:04X}", "0X{code:x}", "{code}", "0x{high:04X} + {low}", "0x{high:X}+0x{low:x}", "{high} + {low}",
+    "0x{high:04X} | {low}", "0x{code:x}g", "0x", "{code}f", "0x{high:04x} + {low} + 1", "99999999999999999999", "65536",
+)
+LETTERS = "0x{high:04X} + {low:X}", "0x{high:04X} | 0{low:x}", "{high} + a"
+
+# Messages that say the code of another type, that of their own, and none.
+CODED = f"""{HEAD}
+// Type: 0x0402
+message Fetch {{ bytes key = 3; uint32 result = 9; string name = 12; }}
+// Type: 0x0400 + 1
+message InputCommandMessage {{ string name = 15; }}
+message OutputCommandMessage {{ string name = 16; }}
+message ClearStateCommandMessage {{
+  /* Type 0x0404 */
+
+  // Another comment.
+  string name = 17;
+}}
+"""
+CODED_TABLE = """
+read by other messages, by the codes that comments say:
+- InputCommandMessage, 0x0400: none
+- GetLazyStateCommandMessage, 0x0402: a.Fetch
+"""
+
+# What these files' comments say of codes.
+CODES = "read by other messages, by the codes that comments say:"
+SAID = {"awkward": "", "other": f"\n{CODES}\n- ErrorMessage, 0x0002: none\n"}
+
+# Second numbers, and the message of the code 0x0414 or none: they are hexadecimal if more types have their codes then.
+SECONDS = (("20", ""), ("14", ""), ("0x14", ""), ("15", "- CompleteAwakeableCommandMessage, 0x0414: none\n"))
 
 
 def set_of(folder: pathlib.Path, name: str, *words: str) -> bytes:
@@ -114,10 +207,16 @@ def dumped(check: checks.Check, program: Program) -> None:
         check.case(f"{message} of {name}.proto: {text}", theirs == ours and "message" in ours, (theirs, ours))
     for name, code, message, text, expected in OTHERS:
         payload = payload_of(ADOPT, name, message, text)
-        content = base64.b64encode(payload).decode()
-        shown = {expected: True, "bytes": content} if isinstance(expected, str) else {"message": expected}
         found = shown_by(program, f"--schema {check.work / name}.set", code, payload)
-        check.case(f"{message} of {name}.proto: {text}", found == shown, found)
+        check.case(f"{message} of {name}.proto: {text}", found == {"message": expected}, found)
+    for name, code, message, texts, expected in JOINED:
+        payload = b"".join(payload_of(ADOPT, name, message, text) for text in texts)
+        words = f"--schema {check.work / name}.set"
+        lines = program.run(f"dump --strict {words}", frame_of(code, payload))
+        made = program.run(f"make {words}", lines.out).out
+        found = json.loads(lines.out.splitlines()[0]).get("message"), shown_by(program, words, code, made[8:])
+        is_merged = made != frame_of(code, payload) and found == (expected, {"message": expected})
+        check.case(f"{message} of {name}.proto: {' and '.join(texts)}", is_merged, (found, made))
     # before V7 the one suspension of a file is that too; a type without a message has its bytes
     lists = {"waitingCompletions": [1, 2], "waitingNamedSignals": ["s"]}
     found = shown_by(program, f"--protocol 6 --schema {check.work}/other.set", 1, b"\n\2\1\2\x1a\1s")
@@ -126,19 +225,223 @@ def dumped(check: checks.Check, program: Program) -> None:
     check.case("a type without a message", found == {"bytes": "/w=="}, found)
 
 
+def coded_lines(out: bytes) -> str:
+    """What a table says of types that other messages are read by than those of their names."""
+    return out.decode().partition("by the codes that comments say:\n")[2].partition("\n\n")[0]
+
+
+def comment(r: random.Random, code: int, numbers: tuple[str, ...]) -> str:
+    """A comment that may say a code."""
+    before, word, between, after = (r.choice(parts) for parts in COMMENTS)
+    said = r.choice(numbers).format(code=code, high=code & 0xFF00, low=code & 0xFF)
+    return f"{before}{word}{between}{said}{after}"
+
+
+def commented(r: random.Random, numbers: tuple[str, ...]) -> str:
+    """A file of messages with comments that may say the codes of types, above them, after their opening braces or above
+    their first fields."""
+    types = [message.options["code"] for message in proto.description().messages if "code" in message.options]
+    text = HEAD
+    for at in range(120):
+        above, after, field = (
+            f"// {comment(r, r.choice(types), numbers)}\n" if r.random() < 0.6 else "" for _ in range(3)
+        )
+        text += f"{above}message M{at:03} {{ {after}\n{field} uint32 a = 1; }}\n\n"
+    return text
+
+
+def read_in(path: pathlib.Path) -> str:
+    """What scripts/adopt.sh reads in such a file: the first message that says the code of each type."""
+    pairs = Pairs(proto.description(), descriptors.read(path))
+    base, _ = codes.base_of(pairs)
+    lines = ""
+    for name, message in pairs.ours.items():
+        code = message.options.get("code")
+        found = [other for other in pairs.theirs.values() if code in codes.codes_of(other, base)]
+        lines += f"- {name}, 0x{code:04x}: a.{found[0].name}\n" if found else ""
+    return lines
+
+
+def comments(check: checks.Check, program: Program) -> None:
+    """The codes that comments say are those that scripts/adopt.sh reads."""
+    r = random.Random(1)
+    for at, numbers in enumerate((NUMBERS, NUMBERS, NUMBERS + LETTERS, LETTERS)):
+        path = check.work / f"comments_{at}.proto"
+        path.write_text(commented(r, numbers))
+        run = program.run("schema", set_of(check.work, path.name, "--include_source_info"))
+        expected = read_in(path)
+        check.case(f"{path.name} has types", expected.count("\n") > 10, expected)
+        lines = ("\n".join(sorted(text.split("\n"))).strip() for text in (expected, coded_lines(run.out)))
+        check.same(f"journal schema of {path.name}", *lines)
+    for second, expected in SECONDS:
+        path = check.work / "second.proto"
+        path.write_text(f"{HEAD}// Type: 0x0400 + {second}\nmessage CompleteAwakeableCommandMessage {{ }}\n")
+        run = program.run("schema", set_of(check.work, path.name, "--include_source_info"))
+        found = coded_lines(run.out)
+        check.case(f"Type: 0x0400 + {second}", run.status == 0 and found == expected, found)
+
+
+def coded(check: checks.Check, program: Program) -> None:
+    """Payloads by messages that say the codes of types, and by messages that are renamed."""
+    (check.work / "coded.proto").write_text(CODED)
+    for name, words in (("coded", ("--include_source_info",)), ("plain", ())):
+        (check.work / f"{name}.set").write_bytes(set_of(check.work, "coded.proto", *words))
+    table = program.run(f"schema {check.work}/coded.set").out.decode()
+    check.case("journal schema of codes", table.endswith(CODED_TABLE), table)
+    table = program.run(f"schema {check.work}/plain.set").out.decode()
+    check.case("journal schema without comments", "codes" not in table and "OutputCommandMessage.name" in table, table)
+    key, name, opaque = b"\x1a\1k\x48\7", b"\x7a\1n", {"bytes": "GgFrSAc="}
+    fetched = {"message": {"key": "aw==", "result": 7}}
+    renames = "--rename Fetch=get_lazy_state_command", "--rename a.Fetch=GetLazyStateCommandMessage"
+    for words, code, payload, expected in (
+        ("coded.set", 0x0402, key, fetched),
+        ("coded.set", 0x0400, name, {"bytes": "egFu"}),
+        ("coded.set", 0x0401, b"\x82\1\1n", {"message": {"name": "n"}}),
+        ("coded.set", 0x0404, b"\x8a\1\1n", {"message": {"name": "n"}}),
+        ("plain.set", 0x0402, key, opaque),
+        ("plain.set", 0x0400, name, {"message": {"name": "n"}}),
+        *((f"plain.set {rename}", 0x0402, key, fetched) for rename in renames),
+        (f"coded.set {renames[0]} --rename InputCommandMessage=InputCommand", 0x0400, name, {"bytes": "egFu"}),
+    ):
+        found = shown_by(program, f"--schema {check.work}/{words}", code, payload)
+        check.case(f"0x{code:04x} by {words}", found == expected, found)
+    table = program.run(f"schema {renames[0]} {check.work}/plain.set").out
+    check.case("journal schema --rename", b"\nGetLazyStateCommandMessage.key " in table, table)
+    for renamed, said in (
+        ("Fetsh=GetLazyStateCommand", "there is no message Fetsh there; did you mean Fetch?"),
+        ("Fetch=GetLasyStateCommandMessage", "there is no message GetLasyStateCommandMessage here; did you mean "
+         "GetLazyStateCommandMessage, GetEagerStateCommandMessage, SetStateCommandMessage?"),
+        ("Fetch=SleepCommand --rename InputCommandMessage=sleep_command",
+         "sleep_command has another name there already"),
+    ):
+        for word in ("dump", "make", "schema"):
+            path = f"{check.work}/plain.set"
+            words = f"{word} {path}" if word == "schema" else f"{word} --schema {path}"
+            error = f"journal {word}: --rename {renamed.rpartition(' ')[2]}: {said}\n"
+            program.ends(f"{words} --rename {renamed}", "", error, 2)
+    wrong = program.run(f"dump --schema {check.work}/plain.set --rename Fetch")
+    check.case("--rename Fetch", wrong.status == 2 and b"--rename Fetch is not THEIRS=OURS" in wrong.err, wrong)
+
+
+def compared(check: checks.Check, program: Program) -> None:
+    """Streams at other numbers are compared as the same ones at the protocol's own."""
+    (check.work / "renumbered.proto").write_text(renumbered())
+    made = check.work / "renumbered.set"
+    made.write_bytes(set_of(check.work, "renumbered.proto", f"--proto_path={PROTO}", "--include_imports"))
+    streams = checks.ROOT / "examples/streams"
+    for name in ("recorded", "replayed_other_handler", "replayed_other_payload"):
+        stream = program.run(f"make --schema {made}", program.run(f"dump {streams / name}").out).out
+        check.case(f"{name} at other numbers", stream != (streams / name).read_bytes(), name)
+        (check.work / name).write_bytes(stream)
+        (check.work / f"{name}.hex").write_text(stream.hex())
+    for name in ("recorded", "replayed_other_handler", "replayed_other_payload"):
+        for words in ("", "--all", "--json", "--ignore-payloads"):
+            ours = program.run(f"diff {words} {streams}/recorded {streams / name}")
+            theirs = program.run(f"diff {words} --schema {made} {check.work}/recorded {check.work / name}")
+            check.case(f"diff {words} --schema, recorded and {name}", ours == theirs, (ours, theirs))
+        ours = program.run(f"diff {streams}/recorded {streams / name}")
+        theirs = program.run(f"diff --input hex --schema {made} {check.work}/recorded.hex {check.work / name}.hex")
+        check.case(f"diff --input hex --schema, recorded and {name}", ours == theirs, (ours, theirs))
+    cut = (check.work / "recorded").read_bytes()[:-1]
+    (check.work / "cut").write_bytes(cut)
+    ours = program.run(f"diff {streams}/recorded -", (streams / "recorded").read_bytes()[:-1])
+    theirs = program.run(f"diff --schema {made} {check.work}/recorded -", cut)
+    # the trailing bytes are those of a payload, whose keys are longer there
+    is_same = (ours.status, ours.out) == (theirs.status, theirs.out)
+    check.case("diff --schema, a stream cut short", is_same and b" after its last " in theirs.err, (ours, theirs))
+    (check.work / "lacking").write_bytes(frame_of(0x0411, b"\x1a\1s"))
+    said = f"journal diff: {check.work}/lacking: item 0: message.source: unknown member\n"
+    words = f"--schema {check.work}/other.set --rename TransferCommandMessage=RunCommand"
+    program.ends(f"diff {words} {check.work}/lacking {check.work}/lacking", "", said, 2)
+    for word, files in (("diff", f"{check.work}/cut {check.work}/cut"), ("dump", f"{check.work}/cut")):
+        said = f"journal {word}: --protocol auto reads payloads by the protocol's own description, and not by a "
+        program.ends(f"{word} --schema {made} --protocol auto {files}", "", f"{said}descriptor set\n", 2)
+
+
+def by_variable(check: checks.Check, program: Program) -> None:
+    """The variable of the environment names a set, unless an option does, or it is empty."""
+    frame, plain = frame_of(0x0402, b"\x1a\1k\x48\7"), {**os.environ, "PENDRATSOA_SCHEMA": f"{check.work}/plain.set"}
+    for words, variable, shown in (
+        ("", "coded.set", b'"result":7'),
+        (f"--schema {check.work}/coded.set", "plain.set", b'"result":7'),
+        (f"--schema {check.work}/plain.set", "coded.set", b'"bytes":"GgFrSAc="'),
+    ):
+        path = f"{check.work}/{variable}"
+        env = {**os.environ, "PENDRATSOA_SCHEMA": path}
+        run = program.run(f"dump {words}", frame, env=env)
+        check.case(f"PENDRATSOA_SCHEMA={path} journal dump {words}", shown in run.out and not run.status, run)
+        made = program.run(f"make {words}", run.out, env=env)
+        check.case(f"PENDRATSOA_SCHEMA={path} journal make {words}", made == checks.Run(0, frame, b""), made)
+    empty = program.run("dump", frame, env={**os.environ, "PENDRATSOA_SCHEMA": ""})
+    check.same("PENDRATSOA_SCHEMA= journal dump", program.run("dump", frame).out, empty.out)
+    said = "journal dump: --rename is of a set, which --schema names\n"
+    program.ends("dump --rename A=Value", "", said, 2)
+    env = {**os.environ, "PENDRATSOA_SCHEMA": "-"}
+    said = "either the input or the descriptor set can come from the standard input\n"
+    program.ends("dump", "", f"journal dump: {said}", 2, given=frame, env=env)
+    renamed = program.run("dump --rename Fetch=GetLazyStateCommand", frame, env=plain)
+    check.case("PENDRATSOA_SCHEMA with --rename", b'"result":7' in renamed.out, renamed)
+
+
+# A message of a type with its name, what is between, and its code; that of a suspension before V7 is another one's too.
+TYPE = re.compile(r"(?m)^message (\w+)( \{\n(?:  .*\n)*?  )option \(code\) = (\w+);(?!\n  option \(before_version\))")
+
+
+def called_by_codes(text: str) -> str:
+    """A description whose messages of types are called by their codes, as Type1026, and have comments that say them."""
+    def called(found: re.Match[str]) -> str:
+        code = int(found[3], 16)
+        said = f"// Type: 0x{code & 0xFF00:04X} + {code & 0xFF}"
+        return f"{said}\nmessage Type{code}{found[2]}option (code) = {found[3]};"
+
+    return TYPE.sub(called, text)
+
+
 def random_payloads(check: checks.Check, program: Program) -> None:
     """Protobuf prints the same for random payloads of all message types, by other numbers than the protocol's."""
     judge = checks.python_with_protobuf()
     if not judge:
         check.left_out("protobuf's own printer", "there is no protobuf for python3")
         return
-    folder = check.work / "renumbered"
-    folder.mkdir()
-    (folder / "journal.proto").write_text(renumbered())
-    made = folder / "set"
-    made.write_bytes(set_of(folder, "journal.proto", f"--proto_path={PROTO}", "--include_imports"))
-    words = [judge, "-B", "tools/generators/protobuf_dumps.py", "--other", folder / "journal.proto", "1", "100"]
-    check.counted("protobuf_dumps.py --other", [*words, program.path, "dump", "--schema", made], cwd=checks.ROOT)
+    called = called_by_codes(renumbered())
+    names = {int(code, 16): name for name, _, code in TYPE.findall(renumbered())}
+    renames = [word for code, name in names.items() for word in ("--rename", f"Type{code}={name}")]
+    for name, text, given, words in (
+        ("names", renumbered(), (), ()),
+        ("codes", called, ("--include_source_info",), ()),
+        ("renames", called, (), renames),
+    ):
+        folder = check.work / f"renumbered_{name}"
+        folder.mkdir()
+        (folder / f"by_{name}.proto").write_text(text)
+        made = folder / "set"
+        made.write_bytes(set_of(folder, f"by_{name}.proto", f"--proto_path={PROTO}", "--include_imports", *given))
+        judged = [judge, "-B", "tools/generators/protobuf_dumps.py", "--other", folder / f"by_{name}.proto", "1", "50"]
+        command = [*judged, program.path, "dump", "--schema", made, *words]
+        check.counted(f"protobuf_dumps.py --other, by {name}", command, cwd=checks.ROOT)
+
+
+def enums_by_name(check: checks.Check, program: Program) -> None:
+    """Values of enums by the names that a set has, and what is rejected."""
+    for name, code, message, text, same in ENUMS:
+        line = f'{{"code":{code},"message":{text}}}\n'.encode()
+        frame = frame_of(code, payload_of(ADOPT, name, message, same))
+        made = program.run(f"make --schema {check.work / name}.set", line)
+        check.case(f"{text} of {name}.proto", made == checks.Run(0, frame, b""), made)
+    for name, message, text, said in NO_ENUMS:
+        line = f'{{"type":"{message.removesuffix("Message")}","message":{text}}}\n'.encode()
+        said = f"journal make: -:1: message.{said}\n"
+        program.ends(f"make --schema {check.work / name}.set", "", said, 1, given=line, what=f"{text} of {name}.proto")
+    judge = checks.python_with_protobuf()
+    if not judge:
+        check.left_out("protobuf's own parser", "there is no protobuf for python3")
+        return
+    cases = [(name, message, text, same) for name, _code, message, text, same in ENUMS]
+    for name, message, text, same in [*cases, *((*case[:3], None) for case in NO_ENUMS)]:
+        of = check.work / f"{name}.set", f"{PACKAGES[name]}.{message}"
+        read = checks.run([judge, "-B", "scripts/checks/parsed_json.py", *of], text.encode(), cwd=checks.ROOT)
+        wanted = "rejected" if same is None else payload_of(ADOPT, name, message, same).hex()
+        check.case(f"{text} of {name}.proto, by protobuf's parser", read.out.decode() == f"{wanted}\n", read)
 
 
 def not_dumped(check: checks.Check, program: Program) -> None:
@@ -152,9 +455,9 @@ def not_dumped(check: checks.Check, program: Program) -> None:
     hint = "a text, and not a descriptor set, which this makes of a .proto file"
     said = f"journal dump: {text}: {hint}: protoc --include_imports -o schema.binpb {text}\n"
     program.ends(f"dump --schema {text}", "", said, 2, what="a .proto file")
-    for word, what in (("dump", b"stream"), ("make", b"lines")):
+    for word in ("dump", "make"):
         both = program.run(f"{word} --schema - -")
-        is_said = b"either the %s or the descriptor set can come from the standard input" % what in both.err
+        is_said = b"either the input or the descriptor set can come from the standard input" in both.err
         check.case(f"journal {word} --schema - -", both.status == 2 and not both.out and is_said, both)
 
 
@@ -182,7 +485,8 @@ def main(check: checks.Check) -> None:
         table = (ADOPT / f"{name}.schema").read_text()
         schema.ends("schema", table, given=given, what=name)
         with_source = set_of(ADOPT, f"{name}.proto", "--include_imports", "--include_source_info")
-        schema.ends("schema -", table, given=with_source, what=f"{name}, with source information")
+        coded_table = table.replace("\n\npassed", f"\n{SAID[name]}\npassed")
+        schema.ends("schema -", coded_table, given=with_source, what=f"{name}, with source information")
         cut = schema.run("schema", given=given[:-1])
         check.case(f"journal schema < {name}, cut short", cut.status == 2 and not cut.out, cut)
     own = schema.run("schema", given=set_of(PROTO, "journal.proto"))
@@ -197,8 +501,13 @@ def main(check: checks.Check) -> None:
     wrong = b"\x0a\x0d\x0a\x01f\x22\x08\x0a\x01m\x12\x03\x0a\x01\xff"
     schema.ends("schema", "", "journal schema: -: f: m: malformed\n", 2, given=wrong, what="no UTF-8")
     dumped(check, schema)
+    enums_by_name(check, schema)
     not_dumped(check, schema)
     not_made(check, schema)
+    comments(check, schema)
+    coded(check, schema)
+    by_variable(check, schema)
+    compared(check, schema)
     random_payloads(check, schema)
 
 

@@ -19,7 +19,7 @@ RECORDED = (
     '#3 CallCompletionNotification "hi" completes #2 CallCommand Greeter greet "hello"\n',
     '#4 OutputCommand "done"\n',
 )
-OPEN = 'open the invocation id of #2 CallCommand Greeter greet "hello"\n'
+OPEN = 'open id 1: the invocation id of #2 CallCommand Greeter greet "hello"\n'
 CUT = "offset 21: 8 bytes after the last whole item"
 
 
@@ -71,7 +71,7 @@ MADE: dict[str, tuple[bytes, tuple[str, ...], str]] = {
             "#4 RunCompletionNotification failed code=70 card declined completes #0 RunCommand charge\n",
             '#5 RunCompletionNotification "ok" completes id 1\n',
         ),
-        "open #1 SleepCommand wakeUpTime=9\n",
+        "open id 2: #1 SleepCommand wakeUpTime=9\n",
     ),
     # a completion before its command
     "before": (
@@ -92,7 +92,7 @@ MADE: dict[str, tuple[bytes, tuple[str, ...], str]] = {
             '#1 CallInvocationIdCompletionNotification inv completes the invocation id of #0 CallCommand S h "{}"\n',
             "#2 SignalNotification idx=17\n",
         ),
-        'open #0 CallCommand S h "{}"\n',
+        'open id 2: #0 CallCommand S h "{}"\n',
     ),
     # what a terminal may take as commands, what is not UTF-8, and what is cut after forty bytes or before a character
     "texts": (
@@ -122,7 +122,7 @@ MADE: dict[str, tuple[bytes, tuple[str, ...], str]] = {
             "#2 Error code=100 boom at x\n",
             '#3 CustomEntry(64512) "abc"\n',
         ),
-        "open #1 RunCommand last\n",
+        "open id 5: #1 RunCommand last\n",
     ),
 }
 
@@ -180,7 +180,7 @@ def filters(check: checks.Check, show: Program) -> None:
     for stream, cases in filter_cases.cases():
         for words, found in cases:
             ended = show.run(("--where", words, "-"), stream)
-            shown = re.findall(r"^(open (?:[a-z ]+ of )?)?#(\d+) ", ended.out.decode(), re.MULTILINE)
+            shown = re.findall(r"^(open [^#]*)?#(\d+) ", ended.out.decode(), re.MULTILINE)
             wanted = "is:open" in words
             indices = [int(index) for is_open, index in shown if bool(is_open) == wanted]
             check.case(f"--where {words}", ended.status == 0 and indices == found, ended)
