@@ -1,4 +1,6 @@
 //! Varints, keys and records, appended to a payload. After an error no content of the buffer is promised.
+//!
+//! `shared_core_json_reader` appends by these too, so they may be inlined there.
 
 ghost use Rattle.std.specs.Prelude.{◌≡◌, ◌<◌, ◌++◌, OnOk};
 ghost use Rattle.shared_core_wire.specs.Encoding.{shortest_varint, key_bytes};
@@ -8,6 +10,7 @@ use shared_core_codec::size::{LENGTH, VARINT, key};
 use std::alloc::AllocError;
 
 /// Appends the shortest varint of a number.
+#[inline]
 pub fn append_varint(out: &mut Vec<u8>, number: u64) -> Result<(), AllocError>
     ensures { OnOk result (out.new.items ≡ out.old.items ++ shortest_varint number) }
 {
@@ -21,7 +24,8 @@ pub fn append_varint(out: &mut Vec<u8>, number: u64) -> Result<(), AllocError>
 }
 
 /// Appends the key of a record of a wire type, which is below 8.
-fn append_key(out: &mut Vec<u8>, number: u32, wire: u64) -> Result<(), AllocError>
+#[inline]
+pub fn append_key(out: &mut Vec<u8>, number: u32, wire: u64) -> Result<(), AllocError>
     requires { wire < 8 }
     ensures { OnOk result (out.new.items ≡ out.old.items ++ key_bytes number wire) }
 {
@@ -29,6 +33,7 @@ fn append_key(out: &mut Vec<u8>, number: u32, wire: u64) -> Result<(), AllocErro
 }
 
 /// Appends the record of a number; 0 is left out in a plain field.
+#[inline]
 pub fn append_number(
     out: &mut Vec<u8>,
     plain: bool,
@@ -45,6 +50,7 @@ pub fn append_number(
 }
 
 /// Appends the record of some bytes; no bytes are left out in a plain field.
+#[inline]
 pub fn append_content(
     out: &mut Vec<u8>,
     plain: bool,

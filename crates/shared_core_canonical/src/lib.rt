@@ -1,7 +1,7 @@
 //! The canonical payload of any payload that a table of schemas accepts, by the rows of its schema: no record is made.
 #![tactic(auto)]
 
-mod append;
+pub mod append;
 mod canonical;
 mod elements;
 pub mod error;

@@ -1,12 +1,30 @@
 //! Lengths put before what they count.
+//!
+//! The length of a nested message comes before its fields, and is known once they are there. So `append_prefix` leaves
+//! room for it, and `put_length` puts it there. After an error no content of the buffer is promised: it was empty when
+//! the reader began, and `payload_into` says so to the caller.
 
-ghost use Rattle.std.specs.Prelude.{◌≡◌, ◌+◌, ◌-◌, ◌<◌, ◌≤◌, [], ◌∷◌, ◌++◌, OnOk, length, max, take, drop};
+ghost use Rattle.std.specs.Prelude.{◌≡◌, ◌+◌, ◌-◌, ◌<◌, ◌≤◌, [], ◌∷◌, ◌++◌, IfOk, OnOk, length};
+ghost use Rattle.std.specs.Prelude.{max, take, drop};
 ghost use Rattle.shared_core_wire.specs.Encoding.{shortest_varint, key_bytes};
 ghost use Rattle.shared_core_wire.specs.WrittenRecords.{number_record, content_size, at_most_64_bits};
 
+use shared_core_canonical::append::{append_key, append_varint};
 use shared_core_codec::size::{LENGTH, VARINT, key};
 use shared_core_wire::varint::varint_len;
 use std::alloc::AllocError;
+
+/// Appends what a record of bytes begins with: its key, and their number as a varint. Returns where the latter begins.
+pub fn append_prefix(out: &mut Vec<u8>, number: u32, size: u64) -> Result<usize, AllocError>
+    ensures bytes { OnOk result (out.new.items
+        ≡ (out.old.items ++ key_bytes number 2) ++ shortest_varint size) }
+    ensures place { IfOk result (λ place. place ≡ length (out.old.items ++ key_bytes number 2)) }
+{
+    append_key(out, number, LENGTH)?;
+    let place = out.len();
+    append_varint(out, size)?;
+    Ok(place)
+}
 
 /// Puts the length of what comes from `end` on in the place of the bytes from `place` to there, as a varint. What comes
 /// after is moved only if these were more or fewer bytes.

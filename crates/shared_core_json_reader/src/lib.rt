@@ -20,7 +20,6 @@ mod payload;
 mod read;
 pub mod readable;
 mod readable_error;
-mod records;
 mod rows;
 mod scalars;
 mod short;

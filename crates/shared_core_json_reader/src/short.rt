@@ -1,11 +1,12 @@
 //! Records whose key and length, or number, are a byte each, as most are: appended without a loop, and with one test
-//! for room. All others are appended by `records`, and put by `lengths`.
+//! for room. All others are appended by `append` of `shared_core_canonical`, and their lengths put by `lengths`.
 
 ghost use Rattle.std.specs.Prelude.{◌≡◌, ◌-◌, ◌≤◌, ◌++◌, IfOk, OnOk, length, take, drop};
 ghost use Rattle.shared_core_wire.specs.Encoding.{shortest_varint, key_bytes};
 ghost use Rattle.shared_core_wire.specs.WrittenRecords.{number_record, content_record};
 
-use crate::{lengths, records};
+use crate::lengths;
+use shared_core_canonical::append;
 use shared_core_codec::size::SHORT_KEYS;
 use std::alloc::AllocError;
 
@@ -20,7 +21,7 @@ pub fn append_number(
     ensures { OnOk result (out.new.items ≡ out.old.items ++ number_record plain number value) }
 {
     if number >= SHORT_KEYS || value >= 128 || plain && value == 0 {
-        return records::append_number(out, plain, number, value);
+        return append::append_number(out, plain, number, value);
     }
     out.reserve(2)?;
     out.push_reserved(8 * number as u8);
@@ -39,7 +40,7 @@ pub fn append_content(
     ensures { OnOk result (out.new.items ≡ out.old.items ++ content_record plain number content.now) }
 {
     if number >= SHORT_KEYS || content.len() >= 128 || plain && content.is_empty() {
-        return records::append_content(out, plain, number, content);
+        return append::append_content(out, plain, number, content);
     }
     out.reserve(content.len() + 2)?;
     out.push_reserved(8 * number as u8 + 2);
@@ -55,7 +56,7 @@ pub fn append_prefix(out: &mut Vec<u8>, number: u32, size: u64) -> Result<usize,
     ensures place { IfOk result (λ place. place ≡ length (out.old.items ++ key_bytes number 2)) }
 {
     if number >= SHORT_KEYS || size >= 128 {
-        return records::append_prefix(out, number, size);
+        return lengths::append_prefix(out, number, size);
     }
     out.reserve(2)?;
     out.push_reserved(8 * number as u8 + 2);
