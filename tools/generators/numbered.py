@@ -46,10 +46,6 @@ NUMBERED = {
             ],
         )
     ],
-    "examples/c/listing.c": [
-        ("CallCommandMessage", ["uint64_t call_names[] = {{service_name}, {handler_name}}"]),
-        ("OneWayCallCommandMessage", ["uint64_t one_way_call_names[] = {{service_name}, {handler_name}}"]),
-    ],
     f"{PARTS}/proofs/future/+measure_future/Answers.antt": [NESTED],
     f"{PARTS}/proofs/future/+measure_future/Invariants.antt": [AT_NESTED],
     f"{PARTS}/proofs/future/+encode_future/Invariants.antt": [AT_NESTED],
