@@ -1,5 +1,5 @@
 #!/bin/sh
-# On arm64, under qemu: what the programs print; the library for C, by its constants, test vectors, adversarial calls.
+# On arm64, under qemu: what the programs print; the library for C, by its constants, vectors, tests, adversarial calls.
 #
 # It is run before a release, and not by the gate. scripts/install.sh --target builds them over the libraries that rt ci
 # or rt lib has proved, and proves the crates of the programs for that processor, in some eight minutes of CPU time; of
@@ -29,14 +29,18 @@ case_of 'install.sh --target' sh scripts/install.sh --target $target "$prefix"
 [ "$failed" -eq 0 ] || finish
 exported_names
 constants
-test_vectors conformance/*.txt conformance/json/*.txt
+test_vectors conformance/*.txt conformance/json/*.txt conformance/replays/*.txt
+package_cases
 compile_hostile_calls
 # shellcheck disable=SC2086 # the words are split
 case_of 'adversarial calls' $emulator "$work/hostile" 1 20000
 # shellcheck disable=SC2086 # the words are split
 case_of 'adversarial calls in two threads' $emulator "$work/hostile" 2 5000 2
 message_structs 20000
+later_library
+stream_reader
 message_example "$prefix/lib/libpendratsoa.a"
+replay_example "$prefix/lib/libpendratsoa.a"
 
 # printed EMULATOR.. PROGRAM WORD..: all that a program prints, and its status
 printed() {
