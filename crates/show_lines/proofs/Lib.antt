@@ -1,3 +1,7 @@
+pub mod Patterns
+pub mod Units
+pub mod Fields
+pub mod Reading
 pub mod Halves
 pub mod Joins
 pub mod Progress

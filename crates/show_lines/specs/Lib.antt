@@ -1,6 +1,8 @@
 pub mod Excerpt
 pub mod Contents
 pub mod Filter
+pub mod Ranges
+pub mod Words
 pub mod Waiting
 pub mod Lines
 pub mod Showing

@@ -1,5 +1,15 @@
 //! The words of a filter, and how a text says them.
 
+ghost use Rattle.std.specs.Prelude.{◌≡◌, ◌≢◌, ◌<◌, ◌==◌, false, Some, Err, [], IfOk, IfErr, OnOk, length, map};
+ghost use Rattle.std.specs.Prelude.{eqb};
+ghost use Rattle.std.specs.List.{starts_with, before_first, after_first};
+ghost use Rattle.std.specs.StrCase.Lower.{str_to_lowercase};
+ghost use Rattle.show_lines.specs.Ranges.{range_said};
+ghost use Rattle.show_lines.specs.Words.{Adds, Asks, AsksNothing, LacksNumber, LacksState, Reads, Refuses};
+ghost use Rattle.show_lines.specs.Words.{end_of, field_said, fields, first_said, named_field, said_of};
+ghost use Rattle.show_lines.specs.Words.{says_nothing, says_open, state_name, without_mark};
+ghost use Rattle.show_lines.specs.declared.filter.FilterError.TheVariants.{OutOfMemory};
+
 use crate::range::{Range, range_of};
 use std::alloc::{AllocError, Global};
 use std::fmt::{self, Display, Formatter, Write};
@@ -82,6 +92,11 @@ pub enum FilterError {
 }
 
 impl From<AllocError> for FilterError {
+    ghost use Rattle.std.specs.Prelude.{◌≡◌};
+    ghost use Rattle.show_lines.specs.declared.filter.FilterError.TheVariants.{OutOfMemory};
+
+    ghost from_gives = { λ _ error. error ≡ OutOfMemory };
+
     fn from(_: AllocError) -> FilterError {
         FilterError::OutOfMemory
     }
@@ -138,10 +153,29 @@ struct Written<'a> {
     text: &'a str,
 }
 
+impl Written<'_> {
+    /// Whether it is a word without a field whose text is empty, and no phrase.
+    fn says_nothing(&self) -> bool
+        ensures { result ≡ says_nothing (said_of self.now) }
+    {
+        self.field.is_none() && !self.is_phrase && self.text.is_empty()
+    }
+
+    /// Whether it is `is:open`.
+    fn says_open(&self) -> bool
+        ensures { result ≡ says_open (said_of self.now) }
+    {
+        matches!(self.field, Some(FieldName::Is)) && self.text == "open"
+    }
+}
+
 impl Filter {
     /// The words of a text: `-` before a word, a field before a colon, and a phrase in quotes. Words are separated by
     /// spaces. The error is that of the first word that means nothing, or a failed allocation.
-    pub fn parse(alloc: Global, text: &str) -> Result<Filter, FilterError> {
+    pub fn parse(alloc: Global, text: &str) -> Result<Filter, FilterError>
+        ensures { result ≢ Err OutOfMemory → Reads (length (str_to_lowercase text.now)) (str_to_lowercase text.now)
+            [] false result }
+    {
         let lower = text.to_lowercase(alloc)?;
         let mut filter = Filter {
             words: Vec::new(alloc),
@@ -161,11 +195,15 @@ impl Filter {
     }
 
     /// Adds a word, if it says anything.
-    fn add(&mut self, alloc: Global, written: Written<'_>) -> Result<(), FilterError> {
-        if written.field.is_none() && !written.is_phrase && written.text.is_empty() {
+    fn add(&mut self, alloc: Global, written: Written<'_>) -> Result<(), FilterError>
+        ensures added { OnOk result (Adds (said_of written.entry) self.old.words.items self.old.«open»
+            self.new.words.items self.new.«open») }
+        ensures refused { IfErr result (λ error. error ≢ OutOfMemory → Refuses (said_of written.entry) error) }
+    {
+        if written.says_nothing() {
             return Ok(());
         }
-        if written.field == Some(FieldName::Is) && written.text == "open" {
+        if written.says_open() {
             if written.is_without {
                 return Err(FilterError::NotOpen);
             }
@@ -185,17 +223,14 @@ impl Filter {
 }
 
 /// The word that a text begins with, and what is after it and the space or quote that ends it.
-fn first_word(text: &str) -> (Written<'_>, &str) {
-    let (is_without, text) = match text.strip_prefix("-") {
-        Some(rest) => (true, rest),
-        None => (false, text),
-    };
-    let (field, text) = field_of(text);
-    let (is_phrase, end, text) = match text.strip_prefix("\"") {
-        Some(rest) => (true, '"', rest),
-        None => (false, ' ', text),
-    };
-    let (text, after) = text.split_once(end).unwrap_or((text, ""));
+fn first_word(text: &str) -> (Written<'_>, &str)
+    ensures word { said_of result.0 ≡ (first_said text.now).0 }
+    ensures after { result.1.now ≡ (first_said text.now).1 }
+{
+    let (is_without, text) = split_mark(text, "-");
+    let (field, text) = field_of(text, &FIELDS);
+    let (is_phrase, text) = split_mark(text, "\"");
+    let (text, after) = split_end(text, end_of(is_phrase));
     let written = Written {
         is_without,
         field,
@@ -205,9 +240,40 @@ fn first_word(text: &str) -> (Written<'_>, &str) {
     (written, after)
 }
 
-/// The field that a word begins with, and what is after it.
-fn field_of(text: &str) -> (Option<FieldName>, &str) {
-    for (name, field) in FIELDS.iter() {
+/// Whether a text begins with a mark, and the text without it.
+fn split_mark<'a>(text: &'a str, mark: &str) -> (bool, &'a str)
+    ensures begins { result.0 ≡ starts_with eqb text.now mark.now }
+    ensures rest { result.1.now ≡ without_mark mark.now text.now }
+{
+    match text.strip_prefix(mark) {
+        Some(rest) => (true, rest),
+        None => (false, text),
+    }
+}
+
+/// The character that ends a word.
+fn end_of(is_phrase: bool) -> char
+    ensures value { result ≡ end_of is_phrase }
+    ensures bound { result < 128 }
+{
+    if is_phrase { '"' } else { ' ' }
+}
+
+/// What is before a character and after it: all and nothing, if it is not there.
+fn split_end(text: &str, end: char) -> (&str, &str)
+    requires { end < 128 }
+    ensures before { result.0.now ≡ before_first (λ byte. byte == end) text.now }
+    ensures after { result.1.now ≡ after_first (λ byte. byte == end) text.now }
+{
+    text.split_once(end).unwrap_or((text, ""))
+}
+
+/// The first of these fields that a text begins with, and what is after it.
+fn field_of<'a>(text: &'a str, fields: &[(&'static str, FieldName)]) -> (Option<FieldName>, &'a str)
+    ensures field { result.0 ≡ (field_said (map named_field fields.now) text.now).0 }
+    ensures rest { result.1.now ≡ (field_said (map named_field fields.now) text.now).1 }
+{
+    for (name, field) in fields {
         if let Some(rest) = text.strip_prefix(*name) {
             return (Some(*field), rest);
         }
@@ -216,7 +282,10 @@ fn field_of(text: &str) -> (Option<FieldName>, &str) {
 }
 
 /// What a word of a field asks.
-fn test_of(alloc: Global, field: Option<FieldName>, text: &str) -> Result<Test, FilterError> {
+fn test_of(alloc: Global, field: Option<FieldName>, text: &str) -> Result<Test, FilterError>
+    ensures asks { IfOk result (Asks field text.now) }
+    ensures asks_nothing { IfErr result (λ error. error ≢ OutOfMemory → AsksNothing field text.now error) }
+{
     Ok(match field {
         None => Test::Anywhere(String::from_str(alloc, text)?),
         Some(FieldName::Type) => Test::Type(String::from_str(alloc, text)?),
@@ -231,12 +300,21 @@ fn test_of(alloc: Global, field: Option<FieldName>, text: &str) -> Result<Test, 
 }
 
 /// The range that a word of a field says.
-fn number_of(field: &'static str, text: &str) -> Result<Range, FilterError> {
-    range_of(text).ok_or(FilterError::NoNumber(field))
+fn number_of(field: &'static str, text: &str) -> Result<Range, FilterError>
+    ensures range { IfOk result (λ range. range_said text.now ≡ Some range) }
+    ensures none { IfErr result (LacksNumber field.now text.now) }
+{
+    match range_of(text) {
+        Some(range) => Ok(range),
+        None => Err(FilterError::NoNumber(field)),
+    }
 }
 
 /// The state of this name.
-fn state_of(alloc: Global, text: &str) -> Result<State, FilterError> {
+fn state_of(alloc: Global, text: &str) -> Result<State, FilterError>
+    ensures named { IfOk result (λ state. state_name state ≡ text.now) }
+    ensures none { IfErr result (λ error. error ≢ OutOfMemory → LacksState text.now error) }
+{
     match text {
         "failure" => Ok(State::Failure),
         "malformed" => Ok(State::Malformed),
