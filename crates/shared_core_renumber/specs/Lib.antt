@@ -1,0 +1,5 @@
+pub mod Entries
+pub mod Allowed
+pub mod Written
+pub mod Payloads
+pub mod Records
