@@ -97,7 +97,7 @@ pub struct FieldDescriptor {
     pub number: u32,
     /// Its name in the .proto file.
     pub name: String,
-    /// Its name in JSON.
+    /// Its name in JSON: what the set says, or else its name in lower camel case.
     pub json_name: String,
     pub kind: FieldKind,
     pub presence: Presence,

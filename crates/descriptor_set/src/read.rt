@@ -387,9 +387,29 @@ fn field_of(alloc: Global, is_proto3: bool, bytes: &[u8]) -> Result<FieldDescrip
     Ok(FieldDescriptor {
         number: u32::try_from(parts.number).unwrap_or(0),
         name: String::from_str(alloc, parts.name)?,
-        json_name: String::from_str(alloc, parts.json_name)?,
+        json_name: if parts.json_name.is_empty() {
+            camel_case(alloc, parts.name)?
+        } else {
+            String::from_str(alloc, parts.json_name)?
+        },
         kind,
         presence: presence_of(&parts, is_proto3, kind),
         type_name: String::from_str(alloc, type_name)?,
     })
+}
+
+/// The name in JSON of a field of a name, which a set that a program holds of itself does not say: without underscores,
+/// and each letter after one is a capital (proto3).
+fn camel_case(alloc: Global, name: &str) -> Result<String, AllocError> {
+    let mut text = String::new(alloc);
+    let mut is_after = false;
+    for c in name.chars() {
+        if c == '_' {
+            is_after = true;
+        } else {
+            text.push(if is_after { c.to_ascii_uppercase() } else { c })?;
+            is_after = false;
+        }
+    }
+    Ok(text)
 }

@@ -164,7 +164,7 @@ impl<'a> Table<'a> {
 
 /// The index of the field of a message that is called as one of the protocol: by its name in JSON, or else by its plain
 /// name.
-fn matching(
+pub(crate) fn matching(
     alloc: Global,
     message: &MessageDescriptor,
     name: &str,

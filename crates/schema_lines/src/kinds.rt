@@ -1,10 +1,14 @@
 //! How fields are shown, and whether two are of one kind.
 
+ghost use Rattle.std.specs.Prelude.{◌≡◌, IfSome, Some};
+ghost use Rattle.shared_core_codec.specs.ProgramRows.{kind_view};
+ghost use Rattle.schema_lines.specs.Numberings.{nested_at, nested_of};
+
 use crate::message_names::MESSAGE_NAMES;
 use crate::pairs::{Pairs, last_name};
 use descriptor_set::{DescriptorSet, FieldDescriptor, FieldKind, Presence};
 use shared_core_codec::any_table::{RowShape, SchemaRow};
-use shared_core_codec::rows::{Field, Kind, rows_of};
+use shared_core_codec::rows::{Kind, Row, find_field, rows_of};
 
 /// How a field is there, as the language has it: neither for a member of a oneof, nor for a message.
 #[derive(Clone, Copy, Debug, PartialEq, Eq)]
@@ -33,39 +37,31 @@ pub(crate) struct Ours {
     pub(crate) label: Label,
 }
 
-/// The field of the protocol with its label, `optional` for one that may be absent.
-fn labelled(field: &Field, label: Label) -> Ours {
-    let is_message = matches!(field.kind, Kind::Message(_));
-    Ours {
-        number: field.number,
-        kind: field.kind,
-        label: if is_message && label == Label::Optional {
-            Label::None
-        } else {
-            label
-        },
-    }
+/// The field of a number of a schema of the protocol.
+pub(crate) fn our_field(schema: u32, number: u32) -> Option<Ours>
+    ensures { IfSome result (λ ours. nested_at schema ours.number ≡ Some (nested_of (kind_view ours.kind))) }
+{
+    let found = find_field(rows_of(schema), number)?;
+    Some(Ours {
+        number,
+        kind: found.kind,
+        label: label_of(rows_of(schema), number, found.kind),
+    })
 }
 
-/// The field of a number of a schema of the protocol.
-pub(crate) fn our_field(schema: u32, number: u32) -> Option<Ours> {
-    for row in rows_of(schema) {
-        let found = match row.shape() {
-            RowShape::Plain(field) => labelled(field, Label::None),
-            RowShape::Optional(field) => labelled(field, Label::Optional),
-            RowShape::Repeated(field) => labelled(field, Label::Repeated),
-            RowShape::OneOf(members) => {
-                match members.iter().find(|member| member.number == number) {
-                    Some(member) => labelled(member, Label::None),
-                    None => continue,
-                }
+/// The label of the field of a number and a kind among some rows, `optional` for one that may be absent.
+fn label_of(rows: &[Row], number: u32, kind: Kind) -> Label {
+    for row in rows {
+        match row.shape() {
+            RowShape::Repeated(field) if field.number == number => return Label::Repeated,
+            RowShape::Optional(field)
+                if field.number == number && !matches!(kind, Kind::Message(_)) => {
+                return Label::Optional;
             }
-        };
-        if found.number == number {
-            return Some(found);
+            _ => {}
         }
     }
-    None
+    Label::None
 }
 
 /// The name of a message of the protocol.

@@ -1,5 +1,6 @@
 //! A descriptor set compared with the protocol: which of its messages and fields are the same by their names, and what
-//! differs, as a table in text. Which of its messages are the protocol's, as a list for those who read payloads by it.
+//! differs, as a table in text. Which of its messages are the protocol's, as a list for those who read payloads by it;
+//! which of its fields, as a table for those who write payloads again at the other numbers.
 #![tactic(auto)]
 
 mod codes;
@@ -7,6 +8,7 @@ mod error;
 mod fields;
 mod kinds;
 mod message_names;
+mod numbering;
 mod pairs;
 mod renames;
 mod rows;
@@ -14,6 +16,7 @@ mod write;
 
 pub use error::SchemaError;
 pub use message_names::MESSAGE_NAMES;
+pub use numbering::{Direction, numbering_of};
 pub use pairs::{last_name, schemas_of};
 pub use renames::{Rename, RenameFault};
 pub use write::write_schema;
