@@ -81,6 +81,18 @@ struct journal_command {
     uint64_t size;
 };
 
+struct journal_renumbering {
+    uint64_t schema;
+    uint64_t group;
+    uint64_t number;
+    uint64_t renumbered;
+    uint64_t nested;
+};
+
+struct journal_list {
+    uint64_t kind;
+};
+
 int64_t journal_library_version(uint8_t *out, size_t room);
 EXPORT(js_library_version)
 double js_library_version(uint32_t out, uint32_t room) {
@@ -302,4 +314,54 @@ double js_replay_finish(uint32_t recorded, uint32_t recorded_length, uint32_t re
     return (double)journal_replay_finish((const uint8_t *)(size_t)recorded, recorded_length,
                                          (const struct journal_replay *)(size_t)replay, replay_room,
                                          (struct journal_mismatch *)(size_t)mismatch, mismatch_room);
+}
+
+int64_t journal_numbering(uint32_t direction, const uint8_t *set, size_t set_length, const uint8_t *renames,
+                          size_t renames_length, struct journal_renumbering *renumberings, size_t room);
+EXPORT(js_numbering)
+double js_numbering(uint32_t direction, uint32_t set, uint32_t set_length, uint32_t renames, uint32_t renames_length,
+                    uint32_t renumberings, uint32_t room) {
+    return (double)journal_numbering(direction, (const uint8_t *)(size_t)set, set_length,
+                                     (const uint8_t *)(size_t)renames, renames_length,
+                                     (struct journal_renumbering *)(size_t)renumberings, room);
+}
+
+int64_t journal_numbering_text(const uint8_t *set, size_t set_length, const uint8_t *renames, size_t renames_length,
+                               struct journal_list *list, size_t list_room, uint8_t *out, size_t room);
+EXPORT(js_numbering_text)
+double js_numbering_text(uint32_t set, uint32_t set_length, uint32_t renames, uint32_t renames_length, uint32_t list,
+                         uint32_t list_room, uint32_t out, uint32_t room) {
+    return (double)journal_numbering_text((const uint8_t *)(size_t)set, set_length, (const uint8_t *)(size_t)renames,
+                                          renames_length, (struct journal_list *)(size_t)list, list_room,
+                                          (uint8_t *)(size_t)out, room);
+}
+
+int64_t journal_renumber(uint32_t schema, const struct journal_renumbering *renumberings, size_t count,
+                         const uint8_t *payload, size_t payload_length, uint8_t *out, size_t room);
+EXPORT(js_renumber)
+double js_renumber(uint32_t schema, uint32_t renumberings, uint32_t count, uint32_t payload, uint32_t payload_length,
+                   uint32_t out, uint32_t room) {
+    return (double)journal_renumber(schema, (const struct journal_renumbering *)(size_t)renumberings, count,
+                                    (const uint8_t *)(size_t)payload, payload_length, (uint8_t *)(size_t)out, room);
+}
+
+int64_t journal_renumber_stream(uint32_t version, const struct journal_renumbering *renumberings, size_t count,
+                                const uint8_t *stream, size_t stream_length, uint8_t *out, size_t room);
+EXPORT(js_renumber_stream)
+double js_renumber_stream(uint32_t version, uint32_t renumberings, uint32_t count, uint32_t stream,
+                          uint32_t stream_length, uint32_t out, uint32_t room) {
+    return (double)journal_renumber_stream(version, (const struct journal_renumbering *)(size_t)renumberings, count,
+                                           (const uint8_t *)(size_t)stream, stream_length, (uint8_t *)(size_t)out,
+                                           room);
+}
+
+int64_t journal_numbering_dump(uint32_t version, const uint8_t *set, size_t set_length, const uint8_t *renames,
+                               size_t renames_length, const uint8_t *stream, size_t stream_length, uint8_t *out,
+                               size_t room);
+EXPORT(js_numbering_dump)
+double js_numbering_dump(uint32_t version, uint32_t set, uint32_t set_length, uint32_t renames, uint32_t renames_length,
+                         uint32_t stream, uint32_t stream_length, uint32_t out, uint32_t room) {
+    return (double)journal_numbering_dump(version, (const uint8_t *)(size_t)set, set_length,
+                                          (const uint8_t *)(size_t)renames, renames_length,
+                                          (const uint8_t *)(size_t)stream, stream_length, (uint8_t *)(size_t)out, room);
 }

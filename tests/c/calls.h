@@ -4,7 +4,8 @@
 enum call {
     LIBRARY_VERSION, SCHEMA, TYPE_NAME, TYPE_CODE, NEXT, NEXT_WITHIN, ITEMS, HEADER, FRAME, IS_WELL_FORMED,
     CANONICAL, MERGE, JSON, PAYLOAD_OF_JSON, FIELDS, PAYLOAD_OF_FIELDS, NOTIFICATION, HEADER_EQ, DIFFERENCE,
-    CHANGED_FIELD, VERDICT, REPLAY_CHECK, REPLAY_TEXT, REPLAY_EXPECTED, REPLAY_FINISH, CALLS
+    CHANGED_FIELD, VERDICT, REPLAY_CHECK, REPLAY_TEXT, REPLAY_EXPECTED, REPLAY_FINISH, NUMBERING, NUMBERING_TEXT,
+    RENUMBER, RENUMBER_STREAM, NUMBERING_DUMP, CALLS
 };
 
 enum error {
@@ -81,10 +82,20 @@ static const struct {
         NO_ROOM | 1u << UNKNOWN_VERSION | 1u << UNKNOWN_OPTION, 2},
     [REPLAY_FINISH] = {"journal_replay_finish", 1, JOURNAL_MISMATCH_NUMBERS, 0, 0, JOURNAL_REPLAY_NUMBERS, 0, 1u <<
         NO_ROOM | 1u << UNKNOWN_VERSION | 1u << UNKNOWN_OPTION, 2},
+    [NUMBERING] = {"journal_numbering", 2, 0, JOURNAL_RENUMBERING_NUMBERS, 0, 0, 0, 1u << UNKNOWN_OPTION | 1u <<
+        OUT_OF_MEMORY | 1u << MALFORMED, 1},
+    [NUMBERING_TEXT] = {"journal_numbering_text", 2, JOURNAL_LIST_NUMBERS, 0, 1, 0, 0, 1u << NO_ROOM | 1u <<
+        OUT_OF_MEMORY, 3},
+    [RENUMBER] = {"journal_renumber", 2, 0, 0, 1, 0, 0, 1u << MALFORMED | 1u << OUT_OF_MEMORY | 1u << TOO_LONG, 1},
+    [RENUMBER_STREAM] = {"journal_renumber_stream", 2, 0, 0, 1, 0, 0, 1u << UNKNOWN_VERSION | 1u << OUT_OF_MEMORY | 1u
+        << MALFORMED | 1u << TOO_LONG, 1},
+    [NUMBERING_DUMP] = {"journal_numbering_dump", 3, 0, 0, 1, 0, 0, 1u << UNKNOWN_VERSION | 1u << OUT_OF_MEMORY | 1u <<
+        MALFORMED | 1u << TOO_LONG, 1},
 };
 
 static int64_t make(const struct request *r, const struct slice *slices) {
-    const struct slice *first = &slices[FIRST], *second = &slices[SECOND], *out = &slices[OUT];
+    const struct slice *first = &slices[FIRST], *second = &slices[SECOND], *third = &slices[THIRD];
+    const struct slice *out = &slices[OUT];
     const void *table = second->at;
     void *numbers = slices[NUMBERS].at;
     size_t count = slices[NUMBERS].length / 8;
@@ -147,6 +158,21 @@ static int64_t make(const struct request *r, const struct slice *slices) {
         return journal_replay_expected(first->at, first->length, given, given_count, numbers, count);
     case REPLAY_FINISH:
         return journal_replay_finish(first->at, first->length, given, given_count, numbers, count);
+    case NUMBERING:
+        return journal_numbering(r->direction, first->at, first->length, second->at, second->length, numbers, count /
+                                 JOURNAL_RENUMBERING_NUMBERS);
+    case NUMBERING_TEXT:
+        return journal_numbering_text(first->at, first->length, second->at, second->length, numbers, count, out->at,
+                                      out->length);
+    case RENUMBER:
+        return journal_renumber(r->schema, table, second->length / sizeof(struct journal_renumbering), first->at,
+                                first->length, out->at, out->length);
+    case RENUMBER_STREAM:
+        return journal_renumber_stream(r->version, table, second->length / sizeof(struct journal_renumbering),
+                                       first->at, first->length, out->at, out->length);
+    case NUMBERING_DUMP:
+        return journal_numbering_dump(r->version, first->at, first->length, second->at, second->length, third->at,
+                                      third->length, out->at, out->length);
     default: abort();
     }
 }

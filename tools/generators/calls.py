@@ -237,6 +237,7 @@ FFI_MODULES = {
     "journals": "The call that compares two journals.",
     "names": "The calls on names and numbers.",
     "notifications": "The call that reads notifications.",
+    "numberings": "The calls on payloads at other field numbers.",
     "payloads": "The calls on payloads, given by the numbers of their schemas.",
     "replays": "The calls that check a replay by its recording, as it comes.",
 }
@@ -352,14 +353,16 @@ PYTHON_TYPES = {
     "json": "Union[str, BytesLike]",
     "ignore_payloads": "bool",
     "replay": "bytes",
+    "table": "bytes",
 }
 
 PYTHON_NAMED = '''\
 class NamedCall(NamedTuple):
     """A call that is made by its name: its function, its name in this package, what it takes of its caller, what its
     code has to be that of, how many numbers it is given, as bytes, and whether it changes them, how many numbers it
-    writes, whether it writes bytes, and the room for them that is tried first: a multiple of the bytes that it reads,
-    and more."""
+    writes, how many bytes each has of what it writes and counts, a byte or an entry of a table, or 0, the room for
+    these that is tried first, which is a multiple of the bytes that it reads, and more, and how many bytes an entry has
+    of the table that it reads, or 0."""
 
     function: str
     name: str
@@ -368,9 +371,10 @@ class NamedCall(NamedTuple):
     given: int
     changes: bool
     numbers: int
-    writes: bool
+    unit: int
     times: int
     more: int
+    entry: int
 '''
 
 
@@ -384,8 +388,8 @@ def python_named(call):
     given, numbers = counts(call)
     times, more = compiled.first_room(call)
     takes = python_tuple([quoted(name) for name in compiled.parameters(call)])
-    words = [quoted(call.symbol()), quoted(call.name_in("Python")), takes, quoted(call.kind_of_code()), given,
-             str(call.changes), numbers, str(bool(call.writes)), str(times), str(more)]
+    words = [quoted(call.symbol()), quoted(compiled.name_of(call, "Python")), takes, quoted(call.kind_of_code()), given,
+             str(call.changes), numbers, str(compiled.unit(call)), str(times), str(more), str(compiled.entry(call))]
     line = f"    NamedCall({', '.join(words)}),\n"
     if len(line) > WIDTH + 1:
         line = "    NamedCall(\n" + "".join(f"        {word},\n" for word in words) + "    ),\n"
@@ -398,10 +402,10 @@ def python_method(call):
         f"{name}: {PYTHON_TYPES.get(name, 'int' if name in BITS else 'BytesLike')}" for name in
         compiled.parameters(call)
     ]
-    result = "bytes" if call.writes else "int"
+    result = "bytes" if compiled.unit(call) else "int"
     if call.numbers:
         result = f"Tuple[{result}, Tuple[int, ...]{', bytes' if call.changes else ''}]"
-    start = f"    def {call.name_in('Python')}("
+    start = f"    def {compiled.name_of(call, 'Python')}("
     line = f"{start}{', '.join(['self', *taken, '/'] if taken else ['self'])}) -> {result}: ...\n"
     if len(line) > WIDTH + 1:
         line = f"{start}\n        {', '.join(['self', *taken, '/'])}\n    ) -> {result}: ...\n"
@@ -409,7 +413,8 @@ def python_method(call):
 
 
 # The kinds that are numbers in Python, since no caller sees them.
-PYTHON_NUMBERS = {"the kinds of items": "item", "the kinds of fields": "field", "the options of a replay": "option"}
+PYTHON_NUMBERS = {"the kinds of items": "item", "the kinds of fields": "field", "the options of a replay": "option",
+                  "the directions of a numbering": "direction", "what the text of a numbering is": "list"}
 
 
 def python():
@@ -476,8 +481,10 @@ def shapes(call):
 RUBY_NAMED = '''
   # A call that is made by its name: its function, its name in this gem, what it takes of its caller, what its code has
   # to be that of, how many numbers it is given, as a String, and whether it changes them, how many numbers it writes,
-  # whether it writes bytes, and the room for them that is tried first: a multiple of the bytes that it reads, and more.
-  NamedCall = Struct.new(:function, :name, :takes, :kind, :given, :changes, :numbers, :writes, :times, :more)
+  # how many bytes each has of what it writes and counts, a byte or an entry of a table, or 0, the room for these that
+  # is tried first, which is a multiple of the bytes that it reads, and more, and how many bytes an entry has of the
+  # table that it reads, or 0.
+  NamedCall = Struct.new(:function, :name, :takes, :kind, :given, :changes, :numbers, :unit, :times, :more, :entry)
 
   # In the order in which the compiled module has them.
   NAMED_CALLS = [
@@ -488,9 +495,9 @@ def ruby_named(call):
     """A call that is made by its name."""
     given, numbers = counts(call)
     times, more = compiled.first_room(call)
-    words = [f":{call.symbol()}", quoted(call.name_in("Ruby")), f"%i[{' '.join(compiled.parameters(call))}]",
-             quoted(call.kind_of_code()), given, str(call.changes).lower(), numbers, str(bool(call.writes)).lower(),
-             str(times), str(more)]
+    words = [f":{call.symbol()}", quoted(compiled.name_of(call, "Ruby")), f"%i[{' '.join(compiled.parameters(call))}]",
+             quoted(call.kind_of_code()), given, str(call.changes).lower(), numbers, str(compiled.unit(call)),
+             str(times), str(more), str(compiled.entry(call))]
     return filled(f"NamedCall.new({', '.join(words)})", "    ", "      ")
 
 
@@ -572,8 +579,8 @@ def node():
     return text
 
 
-# What a parameter of JavaScript is read into, by its name.
-SECONDS = ("second", "replayed")
+# Which slice a parameter of JavaScript is read into, by its name, unless it is the first.
+SLICES = {"second": "second", "replayed": "second", "renames": "second", "stream": "third"}
 
 
 def node_calls():
@@ -590,7 +597,7 @@ def node_calls():
             ]
             parameters.append("FIELDS")
         for name in call.reads:
-            place = "second" if name in SECONDS else "first"
+            place = SLICES.get(name, "first")
             given += [f"arguments->{place}.bytes", f"arguments->{place}.length"]
             parameters.append("CHUNK" if name == "bytes" and not call.entries else name.upper())
         if call.flag:
@@ -878,7 +885,7 @@ def rust_raw(call):
 
 
 # The calls of Rust whose bytes are appended to the caller's vector.
-RUST_APPENDED = ("frame", "payload_of_fields")
+RUST_APPENDED = ("frame", "payload_of_fields", "renumber")
 
 
 def numbers_of(name):
@@ -917,7 +924,9 @@ def rust_call(call):
     if call.writes and not is_fixed:
         times, more = call.room
         lengths = [f"{name}.len()" if times == 1 else f"{times} * {name}.len()" for name in call.reads] if times else []
-        lengths += [f"{numbers_of(call.entries)} * {call.entries}s.len()"] if call.entries else []
+        # a table of fields has the numbers of the payload, since only its bytes are read besides
+        if call.entries and "bytes" in call.reads:
+            lengths.append(f"{numbers_of(call.entries)} * {call.entries}s.len()")
         guess = " + ".join([*lengths, *([str(more)] if more or not lengths else [])])
         made = f"c::{call.symbol()}({', '.join([*given, 'out', 'room'])})"
         is_appended = call.call in RUST_APPENDED
@@ -969,7 +978,8 @@ def listed():
         )
         text += filled(row, "    ", "        ") + "\n"
     text += "};\n\nstatic int64_t make(const struct request *r, const struct slice *slices) {\n"
-    text += "    const struct slice *first = &slices[FIRST], *second = &slices[SECOND], *out = &slices[OUT];\n"
+    text += "    const struct slice *first = &slices[FIRST], *second = &slices[SECOND], *third = &slices[THIRD];\n"
+    text += "    const struct slice *out = &slices[OUT];\n"
     text += (
         "    const void *table = second->at;\n    void *numbers = slices[NUMBERS].at;\n"
         "    size_t count = slices[NUMBERS].length / 8;\n    void *given = slices[GIVEN].at;\n"
@@ -979,7 +989,7 @@ def listed():
         given = [f"r->{name}" for name in call.takes]
         # a table is the second input
         given += ["table", f"second->length / sizeof(struct journal_{call.entries})"] if call.entries else []
-        for place, _ in zip(("first", "second"), call.reads):
+        for place, _ in zip(("first", "second", "third"), call.reads):
             given += [f"{place}->at", f"{place}->length"]
         given += [f"r->{call.flag}"] if call.flag else []
         given += ["given", "given_count"] if call.given else []

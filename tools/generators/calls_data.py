@@ -11,7 +11,7 @@ from .versions import library_version
 PATH = "proto/calls.json"
 
 # The numbers that calls take, with their bits in C; the flag comes after the slices.
-BITS = {"version": 32, "code": 16, "schema": 32, "payload_length": 32, "limit": 32, "index": 32}
+BITS = {"version": 32, "code": 16, "schema": 32, "payload_length": 32, "limit": 32, "index": 32, "direction": 32}
 
 LANGUAGES = ("Python", "Rust", "Go", "Ruby", "TypeScript")
 

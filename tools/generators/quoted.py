@@ -38,6 +38,8 @@ CONTEXTS = {
         StateKeys=r",\s*4,\s*&",
     )
     + NONE,
+    # payloads at numbers of its own
+    "tests/ffi/numberings.rt.in": NONE,
     "tests/ffi/payloads.rt.in": after(
         SuspensionMessageV6="let numbers", GetPromiseCompletionNotificationMessage="let twice"
     ) + SCHEMA,

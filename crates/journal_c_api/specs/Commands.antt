@@ -46,11 +46,21 @@ abbrev pub schema_of_type : Option MessageType → Option ℕ
 schema_of_type (Some ty) = command_schema ty
 schema_of_type None = None
 
+-- Whether two commands are the same.
+abbrev pub ComparesCommands : ℕ → Bool → List ℕ → List ℕ → Result ℕ CallError → Type 0
+ComparesCommands code ignore first second outcome =
+    AtSchema (schema_of_type (type_of code)) outcome (λ s. ComparesPayloads (IsOneWhereSame s ignore) s first second
+    outcome)
+
+-- Two payloads with the same bytes are the same command, whatever allocations would fail.
+abbrev pub KeepsSameness : ℕ → List ℕ → List ℕ → Result ℕ CallError → Type 0
+KeepsSameness code first second outcome = (s : ℕ) → schema_of_type (type_of code) ≡ Some s → IsAccepted s first
+    → first ≡ second → outcome ≡ Ok 1
+
 -- The result of journal_header_eq.
 abbrev pub ReturnsSameness : ℕ → Bool → List ℕ → List ℕ → Result ℕ CallError → Type 0
 ReturnsSameness code ignore first second outcome =
-    AtSchema (schema_of_type (type_of code)) outcome (λ s. ComparesPayloads (IsOneWhereSame s ignore) s first second
-    outcome)
+    ComparesCommands code ignore first second outcome × KeepsSameness code first second outcome
 
 -- The result of journal_difference.
 abbrev pub ReturnsDifference : ℕ → List ℕ → List ℕ → Result (List ℕ) CallError → Type 0

@@ -7,6 +7,7 @@ pub mod Journals
 pub mod JsonPayloads
 pub mod Names
 pub mod Notifications
+pub mod Numberings
 pub mod Outcomes
 pub mod Payloads
 pub mod Records

@@ -12,6 +12,7 @@ pub mod json_payloads;
 pub mod laws;
 pub mod names;
 pub mod notifications;
+pub mod numberings;
 pub mod outcome;
 pub mod payloads;
 pub mod records;

@@ -12,7 +12,8 @@ use std::alloc::Global;
 
 /// Returns 1 if two commands are the same for a replay, otherwise 0. If `ignore_payloads` is not 0, the content of user
 /// data (values, parameters) is not compared, but that of a signal is. That there is a value, and no failure or
-/// nothing, is compared in any case. Two input commands always compare as the same.
+/// nothing, is compared in any case. Two input commands always compare as the same. Two commands with the same bytes
+/// need no heap: nothing can fail then.
 ///
 /// Errors, in order of precedence: JOURNAL_UNKNOWN_TYPE if the code is that of no command, JOURNAL_MALFORMED,
 /// JOURNAL_MALFORMED_SECOND; JOURNAL_OUT_OF_MEMORY may replace each after JOURNAL_UNKNOWN_TYPE.

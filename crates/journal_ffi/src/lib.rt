@@ -15,6 +15,7 @@ pub mod items;
 pub mod journals;
 pub mod names;
 pub mod notifications;
+pub mod numberings;
 pub mod payloads;
 pub mod records;
 pub mod replays;

@@ -1,0 +1,25 @@
+-- The dump of a stream.
+use Rattle.std.proofs.Common.{ℕ, List, Result, Ok, Err}
+use Rattle.shared_core_base.specs.declared.version.Version.{Version}
+use Rattle.dump_lines.specs.declared.options.Options.{Options}
+use Rattle.dump_lines.specs.Reading.{Reading}
+use Rattle.journal_c_api.specs.declared.outcome.CallError.{CallError}
+use Rattle.journal_c_api.specs.declared.outcome.CallError.TheVariants as error
+use Rattle.journal_c_api.specs.Numberings.{IsDumpBy, IsWhole, ReturnsLines}
+
+pub whole_dump : (reading : Reading) (options : Options) (version : Version) (stream : List ℕ)
+    (outcome : Result (List ℕ) CallError) → IsWhole version options → IsDumpBy reading options stream outcome
+    → ReturnsLines stream outcome version
+whole_dump reading options version stream (Ok bytes) whole is = (reading, options, whole, is)
+whole_dump reading options version stream (Err error.TooLong) whole is = tt
+whole_dump reading options version stream (Err error.OutOfMemory) whole is = tt
+whole_dump reading options version stream (Err error.Malformed) whole is = absurd is
+whole_dump reading options version stream (Err error.MalformedSecond) whole is = absurd is
+whole_dump reading options version stream (Err error.NotCanonical) whole is = absurd is
+whole_dump reading options version stream (Err error.NoRoom) whole is = absurd is
+whole_dump reading options version stream (Err error.UnknownVersion) whole is = absurd is
+whole_dump reading options version stream (Err error.UnknownSchema) whole is = absurd is
+whole_dump reading options version stream (Err error.UnknownType) whole is = absurd is
+whole_dump reading options version stream (Err error.UnknownOption) whole is = absurd is
+whole_dump reading options version stream (Err error.NoId) whole is = absurd is
+whole_dump reading options version stream (Err error.NoResult) whole is = absurd is
