@@ -24,7 +24,7 @@ from generators import NAMES, ROOT, Refused  # noqa: E402
 # How a file tells what is in no language.
 COMMENTS = {
     **dict.fromkeys((".rt", ".in", ".rs", ".go", ".ts", ".js"), "//"),
-    **dict.fromkeys((".txt", ".py", ".rb", ".rbs", ".bash", ".gitattributes"), "#"),
+    **dict.fromkeys((".txt", ".cases", ".py", ".rb", ".rbs", ".bash", ".gitattributes"), "#"),
     **dict.fromkeys((".1", ".3"), '.\\"'),
     **dict.fromkeys((".antt", ".lua"), "--"),
 }

@@ -47,6 +47,7 @@ NAMES = (
     "comparisons",
     "record_vectors",
     "field_vectors",
+    "numbering_vectors",
     "long_vectors",
     "json_readings",
     "random_vectors",
