@@ -31,6 +31,7 @@ exported_names
 constants
 test_vectors conformance/*.txt conformance/json/*.txt conformance/replays/*.txt
 package_cases
+numbering_cases
 compile_hostile_calls
 # shellcheck disable=SC2086 # the words are split
 case_of 'adversarial calls' $emulator "$work/hostile" 1 20000

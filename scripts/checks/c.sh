@@ -36,7 +36,7 @@ library=$prefix/lib/libpendratsoa.so
 exported_names
 
 # The programs of the page, by pkg-config where it is there; the page has every call's errors.
-for number in 1 2; do
+for number in 1 2 3; do
   awk -v number=$number '/^```c$/ { is_code = ++count == number; next } /^```$/ { is_code = 0 } is_code' docs/C.md \
     > "$work/page_$number.c"
   sed -n 's/^It prints `\(.*\)`\..*/\1/p' docs/C.md | sed -n "${number}p" > "$work/wanted_$number"
@@ -52,11 +52,14 @@ if command -v pkg-config > /dev/null; then
     $(PKG_CONFIG_PATH=$plain/lib/pkgconfig pkg-config --cflags --libs pendratsoa) -o "$work/page"
   LD_LIBRARY_PATH=$prefix/lib "$work/page" > "$work/out" 2> "$work/err"
   same 'what it prints' "$work/wanted" "$work/out"
-  # shellcheck disable=SC2046 # the flags are split
-  case_of 'the structs of docs/C.md' cc -std=c99 -Wall -Wextra -Wpedantic -Wconversion -Werror "$work/page_2.c" \
-    $(PKG_CONFIG_PATH=$plain/lib/pkgconfig pkg-config --cflags --libs pendratsoa) -o "$work/page_2"
-  LD_LIBRARY_PATH=$prefix/lib "$work/page_2" > "$work/out" 2> "$work/err"
-  same 'what they print' "$work/wanted_2" "$work/out"
+  for number in 2 3; do
+    # shellcheck disable=SC2046 # the flags are split
+    case_of "program $number of docs/C.md" cc -std=c99 -Wall -Wextra -Wpedantic -Wconversion -Werror \
+      "$work/page_$number.c" $(PKG_CONFIG_PATH=$plain/lib/pkgconfig pkg-config --cflags --libs pendratsoa) \
+      -o "$work/page_$number"
+    LD_LIBRARY_PATH=$prefix/lib "$work/page_$number" > "$work/out" 2> "$work/err"
+    same "what program $number of docs/C.md prints" "$work/wanted_$number" "$work/out"
+  done
   # shellcheck disable=SC2046 # the flags are split
   case_of 'the program of docs/C.md, linked statically' cc -static "$work/page.c" \
     $(PKG_CONFIG_PATH=$plain/lib/pkgconfig pkg-config --static --cflags --libs pendratsoa) -o "$work/page"
@@ -95,6 +98,7 @@ same 'the refusals of docs/C.md' "$work/wanted" "$work/out"
 constants
 test_vectors conformance/*.txt conformance/json/*.txt conformance/replays/*.txt
 package_cases
+numbering_cases
 
 # The structs of messages: with sanitizers, where the compiler has them
 echo 'int main(void) { return 0; }' > "$work/nothing.c"
@@ -126,7 +130,8 @@ for compiler in 'cc -std=c99' 'cc -std=c17' 'c++ -x c++ -std=c++11' 'clang -std=
     without "$compiler $example" "${compiler%% *}"
     continue
   fi
-  for file in $example examples/c/messages.c examples/c/replay.c tests/c/test_messages.c tests/c/test_reader.c; do
+  for file in $example examples/c/messages.c examples/c/replay.c tests/c/test_messages.c tests/c/test_numberings.c \
+    tests/c/test_reader.c; do
     # shellcheck disable=SC2086 # the flags are split
     case_of "$compiler $file" $compiler $strict -I "$prefix/include" -c $file -o "$work/example.o"
   done
@@ -227,9 +232,12 @@ if command -v valgrind > /dev/null; then
   # shellcheck disable=SC2086 # the words are split
   case_of 'valgrind: hostile calls' $quiet "$work/hostile" --heap 3 20000
   # shellcheck disable=SC2086 # the words are split
+  case_of 'valgrind: the cases of numberings' $quiet "$work/test_numberings" "$work/schemas" \
+    < conformance/numberings.cases
+  # shellcheck disable=SC2086 # the words are split
   case_of 'valgrind: the listing' $quiet "$work/static" < "$work/mixed"
 else
-  without 'hostile calls and the listing' valgrind
+  without 'hostile calls, the cases of numberings and the listing' valgrind
 fi
 
 # Taken away, and nothing but that.

@@ -64,6 +64,18 @@ package_cases() {
   counted 'the cases of packages' $emulator "$work/test_packages" "$work/schemas" < conformance/packages.cases
 }
 
+# numbering_cases: the cases of conformance/numberings.cases, and that none of them is left out
+numbering_cases() {
+  compiled 'test_numberings.c' -std=c99 -Wpedantic -Wconversion tests/c/test_numberings.c \
+    "$prefix/lib/libpendratsoa.a" -o "$work/test_numberings"
+  schemas
+  # shellcheck disable=SC2086 # the words are split
+  counted 'the cases of numberings' $emulator "$work/test_numberings" "$work/schemas" < conformance/numberings.cases
+  echo "$(grep -c '^[^#]' conformance/numberings.cases) passed, 0 failed" > "$work/wanted"
+  echo "$counts" > "$work/out"
+  same 'how many cases of numberings there are' "$work/wanted" "$work/out"
+}
+
 # compile_hostile_calls: tests/c/hostile_calls.c as $work/hostile
 compile_hostile_calls() {
   compiled 'hostile_calls.c' -std=gnu99 tests/c/hostile_calls.c "$prefix/lib/libpendratsoa.a" \

@@ -389,6 +389,36 @@ static void writings(void) {
     FIELD(found.after, 99);
 }
 
+/* A set whose Value has its content at 17: the table of each direction has one entry. */
+static void numberings(void) {
+    static const char set[] =
+        "\n\042\"\030\n\005Value\022\017\n\007content\030\021 \001(\014b\006proto3";
+    const uint8_t *bytes = (const uint8_t *)set, *renames = (const uint8_t *)"Value";
+    struct { struct journal_renumbering entry; uint64_t after; } read = {{0, 0, 0, 0, 0}, 99}, written = {{0}, 99};
+    struct { struct journal_list list; uint64_t after; } found = {{9}, 99};
+    size_t room = 0;
+
+    FIELD((uint64_t)journal_numbering(JOURNAL_NUMBERING_READING, bytes, sizeof set - 1, NULL, 0, &read.entry, 1), 1);
+    journal_numbering(JOURNAL_NUMBERING_WRITING, bytes, sizeof set - 1, NULL, 0, &written.entry, 1);
+    IS(JOURNAL_NUMBERING_READING, read.entry.number == 17 && read.entry.renumbered == FIELD_VALUE_CONTENT ? 0 : -1);
+    IS(JOURNAL_NUMBERING_WRITING, written.entry.number == FIELD_VALUE_CONTENT && written.entry.renumbered == 17);
+    /* the struct ends where what is after it begins */
+    IS(JOURNAL_RENUMBERING_NUMBERS, &read.after - &read.entry.schema);
+    FIELD(read.entry.schema, JOURNAL_SCHEMA_VALUE);
+    FIELD(read.entry.group, 1);
+    FIELD(read.entry.nested, 0);
+    while (journal_numbering_text(bytes, sizeof set - 1, NULL, 0, &found.list, room, NULL, 0) < 0) {
+        room++;
+    }
+    IS(JOURNAL_LIST_NUMBERS, room);
+    IS(JOURNAL_LIST_LISTED, found.list.kind);
+    journal_numbering_text(bytes, 1, NULL, 0, &found.list, 2, NULL, 0);
+    IS(JOURNAL_LIST_NO_SET, found.list.kind);
+    journal_numbering_text(bytes, sizeof set - 1, renames, 5, &found.list, 2, NULL, 0);
+    IS(JOURNAL_LIST_NO_RENAME, found.list.kind);
+    FIELD(read.after + written.after + found.after, 3 * 99);
+}
+
 static void types(void) {
     EACH_TYPE(TYPE)
 }
@@ -408,6 +438,7 @@ int main(void) {
     readings();
     fields();
     writings();
+    numberings();
     types();
     other_schemas();
     return failed;

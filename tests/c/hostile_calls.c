@@ -10,7 +10,8 @@
  *   or the entries of the table where there is room;
  * - the result is one that the header lists, and the same whatever the room;
  * - a failed allocation is JOURNAL_OUT_OF_MEMORY, and a call without a failed one never returns that; a call that does
- *   not list it allocates nothing, nor does journal_canonical or journal_frame of a canonical payload;
+ *   not list it allocates nothing, nor does journal_canonical or journal_frame of a canonical payload, or
+ *   journal_header_eq of two commands with the same bytes;
  * - no memory is held.
  *
  * Every fourth case is made on purpose, in turn for each kind of result of each call: each error that it lists but
@@ -95,7 +96,7 @@ struct slice {
     uint8_t *block;
 };
 
-enum place { FIRST, SECOND, GIVEN, NUMBERS, OUT, PLACES };
+enum place { FIRST, SECOND, THIRD, GIVEN, NUMBERS, OUT, PLACES };
 
 struct request {
     int call;
@@ -105,10 +106,11 @@ struct request {
     uint32_t payload_length;
     uint32_t limit;
     uint32_t index;
+    uint32_t direction;
     uint32_t ignore_payloads;
     uint64_t given[JOURNAL_REPLAY_NUMBERS];
     size_t given_room;
-    struct source source[2];
+    struct source source[3];
 };
 
 #include "calls.h"
@@ -360,6 +362,99 @@ static void put_table(struct work *work, struct source *bytes, struct source *ta
     put(table, fields, count * sizeof *fields);
 }
 
+/* A descriptor set with other field numbers, one line per field: a call with a header, a Body, which is a Value by a
+   rename, an output with a member of a oneof that only it has, and a future. */
+#define A_SET \
+    "\n\316\002" \
+    "\n\001a" \
+    "\022\001t" \
+    "\"[" \
+    "\n\022CallCommandMessage" \
+    "\022\032\n\007headers\030\t \003(\0132\t.t.Header" \
+    "\022\034\n\024result_completion_id\030\003 \001(\r" \
+    "\022\013\n\003key\030\001 \001(\t" \
+    "\"$" \
+    "\n\006Header" \
+    "\022\013\n\003key\030\006 \001(\t" \
+    "\022\r\n\005value\030\005 \001(\t" \
+    "\"\027" \
+    "\n\004Body" \
+    "\022\017\n\007content\030\021 \001(\014" \
+    "\"X" \
+    "\n\024OutputCommandMessage" \
+    "\022\030\n\005value\030\005 \001(\0132\007.t.BodyH\000" \
+    "\022\014\n\004name\030\010 \001(\t" \
+    "\022\016\n\004text\030\003 \001(\tH\000" \
+    "B\010\n\006result" \
+    "\"H" \
+    "\n\006Future" \
+    "\022!\n\016nested_futures\030\002 \003(\0132\t.t.Future" \
+    "\022\033\n\023waiting_completions\030\007 \003(\r" \
+    "b\006proto3"
+#define A_RENAME "Body=Value"
+
+/* A descriptor set: with some other bytes, cut or twice, or as it is. */
+static void put_set(struct work *work, struct source *source) {
+    put(source, A_SET, sizeof A_SET - 1);
+    for (uint32_t changes = one_of(work, 2) ? 0 : below(work, 4); changes > 0; changes--) {
+        source->bytes[below(work, (uint32_t)source->length)] = (uint8_t)any(work);
+    }
+    if (one_of(work, 8)) {
+        source->length -= below(work, (uint32_t)source->length);
+    }
+    if (one_of(work, 16)) {
+        put(source, source->bytes, source->length);
+    }
+}
+
+/* Lines of renames, most of which are of that set. */
+static void put_renames(struct work *work, struct source *source) {
+    static const char *const lines[] = {A_RENAME, A_RENAME "\n", "Future=Header\r\n", "t.Future=future\n", "\n",
+                                        "=Value\n", "Body=\n", "No=Value\n", "Body=No\n", "\xFF"};
+    for (uint32_t count = below(work, 3); count > 0; count--) {
+        const char *line = lines[one_of(work, 2) ? 0 : below(work, sizeof lines / sizeof *lines)];
+        put(source, line, strlen(line));
+    }
+}
+
+/* The table of a direction of that set. */
+static void put_numbering(struct source *table, uint32_t direction) {
+    struct journal_renumbering entries[16];
+    const int64_t count = journal_numbering(direction, (const uint8_t *)A_SET, sizeof A_SET - 1,
+                                            (const uint8_t *)A_RENAME, sizeof A_RENAME - 1, entries, 16);
+
+    table->length = 0;
+    put(table, entries, count < 0 || count > 16 ? 0 : (size_t)count * sizeof *entries);
+}
+
+/* The same, or with some other numbers and two entries exchanged; or any numbers. */
+static void put_renumberings(struct work *work, struct source *table, uint32_t direction) {
+    struct journal_renumbering entries[16], moved;
+    uint64_t *numbers = (uint64_t *)(void *)entries;
+    uint32_t count, place;
+
+    put_numbering(table, direction);
+    count = (uint32_t)(table->length / sizeof *entries);
+    memcpy(entries, table->bytes, table->length);
+    if (one_of(work, 8)) {
+        count = below(work, 8);
+        for (uint32_t i = 0; i < count * JOURNAL_RENUMBERING_NUMBERS; i++) {
+            numbers[i] = one_of(work, 8) ? any_number(work) : below(work, 4);
+        }
+    }
+    if (count > 0 && one_of(work, 2)) {
+        for (uint32_t changes = below(work, 3); changes > 0; changes--) {
+            numbers[below(work, count * JOURNAL_RENUMBERING_NUMBERS)] = any_number(work);
+        }
+        place = below(work, count);
+        moved = entries[0];
+        entries[0] = entries[place];
+        entries[place] = moved;
+    }
+    table->length = 0;
+    put(table, entries, count * sizeof *entries);
+}
+
 static uint16_t any_code(struct work *work) {
     return one_of(work, 6) ? (uint16_t)any(work) : work->codes[below(work, (uint32_t)work->named)];
 }
@@ -470,7 +565,7 @@ static int kind_of(int call, int64_t result, const uint64_t *numbers) {
     case IS_WELL_FORMED: case HEADER_EQ: return (int)result;
     /* the first number is the kind of its id, and the last that of its result */
     case NOTIFICATION: return (int)(5 * numbers[0] + numbers[3]);
-    case VERDICT: case PAYLOAD_OF_JSON: case PAYLOAD_OF_FIELDS: return (int)numbers[0];
+    case VERDICT: case PAYLOAD_OF_JSON: case PAYLOAD_OF_FIELDS: case NUMBERING_TEXT: return (int)numbers[0];
     case CHANGED_FIELD: return result > 0;
     case REPLAY_CHECK: case REPLAY_EXPECTED: case REPLAY_FINISH: return (int)result;
     default: return 0;
@@ -496,6 +591,14 @@ static int may_be_copy(const struct request *request, size_t written) {
         return written == length + 8 && !is_flattened;
     }
     return request->call == CANONICAL && written > 0 && written == length;
+}
+
+/* Whether it has found that two commands with the same bytes are the same. */
+static int has_same_bytes(const struct request *request, int64_t result) {
+    const struct source *first = &request->source[0], *second = &request->source[1];
+
+    return request->call == HEADER_EQ && result == 1 && first->length == second->length &&
+           memcmp(first->bytes, second->bytes, first->length) == 0;
 }
 
 /* Makes a call with so much room, looks at all that the header says of any call, and keeps what was written. */
@@ -550,10 +653,12 @@ static int64_t called(struct work *work, const struct request *request, size_t r
     if (heap.allocations > 0 && !(listed[call].errors & BIT(OUT_OF_MEMORY))) {
         wrong(work, request, "it allocates", result);
     }
-    if (heap.allocations > 0 && may_be_copy(request, written) &&
-        memcmp(work->slices[OUT].at + (written - request->source[0].length), request->source[0].bytes,
-               request->source[0].length) == 0) {
-        wrong(work, request, "it allocates for a canonical payload", result);
+    if (heap.allocations > 0 &&
+        (has_same_bytes(request, result) ||
+         (may_be_copy(request, written) &&
+          memcmp(work->slices[OUT].at + (written - request->source[0].length), request->source[0].bytes,
+                 request->source[0].length) == 0))) {
+        wrong(work, request, "it allocates for a canonical payload, or for the same bytes", result);
     }
     for (int i = 0; i < 2; i++) {
         const struct slice *slice = &work->slices[FIRST + i];
@@ -688,6 +793,43 @@ static void give_replay(struct work *work, struct request *request) {
     request->given[5] = one_of(work, 8) ? any_number(work) : 0;
 }
 
+/* Writes the payload or the stream of a request at the numbers of a table, where it can be. */
+static void renumber(const struct request *request, struct source *source, const struct source *table) {
+    struct source written;
+    const size_t count = table->length / sizeof(struct journal_renumbering);
+    const void *entries = table->bytes;
+    const int64_t length = request->call == RENUMBER
+        ? journal_renumber(request->schema, entries, count, source->bytes, source->length, written.bytes, MOST_INPUT)
+        : journal_renumber_stream(request->version, entries, count, source->bytes, source->length, written.bytes,
+                                  MOST_INPUT);
+
+    if (length >= 0 && length <= MOST_INPUT) {
+        written.length = (size_t)length;
+        *source = written;
+    }
+}
+
+/* A payload or a stream with a table: at the protocol's numbers, or at those of the set. */
+static void put_renumbered(struct work *work, struct request *request) {
+    static const uint32_t schemas[] = {JOURNAL_SCHEMA_VALUE, JOURNAL_SCHEMA_HEADER, JOURNAL_SCHEMA_FUTURE,
+                                       JOURNAL_SCHEMA_OUTPUT_COMMAND, JOURNAL_SCHEMA_CALL_COMMAND};
+    struct source *first = &request->source[0], *table = &request->source[1];
+
+    if (!one_of(work, 8)) {
+        request->schema = schemas[below(work, sizeof schemas / sizeof *schemas)];
+    }
+    if (request->call == RENUMBER) {
+        put_payload(work, first, request->schema);
+    } else {
+        put_stream(work, first, 0);
+    }
+    put_renumberings(work, table, JOURNAL_NUMBERING_WRITING);
+    if (one_of(work, 2)) {
+        renumber(request, first, table);
+        put_renumberings(work, table, JOURNAL_NUMBERING_READING);
+    }
+}
+
 static void make_request(struct work *work, struct request *request) {
     request->call = (int)below(work, CALLS);
     request->version = any_version(work);
@@ -699,8 +841,9 @@ static void make_request(struct work *work, struct request *request) {
     request->payload_length = (uint32_t)any(work);
     request->limit = one_of(work, 2) ? UINT32_MAX : below(work, 40);
     request->index = one_of(work, 8) ? (uint32_t)any(work) : below(work, 3);
+    request->direction = one_of(work, 8) ? (uint32_t)any(work) : below(work, 2);
     request->ignore_payloads = one_of(work, 2) ? 0 : (uint32_t)any(work) % 3;
-    request->source[0].length = request->source[1].length = 0;
+    request->source[0].length = request->source[1].length = request->source[2].length = 0;
     switch (request->call) {
     case TYPE_CODE:
         if (one_of(work, 2)) {
@@ -749,6 +892,15 @@ static void make_request(struct work *work, struct request *request) {
     case PAYLOAD_OF_FIELDS:
         put_table(work, &request->source[0], &request->source[1], request->schema);
         break;
+    case NUMBERING:
+    case NUMBERING_TEXT:
+        put_set(work, &request->source[0]);
+        put_renames(work, &request->source[1]);
+        break;
+    case RENUMBER:
+    case RENUMBER_STREAM:
+        put_renumbered(work, request);
+        break;
     default:
         if (listed[request->call].inputs > 0) {
             put_payload(work, &request->source[0], request->schema);
@@ -759,7 +911,7 @@ static void make_request(struct work *work, struct request *request) {
         request->schema = schema_of(request->code);
     }
     if (listed[request->call].inputs > 1 && request->source[1].length == 0 && request->call != VERDICT &&
-        request->call != PAYLOAD_OF_FIELDS) {
+        request->call != PAYLOAD_OF_FIELDS && request->call < NUMBERING) {
         put_payload(work, &request->source[1], request->schema);
     }
 }
@@ -816,16 +968,19 @@ static void put_replay(struct work *work, struct request *request, int kind) {
     struct source *recorded = &request->source[0], *payload = &request->source[1];
     const int is_malformed = kind == JOURNAL_VERDICT_BAD_RECORDED;
     const uint64_t before = below(work, 3);
+    uint64_t last = 0;
 
     recorded->length = 0;
     for (uint64_t count = before; count > 0; count--) {
+        last = recorded->length;
         PUT_MESSAGE(recorded, CALL_COMMAND, A_CALL);
     }
     request->given_room = JOURNAL_REPLAY_NUMBERS;
     request->given[0] = request->version;
     request->given[1] = below(work, 4);
     request->given[2] = before;
-    request->given[3] = request->given[4] = recorded->length;
+    request->given[3] = last;
+    request->given[4] = recorded->length;
     request->given[5] = 0;
     if (is_malformed) {
         PUT_MESSAGE(recorded, SET_STATE_COMMAND, NO_PAYLOAD);
@@ -1018,6 +1173,26 @@ static void make_wanted(struct work *work, struct request *request, int kind, en
             put_table_of(request, kind);
         }
         break;
+    case NUMBERING: case NUMBERING_TEXT:
+        request->direction = error == UNKNOWN_OPTION ? 2 + (uint32_t)any(work) % (UINT32_MAX - 2) : below(work, 2);
+        PUT(first, A_SET);
+        PUT(second, A_RENAME);
+        if (kind == JOURNAL_LIST_NO_SET) {
+            put_byte(first, 0x07);
+        } else if (kind == JOURNAL_LIST_NO_RENAME) {
+            PUT(second, "Body=No");
+        }
+        break;
+    case RENUMBER_STREAM:
+        first->length = 0;
+        PUT_MESSAGE(first, CALL_COMMAND, A_CALL);
+        if (error == MALFORMED) {
+            PUT_MESSAGE(first, CALL_COMMAND, NO_PAYLOAD);
+        }
+        /* fall through */
+    case RENUMBER:
+        put_numbering(second, JOURNAL_NUMBERING_WRITING);
+        break;
     default:
         break;
     }
@@ -1034,7 +1209,8 @@ static void make_wanted(struct work *work, struct request *request, int kind, en
     if (error == NOT_CANONICAL || (error == OUT_OF_MEMORY && (call == CANONICAL || call == FRAME))) {
         PUT(first, "\x0A\x00");
     }
-    if (error == MALFORMED_SECOND || (error == MALFORMED && listed[call].inputs > 1 && one_of(work, 2))) {
+    if (error == MALFORMED_SECOND ||
+        (error == MALFORMED && listed[call].inputs > 1 && call < NUMBERING && one_of(work, 2))) {
         put_byte(second, 0x07);
     }
     if ((call == HEADER_EQ && !error && kind == 0) || (call == CHANGED_FIELD && (error == OUT_OF_MEMORY || kind > 0))) {
@@ -1089,6 +1265,8 @@ static void try_case(struct work *work, struct request *request) {
     int64_t result;
     enum error error = NO_ERROR;
 
+    /* the calls that make a request have all the memory that there is */
+    heap.failing = 0;
     make_request(work, request);
     if (work->cases % 4 == 0) {
         next_turn(work, request, &error);

@@ -1,6 +1,6 @@
 /*
- * What test_vectors.c and test_packages.c share: lines of words, and what their calls return as words. Before it is
- * included, PROGRAM is the name of the program, and the library's header is there.
+ * What test_vectors.c, test_packages.c and test_numberings.c share: lines of words, and what their calls return as
+ * words. Before it is included, PROGRAM is the name of the program, and the library's header is there.
  */
 #include <inttypes.h>
 
@@ -105,7 +105,7 @@ static void say_written(int64_t length) {
 }
 
 /* Appends an item to a listing. */
-static void list_item(struct buffer *listing, const struct journal_item *item) {
+static inline void list_item(struct buffer *listing, const struct journal_item *item) {
     char text[64];
     int64_t length;
 
