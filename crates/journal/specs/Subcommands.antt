@@ -1,8 +1,8 @@
 -- The names of the subcommands.
 use Rattle.std.specs.Prelude.{List, ℕ, codes}
 use Rattle.journal.specs.declared.subcommand.Subcommand.{Subcommand}
-use Rattle.journal.specs.declared.subcommand.Subcommand.TheVariants.{List as Listing, Dump, Make, Diff, Show}
-use Rattle.journal.specs.declared.subcommand.Subcommand.TheVariants.{Cut, Cat, Schema, Redact, Describe, Get, Explain}
+use Rattle.journal.specs.declared.subcommand.Subcommand.TheVariants.{List as Listing, Dump, Make, Diff, Show, Cut, Cat}
+use Rattle.journal.specs.declared.subcommand.Subcommand.TheVariants.{Schema, Redact, Describe, Get, Explain, Renumber}
 
 -- The name of a subcommand.
 abbrev pub subcommand_name : Subcommand → List ℕ
@@ -18,3 +18,4 @@ subcommand_name Redact = codes "redact"
 subcommand_name Describe = codes "describe"
 subcommand_name Get = codes "get"
 subcommand_name Explain = codes "explain"
+subcommand_name Renumber = codes "renumber"

@@ -7,9 +7,14 @@ use command_line::note;
 use shared_core_base::version::Version;
 use std::cell::Cell;
 use std::io::{self, Read};
+use std::process::ExitCode;
+use stream_lines::Report;
 
 /// How many of the first bytes are kept: those of the first header.
 const SIZE: usize = 8;
+
+/// The status if a stream has no message.
+const LACKING: u8 = 1;
 
 /// How the lines of a dump begin. In a stream this would be the code of a custom entry, like all below.
 const DUMP: &[u8] = b"{\"";
@@ -43,6 +48,21 @@ impl Beginning {
             format_args!("no message in it; is it a journal of version {version}?"),
         );
         self.report_hint(call);
+    }
+
+    /// Reports the trailing bytes after a stream was written, and returns the status. It is not that of success if no
+    /// item comes before them.
+    pub fn end_written(&self, call: &Call<'_>, version: Version, found: &Report) -> ExitCode {
+        let (offset, count) = (found.end, found.rest);
+        if count == 0 {
+            return ExitCode::SUCCESS;
+        }
+        call.report_rest(offset, count);
+        if offset > 0 {
+            return ExitCode::SUCCESS;
+        }
+        self.report_no_message(call, version);
+        ExitCode::from(LACKING)
     }
 
     /// Reports what the input seems to be, if it is known how a stream is made of it.

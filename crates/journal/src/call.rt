@@ -4,6 +4,7 @@ use clap::Error;
 use command_line::{Input, OpenError, Progress, fail, note, note_terminal, open, report};
 use std::fmt::Display;
 use std::process::ExitCode;
+use stream_lines::Trouble;
 
 /// A call of a subcommand.
 #[derive(Clone, Copy, Drop)]
@@ -40,6 +41,35 @@ impl<'a> Call<'a> {
             return ExitCode::from(self.failure);
         }
         self.fail(why, self.failure)
+    }
+
+    /// Reports what is wrong with the item at an offset.
+    pub fn report_trouble(&self, offset: u128, trouble: Trouble) {
+        match trouble {
+            Trouble::UnknownCode(code) => note(
+                self.rt,
+                self.name,
+                format_args!("offset {offset}: unknown protocol.message code 0x{code:x}"),
+            ),
+            Trouble::Malformed(ty) => {
+                let name = ty.debug_name();
+                note(
+                    self.rt,
+                    self.name,
+                    format_args!("offset {offset}: the payload of {name} is not well-formed"),
+                );
+            }
+        }
+    }
+
+    /// Reports how many bytes are at an offset, after the last whole item.
+    pub fn report_rest(&self, offset: u128, count: u64) {
+        let bytes = if count == 1 { "byte" } else { "bytes" };
+        note(
+            self.rt,
+            self.name,
+            format_args!("offset {offset}: {count} {bytes} after the last whole item"),
+        );
     }
 
     /// Prints what is wrong with the arguments, or the help or the version that they request, and returns the status.

@@ -49,6 +49,17 @@ const FILE: Argument = Argument {
     may_begin_with_hyphen: false,
 };
 
+const PROTOCOL_OF_DUMP: Argument = Argument {
+    name: "protocol",
+    form: Form::Option("VERSION"),
+    help: "The version of the protocol of the stream; auto is\nthe newest that a file fits\n[default: 8] [possible values: 5, 6, 7, 8, 9,\nauto]",
+    values: Values::Among(&["5", "6", "7", "8", "9", "auto"]),
+    default: Some("8"),
+    is_repeated: false,
+    is_required: false,
+    may_begin_with_hyphen: false,
+};
+
 const RENAME: Argument = Argument {
     name: "rename",
     form: Form::Option("THEIRS=OURS"),
@@ -66,6 +77,17 @@ const SCHEMA_OF_DUMP: Argument = Argument {
     help: "Reads payloads by the messages of this descriptor\nset, which protoc -o writes; the default is\n$PENDRATSOA_SCHEMA",
     values: Values::Any,
     default: None,
+    is_repeated: false,
+    is_required: false,
+    may_begin_with_hyphen: false,
+};
+
+const PROTOCOL_OF_MAKE: Argument = Argument {
+    name: "protocol",
+    form: Form::Option("VERSION"),
+    help: "The version of the protocol of the stream\n[default: 8] [possible values: 5, 6, 7, 8, 9]",
+    values: Values::Versions,
+    default: Some("8"),
     is_repeated: false,
     is_required: false,
     may_begin_with_hyphen: false,
@@ -96,7 +118,7 @@ const PROTOCOL_OF_CAT: Argument = Argument {
 /// The definition of `journal`.
 pub static JOURNAL: Definition = Definition {
     version: VERSION,
-    about: "Lists, shows, describes, prints, compares, cuts, joins and redacts journals.",
+    about: "Lists, shows, prints, compares, cuts, joins, redacts and renumbers journals.",
     after_help: "A journal as a page, or two side by side: the program journal_view, which needs\nPython 3.\n\nExamples:\n  journal list FILE                        one line per item\n  journal show FILE                        one readable line per item\n  journal describe FILE                    the invocation, and what is open\n  journal dump --text FILE                 one line of JSON per item\n  journal diff --all RECORDED REPLAYED     what moved between two journals\n  journal cut --to N FILE > part           the journal up to command N",
     arguments: &[],
 };
@@ -137,16 +159,7 @@ pub static DUMP: Definition = Definition {
             is_required: false,
             may_begin_with_hyphen: false,
         },
-        Argument {
-            name: "protocol",
-            form: Form::Option("VERSION"),
-            help: "The version of the protocol of the stream; auto is\nthe newest that a file fits\n[default: 8] [possible values: 5, 6, 7, 8, 9,\nauto]",
-            values: Values::Among(&["5", "6", "7", "8", "9", "auto"]),
-            default: Some("8"),
-            is_repeated: false,
-            is_required: false,
-            may_begin_with_hyphen: false,
-        },
+        PROTOCOL_OF_DUMP,
         RENAME,
         SCHEMA_OF_DUMP,
         Argument {
@@ -189,16 +202,7 @@ pub static MAKE: Definition = Definition {
     about: "Makes a stream of JSON, one object per item.",
     after_help: "Examples:\n  journal dump FILE | jq -c 'select(.type != \"Start\")' | journal make > edited\n  journal make lines.jsonl > made",
     arguments: &[
-        Argument {
-            name: "protocol",
-            form: Form::Option("VERSION"),
-            help: "The version of the protocol of the stream\n[default: 8] [possible values: 5, 6, 7, 8, 9]",
-            values: Values::Versions,
-            default: Some("8"),
-            is_repeated: false,
-            is_required: false,
-            may_begin_with_hyphen: false,
-        },
+        PROTOCOL_OF_MAKE,
         RENAME,
         Argument {
             name: "schema",
@@ -423,7 +427,9 @@ pub static SHOW: Definition = Definition {
         },
         INPUT,
         MAX_MESSAGE,
-        PROTOCOL,
+        PROTOCOL_OF_DUMP,
+        RENAME,
+        SCHEMA_OF_DUMP,
         FILE,
     ],
 };
@@ -545,7 +551,9 @@ pub static GET: Definition = Definition {
     arguments: &[
         INPUT,
         MAX_MESSAGE,
-        PROTOCOL,
+        PROTOCOL_OF_DUMP,
+        RENAME,
+        SCHEMA_OF_DUMP,
         Argument {
             name: "file",
             form: Form::Operand("FILE"),
@@ -638,5 +646,48 @@ pub static SCHEMA: Definition = Definition {
             is_required: false,
             may_begin_with_hyphen: false,
         },
+    ],
+};
+
+/// The definition of `journal renumber`.
+pub static RENUMBER: Definition = Definition {
+    version: VERSION,
+    about: "Writes a stream with other field numbers at the protocol's, or back.",
+    after_help: "Payloads are read by the messages of a descriptor set, and written at the\nnumbers that the protocol has for the same fields. Fields that the protocol\nlacks are passed over. With --back it is the other way round.\n\nExamples:\n  journal renumber --schema schema.binpb FILE | journal show\n  journal renumber --back --schema schema.binpb FILE > theirs",
+    arguments: &[
+        Argument {
+            name: "back",
+            form: Form::Flag,
+            help: "Writes a stream at the set's field numbers, from\nthe protocol's",
+            values: Values::Any,
+            default: None,
+            is_repeated: false,
+            is_required: false,
+            may_begin_with_hyphen: false,
+        },
+        INPUT,
+        MAX_MESSAGE,
+        PROTOCOL_OF_MAKE,
+        Argument {
+            name: "rename",
+            form: Form::Option("THEIRS=OURS"),
+            help: "The name in the set of a message of the protocol;\nmay be repeated",
+            values: Values::Any,
+            default: None,
+            is_repeated: true,
+            is_required: false,
+            may_begin_with_hyphen: false,
+        },
+        Argument {
+            name: "schema",
+            form: Form::Option("FILE"),
+            help: "The descriptor set, which protoc -o writes; the\ndefault is $PENDRATSOA_SCHEMA",
+            values: Values::Any,
+            default: None,
+            is_repeated: false,
+            is_required: false,
+            may_begin_with_hyphen: false,
+        },
+        FILE,
     ],
 };

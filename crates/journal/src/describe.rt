@@ -10,7 +10,7 @@ use crate::dump::Records;
 use crate::fitting::{Asked, all_fitting};
 use clap::Error;
 use command_line::{
-    Decoding, Input, Pipe, Progress, encoding_of, fail, input_size, is_auto, max_message_of, note,
+    Decoding, Input, Pipe, Progress, encoding_of, fail, input_size, is_auto, max_message_of,
     protocol_of,
 };
 use encoded_input::Encoding;
@@ -99,12 +99,7 @@ fn report_rest(call: &Call<'_>, version: Version, beginning: &Beginning, found: 
     if count == 0 {
         return;
     }
-    let bytes = if count == 1 { "byte" } else { "bytes" };
-    note(
-        call.rt,
-        call.name,
-        format_args!("offset {offset}: {count} {bytes} after the last whole item"),
-    );
+    call.report_rest(offset, count);
     if offset == 0 {
         beginning.report_no_message(call, version);
     }

@@ -7,9 +7,12 @@ use clap::{ArgMatches, Command, Error};
 use command_line::{Input, fail};
 use descriptor_set::{DescriptorError, DescriptorSet, MOST_BYTES, named_table_of, read_set};
 use dump_lines::OtherTable;
-use schema_lines::{MESSAGE_NAMES, Rename, RenameFault, SchemaError, last_name, schemas_of};
+use schema_lines::{
+    Direction, MESSAGE_NAMES, Rename, RenameFault, SchemaError, last_name, numbering_of, schemas_of,
+};
 use shared_core_codec::loaded_table::LoadedSchemas;
 use shared_core_json::named_table::NamedTable;
+use shared_core_renumber::Renumbering;
 use std::alloc::{AllocError, Global};
 use std::env::{self, VarError};
 use std::io::{self, Read};
@@ -146,6 +149,22 @@ pub fn read_messages(
     };
     match schemas_of(alloc, &set, renames) {
         Ok(schemas) => Ok(OtherMessages { table, schemas }),
+        Err(error) => Err(fail_schema(call, &set, renames, error)),
+    }
+}
+
+/// Reads the set of a file, and makes the table by which payloads are written again from its numbers to the protocol's,
+/// or back. If there is a fault, reports it, and the error is the status.
+pub fn read_numbering(
+    call: &Call<'_>,
+    path: &str,
+    renames: &[Rename<'_>],
+    direction: Direction,
+) -> Result<Vec<Renumbering>, ExitCode> {
+    let set = read_descriptors(call, path)?;
+    match numbering_of(call.rt.alloc(), &set, renames, direction) {
+        Ok(entries) => Ok(entries),
+        Err(SchemaError::Descriptor(error)) => Err(fail_descriptors(call, path, error)),
         Err(error) => Err(fail_schema(call, &set, renames, error)),
     }
 }

@@ -8,10 +8,10 @@ mod inputs;
 
 use crate::beginning::{Beginning, Begun};
 use crate::call::Call;
-use crate::descriptors::{OtherMessages, read_messages, schema_path};
 use crate::diff::arguments::{Arguments, ValuesChoice, parse_arguments};
 use crate::diff::inputs::{Inputs, closed_side, open_both};
-use crate::fitting::{Asked, NOT_BY_A_SET, version_of};
+use crate::fitting::{Asked, version_of};
+use crate::renumbered::numbering_for;
 use command_line::{Decoding, Pipe, Progress, has_color};
 use diff_lines::{
     DiffError, DiffOptions, Findings, Form, Look, Names, Trouble, diff, empty_note, no_item_note,
@@ -20,6 +20,7 @@ use diff_lines::{
 use replay_bench::{ComparisonOptions, Ignored, Journals, ReaderError, Side};
 use shared_core::encoding::ItemReader;
 use shared_core_base::version::Version;
+use shared_core_renumber::Renumbering;
 use std::io::IsTerminal;
 use std::process::ExitCode;
 use terminal_text::{Escapes, Escaping};
@@ -129,23 +130,34 @@ fn run_parsed<'a>(call: &Call<'a>, parsed: &Arguments<'a>, inputs: Inputs) -> Ex
         replayed: Beginning::new(),
     };
     let alloc = call.rt.alloc();
+    let Inputs { recorded, replayed } = inputs;
     let journals = Journals {
         version: parsed.version,
         recorded: ItemReader::with_limit(
             alloc,
             parsed.version,
-            parsed.limit,
+            recorded.limit,
             Begun::new(
-                Decoding::new(inputs.recorded, parsed.recorded, inputs.encoding, &progress),
+                Decoding::new(
+                    recorded.source,
+                    parsed.recorded,
+                    recorded.encoding,
+                    &progress,
+                ),
                 &beginnings.recorded,
             ),
         ),
         replayed: ItemReader::with_limit(
             alloc,
             parsed.version,
-            parsed.limit,
+            replayed.limit,
             Begun::new(
-                Decoding::new(inputs.replayed, parsed.replayed, inputs.encoding, &progress),
+                Decoding::new(
+                    replayed.source,
+                    parsed.replayed,
+                    replayed.encoding,
+                    &progress,
+                ),
                 &beginnings.replayed,
             ),
         ),
@@ -182,19 +194,11 @@ pub fn run(call: &Call<'_>) -> ExitCode {
     if let Some(side) = closed_side(call.rt, &parsed) {
         return call.fail(ReaderError::Read(side), call.failure);
     }
-    let path = match schema_path(call, &parsed.schema, standard_input(&parsed)) {
-        Ok(path) => path,
+    let standard = standard_input(&parsed);
+    let numbering = match numbering_for(call, &parsed.schema, standard, parsed.is_auto) {
+        Ok(numbering) => numbering,
         Err(status) => return status,
     };
-    if let Some(path) = path {
-        if parsed.is_auto {
-            return call.fail(NOT_BY_A_SET, 2);
-        }
-        return match read_messages(call, path.as_str(), parsed.schema.renames.as_slice()) {
-            Ok(messages) => run_by(call, &parsed, Some(&messages)),
-            Err(status) => status,
-        };
-    }
     let asked = Asked {
         version: parsed.version,
         is_auto: parsed.is_auto,
@@ -205,7 +209,11 @@ pub fn run(call: &Call<'_>) -> ExitCode {
         Ok(version) => version,
         Err(status) => return status,
     };
-    run_by(call, &parsed, None)
+    run_by(
+        call,
+        &parsed,
+        numbering.as_ref().map(|entries| entries.as_slice()),
+    )
 }
 
 /// The path of the journal that comes from the standard input, or else of the recorded one.
@@ -216,13 +224,12 @@ fn standard_input<'a>(parsed: &Arguments<'a>) -> &'a str {
     parsed.recorded
 }
 
-/// Opens both journals, whose payloads are read by these messages or else by the protocol's, compares them, and returns
-/// the status.
-fn run_by(call: &Call<'_>, parsed: &Arguments<'_>, messages: Option<&OtherMessages>) -> ExitCode
+/// Opens both journals, whose payloads are read by a table if there is one, compares them, and returns the status.
+fn run_by(call: &Call<'_>, parsed: &Arguments<'_>, numbering: Option<&[Renumbering]>) -> ExitCode
     requires { 5 ≤ version_number parsed.now.version }
 {
-    match open_both(call, parsed, messages) {
+    match open_both(call, parsed, numbering) {
         Ok(inputs) => run_parsed(call, parsed, inputs),
-        Err(error) => call.fail(error, 2),
+        Err(status) => status,
     }
 }

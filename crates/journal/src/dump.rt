@@ -17,13 +17,13 @@ use command_line::{Decoding, Input, Pipe, Progress, input_size, note};
 use dump_lines::{MOST_SHOWN, MessageTable, Options, ProtocolTable, dump, dump_on_terminal};
 use std::io::IsTerminal;
 use std::process::ExitCode;
-use stream_lines::{PrintError, Report, Trouble};
+use stream_lines::{PrintError, Report};
 use terminal_text::{Escapes, Escaping};
 
 /// Reports the first error of the stream and the trailing bytes, and returns the status.
 fn end(call: &Call<'_>, options: &Options<'_>, beginning: &Beginning, found: &Report) -> ExitCode {
     if let Some((offset, trouble)) = found.trouble {
-        report_trouble(call, offset, trouble);
+        call.report_trouble(offset, trouble);
     }
     if found.rest > 0 {
         report_rest(call, options, found);
@@ -38,25 +38,6 @@ fn end(call: &Call<'_>, options: &Options<'_>, beginning: &Beginning, found: &Re
         return ExitCode::from(2);
     }
     ExitCode::SUCCESS
-}
-
-/// Reports what is wrong with the item at an offset.
-fn report_trouble(call: &Call<'_>, offset: u128, trouble: Trouble) {
-    match trouble {
-        Trouble::UnknownCode(code) => note(
-            call.rt,
-            call.name,
-            format_args!("offset {offset}: unknown protocol.message code 0x{code:x}"),
-        ),
-        Trouble::Malformed(ty) => {
-            let name = ty.debug_name();
-            note(
-                call.rt,
-                call.name,
-                format_args!("offset {offset}: the payload of {name} is not well-formed"),
-            );
-        }
-    }
 }
 
 /// Reports the trailing bytes.

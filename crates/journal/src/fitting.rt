@@ -53,9 +53,9 @@ impl Asked {
 
 /// What does not fit a version in the file of a path.
 #[derive(Drop)]
-struct Misfit<'p> {
-    path: &'p str,
-    found: Report,
+pub struct Misfit<'p> {
+    pub path: &'p str,
+    pub found: Report,
 }
 
 // a path is text of others, so this has no output that a contract could name

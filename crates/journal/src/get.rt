@@ -6,18 +6,21 @@ ghost use Rattle.shared_core_base.specs.Version.{version_number};
 use crate::beginning::{Beginning, Begun};
 use crate::call::Call;
 use crate::definitions;
+use crate::descriptors::{SchemaArguments, schema_arguments};
 use crate::dump::Records;
 use crate::fitting::{Asked, version_of};
+use crate::parts::File;
+use crate::renumbered::{Opened, numbering_for, open_numbered};
 use crate::similar::push_similar;
 use clap::error::ErrorKind;
 use clap::{ArgMatches, Command, Error};
 use command_line::{
-    Decoding, Input, Pipe, Progress, encoding_of, fail, input_size, is_auto, max_message_of,
-    protocol_of,
+    Decoding, Pipe, Progress, encoding_of, fail, is_auto, max_message_of, protocol_of,
 };
 use encoded_input::Encoding;
 use field_paths::{Answer, Request, get};
 use shared_core_json::names::names_of;
+use shared_core_renumber::Renumbering;
 use std::alloc::{AllocError, Global};
 use std::io::IsTerminal;
 use std::process::ExitCode;
@@ -34,16 +37,14 @@ const UNWRITABLE: u8 = 2;
 const LACKING: u8 = 1;
 
 /// The parsed arguments.
-#[derive(Clone, Copy, Drop)]
+#[derive(Drop)]
 struct Arguments<'a> {
-    /// The path of the stream, or `-` for the standard input.
-    file: &'a str,
-    /// How the file is written, if it is text.
-    encoding: Option<Encoding>,
+    /// The stream.
+    file: File<'a>,
+    /// By what payloads are read.
+    schema: SchemaArguments<'a>,
     /// Whether the version is to be the newest that the stream fits.
     is_auto: bool,
-    /// How the stream is read.
-    options: Options,
     /// The index of the item.
     index: u64,
     /// The path of the field.
@@ -56,23 +57,22 @@ fn parse_arguments<'a>(
     name: &'static str,
     words: &'a [String],
 ) -> Result<Arguments<'a>, Error>
-    ensures version { IfOk result (λ parsed. 5 ≤ version_number parsed.options.version) }
-    ensures low { IfOk result (λ parsed. 1 ≤ parsed.options.chunk_size) }
-    ensures high { IfOk result (λ parsed. parsed.options.chunk_size ≤ 65536) }
+    ensures { IfOk result (λ parsed. 5 ≤ version_number parsed.file.version) }
 {
     let mut command = definitions::GET.command(alloc, name)?.no_binary_name(true);
     let matches = command.try_get_matches_from_mut(words)?;
     let limit = max_message_of(&mut command, &matches)?;
     let index = index_of(&mut command, &matches)?;
+    let schema = schema_arguments(alloc, &mut command, &matches)?;
     Ok(Arguments {
-        file: matches.get_str("file").unwrap_or("-"),
-        encoding: encoding_of(&matches),
-        is_auto: is_auto(&matches),
-        options: Options {
+        file: File {
+            path: matches.get_str("file").unwrap_or("-"),
             version: protocol_of(&matches),
             limit,
-            chunk_size: CHUNK,
+            encoding: encoding_of(&matches),
         },
+        schema,
+        is_auto: is_auto(&matches),
         index,
         path: matches.get_str("path").unwrap_or(""),
     })
@@ -152,7 +152,7 @@ fn end(
         Answer::Written => return ExitCode::SUCCESS,
         Answer::NoItem => {
             if index == 0 {
-                beginning.report_no_message(call, parsed.options.version);
+                beginning.report_no_message(call, parsed.file.version);
             }
             return fail(
                 call.rt,
@@ -174,24 +174,26 @@ fn end(
     )
 }
 
-/// Writes the field of an input, and returns the status.
-fn run_with(call: &Call<'_>, parsed: &Arguments<'_>, input: Input) -> ExitCode
-    requires version { 5 ≤ version_number parsed.now.options.version }
-    requires low { 1 ≤ parsed.now.options.chunk_size }
-    requires high { parsed.now.options.chunk_size ≤ 65536 }
+/// Writes the field of a stream that is opened, and returns the status.
+fn run_with(call: &Call<'_>, parsed: &Arguments<'_>, opened: Opened) -> ExitCode
+    requires { 5 ≤ version_number parsed.now.file.version }
 {
-    let progress = Progress::beside_output(call.rt, call.name, input_size(&input));
-    let beginning = Beginning::new();
-    let mut input = Begun::new(
-        Decoding::new(input, parsed.file, parsed.encoding, &progress),
-        &beginning,
-    );
-    let mut output = Pipe::new(call.rt.stdout());
     let request = Request {
-        options: parsed.options,
+        options: Options {
+            version: parsed.file.version,
+            limit: opened.limit,
+            chunk_size: CHUNK,
+        },
         index: parsed.index,
         path: parsed.path.as_bytes(),
     };
+    let progress = Progress::beside_output(call.rt, call.name, opened.size());
+    let beginning = Beginning::new();
+    let mut input = Begun::new(
+        Decoding::new(opened.source, parsed.file.path, opened.encoding, &progress),
+        &beginning,
+    );
+    let mut output = Pipe::new(call.rt.stdout());
     let got = get(call.rt.alloc(), &request, &Records, &mut input, &mut output);
     progress.clear();
     match got {
@@ -202,9 +204,19 @@ fn run_with(call: &Call<'_>, parsed: &Arguments<'_>, input: Input) -> ExitCode
     }
 }
 
+/// Opens the stream, whose payloads are read by a table if there is one, writes the field, and returns the status.
+fn run_by(call: &Call<'_>, parsed: &Arguments<'_>, numbering: Option<&[Renumbering]>) -> ExitCode
+    requires { 5 ≤ version_number parsed.now.file.version }
+{
+    match open_numbered(call, &parsed.file, numbering) {
+        Ok(opened) => run_with(call, parsed, opened),
+        Err(status) => status,
+    }
+}
+
 /// Parses the arguments, writes the field, and returns the status.
 pub fn run(call: &Call<'_>) -> ExitCode {
-    let parsed = match parse_arguments(call.rt.alloc(), call.name, call.words) {
+    let mut parsed = match parse_arguments(call.rt.alloc(), call.name, call.words) {
         Ok(parsed) => parsed,
         Err(error) => return call.report(&error),
     };
@@ -214,23 +226,25 @@ pub fn run(call: &Call<'_>) -> ExitCode {
             UNWRITABLE,
         );
     }
-    let asked = Asked {
-        version: parsed.options.version,
-        is_auto: parsed.is_auto,
-        limit: parsed.options.limit,
-        encoding: parsed.encoding,
+    let file = parsed.file;
+    let numbering = match numbering_for(call, &parsed.schema, file.path, parsed.is_auto) {
+        Ok(numbering) => numbering,
+        Err(status) => return status,
     };
-    let version = match version_of(call, &asked, &[parsed.file]) {
+    let asked = Asked {
+        version: file.version,
+        is_auto: parsed.is_auto,
+        limit: file.limit,
+        encoding: file.encoding,
+    };
+    let version = match version_of(call, &asked, &[file.path]) {
         Ok(version) => version,
         Err(status) => return status,
     };
-    let options = Options {
-        version,
-        ..parsed.options
-    };
-    let parsed = Arguments { options, ..parsed };
-    match call.open(parsed.file) {
-        Ok(input) => run_with(call, &parsed, input),
-        Err(error) => call.fail(error, 2),
-    }
+    parsed.file = File { version, ..file };
+    run_by(
+        call,
+        &parsed,
+        numbering.as_ref().map(|entries| entries.as_slice()),
+    )
 }

@@ -1,5 +1,5 @@
-//! Lists, shows, describes, explains, prints, makes, compares, cuts, joins and redacts journals: a program with a
-//! subcommand for each. If it is called by a subcommand's name, as `journal_dump`, it is only that subcommand.
+//! Lists, shows, describes, explains, prints, makes, compares, cuts, joins, redacts and renumbers journals: a program
+//! with a subcommand for each. If it is called by a subcommand's name, as `journal_dump`, it is only that subcommand.
 #![tactic(auto)]
 
 mod beginning;
@@ -18,6 +18,8 @@ mod list;
 mod make;
 mod parts;
 mod redact;
+mod renumber;
+mod renumbered;
 mod schema;
 mod show;
 mod similar;
@@ -62,6 +64,7 @@ fn run(call: &Call<'_>, subcommand: Subcommand) -> ExitCode {
         Subcommand::Describe => describe::run(call),
         Subcommand::Get => get::run(call),
         Subcommand::Explain => explain::run(call),
+        Subcommand::Renumber => renumber::run(call),
     }
 }
 

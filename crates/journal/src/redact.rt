@@ -9,7 +9,7 @@ use crate::definitions;
 use crate::fitting::{Asked, version_of};
 use clap::Error;
 use command_line::{
-    Decoding, Input, Pipe, Progress, encoding_of, fail, input_size, is_auto, max_message_of, note,
+    Decoding, Input, Pipe, Progress, encoding_of, fail, input_size, is_auto, max_message_of,
     protocol_of,
 };
 use encoded_input::Encoding;
@@ -18,7 +18,7 @@ use std::alloc::Global;
 use std::io::{IsTerminal, Read};
 use std::process::ExitCode;
 use std::{fs, io};
-use stream_lines::{PrintError, Report};
+use stream_lines::PrintError;
 use stream_redaction::{Key, Options, redact};
 
 /// The number of bytes that are read at a time.
@@ -26,9 +26,6 @@ const CHUNK: usize = 65536;
 
 /// Where a secret comes from that is not kept.
 const RANDOM: &str = "/dev/urandom";
-
-/// The status if a stream has no message.
-const LACKING: u8 = 1;
 
 /// The parsed arguments.
 #[derive(Drop)]
@@ -93,25 +90,6 @@ fn key_of(call: &Call<'_>, secret: Option<&str>) -> Result<Key, ExitCode> {
     }
 }
 
-/// Reports the trailing bytes, and returns the status.
-fn end(call: &Call<'_>, version: Version, beginning: &Beginning, found: &Report) -> ExitCode {
-    let (offset, count) = (found.end, found.rest);
-    if count == 0 {
-        return ExitCode::SUCCESS;
-    }
-    let bytes = if count == 1 { "byte" } else { "bytes" };
-    note(
-        call.rt,
-        call.name,
-        format_args!("offset {offset}: {count} {bytes} after the last whole item"),
-    );
-    if offset > 0 {
-        return ExitCode::SUCCESS;
-    }
-    beginning.report_no_message(call, version);
-    ExitCode::from(LACKING)
-}
-
 /// Writes the input with its contents replaced, and returns the status.
 fn run_with(call: &Call<'_>, parsed: &Arguments<'_>, options: &Options, input: Input) -> ExitCode
     requires version { 5 ≤ version_number options.now.version }
@@ -128,7 +106,7 @@ fn run_with(call: &Call<'_>, parsed: &Arguments<'_>, options: &Options, input: I
     let written = redact(call.rt.alloc(), options, &mut input, &mut output);
     progress.clear();
     match written {
-        Ok(found) => end(call, options.version, &beginning, &found),
+        Ok(found) => beginning.end_written(call, options.version, &found),
         // the reader has closed the output, so nothing is reported
         Err(PrintError::Output) if output.is_broken() => ExitCode::from(call.failure),
         Err(error) => call.fail_reading(error, &progress),

@@ -6,26 +6,29 @@ ghost use Rattle.shared_core_base.specs.Version.{version_number};
 use crate::beginning::{Beginning, Begun};
 use crate::call::Call;
 use crate::definitions;
+use crate::descriptors::{SchemaArguments, schema_arguments};
 use crate::dump::Records;
 use crate::fitting::{Asked, version_of};
+use crate::parts::File;
+use crate::renumbered::{Opened, numbering_for, open_numbered};
 use clap::error::ErrorKind;
 use clap::{ArgMatches, Command, Error};
-use command_line::{
-    Decoding, Input, Pipe, Progress, encoding_of, input_size, is_auto, max_message_of, note,
-    protocol_of,
-};
+use command_line::{Decoding, Pipe, Progress, encoding_of, is_auto, max_message_of, protocol_of};
 use encoded_input::Encoding;
 use shared_core_base::version::Version;
-use show_lines::{Filter, Options, show};
+use shared_core_renumber::Renumbering;
+use show_lines::{Filter, Options, Test, show};
 use std::alloc::Global;
 use std::process::ExitCode;
-use stream_lines::{PrintError, Report};
+use stream_lines::PrintError;
 
 /// The parsed arguments.
 #[derive(Drop)]
 struct Arguments<'a> {
     /// The path of the stream, or `-` for the standard input.
     path: &'a str,
+    /// By what payloads are read.
+    schema: SchemaArguments<'a>,
     version: Version,
     /// Whether the version is to be the newest that the stream fits.
     is_auto: bool,
@@ -42,14 +45,14 @@ struct Arguments<'a> {
 }
 
 impl<'a> Arguments<'a> {
-    /// How the stream is shown.
-    fn options(&self) -> Options<'_>
+    /// How the stream is shown, with a limit on the length of a payload.
+    fn options(&self, limit: u32) -> Options<'_>
         requires { 5 ≤ version_number self.now.version }
         ensures { 5 ≤ version_number result.version }
     {
         Options {
             version: self.version,
-            limit: self.limit,
+            limit,
             from: self.from,
             to: self.to,
             commands: self.commands,
@@ -58,7 +61,32 @@ impl<'a> Arguments<'a> {
             words: self.filter.words.as_slice(),
         }
     }
+
+    /// The stream.
+    fn file(&self) -> File<'a>
+        requires { 5 ≤ version_number self.now.version }
+        ensures { 5 ≤ version_number result.version }
+    {
+        File {
+            path: self.path,
+            version: self.version,
+            limit: self.limit,
+            encoding: self.encoding,
+        }
+    }
+
+    /// Whether a word of the filter asks for bytes: how many an item has, or where it begins.
+    fn counts_bytes(&self) -> bool {
+        self.filter.words.iter().any(|word| matches!(
+            word.test,
+            Test::OfSize(_) | Test::OfOffset(_)
+        ))
+    }
 }
+
+/// Why items whose payloads are read by a descriptor set are not selected by their bytes.
+const NOT_BY_BYTES: &str =
+    "--where: size: and offset: count bytes at the protocol's own numbers, and not by a descriptor set";
 
 /// Parses the arguments. The error is an invalid argument, or a request for the help or the version.
 fn parse_arguments<'a>(
@@ -73,6 +101,7 @@ fn parse_arguments<'a>(
     let limit = max_message_of(&mut command, &matches)?;
     let from = index_of(&mut command, &matches, "from", 0)?;
     let to = index_of(&mut command, &matches, "to", u64::MAX)?;
+    let schema = schema_arguments(alloc, &mut command, &matches)?;
     let filter = match Filter::parse(alloc, matches.get_str("where").unwrap_or("")) {
         Ok(filter) => filter,
         Err(error) => {
@@ -82,6 +111,7 @@ fn parse_arguments<'a>(
     };
     Ok(Arguments {
         path: matches.get_str("file").unwrap_or("-"),
+        schema,
         version: protocol_of(&matches),
         is_auto: is_auto(&matches),
         limit,
@@ -114,16 +144,11 @@ fn index_of(
     }
 }
 
-/// Reports the trailing bytes, and returns the status.
-fn end(call: &Call<'_>, version: Version, beginning: &Beginning, found: &Report) -> ExitCode {
-    let (offset, count) = (found.end, found.rest);
+/// Reports the trailing bytes, which begin at an offset of the file, and returns the status.
+fn end(call: &Call<'_>, version: Version, beginning: &Beginning, rest: (u128, u64)) -> ExitCode {
+    let (offset, count) = rest;
     if count > 0 {
-        let bytes = if count == 1 { "byte" } else { "bytes" };
-        note(
-            call.rt,
-            call.name,
-            format_args!("offset {offset}: {count} {bytes} after the last whole item"),
-        );
+        call.report_rest(offset, count);
         if offset == 0 {
             beginning.report_no_message(call, version);
         }
@@ -131,25 +156,44 @@ fn end(call: &Call<'_>, version: Version, beginning: &Beginning, found: &Report)
     ExitCode::SUCCESS
 }
 
-/// Shows the input, and returns the status.
-fn run_parsed(call: &Call<'_>, parsed: &Arguments<'_>, input: Input) -> ExitCode
+/// Shows a stream that is opened, and returns the status.
+fn run_parsed(call: &Call<'_>, parsed: &Arguments<'_>, opened: Opened) -> ExitCode
     requires { 5 ≤ version_number parsed.now.version }
 {
-    let options = parsed.options();
-    let progress = Progress::beside_output(call.rt, call.name, input_size(&input));
+    let options = parsed.options(opened.limit);
+    let progress = Progress::beside_output(call.rt, call.name, opened.size());
     let beginning = Beginning::new();
+    let Opened {
+        source,
+        encoding,
+        end: at,
+        ..
+    } = opened;
     let mut input = Begun::new(
-        Decoding::new(input, parsed.path, parsed.encoding, &progress),
+        Decoding::new(source, parsed.path, encoding, &progress),
         &beginning,
     );
     let mut output = Pipe::new(call.rt.stdout());
     let shown = show(call.rt.alloc(), &options, &Records, &mut input, &mut output);
     progress.clear();
     match shown {
-        Ok(found) => end(call, options.version, &beginning, &found),
+        Ok(found) => {
+            let rest = (at.unwrap_or(found.end), found.rest);
+            end(call, options.version, &beginning, rest)
+        }
         // the reader has closed the output, so nothing is reported
         Err(PrintError::Output) if output.is_broken() => ExitCode::from(call.failure),
         Err(error) => call.fail_reading(error, &progress),
+    }
+}
+
+/// Opens the stream, whose payloads are read by a table if there is one, shows it, and returns the status.
+fn run_by(call: &Call<'_>, parsed: &Arguments<'_>, numbering: Option<&[Renumbering]>) -> ExitCode
+    requires { 5 ≤ version_number parsed.now.version }
+{
+    match open_numbered(call, &parsed.file(), numbering) {
+        Ok(opened) => run_parsed(call, parsed, opened),
+        Err(status) => status,
     }
 }
 
@@ -159,6 +203,13 @@ pub fn run(call: &Call<'_>) -> ExitCode {
         Ok(parsed) => parsed,
         Err(error) => return call.report(&error),
     };
+    let numbering = match numbering_for(call, &parsed.schema, parsed.path, parsed.is_auto) {
+        Ok(numbering) => numbering,
+        Err(status) => return status,
+    };
+    if numbering.is_some() && parsed.counts_bytes() {
+        return call.fail(NOT_BY_BYTES, 2);
+    }
     let asked = Asked {
         version: parsed.version,
         is_auto: parsed.is_auto,
@@ -169,8 +220,9 @@ pub fn run(call: &Call<'_>) -> ExitCode {
         Ok(version) => version,
         Err(status) => return status,
     };
-    match call.open(parsed.path) {
-        Ok(input) => run_parsed(call, &parsed, input),
-        Err(error) => call.fail(error, 2),
-    }
+    run_by(
+        call,
+        &parsed,
+        numbering.as_ref().map(|entries| entries.as_slice()),
+    )
 }

@@ -6,7 +6,7 @@ use command_line::Definition;
 use std::alloc::{AllocError, Global};
 
 /// The subcommands, in the order of the help.
-static SUBCOMMANDS: [Subcommand; 12] = [
+static SUBCOMMANDS: [Subcommand; 13] = [
     Subcommand::List,
     Subcommand::Dump,
     Subcommand::Make,
@@ -19,6 +19,7 @@ static SUBCOMMANDS: [Subcommand; 12] = [
     Subcommand::Get,
     Subcommand::Explain,
     Subcommand::Schema,
+    Subcommand::Renumber,
 ];
 
 /// What the program does.
@@ -48,6 +49,8 @@ pub enum Subcommand {
     Get,
     /// Explains the bytes of a stream.
     Explain,
+    /// Writes a stream at other field numbers.
+    Renumber,
 }
 
 impl Subcommand {
@@ -73,6 +76,7 @@ impl Subcommand {
             "describe" => Some(Subcommand::Describe),
             "get" => Some(Subcommand::Get),
             "explain" => Some(Subcommand::Explain),
+            "renumber" => Some(Subcommand::Renumber),
             _ => None,
         }
     }
@@ -94,6 +98,7 @@ impl Subcommand {
             Subcommand::Describe => "describe",
             Subcommand::Get => "get",
             Subcommand::Explain => "explain",
+            Subcommand::Renumber => "renumber",
         }
     }
 
@@ -112,6 +117,7 @@ impl Subcommand {
             Subcommand::Describe => &definitions::DESCRIBE,
             Subcommand::Get => &definitions::GET,
             Subcommand::Explain => &definitions::EXPLAIN,
+            Subcommand::Renumber => &definitions::RENUMBER,
         }
     }
 
@@ -132,7 +138,7 @@ impl Subcommand {
         match Subcommand::named(name.strip_prefix("journal_")?)? {
             Subcommand::List | Subcommand::Cut | Subcommand::Cat | Subcommand::Schema => None,
             Subcommand::Redact | Subcommand::Describe | Subcommand::Get => None,
-            Subcommand::Explain => None,
+            Subcommand::Explain | Subcommand::Renumber => None,
             subcommand => Some(subcommand),
         }
     }
@@ -142,7 +148,7 @@ impl Subcommand {
         match self {
             Subcommand::List | Subcommand::Dump | Subcommand::Show | Subcommand::Schema => 1,
             Subcommand::Redact | Subcommand::Describe | Subcommand::Get => 1,
-            Subcommand::Explain => 1,
+            Subcommand::Explain | Subcommand::Renumber => 1,
             Subcommand::Make | Subcommand::Diff | Subcommand::Cut | Subcommand::Cat => 2,
         }
     }
@@ -191,6 +197,7 @@ impl Asked {
             (Subcommand::Describe, _) => "journal describe",
             (Subcommand::Get, _) => "journal get",
             (Subcommand::Explain, _) => "journal explain",
+            (Subcommand::Renumber, _) => "journal renumber",
         }
     }
 

@@ -15,6 +15,6 @@ mod scratch;
 mod stream;
 pub mod waiting;
 
-pub use crate::filter::{Filter, FilterError, Word};
+pub use crate::filter::{Filter, FilterError, Test, Word};
 pub use crate::options::Options;
 pub use crate::stream::show;

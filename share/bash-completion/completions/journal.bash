@@ -2,7 +2,7 @@
 _journal() {
     local word=${COMP_WORDS[COMP_CWORD]}
     if [ "$COMP_CWORD" -eq 1 ]; then
-        mapfile -t COMPREPLY < <(compgen -W 'list dump make diff show cut cat redact describe get explain schema help --help --version' -- "$word")
+        mapfile -t COMPREPLY < <(compgen -W 'list dump make diff show cut cat redact describe get explain schema renumber help --help --version' -- "$word")
         return
     fi
     case ${COMP_WORDS[1]} in
@@ -18,7 +18,8 @@ _journal() {
         get) _journal_command_get ;;
         explain) _journal_command_explain ;;
         schema) _journal_command_schema ;;
-        help) mapfile -t COMPREPLY < <(compgen -W 'list dump make diff show cut cat redact describe get explain schema' -- "$word") ;;
+        renumber) _journal_command_renumber ;;
+        help) mapfile -t COMPREPLY < <(compgen -W 'list dump make diff show cut cat redact describe get explain schema renumber' -- "$word") ;;
     esac
 }
 _journal_command_list() {
@@ -73,7 +74,9 @@ _journal_show() {
         --input) mapfile -t COMPREPLY < <(compgen -W 'hex base64' -- "$word") ;;
         --max-message) mapfile -t COMPREPLY < <(compgen -W '' -- "$word") ;;
         --protocol) mapfile -t COMPREPLY < <(compgen -W '5 6 7 8 9 auto' -- "$word") ;;
-        *) [[ $word != -* ]] || mapfile -t COMPREPLY < <(compgen -W '--commands --failures --open --from --to --where --input --max-message --protocol --help --version' -- "$word") ;;
+        --rename) mapfile -t COMPREPLY < <(compgen -W '' -- "$word") ;;
+        --schema) mapfile -t COMPREPLY < <(compgen -W '' -- "$word") ;;
+        *) [[ $word != -* ]] || mapfile -t COMPREPLY < <(compgen -W '--commands --failures --open --from --to --where --input --max-message --protocol --rename --schema --help --version' -- "$word") ;;
     esac
 }
 _journal_command_cut() {
@@ -121,7 +124,9 @@ _journal_command_get() {
         --input) mapfile -t COMPREPLY < <(compgen -W 'hex base64' -- "$word") ;;
         --max-message) mapfile -t COMPREPLY < <(compgen -W '' -- "$word") ;;
         --protocol) mapfile -t COMPREPLY < <(compgen -W '5 6 7 8 9 auto' -- "$word") ;;
-        *) [[ $word != -* ]] || mapfile -t COMPREPLY < <(compgen -W '--input --max-message --protocol --help --version' -- "$word") ;;
+        --rename) mapfile -t COMPREPLY < <(compgen -W '' -- "$word") ;;
+        --schema) mapfile -t COMPREPLY < <(compgen -W '' -- "$word") ;;
+        *) [[ $word != -* ]] || mapfile -t COMPREPLY < <(compgen -W '--input --max-message --protocol --rename --schema --help --version' -- "$word") ;;
     esac
 }
 _journal_command_explain() {
@@ -139,6 +144,17 @@ _journal_command_schema() {
     case ${COMP_WORDS[COMP_CWORD - 1]} in
         --rename) mapfile -t COMPREPLY < <(compgen -W '' -- "$word") ;;
         *) [[ $word != -* ]] || mapfile -t COMPREPLY < <(compgen -W '--rename --help --version' -- "$word") ;;
+    esac
+}
+_journal_command_renumber() {
+    local word=${COMP_WORDS[COMP_CWORD]}
+    case ${COMP_WORDS[COMP_CWORD - 1]} in
+        --input) mapfile -t COMPREPLY < <(compgen -W 'hex base64' -- "$word") ;;
+        --max-message) mapfile -t COMPREPLY < <(compgen -W '' -- "$word") ;;
+        --protocol) mapfile -t COMPREPLY < <(compgen -W '5 6 7 8 9' -- "$word") ;;
+        --rename) mapfile -t COMPREPLY < <(compgen -W '' -- "$word") ;;
+        --schema) mapfile -t COMPREPLY < <(compgen -W '' -- "$word") ;;
+        *) [[ $word != -* ]] || mapfile -t COMPREPLY < <(compgen -W '--back --input --max-message --protocol --rename --schema --help --version' -- "$word") ;;
     esac
 }
 complete -o default -F _journal journal
