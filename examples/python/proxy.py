@@ -2,8 +2,8 @@
 proxy.py [--record FOLDER] VERSION HOST PORT
 
 It takes a connection at a port of this machine, which it prints, and opens one to HOST and PORT. All that it does not
-change it passes on byte for byte. With --record it writes the items that it takes to FOLDER/received, and those that it
-passes on to FOLDER/passed_on.
+change it passes on byte for byte, also the beginning of a last item that is not whole. With --record it writes the
+items that it takes to FOLDER/received, and those that it passes on to FOLDER/passed_on.
 """
 
 import argparse
@@ -49,14 +49,19 @@ def main(words: List[str]) -> Optional[str]:
         source, _ = server.accept()
     with source, socket.create_connection((given.host, given.port)) as target:
         with record(given.record, "received") as received, record(given.record, "passed_on") as passed:
-            try:
-                for item in Stream(given.version).read(source, strict=True):
-                    received.write(item.bytes)
-                    changed = passed_on(item)
-                    passed.write(changed)
-                    target.sendall(changed)
-            except Incomplete as error:
-                return f"proxy.py: {error}"
+            stream = Stream(given.version)
+            for item in stream.read(source):
+                received.write(item.bytes)
+                changed = passed_on(item)
+                passed.write(changed)
+                target.sendall(changed)
+            received.write(stream.trailing)
+            passed.write(stream.trailing)
+            target.sendall(stream.trailing)
+    try:
+        stream.finish()
+    except Incomplete as error:
+        return f"proxy.py: {error}"
     return None
 
 

@@ -46,6 +46,7 @@ from ._errors import (
     NoResult,
     NoRoom,
     NotCanonical,
+    NumberingError,
     OutOfMemory,
     TooLong,
     Unknown,
@@ -53,6 +54,7 @@ from ._errors import (
 from ._fast import COMPILED
 from ._items import Item, Message, Skipped, UnknownCode
 from ._kinds import BytesLike, Schema
+from ._numbering import Numbering
 from ._protocol import SCHEMA_NAMES, TypeCode
 from ._replay import ChangedField, Mismatch, Replay
 from ._request import SCHEMAS
@@ -83,6 +85,8 @@ __all__ = [
     "NoRoom",
     "NotCanonical",
     "Notification",
+    "Numbering",
+    "NumberingError",
     "OutOfMemory",
     "Replay",
     "ResultKind",

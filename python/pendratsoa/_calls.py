@@ -3,12 +3,16 @@
 from __future__ import annotations
 
 from dataclasses import dataclass
-from typing import Type, Union
+from typing import TYPE_CHECKING, Optional, Type, Union
 
 from ._declared import IdKind, JsonReason, ResultKind, VerdictKind
 from ._kinds import BytesLike, K, Schema
 from ._named import named
 from ._request import Request
+from ._tables import written_at
+
+if TYPE_CHECKING:
+    from ._numbering import Numbering
 
 
 @dataclass(frozen=True)
@@ -79,16 +83,20 @@ def header(version: int, code: int, payload_length: int) -> bytes:
     return named.header(version, code, payload_length)
 
 
-def frame(version: int, code: int, payload: BytesLike) -> bytes:
-    """The frame, at a version, of the message that a payload means: its header, and the canonical payload after it.
+def frame(version: int, code: int, payload: BytesLike, *, numbering: Optional[Numbering] = None) -> bytes:
+    """The frame, at a version, of the message that a payload means: its header, and the canonical payload after it, at
+    the field numbers of a numbering if one is given.
 
     Its header is that of `header`. `Unknown` if there is no such version, or the code is not that of a named type;
     `Malformed`, `TooLong`, `OutOfMemory`.
     """
-    return named.frame(version, code, payload)
+    data = named.frame(version, code, payload)
+    return data if numbering is None else written_at("frame", numbering, version, data)
 
 
-def append_frame(out: bytearray, version: int, code: int, payload: BytesLike) -> int:
+def append_frame(
+    out: bytearray, version: int, code: int, payload: BytesLike, *, numbering: Optional[Numbering] = None
+) -> int:
     """Appends the frame that `frame` returns to `out`, and returns its length in bytes.
 
     Its errors are those of `frame`; after one of them `out` is as it was.
@@ -96,6 +104,8 @@ def append_frame(out: bytearray, version: int, code: int, payload: BytesLike) ->
     if not isinstance(out, bytearray):
         raise TypeError(f"append_frame: out must be a bytearray, not {type(out).__name__}")
     data = named.append_frame(version, code, payload)
+    if numbering is not None:
+        data = written_at("append_frame", numbering, version, data)
     out += data
     return len(data)
 

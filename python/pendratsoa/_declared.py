@@ -37,14 +37,20 @@ CALLS: Dict[str, Tuple[str, ...]] = {
     "journal_replay_text": ("u16", "slice", "slice", "slice", "slice"),
     "journal_replay_expected": ("slice", "slice", "slice"),
     "journal_replay_finish": ("slice", "slice", "slice"),
+    "journal_numbering": ("u32", "slice", "slice", "slice"),
+    "journal_numbering_text": ("slice", "slice", "slice", "slice"),
+    "journal_renumber": ("u32", "slice", "slice", "slice"),
+    "journal_renumber_stream": ("u32", "slice", "slice", "slice"),
+    "journal_numbering_dump": ("u32", "slice", "slice", "slice", "slice"),
 }
 
 
 class NamedCall(NamedTuple):
     """A call that is made by its name: its function, its name in this package, what it takes of its caller, what its
     code has to be that of, how many numbers it is given, as bytes, and whether it changes them, how many numbers it
-    writes, whether it writes bytes, and the room for them that is tried first: a multiple of the bytes that it reads,
-    and more."""
+    writes, how many bytes each has of what it writes and counts, a byte or an entry of a table, or 0, the room for
+    these that is tried first, which is a multiple of the bytes that it reads, and more, and how many bytes an entry has
+    of the table that it reads, or 0."""
 
     function: str
     name: str
@@ -53,25 +59,26 @@ class NamedCall(NamedTuple):
     given: int
     changes: bool
     numbers: int
-    writes: bool
+    unit: int
     times: int
     more: int
+    entry: int
 
 
 # in the order in which the compiled module has them
 NAMED_CALLS: Tuple[NamedCall, ...] = (
-    NamedCall("journal_library_version", "library_version", (), "a type", 0, False, 0, True, 0, 16),
-    NamedCall("journal_schema", "schema", ("version", "code"), "a named type", 0, False, 0, False, 0, 0),
-    NamedCall("journal_type_name", "type_name", ("code",), "a type", 0, False, 0, True, 0, 64),
-    NamedCall("journal_type_code", "type_code", ("name",), "a type", 0, False, 0, False, 0, 0),
-    NamedCall("journal_header", "header", ("version", "code", "payload_length"), "a type", 0, False, 0, True, 0, 8),
-    NamedCall("journal_frame", "frame", ("version", "code", "payload"), "a named type", 0, False, 0, True, 1, 32),
-    NamedCall("journal_is_well_formed", "is_well_formed", ("schema", "payload"), "a type", 0, False, 0, False, 0, 0),
-    NamedCall("journal_canonical", "canonical", ("schema", "payload"), "a type", 0, False, 0, True, 1, 16),
-    NamedCall("journal_merge", "merge", ("schema", "first", "second"), "a type", 0, False, 0, True, 1, 16),
-    NamedCall("journal_json", "to_json", ("schema", "payload"), "a type", 0, False, 0, True, 2, 128),
-    NamedCall("journal_payload_of_json", "from_json", ("schema", "json"), "a type", 0, False, 2, True, 1, 0),
-    NamedCall("journal_notification", "notification", ("code", "payload"), "a notification", 0, False, 4, True, 1, 16),
+    NamedCall("journal_library_version", "library_version", (), "a type", 0, False, 0, 1, 0, 16, 0),
+    NamedCall("journal_schema", "schema", ("version", "code"), "a named type", 0, False, 0, 0, 0, 0, 0),
+    NamedCall("journal_type_name", "type_name", ("code",), "a type", 0, False, 0, 1, 0, 64, 0),
+    NamedCall("journal_type_code", "type_code", ("name",), "a type", 0, False, 0, 0, 0, 0, 0),
+    NamedCall("journal_header", "header", ("version", "code", "payload_length"), "a type", 0, False, 0, 1, 0, 8, 0),
+    NamedCall("journal_frame", "frame", ("version", "code", "payload"), "a named type", 0, False, 0, 1, 1, 32, 0),
+    NamedCall("journal_is_well_formed", "is_well_formed", ("schema", "payload"), "a type", 0, False, 0, 0, 0, 0, 0),
+    NamedCall("journal_canonical", "canonical", ("schema", "payload"), "a type", 0, False, 0, 1, 1, 16, 0),
+    NamedCall("journal_merge", "merge", ("schema", "first", "second"), "a type", 0, False, 0, 1, 1, 16, 0),
+    NamedCall("journal_json", "to_json", ("schema", "payload"), "a type", 0, False, 0, 1, 2, 128, 0),
+    NamedCall("journal_payload_of_json", "from_json", ("schema", "json"), "a type", 0, False, 2, 1, 1, 0, 0),
+    NamedCall("journal_notification", "notification", ("code", "payload"), "a notification", 0, False, 4, 1, 1, 16, 0),
     NamedCall(
         "journal_header_eq",
         "header_eq",
@@ -80,11 +87,12 @@ NAMED_CALLS: Tuple[NamedCall, ...] = (
         0,
         False,
         0,
-        False,
+        0,
+        0,
         0,
         0,
     ),
-    NamedCall("journal_difference", "difference", ("code", "first", "second"), "a command", 0, False, 0, True, 0, 256),
+    NamedCall("journal_difference", "difference", ("code", "first", "second"), "a command", 0, False, 0, 1, 0, 256, 0),
     NamedCall(
         "journal_changed_field",
         "changed_field",
@@ -93,9 +101,10 @@ NAMED_CALLS: Tuple[NamedCall, ...] = (
         0,
         False,
         3,
-        True,
+        1,
         0,
         256,
+        0,
     ),
     NamedCall(
         "journal_verdict",
@@ -105,9 +114,10 @@ NAMED_CALLS: Tuple[NamedCall, ...] = (
         0,
         False,
         2,
-        True,
+        1,
         0,
         1024,
+        0,
     ),
     NamedCall(
         "journal_replay_check",
@@ -117,7 +127,8 @@ NAMED_CALLS: Tuple[NamedCall, ...] = (
         6,
         True,
         6,
-        False,
+        0,
+        0,
         0,
         0,
     ),
@@ -129,12 +140,42 @@ NAMED_CALLS: Tuple[NamedCall, ...] = (
         6,
         False,
         0,
-        True,
+        1,
         0,
         1024,
+        0,
     ),
-    NamedCall("journal_replay_expected", "expected", ("recorded", "replay"), "a type", 6, False, 3, False, 0, 0),
-    NamedCall("journal_replay_finish", "finish", ("recorded", "replay"), "a type", 6, False, 6, False, 0, 0),
+    NamedCall("journal_replay_expected", "expected", ("recorded", "replay"), "a type", 6, False, 3, 0, 0, 0, 0),
+    NamedCall("journal_replay_finish", "finish", ("recorded", "replay"), "a type", 6, False, 6, 0, 0, 0, 0),
+    NamedCall("journal_numbering", "numbering", ("direction", "set", "renames"), "a type", 0, False, 0, 40, 0, 256, 0),
+    NamedCall("journal_numbering_text", "Numbering", ("set", "renames"), "a type", 0, False, 1, 1, 4, 4096, 0),
+    NamedCall("journal_renumber", "renumber", ("schema", "table", "payload"), "a type", 0, False, 0, 1, 2, 16, 40),
+    NamedCall(
+        "journal_renumber_stream",
+        "renumber_stream",
+        ("version", "table", "stream"),
+        "a type",
+        0,
+        False,
+        0,
+        1,
+        2,
+        16,
+        40,
+    ),
+    NamedCall(
+        "journal_numbering_dump",
+        "dump",
+        ("version", "set", "renames", "stream"),
+        "a type",
+        0,
+        False,
+        0,
+        1,
+        8,
+        4096,
+        0,
+    ),
 )
 
 
@@ -187,6 +228,16 @@ class NamedCalls(Protocol):
 
     def finish(self, recorded: BytesLike, replay: bytes, /) -> Tuple[int, Tuple[int, ...]]: ...
 
+    def numbering(self, direction: int, set: BytesLike, renames: BytesLike, /) -> bytes: ...
+
+    def Numbering(self, set: BytesLike, renames: BytesLike, /) -> Tuple[bytes, Tuple[int, ...]]: ...
+
+    def renumber(self, schema: Schema, table: bytes, payload: BytesLike, /) -> bytes: ...
+
+    def renumber_stream(self, version: int, table: bytes, stream: BytesLike, /) -> bytes: ...
+
+    def dump(self, version: int, set: BytesLike, renames: BytesLike, stream: BytesLike, /) -> bytes: ...
+
 
 # how many numbers each struct has
 ITEM_NUMBERS = 6
@@ -199,6 +250,8 @@ VERDICT_NUMBERS = 2
 REPLAY_NUMBERS = 6
 MISMATCH_NUMBERS = 6
 COMMAND_NUMBERS = 3
+RENUMBERING_NUMBERS = 5
+LIST_NUMBERS = 1
 
 # the kinds of items
 ITEM_MESSAGE = 0
@@ -217,6 +270,15 @@ FIELD_MESSAGE = 7
 # the options of a replay
 REPLAY_IGNORE_PAYLOADS = 1
 REPLAY_IGNORE_IDS = 2
+
+# the directions of a numbering
+NUMBERING_READING = 0
+NUMBERING_WRITING = 1
+
+# what the text of a numbering is
+LIST_LISTED = 0
+LIST_NO_SET = 1
+LIST_NO_RENAME = 2
 
 # the class of each error, and the names of the arguments one of which it is about
 ERRORS: Dict[int, Tuple[str, Tuple[str, ...]]] = {

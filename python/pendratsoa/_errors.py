@@ -123,6 +123,11 @@ class JsonError(JournalError, ValueError):
         self.path = path
 
 
+class NumberingError(JournalError, ValueError):
+    """No numbering comes of a descriptor set and renames. `argument` is that which is wrong: "descriptor_set" or
+    "renames"."""
+
+
 class Incomplete(JournalError, EOFError):
     """A stream ended within an item; `rest` is the number of bytes of it received, and `offset` where it begins.
     `code` is that of its type, and None if fewer bytes came than a header has."""

@@ -7,7 +7,7 @@ import dataclasses
 import functools
 import json
 from dataclasses import dataclass, field
-from typing import Any, Callable, Mapping, Optional, Protocol, Type, TypeVar, Union, cast
+from typing import TYPE_CHECKING, Any, Callable, ClassVar, Mapping, Optional, Protocol, Type, TypeVar, Union, cast
 
 from . import _calls
 from ._calls import Notification
@@ -15,8 +15,13 @@ from ._errors import JournalError, Unknown, _PayloadError
 from ._protocol import COMMAND_CODES, NOTIFICATION_CODES
 from ._records import MessageRecord, Record, earlier_frame, earlier_schema, schema_of
 from ._kinds import BytesLike
+from ._named import Renumber, named
 from ._request import Request, shown
+from ._tables import schema_of_type, written_at
 from .messages import RECORDS, AnyMessage, TypeName
+
+if TYPE_CHECKING:
+    from ._numbering import Numbering
 
 M = TypeVar("M", bound=MessageRecord)
 T = TypeVar("T")
@@ -79,6 +84,9 @@ class Message(_Item):
 
     offset: Optional[int] = field(init=False, default=None, compare=False, repr=False)
     """Where it begins in its stream, in bytes, or None."""
+
+    # its payload as received, if a numbering has read it
+    _received: ClassVar[Optional[builtins.bytes]] = None
 
     @classmethod
     def of(cls, type: Union[int, TypeName], payload: BytesLike = b"", version: int = 8) -> Message:
@@ -158,45 +166,54 @@ class Message(_Item):
         """The canonical encoding of its payload. A custom entry has no schema: `Unknown`."""
         return self._read("canonical", _calls.canonical, self.schema, self.payload)
 
-    def frame(self, version: Optional[int] = None) -> bytes:
-        """Its frame at a version, or at its own: the header, and after it the canonical payload.
+    def frame(self, version: Optional[int] = None, *, numbering: Optional[Numbering] = None) -> bytes:
+        """Its frame at a version, or at its own: the header, and after it the canonical payload, at the field numbers
+        of a numbering if one is given.
 
         The header is that of `header`: whether it requests an acknowledgement depends on the type and the version, and
         not on `requested_ack`. A payload of its own version's schema is `Unknown` at a version that cannot have it: a
         suspension before version 7 has no frame from 7 on, and one since then has a frame at each.
         """
         version = self.version if version is None else version
-        schema = earlier_schema(self.version, self.code)
-        if schema is None:
-            return self._read("frame", _calls.frame, version, self.code, self.payload)
-        return self._read("frame", earlier_frame, "frame", version, self.code, schema, self.payload)
+        data = self._frame("frame", named.frame, version)
+        return data if numbering is None else written_at("frame", numbering, version, data)
 
-    def append_frame(self, out: bytearray, version: Optional[int] = None) -> int:
+    def append_frame(
+        self, out: bytearray, version: Optional[int] = None, *, numbering: Optional[Numbering] = None
+    ) -> int:
         """Appends its frame, as `frame` returns it, and returns its length. After an error `out` is as it was."""
-        version = self.version if version is None else version
-        schema = earlier_schema(self.version, self.code)
         call = "append_frame"
-        if schema is None:
-            return self._read(call, _calls.append_frame, out, version, self.code, self.payload)
         if not isinstance(out, bytearray):
             raise TypeError(f"{call}: out must be a bytearray, not {type(out).__name__}")
-        frame = self._read(call, earlier_frame, call, version, self.code, schema, self.payload)
+        version = self.version if version is None else version
+        frame = self._frame(call, named.append_frame, version)
+        if numbering is not None:
+            frame = written_at(call, numbering, version, frame)
         out += frame
         return len(frame)
 
-    def write_frame(self, file: Writable, version: Optional[int] = None) -> None:
+    def write_frame(
+        self, file: Writable, version: Optional[int] = None, *, numbering: Optional[Numbering] = None
+    ) -> None:
         """Writes its frame, as `frame` returns it, by one call of `file.write`."""
-        file.write(self.frame(version))
+        file.write(self.frame(version, numbering=numbering))
 
     def __bytes__(self) -> bytes:
         """The message as received; if it came in no stream, its payload as it is after the header of its type."""
         if self.word is None:
             return _calls.header(self.version, self.code, len(self.payload)) + self.payload
-        return _bytes_of(self.word) + self.payload
+        return _bytes_of(self.word) + (self.payload if self._received is None else self._received)
 
     def notification(self) -> Notification:
         """Its id and its result, if it is a notification."""
         return self._read("notification", _calls.notification, self.code, self.payload)
+
+    def _frame(self, call: str, function: Callable[[int, int, builtins.bytes], builtins.bytes], version: int) -> bytes:
+        """Its frame at a version, which a function returns."""
+        schema = earlier_schema(self.version, self.code)
+        if schema is None:
+            return self._read(call, function, version, self.code, self.payload)
+        return self._read(call, earlier_frame, call, version, self.code, schema, self.payload)
 
     def _decoded(self, call: str, record: Type[M]) -> M:
         """The record of this class that its payload means."""
@@ -291,6 +308,26 @@ def message_that_came(message: Message, word: int, offset: int) -> Message:
     """The message, whose header is this word."""
     object.__setattr__(message, "word", word)
     return came(message, offset)
+
+
+def renumbered(call: str, message: Message, renumber: Renumber, table: bytes) -> Optional[bytes]:
+    """The payload of a received message at other field numbers; a custom entry has none."""
+    schema = schema_of_type(message.version, message.code)
+    return None if schema is None else message._read(call, renumber, schema, table, message.payload)
+
+
+def longer_by(item: Item) -> int:
+    """How many bytes longer an item was as received, since a numbering has read its payload."""
+    received = item._received if isinstance(item, Message) else None
+    return 0 if received is None else len(received) - len(cast(Message, item).payload)
+
+
+def read_as(message: Message, payload: bytes) -> Message:
+    """The received message with the payload that a numbering has read of its own."""
+    made = object.__new__(Message)
+    values = {**message.__dict__, "payload": payload, "_received": message.payload}
+    object.__setattr__(made, "__dict__", values)
+    return made
 
 
 @functools.lru_cache(maxsize=1024)

@@ -12,11 +12,19 @@ from ._kinds import BytesLike
 from ._library import library
 from ._request import Request
 
-# calls with the name of another one: what they return is used otherwise
-ALIASES = {"append_frame": "frame", "Replay": "compare_journals"}
+# calls by the name of what makes them here, where that is another one
+ALIASES = {
+    "append_frame": "journal_frame",
+    "Replay": "journal_verdict",
+    "Stream": "journal_renumber",
+    "read_payload": "journal_renumber",
+    "write_payload": "journal_renumber",
+    "read_stream": "journal_renumber_stream",
+    "write_stream": "journal_renumber_stream",
+}
 
 PLACES = {call.name: place for place, call in enumerate(NAMED_CALLS)}
-PLACES.update({name: PLACES[call] for name, call in ALIASES.items()})
+PLACES.update({name: [call.function for call in NAMED_CALLS].index(function) for name, function in ALIASES.items()})
 
 
 def request_of(place: int, name: str, given: Tuple[Any, ...]) -> Request:
@@ -35,12 +43,14 @@ def refused(place: int, name: str, given: Tuple[Any, ...], number: int) -> NoRet
     raise request_of(place, name, given).refused(number)
 
 
-def parameters_of(values: Sequence[Any]) -> Tuple[List[Any], int]:
-    """Checked arguments as parameters of C, where bytes are two, and how many bytes they have."""
+def parameters_of(call: NamedCall, values: Sequence[Any]) -> Tuple[List[Any], int]:
+    """Checked arguments as parameters of C, where bytes are two, and how many bytes all but a table have."""
     parameters: List[Any] = []
     size = 0
-    for value in values:
-        if type(value) is bytes:
+    for name, value in zip(call.takes, values):
+        if name == "table":
+            parameters += value, len(value) // call.entry
+        elif type(value) is bytes:
             parameters += value, len(value)
             size += len(value)
         else:
@@ -59,7 +69,7 @@ def by_ctypes(place: int, name: str) -> Callable[..., Any]:
         values = checked(place, name, given)
         changed = given_array.from_buffer_copy(values[-1]) if call.given else given_array()
         numbers = array()
-        parameters, size = parameters_of(values[:-1] if call.given else values)
+        parameters, size = parameters_of(call, values[:-1] if call.given else values)
         for struct in (changed, numbers):
             parameters += (struct, len(struct)) if len(struct) else ()
         result = written(getattr(library, call.function), call, parameters, size)
@@ -74,17 +84,17 @@ def by_ctypes(place: int, name: str) -> Callable[..., Any]:
 
 def written(function: Callable[..., int], call: NamedCall, parameters: List[Any], size: int) -> Union[int, bytes]:
     """What a call returns, or the bytes that it writes. The size is that of what it reads."""
-    if not call.writes:
+    if call.unit == 0:
         return function(*parameters)
     needed = call.more + call.times * size
     while True:
-        out = room_for(needed)()
-        room = len(out)
+        out = room_for(call.unit * needed)()
+        room = len(out) // call.unit
         needed = function(*parameters, out, room)
         if needed < 0:
             return needed
         if needed <= room:
-            return memoryview(out)[:needed].tobytes()
+            return memoryview(out)[: call.unit * needed].tobytes()
 
 
 @functools.lru_cache(maxsize=None)
@@ -98,8 +108,20 @@ def room_for(length: int) -> Type[ctypes.Array[ctypes.c_char]]:
     return _room((length - 1).bit_length())
 
 
+class Renumber(Protocol):
+    """A call that writes a payload of a schema, or a stream of a version, at other field numbers."""
+
+    def __call__(self, number: int, table: bytes, data: BytesLike, /) -> bytes: ...
+
+
 class Calls(NamedCalls, Protocol):
-    """The calls, with those that have the name of another one."""
+    """The calls, with those that have another name here."""
+
+    Stream: Renumber
+    read_payload: Renumber
+    write_payload: Renumber
+    read_stream: Renumber
+    write_stream: Renumber
 
     def append_frame(self, version: int, code: int, payload: BytesLike, /) -> bytes: ...
 

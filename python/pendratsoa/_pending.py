@@ -77,6 +77,12 @@ class Pending:
             data, _, begin = self._left
             return len(data) - begin + self._chunks_size
 
+    def trailing(self) -> bytes:
+        """The pending bytes."""
+        with self._lock:
+            data, _, begin = self._left
+            return b"".join((data[begin:], *self._chunks))
+
     def offset(self) -> int:
         """The number of bytes that items have taken."""
         return self._offset

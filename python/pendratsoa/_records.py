@@ -21,9 +21,11 @@ from ._kinds import BytesLike
 from ._library import library
 from ._protocol import SCHEMA_NAMES
 from ._request import Request
+from ._tables import written_at
 
 if TYPE_CHECKING:
     from ._compiled import RecordCodec
+    from ._numbering import Numbering
 
 # the room that is tried first: for entries, and for bytes
 ENTRIES = 64
@@ -129,8 +131,11 @@ class MessageRecord(Record):
     # the version before which it is that of its type, if the type has another one since
     BEFORE_VERSION: ClassVar[Optional[int]] = None
 
-    def frame(self, version: int = 8) -> bytes:
-        """Its frame at a version: the header, and its canonical payload. `Unknown` if it is none of the version."""
+    def frame(self, version: int = 8, *, numbering: Optional[Numbering] = None) -> bytes:
+        """Its frame at a version: the header, and its canonical payload, at the field numbers of a numbering if one is
+        given. `Unknown` if it is none of the version."""
+        if numbering is not None:
+            return written_at("frame", numbering, version, self.frame(version))
         if self._compiled is not None:
             frame = self._compiled.frame(self, version)
             if frame is not None:

@@ -10,7 +10,7 @@ from typing import Iterator, Optional, Tuple, cast
 from . import _calls
 from ._declared import REPLAY_IGNORE_IDS, REPLAY_IGNORE_PAYLOADS, REPLAY_NUMBERS, VerdictKind
 from ._fast import pending_of
-from ._items import Item, Message, Skipped, UnknownCode, came
+from ._items import Item, Message, Skipped, UnknownCode, came, longer_by
 from ._kinds import BytesLike
 from ._named import named
 from ._request import Request
@@ -80,6 +80,8 @@ class Replay:
         named.Replay(version, b"", b"", ignore_payloads)
         options = (REPLAY_IGNORE_PAYLOADS if ignore_payloads else 0) | (REPLAY_IGNORE_IDS if ignore_ids else 0)
         self._replay = NUMBERS.pack(version, options, 0, 0, 0, 0)
+        # how many bytes longer the items were as received
+        self._longer = 0
         self._lock = threading.Lock()
 
     @property
@@ -107,6 +109,7 @@ class Replay:
             found = self._mismatch("check", item.code, payload, numbers) if is_said else None
             # the replay goes on once all of the mismatch is there
             self._replay = replay
+            self._longer += longer_by(item)
             return found
 
     def expected(self) -> Optional[Message]:
@@ -125,8 +128,9 @@ class Replay:
     def finish(self) -> Optional[Mismatch]:
         """Says that the replay ended. None if nothing is left of the recording, or a mismatch was reported; otherwise
         the mismatch of the command that comes next, whose kind is `replayed_ended`. It changes nothing."""
-        is_left, numbers = named.finish(self._recorded, self._replay)
-        return self._mismatch("finish", 0, b"", numbers) if is_left else None
+        with self._lock:
+            is_left, numbers = named.finish(self._recorded, self._replay)
+            return self._mismatch("finish", 0, b"", numbers) if is_left else None
 
     def __repr__(self) -> str:
         return f"<Replay of version {self.version}, {self.index} commands the same>"
@@ -146,6 +150,7 @@ class Replay:
         if kind is VerdictKind.HEADER_MISMATCH:
             recorded = self._recorded[recorded_offset + HEADER : recorded_offset + size]
             fields = tuple(_changed_fields(code, recorded, payload))
+        replayed_offset += self._longer
         return Mismatch(kind, index, recorded_offset if size else None, replayed_offset, text, fields)
 
 

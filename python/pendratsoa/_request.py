@@ -105,6 +105,13 @@ class Request:
             raise self._unknown(argument)
         return SCHEMA_NAMES.index(name)
 
+    def known_schema(self, argument: str) -> int:
+        """The number of a schema that this package knows."""
+        number = self.schema(argument)
+        if number >= SCHEMAS:
+            raise self._unknown(argument)
+        return number
+
     def length(self, argument: str) -> int:
         """The length of a payload in bytes."""
         number = self._integer(argument)
@@ -208,6 +215,7 @@ CHECKS: Dict[str, Callable[[Request, str], Any]] = {
     "schema": Request.schema,
     "payload_length": Request.length,
     "index": Request.length,
+    "direction": Request.length,
     "max_message_size": Request.length,
     "name": Request.text,
     "json": Request.json,

@@ -3,13 +3,19 @@
 from __future__ import annotations
 
 import inspect
-from typing import AsyncIterator, Awaitable, Callable, Iterator, NoReturn, Optional, Protocol, Union, cast
+from typing import TYPE_CHECKING, AsyncIterator, Awaitable, Callable, Iterator, List, NoReturn, Optional, Protocol
+from typing import Union, cast
 
-from ._errors import Incomplete, MessageTooLong, TooLong
+from ._errors import Incomplete, MessageTooLong, OutOfMemory, TooLong
 from ._fast import pending_of
-from ._items import Item, name_of
+from ._items import Item, Message, name_of, read_as, renumbered
 from ._kinds import BytesLike
+from ._named import named
 from ._request import Request
+from ._tables import tables_of
+
+if TYPE_CHECKING:
+    from ._numbering import Numbering
 
 # how many bytes are read from a file at a time
 CHUNK = 1 << 16
@@ -51,9 +57,18 @@ class Stream:
     A message whose payload has more than `max_message_size` bytes is a `MessageTooLong` as soon as its header came, and
     ends the stream: what came is dropped, and from then on each loop, `feed`, `read` and `finish` raise the same error.
     None is not a limit.
+
+    With a `numbering` the payload of each message is at the protocol's own field numbers, and `bytes` and `offset` are
+    those of the stream that is read. A payload that cannot be read so is a `Malformed`, which names its message; a next
+    loop goes on after it.
     """
 
-    def __init__(self, version: int = 8, max_message_size: Optional[int] = None) -> None:
+    def __init__(
+        self, version: int = 8, max_message_size: Optional[int] = None, numbering: Optional[Numbering] = None
+    ) -> None:
+        self._tables = None if numbering is None else tables_of("Stream", numbering)
+        # messages for whose payloads there was no memory
+        self._unread: List[Message] = []
         self._request = Request("Stream", version=version, max_message_size=max_message_size)
         self._version = self._request.version()
         self._limit = None if max_message_size is None else self._request.length("max_message_size")
@@ -73,6 +88,15 @@ class Stream:
         """The number of pending bytes: those received that no item has yet."""
         return self._pending.rest()
 
+    @property
+    def trailing(self) -> bytes:
+        """The pending bytes, `rest` of them, each time in a copy.
+
+        Once all items were taken, they begin an item that is not whole. A proxy passes them on where its input ends.
+        After `Incomplete` they are still there. After `MessageTooLong` there are none.
+        """
+        return self._pending.trailing()
+
     def feed(self, data: BytesLike) -> None:
         """Appends bytes to those received. `bytes` are kept, others are copied."""
         chunk = data if type(data) is bytes else Request("feed", data=data).data("data")
@@ -82,8 +106,8 @@ class Stream:
 
     def read(self, file: Source, size: int = CHUNK, strict: bool = False) -> Iterator[Item]:
         """Feeds what a binary file or a socket has, at most `size` bytes at a time, and iterates over the items as they
-        come. It ends where the file ends; the trailing bytes are then in `rest`, and are `Incomplete` if it is
-        `strict`.
+        come. It ends where the file ends; `trailing` has then the bytes of an item that is not whole, which are
+        `Incomplete` if it is `strict`.
 
         A file that does not block and has no bytes yet is a `BlockingIOError`; the call can be repeated.
         """
@@ -100,7 +124,7 @@ class Stream:
         self._finish("finish")
 
     def __iter__(self) -> Iterator[Item]:
-        take = self._pending.take
+        take = self._pending.take if self._tables is None else self._take_at
         while True:
             item = take()
             if item is None:
@@ -160,6 +184,18 @@ class Stream:
                 yield item
         if strict:
             self._finish("read_async")
+
+    def _take_at(self) -> Union[Item, int, None]:
+        """What `take` of what came returns, with the payload of a message read by the numbering."""
+        item = self._unread.pop() if self._unread else self._pending.take()
+        if self._tables is None or not isinstance(item, Message):
+            return item
+        try:
+            payload = renumbered("Stream", item, named.Stream, self._tables._reading)
+        except OutOfMemory:
+            self._unread.append(item)
+            raise
+        return item if payload is None else read_as(item, payload)
 
     def _next(self) -> Optional[Item]:
         """The next item, or None if not all of it came."""

@@ -53,6 +53,13 @@ static enum outcome read_slice(PyObject *value, bool is_text, bool is_bytes, str
     return READ;
 }
 
+/* Reads a table of numbers, which are the bytes of it, in their alignment. */
+static enum outcome read_table(PyObject *value, struct slice *slice)
+{
+    enum outcome outcome = read_slice(value, false, true, slice, NULL);
+    return outcome == READ && (uintptr_t)slice->bytes % sizeof(uint64_t) == 0 ? READ : UNUSUAL;
+}
+
 /* Reads the numbers of a struct, which are the bytes of it. */
 static enum outcome read_numbers(PyObject *value, size_t count, uint64_t *numbers)
 {
@@ -89,6 +96,12 @@ static enum outcome read_argument(const struct named_call *self, enum parameter 
         outcome = read_number(value, UINT64_C(1) << 32, &number);
         arguments->index = (uint32_t)number;
         return outcome;
+    case DIRECTION:
+        outcome = read_number(value, UINT64_C(1) << 32, &number);
+        arguments->direction = (uint32_t)number;
+        return outcome;
+    case TABLE:
+        return read_table(value, &arguments->table);
     case NAME:
         return read_slice(value, true, is_checked, &arguments->first, held);
     case JSON:
@@ -96,10 +109,14 @@ static enum outcome read_argument(const struct named_call *self, enum parameter 
     case PAYLOAD:
     case FIRST:
     case RECORDED:
+    case SET:
         return read_slice(value, false, true, &arguments->first, held);
     case SECOND:
     case REPLAYED:
+    case RENAMES:
         return read_slice(value, false, true, &arguments->second, held);
+    case STREAM:
+        return read_slice(value, false, true, &arguments->third, held);
     case IGNORE_PAYLOADS:
         if (!PyBool_Check(value)) {
             return UNUSUAL;
@@ -154,24 +171,26 @@ static int64_t returned(const struct named_call *self, struct arguments *argumen
 /* The bytes that a call writes; NULL with an exception, or without one if the call returned an error. */
 static PyObject *written(const struct named_call *self, struct arguments *arguments, int64_t *number)
 {
-    uint8_t first[BYTES];
+    _Alignas(uint64_t) uint8_t first[BYTES];
+    size_t unit = self->call->unit;
     size_t size = bytes_read(self->call, arguments);
     size_t room = self->call->times * size + self->call->more;
     uint8_t *out = first;
-    if (room <= BYTES) {
-        room = BYTES;
+    if (room <= BYTES / unit) {
+        room = BYTES / unit;
     } else {
         out = NULL;
     }
     for (;;) {
-        if (out == NULL && (out = room <= PY_SSIZE_T_MAX ? PyMem_Malloc(room) : NULL) == NULL) {
+        if (out == NULL && (out = room <= PY_SSIZE_T_MAX / unit ? PyMem_Malloc(room * unit) : NULL) == NULL) {
             return PyErr_NoMemory();
         }
         arguments->out = out;
         arguments->room = room;
         *number = returned(self, arguments, size);
         bool is_whole = *number >= 0 && (uint64_t)*number <= room;
-        PyObject *found = is_whole ? PyBytes_FromStringAndSize((const char *)out, (Py_ssize_t)*number) : NULL;
+        Py_ssize_t length = is_whole ? (Py_ssize_t)((size_t)*number * unit) : 0;
+        PyObject *found = is_whole ? PyBytes_FromStringAndSize((const char *)out, length) : NULL;
         if (out != first) {
             PyMem_Free(out);
         }
@@ -231,7 +250,7 @@ static PyObject *make(const struct named_call *self, PyObject *given, struct arg
     PyObject *result = NULL;
     /* a call may write none of them */
     memset(arguments->numbers, 0, sizeof arguments->numbers);
-    if (self->call->writes) {
+    if (self->call->unit > 0) {
         result = written(self, arguments, &number);
     } else {
         number = returned(self, arguments, bytes_read(self->call, arguments));

@@ -28,7 +28,12 @@ enum parameter {
     INDEX,
     RECORDED,
     REPLAYED,
-    REPLAY
+    REPLAY,
+    DIRECTION,
+    SET,
+    RENAMES,
+    TABLE,
+    STREAM
 };
 
 /* The most parameters of one call, with the end of the list, and the most numbers that one is given and writes. */
@@ -42,17 +47,21 @@ struct slice {
     size_t length;
 };
 
-/* The arguments of a call; those that are not its parameters are not looked at. `second` is that of two slices. */
+/* The arguments of a call; those that are not its parameters are not looked at. Which of three slices one is, its name
+ * decides. The table is one of numbers, which has their alignment. */
 struct arguments {
     uint32_t version;
     uint32_t schema;
     uint32_t payload_length;
     uint32_t index;
     uint32_t limit;
+    uint32_t direction;
     uint32_t ignore_payloads;
     uint16_t code;
+    struct slice table;
     struct slice first;
     struct slice second;
+    struct slice third;
     uint64_t given[MOST_GIVEN];
     uint64_t numbers[MOST_NUMBERS];
     uint8_t *out;
@@ -86,10 +95,15 @@ struct library {
     __typeof__(journal_replay_text) *replay_text;
     __typeof__(journal_replay_expected) *replay_expected;
     __typeof__(journal_replay_finish) *replay_finish;
+    __typeof__(journal_numbering) *numbering;
+    __typeof__(journal_numbering_text) *numbering_text;
+    __typeof__(journal_renumber) *renumber;
+    __typeof__(journal_renumber_stream) *renumber_stream;
+    __typeof__(journal_numbering_dump) *numbering_dump;
 };
 
 /* How many they are; their addresses are given in this order. */
-#define FUNCTIONS 25
+#define FUNCTIONS 30
 
 /* Takes the address of a function, at its place among them. */
 static inline void point(struct library *library, int place, uintptr_t address)
@@ -170,21 +184,36 @@ static inline void point(struct library *library, int place, uintptr_t address)
     case 24:
         library->replay_finish = (__typeof__(library->replay_finish))address;
         break;
+    case 25:
+        library->numbering = (__typeof__(library->numbering))address;
+        break;
+    case 26:
+        library->numbering_text = (__typeof__(library->numbering_text))address;
+        break;
+    case 27:
+        library->renumber = (__typeof__(library->renumber))address;
+        break;
+    case 28:
+        library->renumber_stream = (__typeof__(library->renumber_stream))address;
+        break;
+    case 29:
+        library->numbering_dump = (__typeof__(library->numbering_dump))address;
+        break;
     default:
         break;
     }
 }
 
 /* A call: what makes it, its parameters, how many numbers it is given and whether it changes them, how many numbers it
- * writes, whether it writes bytes, and the room for them that is tried first: a multiple of the bytes that it reads, and
- * more. */
+ * writes, how many bytes each has of what it writes and counts, a byte or an entry of a table, or 0, and the room for
+ * these that is tried first: a multiple of the bytes that it reads, and more. */
 struct call {
     int64_t (*make)(const struct library *library, struct arguments *arguments);
     enum parameter parameters[MOST_PARAMETERS];
     size_t given;
     bool changes;
     size_t numbers;
-    bool writes;
+    size_t unit;
     size_t times;
     size_t more;
 };
@@ -309,29 +338,68 @@ static int64_t make_replay_finish(const struct library *library, struct argument
                                   JOURNAL_REPLAY_NUMBERS, (void *)arguments->numbers, JOURNAL_MISMATCH_NUMBERS);
 }
 
+static int64_t make_numbering(const struct library *library, struct arguments *arguments)
+{
+    return library->numbering(arguments->direction, arguments->first.bytes, arguments->first.length,
+                              arguments->second.bytes, arguments->second.length, (void *)arguments->out, arguments->room);
+}
+
+static int64_t make_numbering_text(const struct library *library, struct arguments *arguments)
+{
+    return library->numbering_text(arguments->first.bytes, arguments->first.length, arguments->second.bytes,
+                                   arguments->second.length, (void *)arguments->numbers, JOURNAL_LIST_NUMBERS,
+                                   arguments->out, arguments->room);
+}
+
+static int64_t make_renumber(const struct library *library, struct arguments *arguments)
+{
+    return library->renumber(arguments->schema, (const void *)arguments->table.bytes,
+                             arguments->table.length / sizeof(struct journal_renumbering), arguments->first.bytes,
+                             arguments->first.length, arguments->out, arguments->room);
+}
+
+static int64_t make_renumber_stream(const struct library *library, struct arguments *arguments)
+{
+    return library->renumber_stream(arguments->version, (const void *)arguments->table.bytes,
+                                    arguments->table.length / sizeof(struct journal_renumbering),
+                                    arguments->third.bytes, arguments->third.length, arguments->out, arguments->room);
+}
+
+static int64_t make_numbering_dump(const struct library *library, struct arguments *arguments)
+{
+    return library->numbering_dump(arguments->version, arguments->first.bytes, arguments->first.length,
+                                   arguments->second.bytes, arguments->second.length, arguments->third.bytes,
+                                   arguments->third.length, arguments->out, arguments->room);
+}
+
 /* The calls by name that the modules make. Those that read streams and tables of fields they make themselves. */
 static const struct call CALLS[] = {
-    {make_library_version, {NO_PARAMETER}, 0, false, 0, true, 0, 16},
-    {make_schema, {VERSION, CODE}, 0, false, 0, false, 0, 0},
-    {make_type_name, {CODE}, 0, false, 0, true, 0, 64},
-    {make_type_code, {NAME}, 0, false, 0, false, 0, 0},
-    {make_header, {VERSION, CODE, PAYLOAD_LENGTH}, 0, false, 0, true, 0, 8},
-    {make_frame, {VERSION, CODE, PAYLOAD}, 0, false, 0, true, 1, 32},
-    {make_is_well_formed, {SCHEMA, PAYLOAD}, 0, false, 0, false, 0, 0},
-    {make_canonical, {SCHEMA, PAYLOAD}, 0, false, 0, true, 1, 16},
-    {make_merge, {SCHEMA, FIRST, SECOND}, 0, false, 0, true, 1, 16},
-    {make_json, {SCHEMA, PAYLOAD}, 0, false, 0, true, 2, 128},
-    {make_payload_of_json, {SCHEMA, JSON}, 0, false, JOURNAL_READ_NUMBERS, true, 1, 0},
-    {make_notification, {CODE, PAYLOAD}, 0, false, JOURNAL_NOTIFICATION_NUMBERS, true, 1, 16},
-    {make_header_eq, {CODE, FIRST, SECOND, IGNORE_PAYLOADS}, 0, false, 0, false, 0, 0},
-    {make_difference, {CODE, FIRST, SECOND}, 0, false, 0, true, 0, 256},
-    {make_changed_field, {CODE, INDEX, FIRST, SECOND}, 0, false, JOURNAL_CHANGED_FIELD_NUMBERS, true, 0, 256},
-    {make_verdict, {VERSION, RECORDED, REPLAYED, IGNORE_PAYLOADS}, 0, false, JOURNAL_VERDICT_NUMBERS, true, 0, 1024},
-    {make_replay_check, {CODE, RECORDED, REPLAYED, REPLAY}, JOURNAL_REPLAY_NUMBERS, true, JOURNAL_MISMATCH_NUMBERS,
-     false, 0, 0},
-    {make_replay_text, {CODE, RECORDED, REPLAYED, REPLAY}, JOURNAL_REPLAY_NUMBERS, false, 0, true, 0, 1024},
-    {make_replay_expected, {RECORDED, REPLAY}, JOURNAL_REPLAY_NUMBERS, false, JOURNAL_COMMAND_NUMBERS, false, 0, 0},
-    {make_replay_finish, {RECORDED, REPLAY}, JOURNAL_REPLAY_NUMBERS, false, JOURNAL_MISMATCH_NUMBERS, false, 0, 0},
+    {make_library_version, {NO_PARAMETER}, 0, false, 0, 1, 0, 16},
+    {make_schema, {VERSION, CODE}, 0, false, 0, 0, 0, 0},
+    {make_type_name, {CODE}, 0, false, 0, 1, 0, 64},
+    {make_type_code, {NAME}, 0, false, 0, 0, 0, 0},
+    {make_header, {VERSION, CODE, PAYLOAD_LENGTH}, 0, false, 0, 1, 0, 8},
+    {make_frame, {VERSION, CODE, PAYLOAD}, 0, false, 0, 1, 1, 32},
+    {make_is_well_formed, {SCHEMA, PAYLOAD}, 0, false, 0, 0, 0, 0},
+    {make_canonical, {SCHEMA, PAYLOAD}, 0, false, 0, 1, 1, 16},
+    {make_merge, {SCHEMA, FIRST, SECOND}, 0, false, 0, 1, 1, 16},
+    {make_json, {SCHEMA, PAYLOAD}, 0, false, 0, 1, 2, 128},
+    {make_payload_of_json, {SCHEMA, JSON}, 0, false, JOURNAL_READ_NUMBERS, 1, 1, 0},
+    {make_notification, {CODE, PAYLOAD}, 0, false, JOURNAL_NOTIFICATION_NUMBERS, 1, 1, 16},
+    {make_header_eq, {CODE, FIRST, SECOND, IGNORE_PAYLOADS}, 0, false, 0, 0, 0, 0},
+    {make_difference, {CODE, FIRST, SECOND}, 0, false, 0, 1, 0, 256},
+    {make_changed_field, {CODE, INDEX, FIRST, SECOND}, 0, false, JOURNAL_CHANGED_FIELD_NUMBERS, 1, 0, 256},
+    {make_verdict, {VERSION, RECORDED, REPLAYED, IGNORE_PAYLOADS}, 0, false, JOURNAL_VERDICT_NUMBERS, 1, 0, 1024},
+    {make_replay_check, {CODE, RECORDED, REPLAYED, REPLAY}, JOURNAL_REPLAY_NUMBERS, true, JOURNAL_MISMATCH_NUMBERS, 0,
+     0, 0},
+    {make_replay_text, {CODE, RECORDED, REPLAYED, REPLAY}, JOURNAL_REPLAY_NUMBERS, false, 0, 1, 0, 1024},
+    {make_replay_expected, {RECORDED, REPLAY}, JOURNAL_REPLAY_NUMBERS, false, JOURNAL_COMMAND_NUMBERS, 0, 0, 0},
+    {make_replay_finish, {RECORDED, REPLAY}, JOURNAL_REPLAY_NUMBERS, false, JOURNAL_MISMATCH_NUMBERS, 0, 0, 0},
+    {make_numbering, {DIRECTION, SET, RENAMES}, 0, false, 0, 40, 0, 256},
+    {make_numbering_text, {SET, RENAMES}, 0, false, JOURNAL_LIST_NUMBERS, 1, 4, 4096},
+    {make_renumber, {SCHEMA, TABLE, PAYLOAD}, 0, false, 0, 1, 2, 16},
+    {make_renumber_stream, {VERSION, TABLE, STREAM}, 0, false, 0, 1, 2, 16},
+    {make_numbering_dump, {VERSION, SET, RENAMES, STREAM}, 0, false, 0, 1, 8, 4096},
 };
 
 /* How many bytes a call reads. A replay reads only the next command of its recording. */
@@ -342,13 +410,18 @@ static inline size_t bytes_read(const struct call *call, const struct arguments 
         switch (call->parameters[at]) {
         case SECOND:
         case REPLAYED:
+        case RENAMES:
             length += arguments->second.length;
+            break;
+        case STREAM:
+            length += arguments->third.length;
             break;
         case NAME:
         case PAYLOAD:
         case FIRST:
         case JSON:
         case RECORDED:
+        case SET:
             length += call->given == 0 ? arguments->first.length : 0;
             break;
         default:

@@ -1,35 +1,49 @@
 /* What came of a stream, from which items are taken: each is made here, from the numbers that the library writes. */
 #include "module.h"
 
-/* Joins what came to what is left, so that each byte is joined twice at most. Nothing else runs meanwhile. */
-static int join(struct pending *self)
+/* How many bytes are left of those that were joined. */
+static size_t left(const struct pending *self)
+{
+    return self->data == NULL ? 0 : (size_t)PyBytes_Size(self->data) - self->begin;
+}
+
+/* What is left, and what came after it; NULL with an exception. Nothing else runs meanwhile. */
+static PyObject *joined_of(const struct pending *self)
 {
     Py_ssize_t count = PyList_Size(self->chunks);
-    size_t left = self->data == NULL ? 0 : (size_t)PyBytes_Size(self->data) - self->begin;
-    PyObject *joined;
-    if (left == 0 && count == 1) {
-        joined = PyList_GetItem(self->chunks, 0);
-        Py_INCREF(joined);
-    } else {
-        if (self->chunks_size > (size_t)PY_SSIZE_T_MAX - left) {
-            PyErr_NoMemory();
-            return -1;
-        }
-        joined = PyBytes_FromStringAndSize(NULL, (Py_ssize_t)(left + self->chunks_size));
-        if (joined == NULL) {
-            return -1;
-        }
-        char *out = PyBytes_AsString(joined);
-        if (left > 0) {
-            memcpy(out, PyBytes_AsString(self->data) + self->begin, left);
-        }
-        out += left;
-        for (Py_ssize_t at = 0; at < count; at += 1) {
-            PyObject *chunk = PyList_GetItem(self->chunks, at);
-            size_t length = (size_t)PyBytes_Size(chunk);
-            memcpy(out, PyBytes_AsString(chunk), length);
-            out += length;
-        }
+    size_t before = left(self);
+    if (before == 0 && count == 1) {
+        PyObject *chunk = PyList_GetItem(self->chunks, 0);
+        Py_INCREF(chunk);
+        return chunk;
+    }
+    if (self->chunks_size > (size_t)PY_SSIZE_T_MAX - before) {
+        return PyErr_NoMemory();
+    }
+    PyObject *joined = PyBytes_FromStringAndSize(NULL, (Py_ssize_t)(before + self->chunks_size));
+    if (joined == NULL) {
+        return NULL;
+    }
+    char *out = PyBytes_AsString(joined);
+    if (before > 0) {
+        memcpy(out, PyBytes_AsString(self->data) + self->begin, before);
+    }
+    out += before;
+    for (Py_ssize_t at = 0; at < count; at += 1) {
+        PyObject *chunk = PyList_GetItem(self->chunks, at);
+        size_t length = (size_t)PyBytes_Size(chunk);
+        memcpy(out, PyBytes_AsString(chunk), length);
+        out += length;
+    }
+    return joined;
+}
+
+/* Joins what came to what is left, so that each byte is joined twice at most. */
+static int join(struct pending *self)
+{
+    PyObject *joined = joined_of(self);
+    if (joined == NULL) {
+        return -1;
     }
     PyObject *before = self->data;
     self->data = joined;
@@ -37,19 +51,15 @@ static int join(struct pending *self)
     self->chunks_size = 0;
     self->changes += 1;
     Py_XDECREF(before);
-    return PyList_SetSlice(self->chunks, 0, count, NULL);
+    return PyList_SetSlice(self->chunks, 0, PyList_Size(self->chunks), NULL);
 }
 
 /* Looks for an item: how many bytes are missing at least, 0 if it is whole, or an error. */
 static int64_t look(struct pending *self, struct journal_item *item)
 {
     const struct library *library = &self->native->library;
-    const uint8_t *bytes = NULL;
-    size_t length = 0;
-    if (self->data != NULL) {
-        bytes = (const uint8_t *)PyBytes_AsString(self->data) + self->begin;
-        length = (size_t)PyBytes_Size(self->data) - self->begin;
-    }
+    const uint8_t *bytes = self->data == NULL ? NULL : (const uint8_t *)PyBytes_AsString(self->data) + self->begin;
+    size_t length = left(self);
     int64_t missing = self->is_limited
                           ? library->next_within(self->version, self->limit, bytes, length, item, JOURNAL_ITEM_NUMBERS)
                           : library->next(self->version, bytes, length, item, JOURNAL_ITEM_NUMBERS);
@@ -157,8 +167,7 @@ static PyObject *take(struct pending *self, PyObject *none)
         if (item.kind >= ITEM_CLASSES) {
             return PyLong_FromUnsignedLongLong(item.kind);
         }
-        if (self->data == NULL || item.payload > item.size ||
-            item.size > (uint64_t)PyBytes_Size(self->data) - self->begin) {
+        if (self->data == NULL || item.payload > item.size || item.size > left(self)) {
             PyErr_SetString(PyExc_SystemError, "an item that is not in the bytes");
             return NULL;
         }
@@ -197,8 +206,15 @@ PyDoc_STRVAR(rest_doc, "rest()\n--\n\nThe number of bytes that are in no item ye
 static PyObject *rest(struct pending *self, PyObject *none)
 {
     (void)none;
-    size_t left = self->data == NULL ? 0 : (size_t)PyBytes_Size(self->data) - self->begin;
-    return PyLong_FromSize_t(left + self->chunks_size);
+    return PyLong_FromSize_t(left(self) + self->chunks_size);
+}
+
+PyDoc_STRVAR(trailing_doc, "trailing()\n--\n\nThe bytes that are in no item yet.");
+
+static PyObject *trailing(struct pending *self, PyObject *none)
+{
+    (void)none;
+    return joined_of(self);
 }
 
 PyDoc_STRVAR(offset_doc, "offset()\n--\n\nThe number of bytes that items have taken.");
@@ -289,6 +305,7 @@ static PyMethodDef pending_methods[] = {
     {"take", (PyCFunction)take, METH_NOARGS, take_doc},
     {"feed", (PyCFunction)feed, METH_O, feed_doc},
     {"rest", (PyCFunction)rest, METH_NOARGS, rest_doc},
+    {"trailing", (PyCFunction)trailing, METH_NOARGS, trailing_doc},
     {"offset", (PyCFunction)offset, METH_NOARGS, offset_doc},
     {"head", (PyCFunction)head, METH_NOARGS, head_doc},
     {NULL, NULL, 0, NULL},

@@ -3,7 +3,7 @@
 import dataclasses
 from typing import Optional, Union
 
-from pendratsoa import Incomplete, Item, Malformed, Message, MessageTooLong, Verdict, VerdictKind
+from pendratsoa import Incomplete, Item, Malformed, Message, MessageTooLong, Numbering, Stream, Verdict, VerdictKind
 from pendratsoa.messages import (
     ErrorBehavior,
     ErrorMessage,
@@ -40,6 +40,17 @@ def limited(error: MessageTooLong, malformed: Malformed) -> int:
 def ended(error: Incomplete) -> int:
     error.code + 1  # type: ignore[operator]
     return error.offset + error.rest
+
+
+def renumbered(path: str, command: SetStateCommandMessage) -> bytes:
+    numbering = Numbering.load(path, renames={"Fetch": "GetLazyStateCommandMessage"})
+    Numbering.load(path, renames=["Fetch"])  # type: ignore[arg-type]
+    Stream(8, numbering=path)  # type: ignore[arg-type]
+    command.frame(8, numbering)  # type: ignore[misc]
+    numbering.read_payload(8)  # type: ignore[call-arg]
+    stream = Stream(8, numbering=numbering)
+    stream.feed(command.frame(8, numbering=numbering))
+    return b"".join(item.bytes for item in stream) + stream.trailing
 
 
 def read(item: Item) -> Union[bytes, int, None]:

@@ -224,7 +224,7 @@ class TestCompiled(unittest.TestCase):
         pending = _fast.native().pending(8, None)
         self.assertRaises(TypeError, pending.feed, bytearray(INPUT))
         pending.feed(INPUT)
-        self.assertEqual((pending.rest(), pending.offset()), (len(INPUT), 0))
+        self.assertEqual((pending.rest(), pending.trailing(), pending.offset()), (len(INPUT), INPUT, 0))
         # of a later library, or of none
         for numbers in ((0, 0, 0, 0, len(INPUT) + 1, 8), (0, 0, 0, 0, len(INPUT), 1 << 63)):
             with replaced("journal_next", returning(0, *numbers)):

@@ -10,13 +10,20 @@ import tracemalloc
 import unittest
 
 import pendratsoa
-from pendratsoa import JournalError, Message, Stream
+from pendratsoa import JournalError, Message, Numbering, Stream
+from descriptors import ALL
 from support import CALL_COMMAND, INPUT, RECORDED, SIGNAL_NOTIFICATION
 
 # how often a loop is done that must not take memory
 LOOPS = int(os.environ.get("PENDRATSOA_LOOPS", "20000"))
 
 FUNCTIONS = [getattr(pendratsoa, name) for name in pendratsoa.__all__ if inspect.isfunction(getattr(pendratsoa, name))]
+
+
+def parameters_of(call):
+    """The names of what a function has to be given."""
+    parameters = inspect.signature(call).parameters.values()
+    return [parameter.name for parameter in parameters if parameter.default is parameter.empty]
 
 
 class LongerThanItIs(bytes):
@@ -62,7 +69,7 @@ class TestArguments(unittest.TestCase):
 
     def test_every_kind_in_every_place(self):
         for call in FUNCTIONS:
-            names = [name for name in inspect.signature(call).parameters if name != "ignore_payloads"]
+            names = parameters_of(call)
             known = {"version": 8, "code": 0x0400, "schema": 13, "name": "SleepCommand", "payload_length": 0}
             good = {name: {**known, "json": "{}"}.get(name, b"") for name in names}
             refused = 0
@@ -72,9 +79,8 @@ class TestArguments(unittest.TestCase):
 
     def test_every_kind_in_all_places_at_once(self):
         for call in FUNCTIONS:
-            count = sum(name != "ignore_payloads" for name in inspect.signature(call).parameters)
             for value in values():
-                self.tried(call, *[value] * count)
+                self.tried(call, *[value] * len(parameters_of(call)))
 
     def test_messages_of_every_kind(self):
         for value in values():
@@ -97,7 +103,7 @@ class TestArguments(unittest.TestCase):
             self.tried(list, stream)
             self.tried(stream.read, value)
             self.tried(stream.read, open, value)
-            self.assertGreaterEqual(stream.rest, 0)
+            self.assertEqual(stream.rest, len(stream.trailing))
 
     def test_what_says_to_be_longer_than_it_is(self):
         self.assertEqual(pendratsoa.canonical(20, LongerThanItIs(INPUT[8:])), INPUT[8:])
@@ -166,6 +172,9 @@ class TestThreads(unittest.TestCase):
 
 
 class TestMemory(unittest.TestCase):
+    def setUp(self):
+        self.numbering = Numbering(ALL)
+
     def work(self):
         """Calls of all kinds, some of which are rejected."""
         stream = Stream()
@@ -182,6 +191,13 @@ class TestMemory(unittest.TestCase):
                 pendratsoa.from_json(13, '{"message":"text","code":"one"}')
             with self.assertRaises(pendratsoa.NoId):
                 pendratsoa.notification(SIGNAL_NOTIFICATION, b"")
+        theirs = self.numbering.write_stream(8, RECORDED)
+        stream = Stream(8, numbering=self.numbering)
+        stream.feed(theirs + stream.trailing)
+        for item in stream:
+            item.frame(numbering=self.numbering)
+        with self.assertRaises(pendratsoa.Malformed):
+            self.numbering.read_payload("Value", b"\n")
 
     def resident(self):
         """The memory that the process has, in bytes."""

@@ -1,4 +1,5 @@
-"""What every package promises beyond the calls: the cases of conformance/packages.cases, which its README specifies."""
+"""What every package promises beyond the calls: the cases of packages.cases and numberings.cases, which the README of
+conformance specifies."""
 
 import asyncio
 import dataclasses
@@ -6,15 +7,20 @@ import io
 import unittest
 
 from pendratsoa import FieldError, Incomplete, JournalError, JsonError, Malformed, Message, NoId, NoResult, Replay
-from pendratsoa import MessageTooLong, Skipped, Stream, TooLong, Unknown, UnknownCode
+from pendratsoa import MessageTooLong, Numbering, NumberingError, Skipped, Stream, TooLong, Unknown, UnknownCode
 from pendratsoa import compare_journals, is_well_formed, messages, type_name
 from support import SET_STATE_COMMAND, TOP
 
-CASES = [
-    line
-    for line in (TOP / "conformance/packages.cases").read_text().splitlines()
-    if line and not line.startswith("#")
-]
+
+
+def lines_of(name):
+    """The cases of a file."""
+    lines = (TOP / "conformance" / name).read_text().splitlines()
+    return [line for line in lines if line and not line.startswith("#")]
+
+
+CASES = lines_of("packages.cases")
+NUMBERINGS = lines_of("numberings.cases")
 
 READS = {
     "json": Message.json,
@@ -203,7 +209,8 @@ class TestPackages(unittest.TestCase):
         return self.checked(stream, chunks, found, raised(lambda: asyncio.run(take())))
 
     def checked(self, stream, chunks, found, ended):
-        """The listing of what came. The error stays, and the items are the first bytes of the stream."""
+        """The listing of what came. The error stays. The items are the first bytes of the stream, and `trailing` has
+        the others; once a message is too long there are none."""
         if isinstance(ended, MessageTooLong):
             for call in (stream.finish, lambda: next(iter(stream)), lambda: stream.feed(b"x")):
                 self.assertIs(raised(call), ended)
@@ -213,8 +220,9 @@ class TestPackages(unittest.TestCase):
             name = name_of(ended.code) if ended.code is not None else "an item"
             name = f"code {ended.code:#x}" if name == "-" else name
             self.assertIn(f": the stream ended within {name} at offset {ended.offset}, after ", str(ended))
-        came = b"".join(map(bytes, found))
-        self.assertTrue(b"".join(chunks).startswith(came))
+        came, whole = b"".join(map(bytes, found)), b"".join(chunks)
+        self.assertTrue(whole.startswith(came))
+        self.assertEqual(stream.trailing, b"" if isinstance(ended, MessageTooLong) else whole[len(came) :])
         return listing(found, ended)
 
     def read_result(self, call, version, word):
@@ -323,6 +331,61 @@ class TestPackages(unittest.TestCase):
         except (TooLong, ValueError):
             return "out_of_range"
         return "ok"
+
+
+class TestNumberings(unittest.TestCase):
+    def test_the_cases(self):
+        self.assertGreater(len(NUMBERINGS), 600)
+        sets = {}
+        for line in NUMBERINGS:
+            question, expected = line.split(" = ")
+            kind, *words = question.split()
+            with self.subTest(line[:200]):
+                self.assertIn(getattr(self, f"{kind}_result")(sets, *words), (expected, None))
+
+    def set_result(self, sets, name, renames, word):
+        lines = bytes_of(renames).decode(errors="surrogateescape").splitlines()
+        if any("=" not in line for line in lines):
+            # a mapping has always two names
+            return None
+        try:
+            sets[name] = Numbering(bytes_of(word), renames=dict(line.split("=") for line in lines))
+        except NumberingError as error:
+            kind = {"descriptor_set": "no_set", "renames": "no_rename"}[error.argument]
+            return f"{kind} {str(error).partition(': ')[2].encode().hex()}"
+        return "ok"
+
+    def read_result(self, sets, name, schema, word):
+        return self.renumbered(lambda: sets[name].read_payload(schema, bytes_of(word)))
+
+    def write_result(self, sets, name, schema, word):
+        return self.renumbered(lambda: sets[name].write_payload(schema, bytes_of(word)))
+
+    def stream_result(self, sets, way, name, version, word):
+        number, data = int(version), bytes_of(word)
+        found = self.renumbered(lambda: getattr(sets[name], f"{way}_stream")(number, data))
+        if way == "read":
+            self.assertEqual(self.renumbered(lambda: self.read_by(sets[name], number, data)), found)
+        return found
+
+    def read_by(self, numbering, version, data):
+        """The messages of a stream that a numbering reads, each after its header with another length."""
+        stream = Stream(version, numbering=numbering)
+        stream.feed(data)
+        parts = []
+        for item in stream:
+            payload = getattr(item, "payload", None)
+            parts.append(item.bytes if payload is None else item.bytes[:4] + len(payload).to_bytes(4, "big") + payload)
+        return b"".join(parts) + stream.trailing
+
+    def renumbered(self, call):
+        """What a call returns, or its error."""
+        try:
+            return call().hex() or "-"
+        except Malformed:
+            return "malformed"
+        except Unknown:
+            return "unknown"
 
 
 class TestMadeByHand(unittest.TestCase):

@@ -10,8 +10,8 @@ import threading
 import tracemalloc
 import unittest
 
-from pendratsoa import JournalError, Malformed, Message, MessageTooLong, Skipped, Stream, TooLong, UnknownCode
-from pendratsoa import canonical
+from pendratsoa import Incomplete, JournalError, Malformed, Message, MessageTooLong, Skipped, Stream, TooLong
+from pendratsoa import UnknownCode, canonical
 from pendratsoa._library import library
 from support import CALL_COMMAND, INPUT, INPUT_COMMAND, INPUT_LENGTH, RECORDED, STREAM, UNKNOWN_WORD
 from support import replaced, returning
@@ -283,6 +283,69 @@ class TestReading(unittest.TestCase):
         for size in (0, -1):
             with self.assertRaises(ValueError):
                 Stream().read(io.BytesIO(), size)
+
+
+class TestTrailing(unittest.TestCase):
+    def test_bytes_that_no_item_has(self):
+        for size in range(1, len(STREAM) + 1):
+            stream = Stream()
+            taken = 0
+            for begin in range(0, len(STREAM), size):
+                stream.feed(memoryview(STREAM)[begin : begin + size])
+                # before the items are taken, between two of them, and after the last one
+                self.assertEqual(stream.trailing, STREAM[taken : begin + size])
+                for item in stream:
+                    taken += len(item.bytes)
+                    self.assertEqual(stream.trailing, STREAM[taken : begin + size])
+                self.assertIs(type(stream.trailing), bytes)
+                self.assertEqual(len(stream.trailing), stream.rest)
+            self.assertEqual(stream.trailing, STREAM[-8:])
+
+    def test_none(self):
+        stream = Stream()
+        self.assertEqual(stream.trailing, b"")
+        stream.feed(INPUT)
+        self.assertEqual((len(list(stream)), stream.trailing), (1, b""))
+        with self.assertRaises(AttributeError):
+            stream.trailing = b"x"
+
+    def test_chunks_that_are_kept(self):
+        stream = Stream()
+        data = bytearray(b"\x04\x00")
+        for chunk in (data, INPUT[2:5], memoryview(INPUT)[5:6], b""):
+            stream.feed(chunk)
+        data[:] = b"xx"
+        self.assertEqual([stream.trailing for _ in range(3)], [INPUT[:6]] * 3)
+        stream.feed(INPUT[6:])
+        self.assertEqual((list(stream), stream.trailing), (EXPECTED[:1], b""))
+
+    def test_a_stream_that_ends_within_an_item(self):
+        stream = Stream()
+        items = stream.read(io.BytesIO(INPUT + INPUT[:12]), size=5, strict=True)
+        self.assertEqual(next(items), EXPECTED[0])
+        for call in (lambda: next(items), stream.finish, stream.finish):
+            with self.assertRaises(Incomplete) as ended:
+                call()
+            self.assertEqual((stream.trailing, ended.exception.rest), (INPUT[:12], 12))
+        # more may come all the same
+        stream.feed(INPUT[12:])
+        self.assertEqual((list(stream), stream.trailing), (EXPECTED[:1], b""))
+
+    def test_a_message_that_is_longer_than_the_limit(self):
+        for chunks in ([INPUT + INPUT + b"more"], [INPUT, INPUT[:3], INPUT[3:8]]):
+            stream = Stream(max_message_size=INPUT_LENGTH - 1)
+            for chunk in chunks:
+                stream.feed(chunk)
+            self.assertEqual(stream.trailing, b"".join(chunks))
+            for _ in range(2):
+                self.assertRaises(MessageTooLong, list, stream)
+                self.assertEqual((stream.trailing, stream.rest), (b"", 0))
+
+    def test_what_is_passed_on_is_the_stream(self):
+        for size in range(1, 20):
+            stream = Stream()
+            passed = b"".join(item.bytes for item in stream.read(io.BytesIO(STREAM + RECORDED[:-3]), size))
+            self.assertEqual(passed + stream.trailing, STREAM + RECORDED[:-3])
 
 
 class TestItems(unittest.TestCase):

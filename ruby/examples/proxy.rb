@@ -3,7 +3,7 @@
 # Passes a journal on from one connection to another, with each state one greater: ruby proxy.rb VERSION HOST PORT
 #
 # It takes a connection at a port of this machine, which it prints, and opens one to HOST and PORT. All that it does not
-# change it passes on byte for byte.
+# change it passes on byte for byte, also the beginning of a last item that is not whole.
 
 require "pendratsoa"
 require "socket"
@@ -25,8 +25,11 @@ puts server.local_address.ip_port
 $stdout.flush
 source = server.accept
 target = TCPSocket.new(host, port)
+stream = Pendratsoa::Stream.new(version: Integer(version))
 begin
-  Pendratsoa::Stream.read(source, version: Integer(version), strict: true) { |item| target.write(passed_on(item)) }
+  stream.read(source) { |item| target.write(passed_on(item)) }
+  target.write(stream.trailing)
+  stream.finish
 rescue Pendratsoa::Incomplete => error
   abort "proxy.rb: #{error.message}"
 end

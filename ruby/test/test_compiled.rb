@@ -104,6 +104,7 @@ class TestCompiled < Minitest::Test
     assert_raises(ArgumentError) { compiled.point([]) }
     assert_raises(ArgumentError) { compiled.use([], [], [], {}) }
     assert_raises(TypeError) { compiled::Pending.new(8, nil).feed(8) }
+    assert_equal "", compiled::Pending.allocate.trailing
   end
 
   # Other threads run while a long call is made, and may change what it is given, and what it writes is whole.

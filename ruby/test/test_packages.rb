@@ -3,9 +3,12 @@
 require_relative "helper"
 require "stringio"
 
-# What every package promises beyond the calls: the cases of conformance/packages.cases, which its README specifies.
+# What every package promises beyond the calls: the cases of packages.cases and numberings.cases, which the README of
+# conformance specifies.
 class TestPackages < Minitest::Test
-  CASES = File.readlines(File.join(Helper::TOP, "conformance/packages.cases"), chomp: true).grep_v(/\A(#|\z)/).freeze
+  CASES, NUMBERINGS = %w[packages numberings].map do |name|
+    File.readlines(File.join(Helper::TOP, "conformance/#{name}.cases"), chomp: true).grep_v(/\A(#|\z)/).freeze
+  end
 
   READS = {
     "json" => :json, "canonical" => :canonical, "frame" => :frame, "record" => :message, "notification" => :notification
@@ -29,6 +32,16 @@ class TestPackages < Minitest::Test
       question, expected = line.split(" = ")
       kind, *words = question.split
       assert_equal expected, send("#{kind}_result", *words), line
+    end
+  end
+
+  def test_the_cases_of_numberings
+    assert_operator NUMBERINGS.length, :>, 600
+    sets = {}
+    NUMBERINGS.each do |line|
+      question, expected = line.split(" = ")
+      kind, *words = question.split
+      assert_includes [expected, nil], send("#{kind}_of_numbering", sets, *words), line[0, 200]
     end
   end
 
@@ -100,9 +113,12 @@ class TestPackages < Minitest::Test
     listing(stream, chunks, items, ended)
   end
 
-  # The items, which are the first bytes of the stream, and how that ended.
+  # The items, and how the stream ended. They are its first bytes, and `trailing` has the others; once a message is too
+  # long there are none.
   def listing(stream, chunks, items, ended)
-    assert chunks.join.start_with?(items.map(&:bytes).join)
+    came = items.map(&:bytes).join
+    assert_equal chunks.join, came + stream.trailing unless ended.is_a?(Pendratsoa::MessageTooLong)
+    assert chunks.join.start_with?(came)
     lines = items.map { |item| "#{item.offset} #{item}" }.join(", ")
     [lines, end_of(stream, ended)].reject(&:empty?).join("; ")
   end
@@ -112,6 +128,7 @@ class TestPackages < Minitest::Test
     case ended
     when nil then "whole"
     when Pendratsoa::MessageTooLong
+      assert_empty stream.trailing
       assert_same(ended, raised { stream.finish })
       assert_same(ended, raised { stream.first })
       assert_same(ended, raised { stream.feed("x") })
@@ -287,6 +304,54 @@ class TestPackages < Minitest::Test
     "unknown"
   rescue Pendratsoa::JsonError => error
     "#{error.reason} #{error.offset || error.path}".rstrip
+  end
+
+  def set_of_numbering(sets, name, renames, word)
+    lines = bytes_of(renames).lines(chomp: true)
+    # a Hash has always two names
+    return unless lines.all? { |line| line.include?("=") }
+
+    renames = lines.to_h { |line| line.split("=") }
+    sets[name] = Pendratsoa::Numbering.new(bytes_of(word), renames: renames)
+    "ok"
+  rescue Pendratsoa::NumberingError => error
+    kind = { descriptor_set: "no_set", renames: "no_rename" }.fetch(error.argument)
+    "#{kind} #{word_of(error.message.partition(": ").last)}"
+  end
+
+  def read_of_numbering(sets, name, schema, word)
+    renumbered { sets.fetch(name).read_payload(schema, bytes_of(word)) }
+  end
+
+  def write_of_numbering(sets, name, schema, word)
+    renumbered { sets.fetch(name).write_payload(schema, bytes_of(word)) }
+  end
+
+  def stream_of_numbering(sets, way, name, version, word)
+    number = Integer(version)
+    found = renumbered { sets.fetch(name).public_send("#{way}_stream", number, bytes_of(word)) }
+    assert_equal(found, renumbered { read_by(sets.fetch(name), number, bytes_of(word)) }) if way == "read"
+    found
+  end
+
+  # The messages of a stream that a numbering reads, each after its header with another length.
+  def read_by(numbering, version, data)
+    stream = Pendratsoa::Stream.new(version: version, numbering: numbering).feed(data)
+    messages = stream.map do |item|
+      next item.bytes unless item.respond_to?(:payload)
+
+      item.bytes.byteslice(0, 4) << [item.payload.bytesize].pack("N") << item.payload
+    end
+    messages.join << stream.trailing
+  end
+
+  # What a block returns, or its error.
+  def renumbered
+    word_of(yield)
+  rescue Pendratsoa::Malformed
+    "malformed"
+  rescue Pendratsoa::Unknown
+    "unknown"
   end
 
   def limit_result(number)

@@ -88,6 +88,60 @@ class TestStream < Minitest::Test
     stream.feed("\xff")
     assert_equal [ITEMS[0]], copy.feed(Helper::INPUT.byteslice(3..)).to_a
     assert_equal [4, 0], [stream.rest, copy.rest]
+    assert_equal ["#{Helper::INPUT.byteslice(0, 3)}\xff".b, ""], [stream.trailing, copy.trailing]
+  end
+
+  def test_bytes_that_no_item_has
+    (1..STREAM.bytesize).each do |size|
+      stream = Pendratsoa::Stream.new
+      came = taken = 0
+      STREAM.scan(/.{1,#{size}}/mn) do |chunk|
+        stream.feed(chunk)
+        came += chunk.bytesize
+        # before the items are taken, between two of them, and after the last one
+        assert_equal STREAM.byteslice(taken, came - taken), stream.trailing
+        stream.each do |item|
+          taken += item.bytes.bytesize
+          assert_equal STREAM.byteslice(taken, came - taken), stream.trailing
+        end
+        assert_equal stream.rest, stream.trailing.bytesize
+      end
+      assert_equal STREAM[-9..], stream.trailing
+    end
+  end
+
+  def test_trailing_bytes_are_a_string_of_their_own
+    stream = Pendratsoa::Stream.new.feed("\u0004".encode("UTF-16LE"))
+    2.times do
+      trailing = stream.trailing
+      assert_equal ["\x04\x00", Encoding::BINARY, false], [trailing, trailing.encoding, trailing.frozen?]
+      trailing << "more"
+    end
+    assert_equal ["", Encoding::BINARY], [Pendratsoa::Stream.new.trailing, Pendratsoa::Stream.new.trailing.encoding]
+    assert_equal [ITEMS[0]], stream.feed(Helper::INPUT.byteslice(2..)).to_a
+    assert_equal "", stream.trailing
+    # and keep nothing else of what came in memory
+    long = Pendratsoa::Stream.new.feed(Pendratsoa.header(8, Helper::CODES[:custom_entry], 1_000_000))
+    assert_equal 1, long.feed("#{"x" * 1_000_000}#{"y" * 7}").count
+    assert_operator ObjectSpace.memsize_of(long.trailing), :<, 1000
+  end
+
+  def test_trailing_bytes_once_a_stream_ended
+    stream = Pendratsoa::Stream.new
+    items = stream.read(StringIO.new(Helper::INPUT + Helper::INPUT.byteslice(0, 12)), size: 5, strict: true)
+    assert_equal ITEMS[0], items.next
+    [-> { items.next }, -> { stream.finish }, -> { stream.finish }].each do |call|
+      error = assert_raises(Pendratsoa::Incomplete, &call)
+      assert_equal [Helper::INPUT.byteslice(0, 12), 12], [stream.trailing, error.rest]
+    end
+    # more may come all the same
+    assert_equal [ITEMS[0]], stream.feed(Helper::INPUT.byteslice(12..)).to_a
+    limited = Pendratsoa::Stream.new(max_message_size: 8).feed("#{Helper::INPUT}more")
+    assert_equal "#{Helper::INPUT}more", limited.trailing
+    2.times do
+      assert_raises(Pendratsoa::MessageTooLong) { limited.to_a }
+      assert_equal ["", 0], [limited.trailing, limited.rest]
+    end
   end
 
   def test_version_9_skips_a_message_with_its_payload

@@ -10,8 +10,10 @@ struct made {
     const struct call *call;
     struct arguments arguments;
     /* frozen copies of the Strings that a long call reads */
+    VALUE table;
     VALUE first;
     VALUE second;
+    VALUE third;
     int64_t number;
 };
 
@@ -60,6 +62,12 @@ static bool read_numbers(VALUE value, size_t count, uint64_t *numbers)
     return true;
 }
 
+/* Reads a table of numbers, which are the bytes of it, in their alignment. */
+static bool read_table(VALUE value, struct slice *slice, VALUE *kept)
+{
+    return read_slice(value, slice, kept) && (uintptr_t)slice->bytes % sizeof(uint64_t) == 0;
+}
+
 static bool read_argument(struct made *made, enum parameter parameter, VALUE value)
 {
     struct arguments *arguments = &made->arguments;
@@ -84,15 +92,25 @@ static bool read_argument(struct made *made, enum parameter parameter, VALUE val
         is_read = read_number(value, UINT64_C(1) << 32, &number);
         arguments->index = (uint32_t)number;
         return is_read;
+    case DIRECTION:
+        is_read = read_number(value, UINT64_C(1) << 32, &number);
+        arguments->direction = (uint32_t)number;
+        return is_read;
+    case TABLE:
+        return read_table(value, &arguments->table, &made->table);
     case NAME:
     case JSON:
     case PAYLOAD:
     case FIRST:
     case RECORDED:
+    case SET:
         return read_slice(value, &arguments->first, &made->first);
     case SECOND:
     case REPLAYED:
+    case RENAMES:
         return read_slice(value, &arguments->second, &made->second);
+    case STREAM:
+        return read_slice(value, &arguments->third, &made->third);
     case IGNORE_PAYLOADS:
         arguments->ignore_payloads = RTEST(value);
         return true;
@@ -148,8 +166,10 @@ static void make_call(struct made *made, size_t size)
         make(made);
         return;
     }
+    keep(&made->table, &made->arguments.table);
     keep(&made->first, &made->arguments.first);
     keep(&made->second, &made->arguments.second);
+    keep(&made->third, &made->arguments.third);
     made->number = JOURNAL_OUT_OF_MEMORY;
     rb_thread_call_without_gvl(make, made, NULL, NULL);
 }
@@ -157,20 +177,21 @@ static void make_call(struct made *made, size_t size)
 /* The bytes that a call writes, or nil if it returned an error. */
 static VALUE written(struct made *made)
 {
+    size_t unit = made->call->unit;
     size_t size = bytes_read(made->call, &made->arguments);
     size_t room = made->call->times * size + made->call->more;
-    if (room <= BYTES) {
-        uint8_t out[BYTES];
+    if (room <= BYTES / unit) {
+        _Alignas(uint64_t) uint8_t out[BYTES];
         made->arguments.out = out;
-        made->arguments.room = BYTES;
+        made->arguments.room = BYTES / unit;
         make_call(made, size);
-        if (made->number <= BYTES) {
-            return made->number < 0 ? Qnil : rb_str_new((const char *)out, (long)made->number);
+        if (made->number <= (int64_t)(BYTES / unit)) {
+            return made->number < 0 ? Qnil : rb_str_new((const char *)out, made->number * (long)unit);
         }
         room = (size_t)made->number;
     }
     for (;;) {
-        VALUE found = rb_str_buf_new((long)room);
+        VALUE found = rb_str_buf_new((long)(room * unit));
         made->arguments.out = (uint8_t *)RSTRING_PTR(found);
         made->arguments.room = room;
         make_call(made, size);
@@ -178,7 +199,7 @@ static VALUE written(struct made *made)
             return Qnil;
         }
         if ((size_t)made->number <= room) {
-            rb_str_set_len(found, (long)made->number);
+            rb_str_set_len(found, made->number * (long)unit);
             return found;
         }
         RB_GC_GUARD(found);
@@ -198,7 +219,7 @@ static VALUE number_of(struct made *made)
 static VALUE returned(struct made *made)
 {
     const struct call *call = made->call;
-    VALUE result = call->writes ? written(made) : number_of(made);
+    VALUE result = call->unit > 0 ? written(made) : number_of(made);
     if (NIL_P(result) || call->numbers == 0) {
         return result;
     }
@@ -223,7 +244,7 @@ static VALUE call(int count, VALUE *values, VALUE self)
     if (place < 0 || place >= (long)(sizeof CALLS / sizeof *CALLS)) {
         rb_raise(rb_eIndexError, "there is no such call");
     }
-    struct made made = {.call = &CALLS[place], .first = Qfalse, .second = Qfalse};
+    struct made made = {.call = &CALLS[place], .table = Qfalse, .first = Qfalse, .second = Qfalse, .third = Qfalse};
     rb_check_arity(count - 2, taken(made.call), taken(made.call));
     be_there();
     if (!read_arguments(&made, values + 2)) {
@@ -240,8 +261,10 @@ static VALUE call(int count, VALUE *values, VALUE self)
         VALUE given = rb_ary_new_from_values(count - 2, values + 2);
         rb_funcall(named, refused, 4, values[0], values[1], given, LL2NUM(made.number));
     }
+    RB_GC_GUARD(made.table);
     RB_GC_GUARD(made.first);
     RB_GC_GUARD(made.second);
+    RB_GC_GUARD(made.third);
     return found;
 }
 

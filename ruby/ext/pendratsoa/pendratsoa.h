@@ -29,7 +29,7 @@
 extern "C" {
 #endif
 
-/* The payload, or the first of two, is not well-formed for its schema. */
+/* The payload, or the first of two, is not well-formed for its schema; or no numbering comes of a set. */
 #define JOURNAL_MALFORMED (-1)
 /* An allocation failed. The call can be repeated. */
 #define JOURNAL_OUT_OF_MEMORY (-2)
@@ -53,7 +53,7 @@ extern "C" {
 #define JOURNAL_UNKNOWN_SCHEMA (-37)
 /* The code or the name is that of no type, or of none of the kind that the call is for. */
 #define JOURNAL_UNKNOWN_TYPE (-53)
-/* The options have an unknown bit. */
+/* The options have an unknown bit, or there is no such direction. */
 #define JOURNAL_UNKNOWN_OPTION (-69)
 
 /*
@@ -521,7 +521,8 @@ int64_t journal_notification(uint16_t code, const uint8_t *payload, size_t paylo
 /*
  * Returns 1 if two commands are the same for a replay, otherwise 0. If `ignore_payloads` is not 0, the content of user
  * data (values, parameters) is not compared, but that of a signal is. That there is a value, and no failure or nothing,
- * is compared in any case. Two input commands always compare as the same.
+ * is compared in any case. Two input commands always compare as the same. Two commands with the same bytes need no
+ * heap: nothing can fail then.
  *
  * Errors, in order of precedence: JOURNAL_UNKNOWN_TYPE if the code is that of no command, JOURNAL_MALFORMED,
  * JOURNAL_MALFORMED_SECOND; JOURNAL_OUT_OF_MEMORY may replace each after JOURNAL_UNKNOWN_TYPE.
@@ -708,6 +709,104 @@ int64_t journal_replay_expected(const uint8_t *recorded, size_t recorded_length,
  */
 int64_t journal_replay_finish(const uint8_t *recorded, size_t recorded_length, const struct journal_replay *replay,
                               size_t replay_room, struct journal_mismatch *mismatch, size_t mismatch_room);
+
+/*
+ * Payloads at other field numbers. A numbering is two tables, one for each direction, made once of a descriptor set,
+ * which `protoc --include_imports -o` and `buf build -o` write. All other calls have payloads at the protocol's own
+ * numbers.
+ */
+
+/* The directions of a numbering. */
+#define JOURNAL_NUMBERING_READING 0 /* from the numbers of a descriptor set to the protocol's */
+#define JOURNAL_NUMBERING_WRITING 1 /* from the protocol's numbers to those of a descriptor set */
+
+/*
+ * A field, with its number in the payload that is read and in the one that is written. The entries of a schema stand
+ * together, in the order in which their fields are written.
+ */
+struct journal_renumbering {
+    uint64_t schema;     /* the number of its message's schema */
+    uint64_t group;      /* from 1: the entries of a oneof have the same one, and each other entry has its own */
+    uint64_t number;     /* its field number in what is read */
+    uint64_t renumbered; /* its field number in what is written; only its low 32 bits count */
+    uint64_t nested;     /* of a message the number of its schema and one, otherwise 0 */
+};
+
+/*
+ * How many numbers that are: a struct journal_renumbering is as an array of them; the room for a table is a count of
+ * structs.
+ */
+#define JOURNAL_RENUMBERING_NUMBERS 5
+
+/*
+ * Writes the table of a direction: the fields that a descriptor set and the protocol both have, by their names, in one
+ * kind. The renames are lines "THEIRS=OURS" of names of messages, and may be none. Returns how many entries it has; the
+ * first ones are written, as many as there is room for.
+ *
+ * Errors, in order of precedence: JOURNAL_UNKNOWN_OPTION if there is no such direction, JOURNAL_MALFORMED if no
+ * numbering comes of the set and the renames, for the reason that journal_numbering_text says; JOURNAL_OUT_OF_MEMORY
+ * may replace each after JOURNAL_UNKNOWN_OPTION.
+ */
+int64_t journal_numbering(uint32_t direction, const uint8_t *set, size_t set_length, const uint8_t *renames,
+                          size_t renames_length, struct journal_renumbering *renumberings, size_t room);
+
+/* What the text of a numbering is. */
+#define JOURNAL_LIST_LISTED 0    /* which messages and fields are the protocol's, as `journal schema` prints them */
+#define JOURNAL_LIST_NO_SET 1    /* why no numbering comes of the set, with the message and the field */
+#define JOURNAL_LIST_NO_RENAME 2 /* what is wrong with a rename */
+
+/* What the text of a numbering is. */
+struct journal_list {
+    uint64_t kind; /* one of the three kinds */
+};
+
+/* How many numbers that are: a struct journal_list is as an array of them, and the room for one is their count. */
+#define JOURNAL_LIST_NUMBERS 1
+
+/*
+ * Writes one number and a text: the list of what a descriptor set and the protocol both have, and of what only one of
+ * them has; or why no numbering comes of the set and the renames. Returns the text's length in bytes; if there is no
+ * room for it, the number is written nevertheless. A rejected set is not an error of the call.
+ *
+ * Its error: JOURNAL_NO_ROOM; JOURNAL_OUT_OF_MEMORY after these.
+ */
+int64_t journal_numbering_text(const uint8_t *set, size_t set_length, const uint8_t *renames, size_t renames_length,
+                               struct journal_list *list, size_t list_room, uint8_t *out, size_t room);
+
+/*
+ * Writes a payload of a schema at the other numbers of a table: the fields that the table has, in its order; their
+ * messages likewise. A canonical payload becomes one that is canonical at the other numbers, unless only one of both
+ * packs a list, or has a field in a oneof. Returns its length in bytes. Any table is safe; with one that
+ * journal_numbering did not write, the time may double with each level of nesting.
+ *
+ * Errors, in order of precedence: JOURNAL_MALFORMED, JOURNAL_TOO_LONG; JOURNAL_OUT_OF_MEMORY may replace each after
+ * JOURNAL_MALFORMED.
+ */
+int64_t journal_renumber(uint32_t schema, const struct journal_renumbering *renumberings, size_t count,
+                         const uint8_t *payload, size_t payload_length, uint8_t *out, size_t room);
+
+/*
+ * Writes a stream at the other numbers of a table: each item under its header, whose length is that of the new payload,
+ * and the trailing bytes as they are. Items whose type has no schema stay as they are. Returns its length in bytes.
+ *
+ * Errors, in order of precedence: JOURNAL_UNKNOWN_VERSION, JOURNAL_MALFORMED if the payload of a message is,
+ * JOURNAL_TOO_LONG; JOURNAL_OUT_OF_MEMORY may replace each after JOURNAL_UNKNOWN_VERSION.
+ */
+int64_t journal_renumber_stream(uint32_t version, const struct journal_renumbering *renumberings, size_t count,
+                                const uint8_t *stream, size_t stream_length, uint8_t *out, size_t room);
+
+/*
+ * Writes a stream as JSON by the messages of a descriptor set, as `journal dump --schema` does: an object on one line
+ * for each item, with all fields that the set has, and a last one for the trailing bytes. Returns its length in bytes.
+ * The set is read anew by each call.
+ *
+ * Errors, in order of precedence: JOURNAL_UNKNOWN_VERSION, JOURNAL_MALFORMED if no numbering comes of the set and the
+ * renames, for the reason that journal_numbering_text says, JOURNAL_TOO_LONG; JOURNAL_OUT_OF_MEMORY may replace each
+ * after JOURNAL_UNKNOWN_VERSION.
+ */
+int64_t journal_numbering_dump(uint32_t version, const uint8_t *set, size_t set_length, const uint8_t *renames,
+                               size_t renames_length, const uint8_t *stream, size_t stream_length, uint8_t *out,
+                               size_t room);
 
 #ifdef __cplusplus
 }

@@ -474,9 +474,13 @@ static VALUE encode(VALUE object)
     return found != Qundef ? found : rb_funcall(object, encode_in_ruby, 0);
 }
 
-/* The frame of a record at a version; that of a version which has another record of its type is left to Ruby. */
+/* The frame of a record at a version; that of a version which has another record of its type is left to Ruby, and that
+ * at the field numbers of a numbering. */
 static VALUE frame(int count, VALUE *values, VALUE object)
 {
+    if (rb_keyword_given_p()) {
+        return rb_funcallv_kw(object, frame_in_ruby, count, values, RB_PASS_KEYWORDS);
+    }
     rb_check_arity(count, 0, 1);
     VALUE version = count == 0 ? INT2FIX(8) : values[0];
     const struct record *record = record_of(RBASIC_CLASS(object));

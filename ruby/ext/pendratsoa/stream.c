@@ -53,7 +53,7 @@ static VALUE allocate(VALUE class)
     return TypedData_Make_Struct(class, struct pending, &pending_type, pending);
 }
 
-/* The pending bytes. */
+/* The number of pending bytes. */
 static size_t left(const struct pending *self)
 {
     return self->end - self->begin;
@@ -204,6 +204,19 @@ static VALUE rest(VALUE self)
     return SIZET2NUM(left(pending_of(self)));
 }
 
+/* A new String of so many pending bytes. */
+static VALUE string_of(const struct pending *self, size_t length)
+{
+    return length == 0 ? rb_str_new(NULL, 0) : rb_str_new((const char *)self->bytes + self->begin, (long)length);
+}
+
+/* The pending bytes. */
+static VALUE trailing(VALUE self)
+{
+    const struct pending *pending = pending_of(self);
+    return string_of(pending, left(pending));
+}
+
 /* The number of bytes that items have taken. */
 static VALUE offset(VALUE self)
 {
@@ -218,8 +231,8 @@ static VALUE head(VALUE self)
     if (pending->ended != 0) {
         return rb_str_new((const char *)pending->head, sizeof pending->head);
     }
-    size_t came = left(pending) < sizeof pending->head ? left(pending) : sizeof pending->head;
-    return came == 0 ? rb_str_new(NULL, 0) : rb_str_new((const char *)pending->bytes + pending->begin, (long)came);
+    size_t came = left(pending);
+    return string_of(pending, came < sizeof pending->head ? came : sizeof pending->head);
 }
 
 void define_stream(VALUE pendratsoa)
@@ -233,6 +246,7 @@ void define_stream(VALUE pendratsoa)
     rb_define_method(pending, "feed", feed, 1);
     rb_define_method(pending, "take", take, 0);
     rb_define_method(pending, "rest", rest, 0);
+    rb_define_method(pending, "trailing", trailing, 0);
     rb_define_method(pending, "offset", offset, 0);
     rb_define_method(pending, "head", head, 0);
 }

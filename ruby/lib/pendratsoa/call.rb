@@ -35,7 +35,7 @@ module Pendratsoa
 
     # What checks each argument that is no String.
     CHECKS = { version: :version, code: :code, schema: :schema, payload_length: :length, index: :length,
-               ignore_payloads: :flag }.freeze
+               direction: :length, ignore_payloads: :flag }.freeze
 
     # The code has to be that of this kind, as "a command".
     def initialize(name, kind = "a type", **arguments)
@@ -65,6 +65,14 @@ module Pendratsoa
       return unsigned(:schema, 32) unless name.is_a?(String)
 
       SCHEMA_NAMES.index(name) || raise(unknown(:schema))
+    end
+
+    # The number of a schema that this gem knows.
+    def known_schema(argument)
+      number = schema(argument)
+      raise unknown(argument) if number >= SCHEMA_NAMES.length
+
+      number
     end
 
     # The length of a payload in bytes.
@@ -97,12 +105,13 @@ module Pendratsoa
       number
     end
 
-    # The bytes that a function writes, which has these parameters before them, into room that is tried first.
-    def written(function, parameters, room)
+    # The bytes that a function writes, which has these parameters before them, into room that is tried first: for a
+    # number of what has this unit of bytes.
+    def written(function, parameters, room, unit = 1)
       loop do
-        Fiddle::Pointer.malloc([room, 1].max, Fiddle::RUBY_FREE) do |out|
+        Fiddle::Pointer.malloc([unit * room, 1].max, Fiddle::RUBY_FREE) do |out|
           needed = returned(Library.call(function, *parameters, out, room))
-          return out[0, needed] if needed <= room
+          return out[0, unit * needed] if needed <= room
 
           room = needed
         end
@@ -123,6 +132,12 @@ module Pendratsoa
       what = "a message of type #{Shown.code(code)} at offset #{offset} has #{length} bytes"
       error(MessageTooLong, "#{what}, more than the limit of #{limit}", :max_message_size,
             code: code, length: length, limit: limit, offset: offset)
+    end
+
+    # Raises the error of a number in place of an item: a negative one, or that of a kind of items that is not known.
+    def no_item(number)
+      kind(ITEM_KINDS, number, "an item") unless number.negative?
+      raise refused(number)
     end
 
     # The kind of a number among these. A later library may have further ones.
@@ -153,12 +168,13 @@ module Pendratsoa
       error(Unknown, "unknown #{name} #{Shown.value(value)}#{known unless value.is_a?(String)}", argument)
     end
 
-    private
-
+    # An error of this call, about one of its arguments or none.
     def error(kind, text, argument = nil, **details)
       value = argument && @arguments.fetch(argument)
       kind.new("#{@name}: #{text}", call: @name, argument: argument, value: value, **details)
     end
+
+    private
 
     def unexpected(what)
       error(Error, "the library returned #{what}, which this gem does not know")

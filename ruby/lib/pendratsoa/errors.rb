@@ -91,6 +91,9 @@ module Pendratsoa
     end
   end
 
+  # No numbering comes of a descriptor set and renames. `argument` is that which is wrong: :descriptor_set or :renames.
+  class NumberingError < Error; end
+
   # A stream ended within an item.
   class Incomplete < Error
     # How many bytes of the item came, where it begins in the stream, and the code of its type, which is nil if fewer

@@ -57,19 +57,21 @@ module Pendratsoa
       Named.call(Named::HEADER, "header", version, code, payload_length)
     end
 
-    # The frame, at a version, of the message that a payload means: its header, and the canonical payload after it.
+    # The frame, at a version, of the message that a payload means: its header, and the canonical payload after it, at
+    # the field numbers of a numbering if one is given.
     #
     # Unknown if there is no such version, or the code is not that of a named type; Malformed, TooLong, OutOfMemory.
-    def frame(version, code, payload)
-      Named.call(Named::FRAME, "frame", version, code, payload)
+    def frame(version, code, payload, numbering: nil)
+      Numbered.frame("frame", numbering, version, Named.call(Named::FRAME, "frame", version, code, payload))
     end
 
     # Appends the frame that `frame` returns to a binary String, which it returns. The errors are those of `frame`;
     # after one of them the String is as it was.
-    def append_frame(out, version, code, payload)
+    def append_frame(out, version, code, payload, numbering: nil)
       raise TypeError, "append_frame: out must be a String, not #{out.class}" unless out.is_a?(String)
 
-      out << Named.call(Named::FRAME, "append_frame", version, code, payload)
+      frame = Named.call(Named::FRAME, "append_frame", version, code, payload)
+      out << Numbered.frame("append_frame", numbering, version, frame)
     end
 
     # Whether a payload is well-formed for a schema. Unknown if there is no such schema.

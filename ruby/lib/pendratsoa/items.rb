@@ -37,6 +37,20 @@ module Pendratsoa
     end
   end
 
+  # Errors of the payloads of messages.
+  module OfMessage
+    # What a block returns that reads the payload of a message. An error of the payload says of which message it is.
+    def self.reading(call, message)
+      yield
+    rescue Malformed, NoId, NoResult => error
+      where = " at offset #{message.offset}" if message.offset
+      text = "#{call}: #{Shown.type(message.code)}#{where}: #{error.message.partition(": ").last}"
+      details = { argument: error.argument, value: error.value, code: message.code, offset: message.offset }
+      raise error.class.new(text, call: call, **details)
+    end
+  end
+  private_constant :OfMessage
+
   # A message of a stream of a version: the code of its type, its payload, and whether its header requests an
   # acknowledgement. It is frozen, and so is its payload.
   #
@@ -56,11 +70,13 @@ module Pendratsoa
 
     attr_reader :word
 
-    def initialize(version, code, payload, requested_ack = false, word: nil, offset: nil)
+    # `received` is its payload as received, if a numbering has read it.
+    def initialize(version, code, payload, requested_ack = false, word: nil, offset: nil, received: nil)
       bytes = Call.new("Message.new", payload: payload).data(:payload)
       super(version, code, bytes, requested_ack ? true : false)
       @word = word
       @offset = offset
+      @received = received
       freeze
     end
 
@@ -142,36 +158,32 @@ module Pendratsoa
       reading("canonical") { Pendratsoa.canonical(schema, payload) }
     end
 
-    # Its frame at a version, or at its own: the header, and after it the canonical payload. Whether the header requests
-    # an acknowledgement depends on the type and the version, and not on `requested_ack`. Unknown if the version cannot
-    # have its payload: a suspension before version 7 has no frame from 7 on, and one since then has a frame at each.
-    def frame(version = self.version)
-      earlier = Earlier.schema(self.version, code)
-      reading("frame") do
-        earlier ? Earlier.frame("frame", version, code, earlier, payload) : Pendratsoa.frame(version, code, payload)
-      end
+    # Its frame at a version, or at its own: the header, and after it the canonical payload, at the field numbers of a
+    # numbering if one is given. Whether the header requests an acknowledgement depends on the type and the version, and
+    # not on `requested_ack`. Unknown if the version cannot have its payload: a suspension before version 7 has no frame
+    # from 7 on, and one since then has a frame at each.
+    def frame(version = self.version, numbering: nil)
+      Numbered.frame("frame", numbering, version, frame_at("frame", version))
     end
 
     # Appends its frame, as `frame` returns it, to a binary String, which it returns. After an error it is as it was.
-    def append_frame(out, version = self.version)
-      earlier = Earlier.schema(self.version, code)
-      reading("append_frame") do
-        next Pendratsoa.append_frame(out, version, code, payload) unless earlier
-        raise TypeError, "append_frame: out must be a String, not #{out.class}" unless out.is_a?(String)
+    def append_frame(out, version = self.version, numbering: nil)
+      raise TypeError, "append_frame: out must be a String, not #{out.class}" unless out.is_a?(String)
 
-        out << Earlier.frame("append_frame", version, code, earlier, payload)
-      end
+      out << Numbered.frame("append_frame", numbering, version, frame_at("append_frame", version))
     end
 
     # Writes its frame, as `frame` returns it, to an IO or the like, and returns the message.
-    def write_frame(output, version = self.version)
-      output.write(frame(version))
+    def write_frame(output, version = self.version, numbering: nil)
+      output.write(frame(version, numbering: numbering))
       self
     end
 
     # The message as received; if it came in no stream, its payload as it is after the header of its type.
     def bytes
-      word ? super : Pendratsoa.header(version, code, payload.bytesize) << payload
+      return Pendratsoa.header(version, code, payload.bytesize) << payload unless word
+
+      [word].pack("Q>") << (@received || payload)
     end
 
     # Its id and its result, if it is a notification.
@@ -218,13 +230,19 @@ module Pendratsoa
       false
     end
 
+    # Its frame at a version.
+    def frame_at(call, version)
+      earlier = Earlier.schema(self.version, code)
+      reading(call) do
+        next Earlier.frame(call, version, code, earlier, payload) if earlier
+
+        Named.call(Named::FRAME, call, version, code, payload)
+      end
+    end
+
     # What a block returns that reads its payload. An error of the payload says of which message it is.
-    def reading(call)
-      yield
-    rescue Malformed, NoId, NoResult => error
-      text = "#{call}: #{name_of_type}#{" at offset #{offset}" if offset}: #{error.message.partition(": ").last}"
-      details = { argument: error.argument, value: error.value, code: code, offset: offset }
-      raise error.class.new(text, call: call, **details)
+    def reading(call, &)
+      OfMessage.reading(call, self, &)
     end
 
     def name_of_type

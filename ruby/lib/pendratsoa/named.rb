@@ -30,14 +30,24 @@ module Pendratsoa
 
     # What a call returns, or the bytes that it writes, with its checked arguments and its structs of numbers.
     def self.made(row, call, values, structs)
-      parameters = values.flat_map { |value| value.is_a?(String) ? [value, value.bytesize] : [value] }
+      given = values.zip(row.takes)
+      parameters = given.flat_map { |value, name| parameters_of(row, name, value) }
       structs.each { |struct, count| parameters.push(struct, count) if count.positive? }
-      return call.returned(Library.call(row.function, *parameters)) unless row.writes
+      return call.returned(Library.call(row.function, *parameters)) if row.unit.zero?
 
-      room = row.more + (row.times * values.sum { |value| value.is_a?(String) ? value.bytesize : 0 })
-      call.written(row.function, parameters, room)
+      # what is written is as long as what is read but a table
+      read = given.sum { |value, name| value.is_a?(String) && name != :table ? value.bytesize : 0 }
+      call.written(row.function, parameters, row.more + (row.times * read), row.unit)
     end
     private_class_method :made
+
+    # A checked argument as parameters of C: a String is two, and so is a table of entries.
+    def self.parameters_of(row, name, value)
+      return [value] unless value.is_a?(String)
+
+      [value, name == :table ? value.bytesize / row.entry : value.bytesize]
+    end
+    private_class_method :parameters_of
 
     # A call with its arguments by their names.
     def self.request(place, name, given)

@@ -45,6 +45,11 @@ module Pendratsoa
       @lock.synchronize { @bytes.bytesize - @begin }
     end
 
+    # The pending bytes, in a String of its own: a slice could keep all of what came in memory.
+    def trailing
+      @lock.synchronize { String.new << @bytes.byteslice(@begin..) }
+    end
+
     # The first eight bytes of what is in no item yet, or fewer if fewer came; once a message is longer than the limit,
     # its header.
     def head

@@ -3,8 +3,11 @@
 module Pendratsoa
   # What the records of messages have: constants TYPE and CODE, and a frame.
   module MessageRecord
-    # Its frame at a version: the header, and its canonical payload. Unknown if it is not a record of the version.
-    def frame(version = 8)
+    # Its frame at a version: the header, and its canonical payload, at the field numbers of a numbering if one is
+    # given. Unknown if it is not a record of the version.
+    def frame(version = 8, numbering: nil)
+      return Numbered.frame("frame", numbering, version, frame(version)) if numbering
+
       payload = encode
       type = self.class
       return Earlier.frame("frame", version, type::CODE, type::SCHEMA, payload) if type.const_defined?(:BEFORE_VERSION)

@@ -49,6 +49,8 @@ module Pendratsoa
       # each option is a bit, by its place in the list, which begins with none
       options = ignored.sum { |name| 1 << (REPLAY_OPTIONS.index(name) - 1) }
       @replay = [version, options, 0, 0, 0, 0].pack("Q*").freeze
+      # how many bytes longer the items were as received
+      @longer = 0
       @lock = Mutex.new
     end
 
@@ -71,6 +73,7 @@ module Pendratsoa
         found = said.zero? ? nil : mismatch("check", item.code, payload, numbers)
         # the replay goes on once all of the mismatch is there
         @replay = replay.freeze
+        @longer += Numbered.longer_by(item)
         found
       end
     end
@@ -92,8 +95,10 @@ module Pendratsoa
     # Says that the replay ended. nil if nothing is left of the recording, or a mismatch was reported; otherwise the
     # mismatch of the command that comes next, whose kind is :replayed_ended. It changes nothing.
     def finish
-      left, *numbers = Named.call(Named::REPLAY_FINISH, "finish", @recorded, @replay)
-      left.zero? ? nil : mismatch("finish", 0, "", numbers)
+      @lock.synchronize do
+        left, *numbers = Named.call(Named::REPLAY_FINISH, "finish", @recorded, @replay)
+        left.zero? ? nil : mismatch("finish", 0, "", numbers)
+      end
     end
 
     def inspect
@@ -110,7 +115,7 @@ module Pendratsoa
       recorded = @recorded.byteslice(recorded_offset + HEADER, [size - HEADER, 0].max)
       fields = kind == :header_mismatch ? changed_fields(call, code, recorded, payload) : []
       recorded_offset = nil if size.zero?
-      Mismatch.new(kind, index, recorded_offset, replayed_offset, text.freeze, fields.freeze)
+      Mismatch.new(kind, index, recorded_offset, replayed_offset + @longer, text.freeze, fields.freeze)
     end
 
     # The text of the mismatch of an item.

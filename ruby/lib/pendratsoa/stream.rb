@@ -13,6 +13,10 @@ module Pendratsoa
   # A message whose payload has more than `max_message_size` bytes raises MessageTooLong as soon as its header came, and
   # ends the stream: what came is dropped, and from then on each loop, `feed`, `read` and `finish` raise the same error.
   # nil is not a limit.
+  #
+  # With a `numbering` the payload of each message is at the protocol's own field numbers, and `bytes` and `offset` are
+  # those of the stream that is read. A payload that cannot be read so is Malformed, which names its message; a next
+  # loop goes on after it.
   class Stream
     include Enumerable
 
@@ -27,12 +31,16 @@ module Pendratsoa
 
     # Yields the items that come from what is open for reading. Without a block it returns an Enumerator. Bytes at its
     # end that are in no item are left out, or are Incomplete if it is strict.
-    def self.read(input, version: 8, size: CHUNK, strict: false, max_message_size: nil, &block)
-      new(version: version, max_message_size: max_message_size).read(input, size: size, strict: strict, &block)
+    def self.read(input, version: 8, size: CHUNK, strict: false, max_message_size: nil, numbering: nil, &block)
+      stream = new(version: version, max_message_size: max_message_size, numbering: numbering)
+      stream.read(input, size: size, strict: strict, &block)
     end
 
     # Unknown if there is no such version.
-    def initialize(version: 8, max_message_size: nil)
+    def initialize(version: 8, max_message_size: nil, numbering: nil)
+      @numbering = Numbered.checked("Stream", numbering)
+      # messages for whose payloads there was no memory
+      @unread = []
       @call = Call.new("Stream", version: version, max_message_size: max_message_size)
       @version = @call.version
       @limit = max_message_size && @call.length(:max_message_size)
@@ -56,12 +64,19 @@ module Pendratsoa
       @pending.rest
     end
 
+    # The pending bytes, `rest` of them, each time in a new binary String. Once all items were taken, they begin an item
+    # that is not whole. A proxy passes them on where its input ends. After Incomplete they are still there. After
+    # MessageTooLong there are none.
+    def trailing
+      @pending.trailing
+    end
+
     # Yields the items that are whole. Without a block it returns an Enumerator.
     def each
       return enum_for unless block_given?
 
       pending = @pending
-      while (item = pending.take)
+      while (item = @numbering ? read_item : pending.take)
         refuse(item) if item.is_a?(Integer)
         yield item
       end
@@ -69,8 +84,8 @@ module Pendratsoa
     end
 
     # Feeds what an IO or the like has, at most `size` bytes at a time, and yields the items as they come. It ends where
-    # the input ends; the trailing bytes are then in `rest`, and are Incomplete if it is strict. Without a block it
-    # returns an Enumerator.
+    # the input ends; `trailing` has then the bytes of an item that is not whole, which are Incomplete if it is strict.
+    # Without a block it returns an Enumerator.
     def read(input, size: CHUNK, strict: false, &block)
       raise ArgumentError, "read: size #{size} is less than 1" if size < 1
       return enum_for(:read, input, size: size, strict: strict) unless block
@@ -122,6 +137,7 @@ module Pendratsoa
     def initialize_copy(original)
       super
       @pending = @pending.dup
+      @unread = @unread.dup
     end
 
     # The next bytes of an input, and nil at its end.
@@ -132,6 +148,15 @@ module Pendratsoa
       nil
     end
 
+    # Takes the next item as the bytes have it, and reads its payload by the numbering.
+    def read_item
+      item = @unread.pop || @pending.take
+      Numbered.read("Stream", @numbering, item)
+    rescue OutOfMemory
+      @unread.push(item) if item
+      raise
+    end
+
     # Takes the next item from the bytes, or nil if not all of it came.
     def take
       item = @pending.take
@@ -140,10 +165,8 @@ module Pendratsoa
 
     # Raises the error of a negative number, or that of a kind of items that is not known.
     def refuse(number)
-      @call.kind(ITEM_KINDS, number, "an item") unless number.negative?
       check
-      error = @call.refused(number)
-      raise error unless error.is_a?(TooLong) && @limit
+      @call.no_item(number) unless number.negative? && @limit && @call.refused(number).is_a?(TooLong)
 
       code, _, length = @pending.head.unpack("nnN")
       @ended = @call.message_too_long(code, @pending.offset, length, @limit)
