@@ -44,6 +44,8 @@ type Decoder struct {
 	// limit is the greatest size of a payload that is taken, if hasLimit
 	limit    uint32
 	hasLimit bool
+	// numbering reads the payloads, unless it is nil
+	numbering *Numbering
 	// offset is how many bytes are in the items that Next returned; ended is the error that ended the stream
 	offset int64
 	ended  error
@@ -76,6 +78,14 @@ func (d *Decoder) SetMaxMessageSize(size uint32) {
 	d.limit, d.hasLimit = size, true
 	// what was found may be larger
 	d.count, d.taken = 0, 0
+}
+
+// SetNumbering says that the payloads of the stream are at the field numbers of a descriptor set; nil says that they
+// are not. The payload of each message that Next returns is read by the numbering, so that everything of the message
+// works. Its Offset and its Bytes are those of the stream, which the limit is on too. A payload that cannot be read is
+// ErrMalformed, in a *MessageError, and the next call goes on after its message.
+func (d *Decoder) SetNumbering(numbering *Numbering) {
+	d.numbering = numbering
 }
 
 // NewDecoder returns a decoder of the stream of a version that comes from a reader, which it reads in blocks. For an
@@ -127,6 +137,13 @@ func (d *Decoder) Rest() int {
 	return len(d.rest)
 }
 
+// Trailing returns the bytes that were read and are in no item that Next returned. After an *IncompleteError they are
+// what came of the last item, and a proxy passes them on after the items before it. After a *MessageTooLong there are
+// none. They are a part of the decoder's block, without a copy. Do not change them if you take further items.
+func (d *Decoder) Trailing() []byte {
+	return d.rest[:len(d.rest):len(d.rest)]
+}
+
 // take returns the item that the rest begins with, if it is whole, and otherwise how many bytes are missing at least.
 func (d *Decoder) take() (Item, int64, error) {
 	if d.ended != nil {
@@ -144,10 +161,16 @@ func (d *Decoder) take() (Item, int64, error) {
 	if err != nil {
 		return nil, 0, &Error{"Decoder.Next", named(versionName, d.version), err}
 	}
+	if d.numbering != nil {
+		item, err = d.numbering.read(item)
+		if errors.Is(err, ErrOutOfMemory) {
+			return nil, 0, err
+		}
+	}
 	d.taken++
 	d.rest = d.rest[size:]
 	d.offset += int64(size)
-	return item, 0, nil
+	return item, 0, err
 }
 
 // look finds the items that the rest begins with, and returns how many bytes are missing at least if none is whole.

@@ -120,6 +120,33 @@ func TestStreamGoesOnAfterItsEnd(t *testing.T) {
 	}
 }
 
+func TestTrailingBytesArePassedOn(t *testing.T) {
+	stream := unhex(t, input+"fc01ffff00000001ff"+"0008a5a500000000"+input)
+	for end := 0; end <= len(stream); end++ {
+		decoder := NewDecoder(iotest.HalfReader(bytes.NewReader(stream[:end])), 8)
+		var copied []byte
+		item, err := decoder.Next()
+		for ; err == nil; item, err = decoder.Next() {
+			copied = append(copied, item.Bytes()...)
+		}
+		trailing := decoder.Trailing()
+		if len(trailing) != decoder.Rest() || (err == io.EOF) != (len(trailing) == 0) {
+			t.Errorf("%d bytes: %v, %x, %d", end, err, trailing, decoder.Rest())
+		}
+		if copied = append(copied, trailing...); !bytes.Equal(copied, stream[:end]) {
+			t.Errorf("%d bytes: %x", end, copied)
+		}
+		// what is appended goes into no room of the decoder
+		_ = append(trailing, 0xff)
+		if _, err := decoder.Next(); len(trailing) > 0 && !errors.Is(err, io.ErrUnexpectedEOF) {
+			t.Errorf("%d bytes, then %v", end, err)
+		}
+		if !bytes.Equal(decoder.Trailing(), trailing) {
+			t.Errorf("%d bytes, then %x", end, decoder.Trailing())
+		}
+	}
+}
+
 func TestErrorOfReaderComesAfterItsBytes(t *testing.T) {
 	data, broken := unhex(t, input), errors.New("broken")
 	for _, err := range []error{broken, io.ErrUnexpectedEOF, iotest.ErrTimeout} {
@@ -338,8 +365,8 @@ func TestMessageTooLong(t *testing.T) {
 		for i := 0; i < 2; i++ {
 			var long *MessageTooLong
 			wanted := MessageTooLong{0, math.MaxUint32, limit, int64(whole)}
-			if !errors.As(err, &long) || *long != wanted || decoder.Rest() != 0 {
-				t.Errorf("%v, with %d bytes left", err, decoder.Rest())
+			if !errors.As(err, &long) || *long != wanted || decoder.Rest() != 0 || len(decoder.Trailing()) != 0 {
+				t.Errorf("%v, with %d bytes left, %x", err, decoder.Rest(), decoder.Trailing())
 			}
 			_, err = decoder.Next()
 		}

@@ -27,7 +27,7 @@ type Message struct {
 	Code    uint16
 	// RequestedAck tells whether its header requests an acknowledgement.
 	RequestedAck bool
-	// Payload is its payload, in any encoding.
+	// Payload is its payload, in any encoding. That of a Decoder with a Numbering is at the numbers of the protocol.
 	Payload  []byte
 	came     received
 	position position
@@ -78,6 +78,15 @@ func (r received) bytes() []byte {
 		return nil
 	}
 	return unsafe.Slice(r.first, headerSize+int(r.payload))
+}
+
+// more returns how many bytes more the payload as received has than another one; less than none wraps. The library
+// counts those of the payload, which a numbering has read.
+func (r received) more(payload []byte) uint64 {
+	if r.first == nil {
+		return 0
+	}
+	return uint64(r.payload) - uint64(len(payload))
 }
 
 // A position is one more than the offset of an item in its stream, and 0 of one that did not come in a stream.

@@ -116,6 +116,20 @@ const (
 	commandNumbers = C.JOURNAL_COMMAND_NUMBERS
 )
 
+const (
+	renumberingSchema     = 0
+	renumberingGroup      = 1
+	renumberingNumber     = 2
+	renumberingRenumbered = 3
+	renumberingNested     = 4
+	renumberingNumbers    = C.JOURNAL_RENUMBERING_NUMBERS
+)
+
+const (
+	listKind    = 0
+	listNumbers = C.JOURNAL_LIST_NUMBERS
+)
+
 // The kinds of items: a message; before version 9 an unassigned code, whose eight bytes are skipped; at version 9 a
 // message of an unknown type, skipped with its payload.
 const (
@@ -250,6 +264,19 @@ const (
 	replayIgnoreIds      = C.JOURNAL_REPLAY_IGNORE_IDS
 )
 
+// The directions of a numbering.
+const (
+	numberingReading = C.JOURNAL_NUMBERING_READING
+	numberingWriting = C.JOURNAL_NUMBERING_WRITING
+)
+
+// What the text of a numbering is.
+const (
+	listListed   = C.JOURNAL_LIST_LISTED
+	listNoSet    = C.JOURNAL_LIST_NO_SET
+	listNoRename = C.JOURNAL_LIST_NO_RENAME
+)
+
 // What follows are the C calls in the types of Go, a slice for a pointer and its count. The library keeps no
 // pointer, and what the pointers lead to holds none, as the rules of cgo want it.
 
@@ -272,6 +299,13 @@ func pointerToItems(slice [][itemNumbers]uint64) *C.struct_journal_item {
 		return nil
 	}
 	return (*C.struct_journal_item)(unsafe.Pointer(&slice[0]))
+}
+
+func pointerToRenumberings(slice [][renumberingNumbers]uint64) *C.struct_journal_renumbering {
+	if len(slice) == 0 {
+		return nil
+	}
+	return (*C.struct_journal_renumbering)(unsafe.Pointer(&slice[0]))
 }
 
 func flag(isSet bool) C.uint32_t {
@@ -448,5 +482,42 @@ func journalReplayFinish(recorded []byte, replay *[replayNumbers]uint64, mismatc
 	return int64(C.journal_replay_finish(
 		pointer(recorded), C.size_t(len(recorded)), (*C.struct_journal_replay)(unsafe.Pointer(replay)),
 		C.size_t(len(replay)), (*C.struct_journal_mismatch)(unsafe.Pointer(mismatch)), C.size_t(len(mismatch)),
+	))
+}
+
+func journalNumbering(direction uint32, set []byte, renames []byte, renumberings [][renumberingNumbers]uint64) int64 {
+	return int64(C.journal_numbering(
+		C.uint32_t(direction), pointer(set), C.size_t(len(set)), pointer(renames), C.size_t(len(renames)),
+		pointerToRenumberings(renumberings), C.size_t(len(renumberings)),
+	))
+}
+
+func journalNumberingText(set []byte, renames []byte, list *[listNumbers]uint64, out []byte) int64 {
+	return int64(C.journal_numbering_text(
+		pointer(set), C.size_t(len(set)), pointer(renames), C.size_t(len(renames)),
+		(*C.struct_journal_list)(unsafe.Pointer(list)), C.size_t(len(list)), pointer(out), C.size_t(len(out)),
+	))
+}
+
+func journalRenumber(schema uint32, renumberings [][renumberingNumbers]uint64, payload []byte, out []byte) int64 {
+	return int64(C.journal_renumber(
+		C.uint32_t(schema), pointerToRenumberings(renumberings), C.size_t(len(renumberings)), pointer(payload),
+		C.size_t(len(payload)), pointer(out), C.size_t(len(out)),
+	))
+}
+
+func journalRenumberStream(
+	version uint32, renumberings [][renumberingNumbers]uint64, stream []byte, out []byte,
+) int64 {
+	return int64(C.journal_renumber_stream(
+		C.uint32_t(version), pointerToRenumberings(renumberings), C.size_t(len(renumberings)), pointer(stream),
+		C.size_t(len(stream)), pointer(out), C.size_t(len(out)),
+	))
+}
+
+func journalNumberingDump(version uint32, set []byte, renames []byte, stream []byte, out []byte) int64 {
+	return int64(C.journal_numbering_dump(
+		C.uint32_t(version), pointer(set), C.size_t(len(set)), pointer(renames), C.size_t(len(renames)),
+		pointer(stream), C.size_t(len(stream)), pointer(out), C.size_t(len(out)),
 	))
 }

@@ -43,6 +43,120 @@ func TestPackages(t *testing.T) {
 	}
 }
 
+// The cases of conformance/numberings.cases, which the same README specifies. A rename that is not a pair of names is
+// left out, since a map cannot have it.
+func TestNumberings(t *testing.T) {
+	numberings, passed := map[string]*Numbering{}, 0
+	for _, line := range strings.Split(string(readFile(t, "conformance/numberings.cases")), "\n") {
+		if line == "" || strings.HasPrefix(line, "#") {
+			continue
+		}
+		question, want, _ := strings.Cut(line, " = ")
+		words := strings.Split(question, " ")
+		var found string
+		switch words[0] {
+		case "set":
+			renames, arePairs := renamesOf(string(bytesOf(t, words[2])))
+			if !arePairs {
+				continue
+			}
+			numbering, err := NewNumbering(bytesOf(t, words[3]), renames)
+			numberings[words[1]] = numbering
+			found = setCase(err)
+		case "read", "write":
+			schema := must(SchemaNamed(words[2]))(t)
+			by := map[string]func(int, []byte) ([]byte, error){
+				"read": numberings[words[1]].ReadPayload, "write": numberings[words[1]].WritePayload,
+			}[words[0]]
+			found = renumberedCase(by(schema, bytesOf(t, words[3])))
+		case "stream":
+			by := map[string]func(int, []byte) ([]byte, error){
+				"read": numberings[words[2]].ReadStream, "write": numberings[words[2]].WriteStream,
+			}[words[1]]
+			version, stream := must(strconv.Atoi(words[3]))(t), bytesOf(t, words[4])
+			read, err := by(version, stream)
+			found = renumberedCase(read, err)
+			if words[1] == "read" {
+				sameItems(t, numberings[words[2]], version, stream, read, err)
+			}
+		}
+		if found != want {
+			t.Errorf("%s\nreturned: %s", line, found)
+		}
+		passed++
+	}
+	if passed < 600 {
+		t.Errorf("%d cases passed", passed)
+	}
+}
+
+// renamesOf returns the names of lines, and whether each is a pair.
+func renamesOf(lines string) (map[string]string, bool) {
+	renames := map[string]string{}
+	for _, line := range strings.Split(strings.TrimSuffix(lines, "\n"), "\n") {
+		theirs, ours, isPair := strings.Cut(line, "=")
+		if !isPair && line != "" {
+			return nil, false
+		}
+		if isPair {
+			renames[theirs] = ours
+		}
+	}
+	return renames, true
+}
+
+func setCase(err error) string {
+	var why *NumberingError
+	switch {
+	case err == nil:
+		return "ok"
+	case !errors.As(err, &why):
+		return err.Error()
+	case why.Reason == ReasonNoSet:
+		return "no_set " + digitsOf([]byte(why.Text))
+	}
+	return "no_rename " + digitsOf([]byte(why.Text))
+}
+
+func renumberedCase(found []byte, err error) string {
+	switch {
+	case err == nil:
+		return digitsOf(found)
+	case errors.Is(err, ErrMalformed):
+		return "malformed"
+	case errors.Is(err, ErrUnknown):
+		return "unknown"
+	}
+	return err.Error()
+}
+
+// sameItems looks whether a decoder with a numbering has the messages of the stream that was read by it.
+func sameItems(t *testing.T, numbering *Numbering, version int, stream, read []byte, readErr error) {
+	decoder := NewDecoder(bytes.NewReader(stream), version)
+	decoder.SetNumbering(numbering)
+	items, err := all(decoder)
+	if readErr != nil {
+		if renumberedCase(nil, err) != renumberedCase(nil, readErr) {
+			t.Errorf("%x: %v, and %v", stream, err, readErr)
+		}
+		return
+	}
+	own, _ := all(NewDecoder(bytes.NewReader(read), version))
+	var copied []byte
+	for i, item := range items {
+		if item.String() != own[i].String() {
+			t.Errorf("%x: %v, and not %v", stream, item, own[i])
+		}
+		if message, isMessage := item.(Message); isMessage && !bytes.Equal(message.Payload, own[i].(Message).Payload) {
+			t.Errorf("%x: %x", stream, message.Payload)
+		}
+		copied = append(copied, item.Bytes()...)
+	}
+	if copied = append(copied, decoder.Trailing()...); len(items) != len(own) || !bytes.Equal(copied, stream) {
+		t.Errorf("%x: %d items, %x", stream, len(items), copied)
+	}
+}
+
 // bytesOf returns the bytes of a word.
 func bytesOf(t *testing.T, word string) []byte {
 	return unhex(t, strings.TrimPrefix(word, "-"))

@@ -102,6 +102,9 @@ func (r *Replay) Check(item Item) (*Mismatch, error) {
 			return nil, err
 		}
 	}
+	if message, isMessage := item.(Message); isMessage && r.next[replayReplayedOffset] != r.numbers[replayReplayedOffset] {
+		r.next[replayReplayedOffset] += message.came.more(payload)
+	}
 	r.numbers = r.next
 	return found, nil
 }

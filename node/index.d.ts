@@ -94,7 +94,7 @@ export class Message<T extends TypeName = TypeName> {
   /** The code of its type. */
   readonly code: number;
 
-  /** Its payload, in any encoding, as received. */
+  /** Its payload, in any encoding, as received; of a stream with a `Numbering` at the numbers of the protocol. */
   readonly payload: Uint8Array;
 
   /** Whether its header requests an acknowledgement. */
@@ -165,7 +165,7 @@ export class Message<T extends TypeName = TypeName> {
    * @throws {Unknown} a custom entry has no schema; the version cannot have the payload: a suspension before version 7
    *   has no frame from 7 on, and one since then has a frame at each
    */
-  frame(version?: number): Uint8Array;
+  frame(version?: number, options?: FrameOptions): Uint8Array;
 
   /**
    * Writes its frame, at a version, by default its own, to the front of an array, as the function `frameInto`.
@@ -173,7 +173,7 @@ export class Message<T extends TypeName = TypeName> {
    * @throws {Malformed} a payload is not well-formed for its schema
    * @throws {Unknown} a custom entry has no schema
    */
-  frameInto(out: Uint8Array, version?: number): number;
+  frameInto(out: Uint8Array, version?: number, options?: FrameOptions): number;
 
   /**
    * Its id and its result.
@@ -264,6 +264,18 @@ export interface StreamOptions {
    * throw that error.
    */
   maxMessageSize?: number;
+
+  /**
+   * By which payloads are read that are at other field numbers; without it they are at those of the protocol. A payload
+   * that cannot be read is `Malformed`, with the type and the offset of its message; the next loop goes on after it.
+   */
+  numbering?: Numbering;
+}
+
+/** What a frame is written by. */
+export interface FrameOptions {
+  /** By which a payload is written at other field numbers; without it it is at those of the protocol. */
+  numbering?: Numbering;
 }
 
 /**
@@ -288,13 +300,20 @@ export class Stream implements Iterable<Item> {
   get rest(): number;
 
   /**
+   * The pending bytes, in an array of their own. Once the whole items are taken, they are the beginning of the next
+   * one. At the end of a stream a proxy passes them on after the last item: `finish` leaves them. After a
+   * `MessageTooLong` there are none.
+   */
+  get trailing(): Uint8Array;
+
+  /**
    * Appends a chunk to what came. If an allocation fails, the stream is unchanged.
    * @throws {RangeError} an allocation failed
    */
   feed(chunk: Uint8Array): void;
 
   /**
-   * Says that the stream ended. Its items have to be taken before.
+   * Says that the stream ended. Its items have to be taken before. It changes nothing.
    * @throws {Incomplete} bytes are in no item
    */
   finish(): void;
@@ -361,7 +380,7 @@ export function header(version: number, code: number, payloadLength: number): Ui
  * @throws {Malformed} a payload is not well-formed for its schema
  * @throws {TooLong} a payload would have more than 4,294,967,295 bytes
  */
-export function frame(version: number, code: number, payload: Uint8Array): Uint8Array;
+export function frame(version: number, code: number, payload: Uint8Array, options?: FrameOptions): Uint8Array;
 
 /**
  * Writes the frame that `frame` returns to the front of an array; one in a greater memory is a part of it by
@@ -371,7 +390,13 @@ export function frame(version: number, code: number, payload: Uint8Array): Uint8
  * @throws {Malformed} a payload is not well-formed for its schema
  * @throws {TooLong} a payload would have more than 4,294,967,295 bytes
  */
-export function frameInto(version: number, code: number, payload: Uint8Array, out: Uint8Array): number;
+export function frameInto(
+  version: number,
+  code: number,
+  payload: Uint8Array,
+  out: Uint8Array,
+  options?: FrameOptions,
+): number;
 
 // Payloads, by their schemas. All throw `Unknown` if there is no such schema.
 
@@ -418,6 +443,76 @@ export function readRecord<N extends SchemaName>(schema: N, payload: Uint8Array)
  * @throws {TypeError} a value is of another kind than its field, or no field has the name
  */
 export function writeRecord<N extends SchemaName>(schema: N, record: Init<Records[N]>): Uint8Array;
+
+// Other field numbers.
+
+/** What a numbering is made of, besides a descriptor set. */
+export interface NumberingOptions {
+  /** The names that messages have in the set, each with its name in the protocol; by default none. */
+  readonly renames?: Readonly<Record<string, string>>;
+}
+
+/**
+ * The field numbers of a runtime whose .proto has the messages of the protocol with other numbers. It is made of the
+ * descriptor set that protoc or buf writes of that .proto, and finds messages and fields by their names.
+ *
+ * By it a payload is read, from their numbers to those of the protocol, and written back. All other calls take payloads
+ * at the numbers of the protocol. A field that only the set has is left out of what is read, and one that only the
+ * protocol has is left out of what is written.
+ */
+export class Numbering {
+  /**
+   * @param set the descriptor set
+   * @throws {NumberingError} the set or a rename has a fault
+   */
+  constructor(set: Uint8Array, options?: NumberingOptions);
+
+  /**
+   * The numbering of a descriptor set in a file; in Node only.
+   * @throws {NumberingError} the set or a rename has a fault
+   * @throws {Error} the file cannot be read
+   */
+  static load(path: string | URL, options?: NumberingOptions): Numbering;
+
+  /** The list of fields, one per line: which are the same, renumbered, or only on one side. */
+  toString(): string;
+
+  /**
+   * A payload, from the numbers of the set to those of the protocol.
+   * @throws {Malformed} it is not a list of fields, or a message in it is not one
+   * @throws {Unknown} there is no such schema
+   */
+  readPayload(schema: Schema, payload: Uint8Array): Uint8Array;
+
+  /**
+   * A payload, from the numbers of the protocol to those of the set. A canonical one becomes a canonical one.
+   * @throws {Malformed} it is not a list of fields, or a message in it is not one
+   * @throws {Unknown} there is no such schema
+   */
+  writePayload(schema: Schema, payload: Uint8Array): Uint8Array;
+
+  /**
+   * A stream, from the numbers of the set to those of the protocol. A custom entry, and what is of no type, is copied
+   * as it is, and so are trailing bytes.
+   * @throws {Malformed} a payload cannot be read: `typeCode` and `offset` say of which message
+   * @throws {Unknown} there is no such version
+   */
+  readStream(version: number, stream: Uint8Array): Uint8Array;
+
+  /**
+   * A stream, from the numbers of the protocol to those of the set, as `readStream`.
+   * @throws {Malformed} a payload cannot be written: `typeCode` and `offset` say of which message
+   * @throws {Unknown} there is no such version
+   */
+  writeStream(version: number, stream: Uint8Array): Uint8Array;
+
+  /**
+   * The JSON of a stream at the numbers of the set, as `journal dump --schema` prints it. It has one item per line,
+   * with all fields that the set has, and a last line of the trailing bytes.
+   * @throws {Unknown} there is no such version
+   */
+  dump(version: number, stream: Uint8Array): string;
+}
 
 // Notifications.
 
@@ -733,6 +828,17 @@ export class FieldError extends JournalError {
   readonly path: string;
 }
 
+/** No numbering comes of a descriptor set and renames. */
+export class NumberingError extends JournalError {
+  readonly code: 'JOURNAL_NUMBERING_ERROR';
+
+  /** Which of the two has a fault. */
+  readonly reason: 'noSet' | 'noRename';
+
+  /** The fault, as `'a.proto: b.Message.field: number of a later field'`. */
+  readonly text: string;
+}
+
 /**
  * The WebAssembly module stopped in a call, as where the stack of the engine ends; the cause tells why. Nothing was
  * written, and the next call has a new module. A call of the addon never throws it.
@@ -748,6 +854,9 @@ export class Incomplete extends JournalError {
 
   /** How many bytes of that item came. */
   readonly rest: number;
+
+  /** These bytes. */
+  readonly trailing: Uint8Array;
 
   /** Where that item begins in the stream, in bytes. */
   readonly offset: number;

@@ -7,8 +7,6 @@ export {
   canonical,
   compareJournals,
   difference,
-  frame,
-  frameInto,
   fromJson,
   header,
   headerEq,
@@ -32,12 +30,15 @@ export {
   NoResult,
   NoRoom,
   NotCanonical,
+  NumberingError,
   OutOfMemory,
   TooLong,
   Trapped,
   Unknown,
 } from './lib/errors.js';
+export { frame, frameInto } from './lib/frames.js';
 export { Message, Skipped, UnknownCode } from './lib/items.js';
+export { Numbering } from './lib/numbering.js';
 export { CombinatorType, ErrorBehavior } from './lib/records.js';
 export { readRecord, writeRecord } from './lib/fields.js';
 export { Replay } from './lib/replay.js';

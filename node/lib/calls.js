@@ -14,7 +14,7 @@ import {
   VERDICT_KINDS,
   VERDICT_NUMBERS,
 } from './declared.js';
-import { notKnown, notTaken, refusal, wrongKind } from './errors.js';
+import { Unknown, notKnown, notTaken, refusal, wrongKind } from './errors.js';
 import { schemaNumber } from './schemas.js';
 import { isText, texts } from './text.js';
 
@@ -93,6 +93,32 @@ export function typeCode(name) {
   return remembered(codesOf, name, () => checked(addon.typeCode(encoder.encode(name)), given));
 }
 
+/** The name of a type, or its code where a message was made with one that no type has. */
+export function nameOf(code) {
+  try {
+    return typeName(code);
+  } catch (error) {
+    if (error instanceof Unknown) {
+      return `code 0x${code.toString(16)}`;
+    }
+    throw error;
+  }
+}
+
+/** The number of the schema of a message, or undefined of a custom entry, which has none. */
+export function schemaOf(version, code) {
+  try {
+    return schema(version, code);
+  } catch (error) {
+    if (!(error instanceof Unknown)) {
+      throw error;
+    }
+    // what has a header and no schema is a custom entry; this throws if there is no such version or type
+    header(version, code, 0);
+    return undefined;
+  }
+}
+
 export function header(version, code, payloadLength) {
   return headOf(version, code, payloadLength).slice();
 }
@@ -103,8 +129,8 @@ export function headOf(version, code, payloadLength) {
   return head;
 }
 
-export function frame(version, code, payload) {
-  const given = { call: 'frame', version, code, payload };
+export function frame(version, code, payload, call = 'frame') {
+  const given = { call, version, code, payload };
   return filled((out) => addon.frame(version, code, payload, out), given, bytesOf);
 }
 
@@ -207,6 +233,11 @@ export function written(call, given) {
   return filled(call, given, (out, length) => out.subarray(0, length));
 }
 
+/** The same in an array of their own. */
+export function bytesWritten(call, given) {
+  return filled(call, given, bytesOf);
+}
+
 /** Bytes that were written, in an array of their own. */
 function bytesOf(out, length) {
   return out === scratch ? out.slice(0, length) : out.subarray(0, length);
@@ -246,7 +277,7 @@ function encoded(text) {
 }
 
 /** The number of a schema. What is neither a number nor a name, the addon does not take. */
-function known(schema, given) {
+export function known(schema, given) {
   const isUnknownName = typeof schema === 'string' && schemaNumber(schema) === undefined;
   return isUnknownName ? checked(UNKNOWN_SCHEMA, given) : schemaNumber(schema);
 }

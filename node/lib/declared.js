@@ -85,6 +85,19 @@ export const REPLAY_OPTIONS = [
   'ignoreIds',
 ];
 
+/** The directions of a numbering. */
+export const NUMBERING_DIRECTIONS = [
+  'reading',
+  'writing',
+];
+
+/** What the text of a numbering is. */
+export const LIST_KINDS = [
+  'listed',
+  'noSet',
+  'noRename',
+];
+
 /** The indices of the numbers of a item, and how many there are. */
 export const ITEM = { kind: 0, word: 1, code: 2, requestedAck: 3, size: 4, payload: 5 };
 export const ITEM_NUMBERS = 6;
@@ -124,6 +137,14 @@ export const MISMATCH_NUMBERS = 6;
 /** The indices of the numbers of a command, and how many there are. */
 export const COMMAND = { offset: 0, code: 1, size: 2 };
 export const COMMAND_NUMBERS = 3;
+
+/** The indices of the numbers of a renumbering, and how many there are. */
+export const RENUMBERING = { schema: 0, group: 1, number: 2, renumbered: 3, nested: 4 };
+export const RENUMBERING_NUMBERS = 5;
+
+/** The indices of the numbers of a list, and how many there are. */
+export const LIST = { kind: 0 };
+export const LIST_NUMBERS = 1;
 
 /** The class of each error by its number, and the names of the arguments one of which it is about. */
 export const ERRORS = new Map([

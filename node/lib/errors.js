@@ -125,6 +125,19 @@ export class FieldError extends JournalError {
   }
 }
 
+/** No numbering comes of a descriptor set. */
+export class NumberingError extends JournalError {
+  static {
+    identify(this, 'JOURNAL_NUMBERING_ERROR');
+  }
+
+  constructor(message, { reason, text, ...details } = {}) {
+    super(message, details);
+    this.reason = reason;
+    this.text = text;
+  }
+}
+
 /** The WebAssembly module stopped in a call. */
 export class Trapped extends JournalError {
   static {
@@ -143,11 +156,12 @@ export class Incomplete extends JournalError {
     identify(this, 'JOURNAL_INCOMPLETE');
   }
 
-  constructor(message, { typeCode, offset, rest, ...details } = {}) {
+  constructor(message, { typeCode, offset, trailing, ...details } = {}) {
     super(message, details);
     this.typeCode = typeCode;
     this.offset = offset;
-    this.rest = rest;
+    this.rest = trailing?.length;
+    this.trailing = trailing;
   }
 }
 
@@ -192,7 +206,7 @@ const KINDS = {
 };
 
 // What is too long, or becomes so: the library does not say which argument that is of.
-const LONG = ['payloadLength', 'maxMessageSize', 'json', 'payload', 'first'];
+const LONG = ['payloadLength', 'maxMessageSize', 'json', 'payload', 'first', 'stream'];
 
 // What is said of each argument that can be unknown.
 const UNKNOWN = {
@@ -233,6 +247,13 @@ export function notTaken({ call, json }, { reason, offset, path }) {
   return new JsonError(`${call}: json ${shown(json)}: ${why}`, details);
 }
 
+/** The error that no numbering comes of a descriptor set: the reason, and the fault. */
+export function noNumbering({ call, set }, { reason, text }) {
+  const details = reason === 'noRename' ? { argument: 'renames' } : { argument: 'set', value: set };
+  const said = reason === 'noRename' ? 'renames' : `set ${shown(set)}`;
+  return new NumberingError(`${call}: ${said}: ${text}`, { call, ...details, reason, text });
+}
+
 /** The error of the message of a header, at an offset of a stream, that is longer than the limit of the stream. */
 export function messageTooLong({ call, maxMessageSize }, head, offset) {
   const view = new DataView(head.buffer, head.byteOffset, 8);
@@ -266,10 +287,11 @@ export function ofMessage(error, typeCode, name, offset) {
 }
 
 /** The error that a source ended within an item: its name or "an item", its type, its offset, and what came of it. */
-export function incomplete(call, { name, typeCode, offset, rest }) {
+export function incomplete(call, { name, typeCode, offset, trailing }) {
   const what = call === 'finish' ? 'stream' : 'source';
-  const message = `${call}: the ${what} ended within ${name} at offset ${offset}, after ${byteCount(rest)} of it`;
-  return new Incomplete(message, { call, typeCode, offset, rest });
+  const came = byteCount(trailing.length);
+  const message = `${call}: the ${what} ended within ${name} at offset ${offset}, after ${came} of it`;
+  return new Incomplete(message, { call, typeCode, offset, trailing });
 }
 
 /** The error that an argument is of another kind than it has to be. */

@@ -9,17 +9,21 @@ import {
   fromJson,
   headOf,
   header,
+  nameOf,
   notification,
   requestsAck,
   schema,
+  schemaOf,
   toJson,
   typeCode,
   typeName,
 } from './calls.js';
 import { Unknown, notKnown, ofMessage, wrongKind } from './errors.js';
 import { payloadOf, recordOf } from './fields.js';
+import { frameAt, into } from './frames.js';
 import { isCommandCode, isNotificationCode } from './protocol.js';
 import { RECORDS } from './records.js';
+import { numberingOf } from './renumber.js';
 import { schemaNumber } from './schemas.js';
 import { texts } from './text.js';
 
@@ -29,22 +33,31 @@ export let messageThatCame;
 export let unknownCodeThatCame;
 export let skippedThatCame;
 
+/** How many bytes the payload of a message has as received. */
+export let receivedLength;
+
 /** A message of a stream. */
 export class Message {
   // the word in halves, of a message of a stream
   #high;
   #low;
   #offset;
+  // the payload as received, of a message whose payload a numbering read
+  #received;
   kind = 'message';
 
   static {
-    messageThatCame = (offset, high, low, version, code, payload, requestedAck) => {
-      const message = new Message(version, code, payload, requestedAck);
+    messageThatCame = (offset, high, low, version, code, payload, requestedAck, read) => {
+      const message = new Message(version, code, read ?? payload, requestedAck);
       message.#high = high;
       message.#low = low;
       message.#offset = offset;
+      if (read !== undefined) {
+        message.#received = payload;
+      }
       return message;
     };
+    receivedLength = (message) => (message.#received ?? message.payload).length;
   }
 
   constructor(version, code, payload, requestedAck = false) {
@@ -79,7 +92,8 @@ export class Message {
 
   get bytes() {
     // what came in no stream has the header of its type
-    const { version, code, payload } = this;
+    const { version, code } = this;
+    const payload = this.#received ?? this.payload;
     return joined(this.#high === undefined ? headOf(version, code, payload.length) : this.#head(), payload);
   }
 
@@ -120,28 +134,27 @@ export class Message {
     return this.#read(() => canonical(this.schema, this.payload));
   }
 
-  frame(version = this.version) {
-    const earlier = earlierSchema(this.version, this.code);
-    return this.#read(() =>
-      earlier === undefined
-        ? frame(version, this.code, this.payload)
-        : earlierFrame('frame', version, this.code, earlier, this.payload),
-    );
+  frame(version = this.version, options) {
+    return this.#frame('frame', version, options);
   }
 
-  frameInto(out, version = this.version) {
+  frameInto(out, version = this.version, options) {
     const earlier = earlierSchema(this.version, this.code);
-    if (earlier === undefined) {
+    if (earlier === undefined && numberingOf(options) === undefined) {
       return this.#read(() => frameInto(version, this.code, this.payload, out));
     }
-    if (!(out instanceof Uint8Array)) {
-      throw wrongKind('out', out, 'a Uint8Array');
-    }
-    const found = this.#read(() => earlierFrame('frameInto', version, this.code, earlier, this.payload));
-    if (found.length <= out.length) {
-      out.set(found);
-    }
-    return found.length;
+    return into(out, () => this.#frame('frameInto', version, options));
+  }
+
+  #frame(call, version, options) {
+    const numbering = numberingOf(options);
+    const earlier = earlierSchema(this.version, this.code);
+    const found = this.#read(() =>
+      earlier === undefined
+        ? frame(version, this.code, this.payload, call)
+        : earlierFrame(call, version, this.code, earlier, this.payload),
+    );
+    return numbering === undefined ? found : frameAt(numbering, call, version, found);
   }
 
   notification() {
@@ -193,20 +206,6 @@ function messageSchema(name) {
   return number;
 }
 
-/** The number of the schema of a message, or undefined of a custom entry, which has none. */
-function schemaOf(version, code) {
-  try {
-    return schema(version, code);
-  } catch (error) {
-    if (!(error instanceof Unknown)) {
-      throw error;
-    }
-    // what has a header and no schema is a custom entry; this throws if there is no such version or type
-    header(version, code, 0);
-    return undefined;
-  }
-}
-
 function made(version, code, payload) {
   return new Message(version, code, payload, requestsAck(version, code));
 }
@@ -230,18 +229,6 @@ function earlierFrame(call, version, code, earlier, payload) {
   }
   const found = canonical(earlier, payload);
   return joined(header(version, code, found.length), found);
-}
-
-/** The name of a type, or its code where a message was made with one that no type has. */
-export function nameOf(code) {
-  try {
-    return typeName(code);
-  } catch (error) {
-    if (error instanceof Unknown) {
-      return `code ${hexOf(code)}`;
-    }
-    throw error;
-  }
 }
 
 function hexOf(code) {

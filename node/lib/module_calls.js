@@ -540,6 +540,129 @@ function replayFinish(recorded, replay, numbers) {
   return finished(returned);
 }
 
+function numbering(direction, set, renames, numbers) {
+  const refused = sizeIn('direction', direction);
+  const setLength = bytesIn('set', set);
+  const renamesLength = bytesIn('renames', renames);
+  const numbersLength = Math.floor(numbersIn('numbers', numbers) / 5);
+  if (refused !== 0) {
+    return refused;
+  }
+  const at = reserve(aligned(setLength) + aligned(renamesLength) + aligned(40 * numbersLength));
+  if (at === 0) {
+    return NO_MEMORY;
+  }
+  const setAt = at;
+  const renamesAt = setAt + aligned(setLength);
+  const numbersAt = renamesAt + aligned(renamesLength);
+  putBytes(set, setLength, setAt);
+  putBytes(renames, renamesLength, renamesAt);
+  const returned = instance.js_numbering(
+    direction, setAt, setLength, renamesAt, renamesLength, numbersAt, numbersLength
+  );
+  takeNumbers(numbers, 5 * Math.min(Math.max(returned, 0), numbersLength), numbersAt);
+  return finished(returned);
+}
+
+function numberingText(set, renames, numbers, out) {
+  const setLength = bytesIn('set', set);
+  const renamesLength = bytesIn('renames', renames);
+  const numbersLength = Math.min(numbersIn('numbers', numbers), 1);
+  const outLength = bytesIn('out', out);
+  const at = reserve(aligned(setLength) + aligned(renamesLength) + aligned(8 * numbersLength) + aligned(outLength));
+  if (at === 0) {
+    return NO_MEMORY;
+  }
+  const setAt = at;
+  const renamesAt = setAt + aligned(setLength);
+  const numbersAt = renamesAt + aligned(renamesLength);
+  const outAt = numbersAt + aligned(8 * numbersLength);
+  putBytes(set, setLength, setAt);
+  putBytes(renames, renamesLength, renamesAt);
+  putNumbers(numbers, numbersLength, numbersAt);
+  const returned = instance.js_numbering_text(
+    setAt, setLength, renamesAt, renamesLength, numbersAt, numbersLength, outAt, outLength
+  );
+  takeNumbers(numbers, returned < 0 ? 0 : numbersLength, numbersAt);
+  takeBytes(returned, out, outLength, outAt);
+  return finished(returned);
+}
+
+function renumber(schema, fields, payload, out) {
+  const refused = schemaIn(schema);
+  const fieldsLength = numbersIn('fields', fields);
+  const payloadLength = bytesIn('payload', payload);
+  const outLength = bytesIn('out', out);
+  if (refused !== 0) {
+    return refused;
+  }
+  const at = reserve(aligned(8 * fieldsLength) + aligned(payloadLength) + aligned(outLength));
+  if (at === 0) {
+    return NO_MEMORY;
+  }
+  const fieldsAt = at;
+  const payloadAt = fieldsAt + aligned(8 * fieldsLength);
+  const outAt = payloadAt + aligned(payloadLength);
+  putNumbers(fields, fieldsLength, fieldsAt);
+  putBytes(payload, payloadLength, payloadAt);
+  const returned = instance.js_renumber(
+    schema, fieldsAt, Math.floor(fieldsLength / 5), payloadAt, payloadLength, outAt, outLength
+  );
+  takeBytes(returned, out, outLength, outAt);
+  return finished(returned);
+}
+
+function renumberStream(version, fields, stream, out) {
+  const refused = versionIn(version);
+  const fieldsLength = numbersIn('fields', fields);
+  const streamLength = bytesIn('stream', stream);
+  const outLength = bytesIn('out', out);
+  if (refused !== 0) {
+    return refused;
+  }
+  const at = reserve(aligned(8 * fieldsLength) + aligned(streamLength) + aligned(outLength));
+  if (at === 0) {
+    return NO_MEMORY;
+  }
+  const fieldsAt = at;
+  const streamAt = fieldsAt + aligned(8 * fieldsLength);
+  const outAt = streamAt + aligned(streamLength);
+  putNumbers(fields, fieldsLength, fieldsAt);
+  putBytes(stream, streamLength, streamAt);
+  const returned = instance.js_renumber_stream(
+    version, fieldsAt, Math.floor(fieldsLength / 5), streamAt, streamLength, outAt, outLength
+  );
+  takeBytes(returned, out, outLength, outAt);
+  return finished(returned);
+}
+
+function numberingDump(version, set, renames, stream, out) {
+  const refused = versionIn(version);
+  const setLength = bytesIn('set', set);
+  const renamesLength = bytesIn('renames', renames);
+  const streamLength = bytesIn('stream', stream);
+  const outLength = bytesIn('out', out);
+  if (refused !== 0) {
+    return refused;
+  }
+  const at = reserve(aligned(setLength) + aligned(renamesLength) + aligned(streamLength) + aligned(outLength));
+  if (at === 0) {
+    return NO_MEMORY;
+  }
+  const setAt = at;
+  const renamesAt = setAt + aligned(setLength);
+  const streamAt = renamesAt + aligned(renamesLength);
+  const outAt = streamAt + aligned(streamLength);
+  putBytes(set, setLength, setAt);
+  putBytes(renames, renamesLength, renamesAt);
+  putBytes(stream, streamLength, streamAt);
+  const returned = instance.js_numbering_dump(
+    version, setAt, setLength, renamesAt, renamesLength, streamAt, streamLength, outAt, outLength
+  );
+  takeBytes(returned, out, outLength, outAt);
+  return finished(returned);
+}
+
 /** The length of a chunk, by which its kind is checked before it is copied. */
 function chunkLength(chunk) {
   return bytesIn('chunk', chunk);
@@ -571,5 +694,10 @@ export const CALLS = {
   replayText,
   replayExpected,
   replayFinish,
+  numbering,
+  numberingText,
+  renumber,
+  renumberStream,
+  numberingDump,
   chunkLength,
 };

@@ -6,6 +6,7 @@ import { createRequire } from 'node:module';
 import { inspect } from 'node:util';
 
 import { useCalls } from './addon.js';
+import { files } from './files.js';
 import { callsOf } from './module.js';
 import { texts } from './text.js';
 
@@ -64,5 +65,7 @@ Object.assign(texts, {
   unwritten: (size) => Buffer.allocUnsafeSlow(size),
   shown: (value) => inspect(value, { breakLength: Infinity, customInspect: false, depth: 0, maxStringLength: 64 }),
 });
+
+files.read = readFileSync;
 
 useCalls(load());

@@ -14,7 +14,7 @@ import {
   VERDICT_NUMBERS,
 } from './declared.js';
 import { wrongKind } from './errors.js';
-import { Message, Skipped, UnknownCode } from './items.js';
+import { Message, Skipped, UnknownCode, receivedLength } from './items.js';
 import { itemAt } from './stream.js';
 
 const NOTHING = new Uint8Array(0);
@@ -93,6 +93,10 @@ export class Replay {
         numbers[REPLAY.recordedOffset] = 0n;
       }
       this.#next = undefined;
+    }
+    // the library counts the bytes of the payload, which are others than those received if a numbering read it
+    if (item instanceof Message && numbers[REPLAY.replayedOffset] !== before[REPLAY.replayedOffset]) {
+      numbers[REPLAY.replayedOffset] += BigInt(receivedLength(item) - payload.length);
     }
     this.#numbers = numbers;
     this.#copy = before;

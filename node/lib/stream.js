@@ -1,10 +1,11 @@
 // Streams that come in chunks.
 
 import { addon } from './addon.js';
-import { checked } from './calls.js';
+import { checked, nameOf } from './calls.js';
 import { ITEM, ITEM_KINDS, ITEM_NUMBERS } from './declared.js';
-import { TooLong, incomplete, messageTooLong, notKnown } from './errors.js';
-import { messageThatCame, nameOf, skippedThatCame, unknownCodeThatCame, wordOf } from './items.js';
+import { Malformed, TooLong, incomplete, messageTooLong, notKnown } from './errors.js';
+import { messageThatCame, skippedThatCame, unknownCodeThatCame, wordOf } from './items.js';
+import { numberingOf, renumberedMessage } from './renumber.js';
 
 const NOTHING = new Uint8Array(0);
 const HEADER_SIZE = 8;
@@ -29,6 +30,7 @@ let atEnd;
 export class Stream {
   #version;
   #limit;
+  #numbering;
   // how many bytes are in the items that were taken, and the error that ended the stream
   #offset = 0;
   #ended;
@@ -46,9 +48,10 @@ export class Stream {
     atEnd = (stream, call) => stream.#atEnd(call);
   }
 
-  constructor(version = 8, { maxMessageSize } = {}) {
+  constructor(version = 8, { maxMessageSize, numbering } = {}) {
     this.#version = version;
     this.#limit = maxMessageSize;
+    this.#numbering = numberingOf({ numbering });
     checked(this.#next(NOTHING), { call: 'Stream', version, maxMessageSize });
   }
 
@@ -58,6 +61,10 @@ export class Stream {
 
   get rest() {
     return this.#end - this.#begin;
+  }
+
+  get trailing() {
+    return this.#bytes.slice(this.#begin, this.#end);
   }
 
   feed(chunk) {
@@ -89,7 +96,7 @@ export class Stream {
       const isHeader = this.rest >= HEADER_SIZE;
       const typeCode = isHeader ? this.#bytes[this.#begin] * 256 + this.#bytes[this.#begin + 1] : undefined;
       const name = isHeader ? nameOf(typeCode) : 'an item';
-      throw incomplete(call, { name, typeCode, offset: this.#offset, rest: this.rest });
+      throw incomplete(call, { name, typeCode, offset: this.#offset, trailing: this.trailing });
     }
   }
 
@@ -159,21 +166,35 @@ export class Stream {
     this.#end = rest.length;
   }
 
-  /** Takes the item that the rest begins with, if it is whole. An error takes nothing. */
+  /** Takes the item that the rest begins with, if it is whole, or if its payload cannot be read. */
   #take() {
     this.#check();
     if (this.#at === this.#found.length && !this.#look()) {
       return undefined;
     }
     const size = wholeOf(this.#found, this.#at + 2 * ITEM.size);
-    const item = itemOf(this.#version, this.#offset, this.#found, this.#at, this.#bytes, this.#begin, size);
+    const [version, offset, numbering] = [this.#version, this.#offset, this.#numbering];
+    let item;
+    try {
+      item = itemOf(version, offset, this.#found, this.#at, this.#bytes, this.#begin, size, numbering);
+    } catch (error) {
+      if (error instanceof Malformed) {
+        this.#pass(size);
+      }
+      throw error;
+    }
+    this.#pass(size);
+    return item;
+  }
+
+  /** Passes an item of a size. */
+  #pass(size) {
     this.#at += HALVES;
     this.#begin += size;
     this.#offset += size;
     if (this.#begin === this.#end) {
       this.#clear();
     }
-    return item;
   }
 }
 
@@ -186,7 +207,7 @@ function wholeOf(found, at) {
  * The item at an offset whose numbers are in a table, and which bytes have from an index on, with a payload in memory
  * of its own. The word of a message stays in halves, since few callers read it and a bigint takes long to make.
  */
-function itemOf(version, offset, found, at, bytes, begin, size) {
+function itemOf(version, offset, found, at, bytes, begin, size, numbering) {
   const code = found[at + 2 * ITEM.code];
   const low = found[at + 2 * ITEM.word];
   const high = found[at + 2 * ITEM.word + 1];
@@ -196,8 +217,12 @@ function itemOf(version, offset, found, at, bytes, begin, size) {
   }
   const payload = bytes.slice(begin + found[at + 2 * ITEM.payload], begin + size);
   switch (ITEM_KINDS[kind]) {
-    case 'message':
-      return messageThatCame(offset, high, low, version, code, payload, found[at + 2 * ITEM.requestedAck] === 1);
+    case 'message': {
+      const requestedAck = found[at + 2 * ITEM.requestedAck] === 1;
+      const read =
+        numbering && renumberedMessage(numbering, 'reading', 'Stream', { version, code, payload, offset });
+      return messageThatCame(offset, high, low, version, code, payload, requestedAck, read);
+    }
     case 'skipped':
       return skippedThatCame(offset, version, code, wordOf(high, low), payload);
     default:

@@ -10,6 +10,7 @@ static const char *const NAMES[] = {
     [PAYLOAD_LENGTH] = "payloadLength",
     [LIMIT] = "maxMessageSize",
     [INDEX] = "index",
+    [DIRECTION] = "direction",
     [NAME] = "name",
     [CHUNK] = "chunk",
     [BYTES] = "bytes",
@@ -19,6 +20,9 @@ static const char *const NAMES[] = {
     [SECOND] = "second",
     [RECORDED] = "recorded",
     [REPLAYED] = "replayed",
+    [SET] = "set",
+    [RENAMES] = "renames",
+    [STREAM] = "stream",
     [IGNORE_PAYLOADS] = "ignorePayloads",
     [REPLAY] = "replay",
     [FIELDS] = "fields",
@@ -217,6 +221,8 @@ static enum reading read_argument(napi_env env, enum parameter parameter, napi_v
         return read_length(env, parameter, value, &arguments->limit);
     case INDEX:
         return read_length(env, parameter, value, &arguments->index);
+    case DIRECTION:
+        return read_length(env, parameter, value, &arguments->direction);
     case NAME:
     case CHUNK:
     case BYTES:
@@ -224,10 +230,14 @@ static enum reading read_argument(napi_env env, enum parameter parameter, napi_v
     case JSON:
     case FIRST:
     case RECORDED:
+    case SET:
         return read_bytes(env, parameter, value, &arguments->first);
     case SECOND:
     case REPLAYED:
+    case RENAMES:
         return read_bytes(env, parameter, value, &arguments->second);
+    case STREAM:
+        return read_bytes(env, parameter, value, &arguments->third);
     case IGNORE_PAYLOADS:
         return read_flag(env, parameter, value, &arguments->ignore_payloads);
     case REPLAY:

@@ -22,6 +22,7 @@ enum parameter {
     PAYLOAD_LENGTH,
     LIMIT,
     INDEX,
+    DIRECTION,
     NAME,
     CHUNK,
     BYTES,
@@ -31,6 +32,9 @@ enum parameter {
     SECOND,
     RECORDED,
     REPLAYED,
+    SET,
+    RENAMES,
+    STREAM,
     IGNORE_PAYLOADS,
     REPLAY,
     FIELDS,
@@ -47,17 +51,19 @@ struct slice {
     size_t length;
 };
 
-/* The arguments of a call; those that are not its parameters are 0. `second` is that of two slices. */
+/* The arguments of a call; those that are not its parameters are 0. `third` is also the only slice, of a stream. */
 struct arguments {
     uint32_t version;
     uint32_t schema;
     uint32_t payload_length;
     uint32_t limit;
     uint32_t index;
+    uint32_t direction;
     uint32_t ignore_payloads;
     uint16_t code;
     struct slice first;
     struct slice second;
+    struct slice third;
     uint64_t *fields;
     size_t fields_count;
     uint64_t *replay;

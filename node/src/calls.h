@@ -129,6 +129,36 @@ static int64_t replay_finish(const struct arguments *arguments) {
                                  arguments->replay_room, (void *)arguments->numbers, arguments->numbers_room);
 }
 
+static int64_t numbering(const struct arguments *arguments) {
+    return journal_numbering(arguments->direction, arguments->first.bytes, arguments->first.length,
+                             arguments->second.bytes, arguments->second.length, (void *)arguments->numbers,
+                             arguments->numbers_room / JOURNAL_RENUMBERING_NUMBERS);
+}
+
+static int64_t numbering_text(const struct arguments *arguments) {
+    return journal_numbering_text(arguments->first.bytes, arguments->first.length, arguments->second.bytes,
+                                  arguments->second.length, (void *)arguments->numbers, arguments->numbers_room,
+                                  arguments->out.bytes, arguments->out.length);
+}
+
+static int64_t renumber(const struct arguments *arguments) {
+    return journal_renumber(arguments->schema, (void *)arguments->fields, arguments->fields_count /
+                            JOURNAL_RENUMBERING_NUMBERS, arguments->first.bytes, arguments->first.length,
+                            arguments->out.bytes, arguments->out.length);
+}
+
+static int64_t renumber_stream(const struct arguments *arguments) {
+    return journal_renumber_stream(arguments->version, (void *)arguments->fields, arguments->fields_count /
+                                   JOURNAL_RENUMBERING_NUMBERS, arguments->third.bytes, arguments->third.length,
+                                   arguments->out.bytes, arguments->out.length);
+}
+
+static int64_t numbering_dump(const struct arguments *arguments) {
+    return journal_numbering_dump(arguments->version, arguments->first.bytes, arguments->first.length,
+                                  arguments->second.bytes, arguments->second.length, arguments->third.bytes,
+                                  arguments->third.length, arguments->out.bytes, arguments->out.length);
+}
+
 /* All of them, as rows of the table of functions. */
 #define CALLS \
     {"libraryVersion", library_version, {OUT}}, \
@@ -155,4 +185,9 @@ static int64_t replay_finish(const struct arguments *arguments) {
     {"replayCheck", replay_check, {CODE, RECORDED, REPLAYED, REPLAY, NUMBERS}}, \
     {"replayText", replay_text, {CODE, RECORDED, REPLAYED, REPLAY, OUT}}, \
     {"replayExpected", replay_expected, {RECORDED, REPLAY, NUMBERS}}, \
-    {"replayFinish", replay_finish, {RECORDED, REPLAY, NUMBERS}},
+    {"replayFinish", replay_finish, {RECORDED, REPLAY, NUMBERS}}, \
+    {"numbering", numbering, {DIRECTION, SET, RENAMES, NUMBERS}}, \
+    {"numberingText", numbering_text, {SET, RENAMES, NUMBERS, OUT}}, \
+    {"renumber", renumber, {SCHEMA, FIELDS, PAYLOAD, OUT}}, \
+    {"renumberStream", renumber_stream, {VERSION, FIELDS, STREAM, OUT}}, \
+    {"numberingDump", numbering_dump, {VERSION, SET, RENAMES, STREAM, OUT}},

@@ -98,6 +98,11 @@ const ADDON_CALLS = {
   replayText: [0x0400, NONE, NONE, BEGUN, new Uint8Array(8)],
   replayExpected: [NONE, BEGUN, new BigUint64Array(3)],
   replayFinish: [NONE, BEGUN, new BigUint64Array(6)],
+  numbering: [0, NONE, NONE, new BigUint64Array(5)],
+  numberingText: [NONE, NONE, new BigUint64Array(1), new Uint8Array(8)],
+  renumber: [0, new BigUint64Array(5), NONE, new Uint8Array(8)],
+  renumberStream: [8, new BigUint64Array(5), NONE, new Uint8Array(8)],
+  numberingDump: [8, NONE, NONE, NONE, new Uint8Array(8)],
 };
 
 for (const [name, given] of Object.entries(CALLS)) {

@@ -125,6 +125,40 @@ test('the end of a stream', () => {
     const text = `finish: the stream ended within an item at offset ${FRAME.length}, after 1 byte of it`;
     assert.equal(error.message, text);
     assert.deepEqual([error.call, error.rest, error.offset, error.typeCode], ['finish', 1, FRAME.length, undefined]);
+    assert.deepEqual(error.trailing, hex('04'));
     return true;
   });
+});
+
+test('a stream that ends within an item is copied with its trailing bytes', () => {
+  for (const [version, digits] of FAITHFUL) {
+    const bytes = hex(digits);
+    for (let end = 0; end <= bytes.length; end += 1) {
+      const stream = new Stream(version);
+      const copied = [];
+      for (let begin = 0; begin < end; begin += 3) {
+        const before = stream.trailing;
+        const chunk = bytes.slice(begin, Math.min(begin + 3, end));
+        stream.feed(chunk);
+        // what is in whole items counts until they are taken
+        assert.deepEqual(stream.trailing, joined(before, chunk));
+        copied.push(...Array.from(stream, (item) => item.bytes));
+      }
+      if (stream.rest > 0) {
+        assert.throws(() => stream.finish(), ({ trailing }) => trailing.length === stream.rest);
+      }
+      assert.deepEqual(joined(...copied, stream.trailing), bytes.slice(0, end));
+    }
+  }
+});
+
+test('trailing bytes are in memory of their own', () => {
+  const stream = new Stream();
+  stream.feed(FRAME.subarray(0, 10));
+  stream.trailing.fill(7);
+  assert.deepEqual(stream.trailing, FRAME.slice(0, 10));
+  stream.feed(FRAME.subarray(10));
+  const [item] = stream;
+  assert.deepEqual(item.bytes, FRAME);
+  assert.deepEqual(stream.trailing, hex(''));
 });

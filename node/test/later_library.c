@@ -10,6 +10,9 @@
 /* How many bytes `journal_merge` returns, whatever room it has. */
 #define MERGED 100000
 
+/* How many entries the table of a numbering has. */
+#define RENUMBERED 1000
+
 int64_t journal_library_version(uint8_t *out, size_t room) {
     if (room >= 5) {
         memcpy(out, "0.9.0", 5);
@@ -173,6 +176,52 @@ int64_t journal_notification(uint16_t code, const uint8_t *payload, size_t paylo
         numbers[i] = payload[i];
     }
     return 0;
+}
+
+/* A text of the kind that its first byte is. */
+int64_t journal_numbering_text(const uint8_t *set, size_t set_length, const uint8_t *renames, size_t renames_length,
+                               struct journal_list *list, size_t list_room, uint8_t *out, size_t room) {
+    (void)renames;
+    (void)renames_length;
+    (void)out;
+    (void)room;
+    if (list_room < JOURNAL_LIST_NUMBERS) {
+        return JOURNAL_NO_ROOM;
+    }
+    list->kind = set_length > 0 ? set[0] : JOURNAL_LIST_LISTED;
+    return 0;
+}
+
+/* A thousand fields, each of which has its index as its number. */
+int64_t journal_numbering(uint32_t direction, const uint8_t *set, size_t set_length, const uint8_t *renames,
+                          size_t renames_length, struct journal_renumbering *renumberings, size_t room) {
+    (void)direction;
+    (void)set;
+    (void)set_length;
+    (void)renames;
+    (void)renames_length;
+    for (size_t i = 0; i < room && i < RENUMBERED; i++) {
+        memset(&renumberings[i], 0, sizeof renumberings[i]);
+        renumberings[i].number = i;
+    }
+    return RENUMBERED;
+}
+
+/* A payload that has as many bytes as the table has entries, if their numbers are their indices. */
+int64_t journal_renumber(uint32_t schema, const struct journal_renumbering *renumberings, size_t count,
+                         const uint8_t *payload, size_t payload_length, uint8_t *out, size_t room) {
+    (void)schema;
+    (void)payload;
+    (void)payload_length;
+    for (size_t i = 0; i < count; i++) {
+        if (renumberings[i].number != i) {
+            return JOURNAL_MALFORMED;
+        }
+    }
+    if (room >= count) {
+        memset(out, 7, count);
+    }
+    return (int64_t)count;
 }
 
 /* A verdict of the kind that the recorded journal has as its first byte. */

@@ -88,6 +88,17 @@ test('JSON texts of other kinds', () => {
   });
 });
 
+test('numberings of other kinds, and of more fields', () => {
+  const { Numbering } = pendratsoa;
+  assert.throws(() => new Numbering(hex('02')), { name: 'NumberingError', reason: 'noRename', text: '' });
+  assert.throws(() => new Numbering(hex('03')), notKnown('Numbering', 'kind of numbering 3'));
+  const stream = new Stream(8, { numbering: new Numbering(hex('00')) });
+  stream.feed(hex('0000000000000000'));
+  const [message] = stream;
+  assert.deepEqual(message.payload, new Uint8Array(1000).fill(7));
+  assert.deepEqual(message.bytes, hex('0000000000000000'));
+});
+
 test('verdicts of other kinds', () => {
   assert.equal(pendratsoa.compareJournals(8, hex('06'), NONE).kind, 'badReplayed');
   assert.throws(() => pendratsoa.compareJournals(8, hex('07'), NONE), notKnown('compareJournals', 'kind of verdict 7'));

@@ -12,6 +12,8 @@ import {
   MessageTooLong,
   NoId,
   NoResult,
+  Numbering,
+  NumberingError,
   Replay,
   Skipped,
   Stream,
@@ -28,9 +30,15 @@ import {
 
 import { chunksOf, digits, hex, joined, textOf } from './support.js';
 
-const CASES = textOf('conformance/packages.cases')
-  .split('\n')
-  .filter((line) => line !== '' && !line.startsWith('#'));
+const CASES = casesOf('conformance/packages.cases');
+const NUMBERINGS = casesOf('conformance/numberings.cases');
+
+/** The lines of a file of cases. */
+function casesOf(path) {
+  return textOf(path)
+    .split('\n')
+    .filter((line) => line !== '' && !line.startsWith('#'));
+}
 
 /** The bytes of a word. */
 function bytesOf(word) {
@@ -373,6 +381,87 @@ test('the cases of packages', async () => {
     assert.equal(await KINDS[kind](...words), expected, line);
   }
   assert.ok(CASES.length > 100, `${CASES.length} cases`);
+});
+
+/** The names of lines; undefined if a line is not a pair of them, as an object has. */
+function renamesOf(word) {
+  let text;
+  try {
+    text = new TextDecoder('utf-8', { fatal: true }).decode(bytesOf(word));
+  } catch {
+    return undefined;
+  }
+  const pairs = text
+    .split('\n')
+    .filter((line) => line !== '')
+    .map((line) => /^(.*?)=(.*)$/.exec(line));
+  return pairs.every((pair) => pair !== null) ? Object.fromEntries(pairs.map((pair) => pair.slice(1))) : undefined;
+}
+
+/** What a call at other field numbers returns, as a word. */
+function renumbered(call) {
+  try {
+    return digits(call()) || '-';
+  } catch (error) {
+    if (error instanceof Malformed) {
+      return 'malformed';
+    }
+    assert.ok(error instanceof Unknown, error.stack);
+    return 'unknown';
+  }
+}
+
+/** Whether a stream with a numbering has the items of the stream that was read by it. */
+function hasSameItems(numbering, version, bytes, read) {
+  const stream = new Stream(version, { numbering });
+  stream.feed(bytes);
+  const found = [...stream];
+  const own = new Stream(version);
+  own.feed(read);
+  assert.deepEqual(
+    found.map((item) => [String(item), item.payload]),
+    Array.from(own, (item) => [String(item), item.payload]),
+  );
+  assert.deepEqual(joined(...found.map((item) => item.bytes), stream.trailing), bytes);
+}
+
+test('the cases of numberings', () => {
+  const numberings = new Map();
+  const kinds = {
+    set(name, renames, set) {
+      try {
+        numberings.set(name, new Numbering(bytesOf(set), { renames: renamesOf(renames) }));
+        return 'ok';
+      } catch (error) {
+        assert.ok(error instanceof NumberingError, error.stack);
+        return `${snake(error.reason)} ${wordOf(error.text)}`;
+      }
+    },
+    read: (name, schema, payload) => renumbered(() => numberings.get(name).readPayload(schema, bytesOf(payload))),
+    write: (name, schema, payload) => renumbered(() => numberings.get(name).writePayload(schema, bytesOf(payload))),
+    stream(direction, name, version, stream) {
+      const [numbering, number, bytes] = [numberings.get(name), Number(version), bytesOf(stream)];
+      const found = renumbered(() => numbering[`${direction}Stream`](number, bytes));
+      if (direction === 'read' && found !== 'unknown') {
+        if (found === 'malformed') {
+          const other = new Stream(number, { numbering });
+          other.feed(bytes);
+          assert.throws(() => [...other], Malformed);
+        } else {
+          hasSameItems(numbering, number, bytes, bytesOf(found));
+        }
+      }
+      return found;
+    },
+  };
+  for (const line of NUMBERINGS) {
+    const [question, expected] = line.split(' = ');
+    const [kind, ...words] = question.split(' ');
+    if (kind !== 'set' || renamesOf(words[1]) !== undefined) {
+      assert.equal(kinds[kind](...words), expected, line.slice(0, 300));
+    }
+  }
+  assert.ok(NUMBERINGS.length > 600, `${NUMBERINGS.length} cases`);
 });
 
 test('items that came in no stream', () => {

@@ -278,3 +278,68 @@ WEAK int64_t journal_replay_finish(const uint8_t *recorded, size_t recorded_leng
     (void)mismatch_room;
     return JOURNAL_OUT_OF_MEMORY;
 }
+
+WEAK int64_t journal_numbering(uint32_t direction, const uint8_t *set, size_t set_length, const uint8_t *renames,
+                               size_t renames_length, struct journal_renumbering *renumberings, size_t room) {
+    (void)direction;
+    (void)set;
+    (void)set_length;
+    (void)renames;
+    (void)renames_length;
+    (void)renumberings;
+    (void)room;
+    return JOURNAL_OUT_OF_MEMORY;
+}
+
+WEAK int64_t journal_numbering_text(const uint8_t *set, size_t set_length, const uint8_t *renames,
+                                    size_t renames_length, struct journal_list *list, size_t list_room, uint8_t *out,
+                                    size_t room) {
+    (void)set;
+    (void)set_length;
+    (void)renames;
+    (void)renames_length;
+    (void)list;
+    (void)list_room;
+    (void)out;
+    (void)room;
+    return JOURNAL_OUT_OF_MEMORY;
+}
+
+WEAK int64_t journal_renumber(uint32_t schema, const struct journal_renumbering *renumberings, size_t count,
+                              const uint8_t *payload, size_t payload_length, uint8_t *out, size_t room) {
+    (void)schema;
+    (void)renumberings;
+    (void)count;
+    (void)payload;
+    (void)payload_length;
+    (void)out;
+    (void)room;
+    return JOURNAL_OUT_OF_MEMORY;
+}
+
+WEAK int64_t journal_renumber_stream(uint32_t version, const struct journal_renumbering *renumberings, size_t count,
+                                     const uint8_t *stream, size_t stream_length, uint8_t *out, size_t room) {
+    (void)version;
+    (void)renumberings;
+    (void)count;
+    (void)stream;
+    (void)stream_length;
+    (void)out;
+    (void)room;
+    return JOURNAL_OUT_OF_MEMORY;
+}
+
+WEAK int64_t journal_numbering_dump(uint32_t version, const uint8_t *set, size_t set_length, const uint8_t *renames,
+                                    size_t renames_length, const uint8_t *stream, size_t stream_length, uint8_t *out,
+                                    size_t room) {
+    (void)version;
+    (void)set;
+    (void)set_length;
+    (void)renames;
+    (void)renames_length;
+    (void)stream;
+    (void)stream_length;
+    (void)out;
+    (void)room;
+    return JOURNAL_OUT_OF_MEMORY;
+}

@@ -285,6 +285,7 @@ test('a source that ends within an item', async () => {
       name: 'Incomplete',
       code: 'JOURNAL_INCOMPLETE',
       rest: 8,
+      trailing: STREAM.slice(-8),
       call: 'items',
       offset: 25,
       typeCode: 0x0400,
@@ -370,7 +371,7 @@ test('a message that is longer than the limit ends the stream', async () => {
         found.push(item);
       }
     }, error);
-    assert.equal(stream.rest, 0);
+    assert.deepEqual([stream.rest, stream.trailing], [0, hex('')]);
   }
   assert.deepEqual(found, ITEMS.slice(0, 1));
   assert.throws(() => stream.feed(INPUT), error);

@@ -15,6 +15,8 @@ import {
   MessageTooLong,
   Mismatch,
   Notification,
+  Numbering,
+  NumberingError,
   Replay,
   SchemaName,
   SetStateCommandMessage,
@@ -168,12 +170,14 @@ export async function streams(): Promise<void> {
   for (const item of stream) {
     described(item);
   }
-  const rest: number = stream.rest + new Stream(FIRST_VERSION).version;
+  const rest: number = stream.rest + new Stream(FIRST_VERSION).version + stream.trailing.length;
   // @ts-expect-error a text is not a chunk
   stream.feed('text');
   stream.finish();
   // @ts-expect-error the rest cannot be set
   stream.rest = rest;
+  // @ts-expect-error nor can these bytes
+  stream.trailing = bytes;
   for await (const item of items([bytes], LAST_VERSION)) {
     described(item);
   }
@@ -229,6 +233,28 @@ export function checkedReplay(bytes: Uint8Array, item: Item): string {
   return `${mismatch?.index} ${mismatch?.replayedOffset} ${offset} ${key} ${isSame} ${names?.join()}`;
 }
 
+export function renumbered(set: Uint8Array): Uint8Array[] {
+  const numbering = new Numbering(set, { renames: { Pause: 'SleepCommandMessage' } });
+  const stream = new Stream(8, { maxMessageSize: 5, numbering });
+  const lines: string = numbering.dump(8, set);
+  // @ts-expect-error a set is bytes
+  new Numbering('set.binpb');
+  // @ts-expect-error a name is a text
+  new Numbering(set, { renames: { Pause: 5 } });
+  // @ts-expect-error there is no such schema
+  numbering.readPayload('Values', set);
+  // @ts-expect-error it is not a numbering
+  frame(8, 0, bytes, { numbering: set });
+  return [
+    numbering.readPayload('Value', bytes),
+    numbering.writePayload(1, bytes),
+    numbering.readStream(LAST_VERSION, bytes),
+    numbering.writeStream(8, frame(8, 0, bytes, { numbering })),
+    new Message(8, 0, bytes).frame(8, { numbering: Numbering.load(lines) }),
+    ...Array.from(stream, (item) => item.bytes),
+  ];
+}
+
 export function caught(error: unknown): string {
   if (error instanceof Malformed) {
     const code: 'JOURNAL_MALFORMED' = error.code;
@@ -242,8 +268,12 @@ export function caught(error: unknown): string {
   if (error instanceof FieldError) {
     return error.reason === 'notUtf8' ? error.path : error.reason;
   }
+  if (error instanceof NumberingError) {
+    return error.reason === 'noRename' ? error.text : error.code;
+  }
   if (error instanceof Incomplete) {
-    return (error.rest + error.offset + (error.typeCode ?? 0)).toFixed();
+    const trailing: Same<Incomplete['trailing'], Uint8Array> = true;
+    return (error.rest + error.offset + (error.typeCode ?? 0)).toFixed() + trailing;
   }
   if (error instanceof MessageTooLong) {
     const code: 'JOURNAL_TOO_LONG' = error.code;

@@ -4,7 +4,8 @@ use std::io::{self, ErrorKind, Read};
 use std::iter::FusedIterator;
 
 use crate::error::{Error, Incomplete};
-use crate::item::{next_item_within, Item, Next, OwnedItem};
+use crate::item::{copied, next_item_from, next_item_within, Item, Message, Next, OwnedItem};
+use crate::numbering::{keep, Kept, Numbering, Payload};
 
 /// The most bytes that are read at once.
 const CHUNK: usize = 64 << 10;
@@ -52,6 +53,10 @@ pub struct Decoder {
     taken: u64,
     /// The error of a message that is longer than the limit, which ended the stream.
     ended: Option<Error>,
+    /// By which payloads are read, if they are at other field numbers.
+    numbering: Option<Numbering>,
+    /// What it made of the payloads of the last loop.
+    kept: Kept,
 }
 
 impl Decoder {
@@ -63,8 +68,8 @@ impl Decoder {
     /// A decoder at a version from 5 to 9 that takes no message whose payload has more bytes than this.
     ///
     /// A longer message is `Error::MessageTooLong` as soon as its header came, with its code, the length that the
-    /// header announces, and its offset in the stream. It ends the stream: from then on each iteration, `feed`, `room`,
-    /// `read_from` and `finish` return this error. The first of the three that take bytes drops what came.
+    /// header announces, and its offset in the stream. It ends the stream, and what came of it is dropped: from then on
+    /// each iteration, `feed`, `room`, `read_from` and `finish` return this error, and no bytes are pending.
     ///
     /// ```
     /// use pendratsoa::{Decoder, Error};
@@ -79,8 +84,8 @@ impl Decoder {
     ///     }
     ///     other => panic!("{other:?}"),
     /// }
+    /// assert_eq!(decoder.trailing(), []);
     /// assert!(matches!(decoder.feed(&[0]), Err(Error::MessageTooLong(_))));
-    /// assert_eq!(decoder.rest(), 0);
     /// assert_eq!(decoder.finish(), decoder.feed(&[0]));
     /// # Ok::<(), Error>(())
     /// ```
@@ -94,7 +99,40 @@ impl Decoder {
             bytes: Vec::new(),
             begin: 0,
             end: 0,
+            numbering: None,
+            kept: Kept::default(),
         })
+    }
+
+    /// The decoder of a stream whose payloads are at the field numbers of a descriptor set. The payload of each message
+    /// is read by the numbering, so that everything of the message works. Its offset, its header and its bytes are
+    /// those of the stream, which the limit is on too.
+    ///
+    /// A payload that cannot be read is `Error::Malformed`, with the type and the offset of its message, and ends the
+    /// iteration; the next one goes on after this message.
+    ///
+    /// ```
+    /// use pendratsoa::{Decoder, Item, Numbering};
+    ///
+    /// // the set of a file with `message SetStateCommandMessage { bytes key = 3; }`
+    /// let set = b"\n=\n\x07a.proto\"*\n\x16SetStateCommandMessage\
+    ///     \x12\x10\n\x03key\x18\x03 \x01(\x0cR\x03keyb\x06proto3";
+    /// let mut decoder = Decoder::new(8)?.with_numbering(&Numbering::new(set, &[])?);
+    /// let stream = b"\x04\x03\0\0\0\0\0\x03\x1a\x01a";
+    /// decoder.feed(stream)?;
+    /// for item in decoder.items() {
+    ///     let item = item?;
+    ///     if let Item::Message(message) = item {
+    ///         assert_eq!(message.json()?, r#"{"key":"YQ=="}"#);
+    ///     }
+    ///     assert_eq!(item.to_bytes()?, stream);
+    /// }
+    /// # Ok::<(), pendratsoa::Error>(())
+    /// ```
+    #[must_use]
+    pub fn with_numbering(mut self, numbering: &Numbering) -> Decoder {
+        self.numbering = Some(numbering.clone());
+        self
     }
 
     /// The version of the stream.
@@ -210,7 +248,8 @@ impl Decoder {
         self.end += count.min(self.bytes.len() - self.end);
     }
 
-    /// Says that the stream ended: `Error::Incomplete` if bytes are in no item. Its items have to be taken before.
+    /// Says that the stream ended: `Error::Incomplete` if bytes are in no item. Its items have to be taken before. It
+    /// changes nothing: [`Decoder::trailing`] still has these bytes.
     ///
     /// ```
     /// use pendratsoa::{Decoder, Error};
@@ -222,16 +261,16 @@ impl Decoder {
     ///     Err(Error::Incomplete(error)) => assert_eq!((error.offset, error.rest), (8, 2)),
     ///     other => panic!("{other:?}"),
     /// }
+    /// assert_eq!(decoder.trailing(), [0, 3]);
     /// # Ok::<(), Error>(())
     /// ```
     pub fn finish(&self) -> Result<(), Error> {
         match &self.ended {
             Some(error) => Err(error.clone()),
-            None if self.rest() == 0 => Ok(()),
-            None => {
-                let rest = &self.bytes[self.begin..self.end];
-                Err(Error::Incomplete(Incomplete::of(rest, self.taken)))
-            }
+            None => match self.trailing() {
+                [] => Ok(()),
+                rest => Err(Error::Incomplete(Incomplete::of(rest, self.taken))),
+            },
         }
     }
 
@@ -265,7 +304,8 @@ impl Decoder {
     /// The whole items among the pending bytes. An item that was taken does not come again.
     ///
     /// The iterator ends after an error, `Error::Unexpected` or `Error::MessageTooLong`; the item that is the reason is
-    /// not taken.
+    /// not taken. With a [`Numbering`] it also ends after `Error::OutOfMemory`, and after `Error::Malformed`, which
+    /// takes the item.
     pub fn items(&mut self) -> Items<'_> {
         Items {
             version: self.version,
@@ -274,6 +314,8 @@ impl Decoder {
             ended: &mut self.ended,
             bytes: &self.bytes[..self.end],
             begin: &mut self.begin,
+            numbering: self.numbering.as_ref(),
+            place: Some(self.kept.emptied()),
             has_failed: false,
         }
     }
@@ -296,7 +338,7 @@ impl Decoder {
     pub fn next_owned(&mut self) -> Option<Result<OwnedItem, Error>> {
         let (begin, taken) = (self.begin, self.taken);
         let owned = self.items().next()?.and_then(Item::into_owned);
-        if owned.is_err() {
+        if let Err(Error::OutOfMemory) = owned {
             self.begin = begin;
             self.taken = taken;
         }
@@ -306,7 +348,32 @@ impl Decoder {
     /// The number of pending bytes: those received that no item has yet.
     #[must_use]
     pub fn rest(&self) -> usize {
-        self.end - self.begin
+        self.trailing().len()
+    }
+
+    /// The pending bytes: those received that no item has yet. Once the whole items are taken, they are the beginning
+    /// of the next one. At the end of a stream a proxy passes them on after the last item: [`Decoder::finish`] leaves
+    /// them. After `Error::MessageTooLong` there are none.
+    ///
+    /// ```
+    /// use pendratsoa::Decoder;
+    ///
+    /// let mut decoder = Decoder::new(8)?;
+    /// decoder.feed(&[0, 3, 0, 0, 0, 0, 0, 0, 4, 0, 0])?;
+    /// let mut out = Vec::new();
+    /// for item in decoder.items() {
+    ///     item?.append_to(&mut out)?;
+    /// }
+    /// out.extend_from_slice(decoder.trailing());
+    /// assert_eq!(out, [0, 3, 0, 0, 0, 0, 0, 0, 4, 0, 0]);
+    /// # Ok::<(), pendratsoa::Error>(())
+    /// ```
+    #[must_use]
+    pub fn trailing(&self) -> &[u8] {
+        match self.ended {
+            None => &self.bytes[self.begin..self.end],
+            Some(_) => &[],
+        }
     }
 }
 
@@ -319,7 +386,45 @@ pub struct Items<'a> {
     ended: &'a mut Option<Error>,
     bytes: &'a [u8],
     begin: &'a mut usize,
+    numbering: Option<&'a Numbering>,
+    /// Where the next payload that the numbering makes is kept.
+    place: Option<&'a mut Vec<Payload>>,
     has_failed: bool,
+}
+
+impl<'a> Items<'a> {
+    /// Takes an item of a size, as it is read by a numbering; one that cannot be read is taken too.
+    #[cold]
+    fn take_read(
+        &mut self,
+        numbering: &Numbering,
+        item: Item<'a>,
+        size: usize,
+    ) -> Result<Item<'a>, Error> {
+        let read = match item {
+            Item::Message(message) => self.read(numbering, message).map(Item::Message),
+            item => Ok(item),
+        };
+        if !matches!(read, Err(Error::OutOfMemory)) {
+            *self.taken += size as u64;
+            *self.begin += size;
+        }
+        read
+    }
+
+    /// A message as it is read by a numbering.
+    fn read(&mut self, numbering: &Numbering, message: Message<'a>) -> Result<Message<'a>, Error> {
+        let (payload, place) = match (numbering.read(&message)?, self.place.take()) {
+            (Some(payload), Some(place)) => (payload, place),
+            (_, place) => {
+                self.place = place;
+                return Ok(message);
+            }
+        };
+        let kept = keep(place, payload, copied(message.payload)?)?;
+        self.place = Some(kept.next);
+        Ok(message.with_payload(kept.payload, Some(kept.received)))
+    }
 }
 
 impl<'a> Iterator for Items<'a> {
@@ -334,18 +439,21 @@ impl<'a> Iterator for Items<'a> {
             return Some(Err(error));
         }
         let bytes = &self.bytes[*self.begin..];
-        match next_item_within(self.version, self.max_message_size, bytes) {
+        match next_item_from(*self.taken, self.version, self.max_message_size, bytes) {
             Ok(Next::Item { item, size }) => {
-                let item = item.with_offset(*self.taken);
+                if let Some(numbering) = self.numbering {
+                    let taken = self.take_read(numbering, item, size);
+                    self.has_failed = taken.is_err();
+                    return Some(taken);
+                }
                 *self.taken += size as u64;
                 *self.begin += size;
                 Some(Ok(item))
             }
             Ok(Next::Missing(_)) => None,
-            Err(mut error) => {
+            Err(error) => {
                 self.has_failed = true;
-                if let Error::MessageTooLong(message) = &mut error {
-                    message.offset = *self.taken;
+                if let Error::MessageTooLong(_) = error {
                     *self.ended = Some(error.clone());
                 }
                 Some(Err(error))

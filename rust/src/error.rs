@@ -7,6 +7,7 @@ use std::io::{self, ErrorKind};
 use crate::calls::type_name;
 use crate::ffi::{About, Refusal};
 use crate::fields::FieldError;
+use crate::numbering::NumberingError;
 use crate::reading::JsonError;
 use crate::schema::Schema;
 use crate::{FIRST_VERSION, LAST_VERSION};
@@ -37,6 +38,8 @@ pub enum Error {
     Json(JsonError),
     /// A field of a record cannot be encoded.
     Field(FieldError),
+    /// No numbering comes of a descriptor set.
+    Numbering(NumberingError),
     /// A stream ended within an item.
     Incomplete(Incomplete),
     /// The library returned this, which the crate does not know, as a later version of the library may.
@@ -67,6 +70,10 @@ pub enum Argument {
     First(usize),
     /// The second payload of a call that has two, of this length in bytes.
     Second(usize),
+    /// A descriptor set, of this length in bytes.
+    Set(usize),
+    /// A stream, of this length in bytes.
+    Stream(usize),
 }
 
 /// The payload of a message: which message it is of, and how long it is.
@@ -124,14 +131,14 @@ pub struct MessageTooLong {
 }
 
 impl MessageTooLong {
-    /// The message whose header these bytes begin with.
-    pub(crate) fn of(bytes: &[u8], limit: u32) -> MessageTooLong {
+    /// The message whose header these bytes begin with, at an offset of its stream.
+    pub(crate) fn of(bytes: &[u8], limit: u32, offset: u64) -> MessageTooLong {
         let (code, length) = announced(bytes).unwrap_or_default();
         MessageTooLong {
             code,
             length,
             limit,
-            offset: 0,
+            offset,
         }
     }
 }
@@ -263,6 +270,7 @@ impl fmt::Display for Error {
             }
             Error::Json(error) => write!(f, "the JSON text: {error}"),
             Error::Field(error) => write!(f, "the field {error}"),
+            Error::Numbering(error) => error.fmt(f),
             Error::Incomplete(error) => error.fmt(f),
             Error::Unexpected(what) => {
                 write!(
@@ -359,6 +367,8 @@ impl fmt::Display for Argument {
             Argument::Json(length) => write!(f, "the JSON text of {}", bytes(*length)),
             Argument::First(length) => write!(f, "the first payload of {}", bytes(*length)),
             Argument::Second(length) => write!(f, "the second payload of {}", bytes(*length)),
+            Argument::Set(length) => write!(f, "the descriptor set of {}", bytes(*length)),
+            Argument::Stream(length) => write!(f, "the stream of {}", bytes(*length)),
         }
     }
 }

@@ -7,6 +7,7 @@ use std::alloc::{alloc, Layout};
 #[rustfmt::skip]
 mod declared;
 mod lists;
+mod numbering;
 #[rustfmt::skip]
 pub(crate) mod structs;
 mod table;
@@ -14,6 +15,7 @@ mod writer;
 
 pub(crate) use declared::*;
 pub(crate) use lists::append_struct;
+pub(crate) use numbering::{renumberings, Renumbering};
 pub use table::Table;
 pub(crate) use table::{Entry, Room};
 pub use writer::Writer;

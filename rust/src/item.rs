@@ -70,8 +70,11 @@ pub struct Message<'a> {
     pub word: u64,
     /// Whether the header requests an acknowledgement.
     pub requested_ack: bool,
-    /// The payload as received, which need not be well-formed.
+    /// The payload as received, which need not be well-formed. That of a decoder with a
+    /// [`Numbering`](crate::Numbering) is at the numbers of the protocol.
     pub payload: &'a [u8],
+    /// The payload as received, if it is another one. A slice would make each item longer.
+    received: Option<&'a Vec<u8>>,
     offset: Place,
 }
 
@@ -166,22 +169,22 @@ impl<'a> Item<'a> {
 
     /// The item with bytes of its own. `Error::OutOfMemory`.
     pub fn into_owned(self) -> Result<OwnedItem, Error> {
-        let (_, borrowed) = self.parts();
-        let mut payload = Vec::new();
-        payload
-            .try_reserve_exact(borrowed.len())
-            .map_err(|_| Error::OutOfMemory)?;
-        payload.extend_from_slice(borrowed);
+        let (payload, received) = match self {
+            Item::Message(message) => (message.payload, message.received),
+            Item::UnknownCode(_) => (&[][..], None),
+            Item::Skipped(skipped) => (skipped.payload, None),
+        };
         Ok(OwnedItem {
-            item: self.with_payload(&[]),
-            payload,
+            item: self.with_payload(&[], None),
+            payload: copied(payload)?,
+            received: received.map(|bytes| copied(bytes)).transpose()?,
         })
     }
 
-    /// The item with another payload, if it has one.
-    fn with_payload(self, payload: &[u8]) -> Item<'_> {
+    /// The item with another payload, if it has one, and with that as received if it is another one.
+    fn with_payload<'b>(self, payload: &'b [u8], received: Option<&'b Vec<u8>>) -> Item<'b> {
         match self {
-            Item::Message(message) => Item::Message(Message { payload, ..message }),
+            Item::Message(message) => Item::Message(message.with_payload(payload, received)),
             Item::UnknownCode(unknown) => Item::UnknownCode(unknown),
             Item::Skipped(skipped) => Item::Skipped(Skipped { payload, ..skipped }),
         }
@@ -193,7 +196,7 @@ impl<'a> Item<'a> {
     #[must_use]
     pub fn parts(&self) -> ([u8; 8], &'a [u8]) {
         let (word, payload) = match *self {
-            Item::Message(message) => (message.word, message.payload),
+            Item::Message(message) => (message.word, message.received()),
             Item::UnknownCode(unknown) => (unknown.word, &[][..]),
             Item::Skipped(skipped) => (skipped.word, skipped.payload),
         };
@@ -263,14 +266,26 @@ pub struct OwnedItem {
     /// The item, without its payload.
     item: Item<'static>,
     payload: Vec<u8>,
+    /// The payload as received, if it is another one.
+    received: Option<Vec<u8>>,
 }
 
 impl OwnedItem {
     /// The item, which borrows the bytes of this one.
     #[must_use]
     pub fn item(&self) -> Item<'_> {
-        self.item.with_payload(&self.payload)
+        self.item
+            .with_payload(&self.payload, self.received.as_ref())
     }
+}
+
+/// Bytes in a vector of their own.
+pub(crate) fn copied(bytes: &[u8]) -> Result<Vec<u8>, Error> {
+    let mut copy = Vec::new();
+    copy.try_reserve_exact(bytes.len())
+        .map_err(|_| Error::OutOfMemory)?;
+    copy.extend_from_slice(bytes);
+    Ok(copy)
 }
 
 /// The line of a listing, as that of an [`Item`].
@@ -332,8 +347,27 @@ impl<'a> Message<'a> {
             word,
             requested_ack,
             payload,
+            received: None,
             offset: Place::NOWHERE,
         })
+    }
+
+    /// The message with another payload, and with that as received if it is another one.
+    pub(crate) fn with_payload<'b>(
+        self,
+        payload: &'b [u8],
+        received: Option<&'b Vec<u8>>,
+    ) -> Message<'b> {
+        Message {
+            payload,
+            received,
+            ..self
+        }
+    }
+
+    /// The payload as received.
+    pub(crate) fn received(&self) -> &'a [u8] {
+        self.received.map_or(self.payload, Vec::as_slice)
     }
 
     /// The message of a named type that a JSON text means, as it would come in a stream of the version. Its payload,
@@ -559,7 +593,7 @@ pub fn next_item(version: u32, bytes: &[u8]) -> Result<Next<'_>, Error> {
     if missing > 0 {
         return Ok(Next::Missing(missing));
     }
-    item_of(version, bytes, numbers)
+    item_of(version, bytes, numbers, Place::NOWHERE)
 }
 
 /// Finds the item that bytes begin with, as [`next_item`], if its payload has at most `limit` bytes.
@@ -577,20 +611,42 @@ pub fn next_item(version: u32, bytes: &[u8]) -> Result<Next<'_>, Error> {
 /// }
 /// ```
 pub fn next_item_within(version: u32, limit: u32, bytes: &[u8]) -> Result<Next<'_>, Error> {
+    next_item_at(Place::NOWHERE, version, limit, bytes)
+}
+
+/// The same of an item that begins at an offset of its stream; the error has it too.
+pub(crate) fn next_item_from(
+    offset: u64,
+    version: u32,
+    limit: u32,
+    bytes: &[u8],
+) -> Result<Next<'_>, Error> {
+    next_item_at(Place(offset), version, limit, bytes)
+}
+
+fn next_item_at(place: Place, version: u32, limit: u32, bytes: &[u8]) -> Result<Next<'_>, Error> {
     let mut numbers = [0; 6];
     let missing =
         ffi::next_within(version, limit, bytes, &mut numbers).map_err(|refusal| match refusal {
-            Refusal::TooLong => Error::MessageTooLong(MessageTooLong::of(bytes, limit)),
+            Refusal::TooLong => {
+                let offset = place.offset().unwrap_or(0);
+                Error::MessageTooLong(MessageTooLong::of(bytes, limit, offset))
+            }
             refusal => Error::of(refusal, |_| Argument::Version(version)),
         })?;
     if missing > 0 {
         return Ok(Next::Missing(missing));
     }
-    item_of(version, bytes, numbers)
+    item_of(version, bytes, numbers, place)
 }
 
-/// The item of these numbers, which the bytes begin with.
-fn item_of(version: u32, bytes: &[u8], numbers: [u64; 6]) -> Result<Next<'_>, Error> {
+/// The item of these numbers, which the bytes begin with, at its place.
+fn item_of(
+    version: u32,
+    bytes: &[u8],
+    numbers: [u64; 6],
+    offset: Place,
+) -> Result<Next<'_>, Error> {
     let [kind, word, code, ack, size, begin] = numbers;
     let code = narrowed("the code", code)?;
     let size = narrowed("the size", size)?;
@@ -598,7 +654,6 @@ fn item_of(version: u32, bytes: &[u8], numbers: [u64; 6]) -> Result<Next<'_>, Er
     let payload = bytes
         .get(begin..size)
         .ok_or_else(|| Error::unexpected("the size", size))?;
-    let offset = Place::NOWHERE;
     let item = match kind {
         ITEM_MESSAGE => Item::Message(Message {
             version,
@@ -606,6 +661,7 @@ fn item_of(version: u32, bytes: &[u8], numbers: [u64; 6]) -> Result<Next<'_>, Er
             word,
             requested_ack: ack == 1,
             payload,
+            received: None,
             offset,
         }),
         ITEM_UNKNOWN_CODE => Item::UnknownCode(UnknownCode {
@@ -633,7 +689,7 @@ mod tests {
     const BYTES: [u8; 10] = [0xFC, 1, 0, 0, 0, 0, 0, 2, 7, 8];
 
     fn kind(kind: u64) -> Result<Next<'static>, Error> {
-        item_of(8, &BYTES, [kind, 5, 0xFC01, 1, 10, 8])
+        item_of(8, &BYTES, [kind, 5, 0xFC01, 1, 10, 8], Place::NOWHERE)
     }
 
     #[test]
@@ -649,6 +705,7 @@ mod tests {
                     word,
                     requested_ack,
                     payload,
+                    received: None,
                     offset,
                 }),
             ),
@@ -685,15 +742,15 @@ mod tests {
             unexpected("the kind of item 18446744073709551615")
         );
         assert_eq!(
-            item_of(8, &BYTES, [0, 0, 0x1_0000, 0, 10, 8]),
+            item_of(8, &BYTES, [0, 0, 0x1_0000, 0, 10, 8], Place::NOWHERE),
             unexpected("the code 65536")
         );
         assert_eq!(
-            item_of(8, &BYTES, [0, 0, 0, 0, 11, 8]),
+            item_of(8, &BYTES, [0, 0, 0, 0, 11, 8], Place::NOWHERE),
             unexpected("the size 11")
         );
         assert_eq!(
-            item_of(8, &BYTES, [0, 0, 0, 0, 10, 11]),
+            item_of(8, &BYTES, [0, 0, 0, 0, 10, 11], Place::NOWHERE),
             unexpected("the size 10")
         );
     }

@@ -17,7 +17,8 @@
 //! The library decides everything about the protocol; this crate turns its numbers into types. Each call of
 //! `pendratsoa.h` is a function here, of the same name without `journal_`, except four: `journal_next` is
 //! [`next_item`] and, over chunks, [`Decoder`]; `journal_json` is [`to_json`]; `journal_payload_of_json` is
-//! [`from_json`]; `journal_verdict` is [`compare_journals`].
+//! [`from_json`]; `journal_verdict` is [`compare_journals`]. Those of replays are [`Replay`], and those of other field
+//! numbers [`Numbering`].
 //!
 //! - Items borrow the bytes of their stream, and are copied nowhere.
 //! - What fails says so by an [`Error`]; a failed allocation is one, too.
@@ -60,6 +61,7 @@ mod message_type;
 #[rustfmt::skip]
 pub mod messages;
 mod notification;
+mod numbering;
 mod reading;
 mod replay;
 mod schema;
@@ -76,6 +78,7 @@ pub use journals::{compare_journals, Verdict, VerdictKind};
 pub use kinds::{FieldReason, Version};
 pub use message_type::MessageType;
 pub use notification::{notification, Notification, NotificationId, NotificationResult};
+pub use numbering::{Numbering, NumberingError, NumberingReason};
 pub use reading::{from_json, JsonError, JsonReason};
 pub use replay::{ChangedField, Ignored, Mismatch, Replay};
 pub use schema::Schema;

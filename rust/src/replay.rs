@@ -121,6 +121,14 @@ impl<'a> Replay<'a> {
         } else {
             Some(self.mismatch(mismatch, code, payload)?)
         };
+        if let Item::Message(message) = item {
+            // the library counts the bytes of the payload, which are others than those received if a numbering read it
+            if numbers[4] != self.numbers[4] {
+                numbers[4] = numbers[4]
+                    .wrapping_add(message.received().len() as u64)
+                    .wrapping_sub(payload.len() as u64);
+            }
+        }
         self.numbers = numbers;
         Ok(found)
     }

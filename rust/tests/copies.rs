@@ -160,14 +160,15 @@ fn a_decoder_has_room_for_what_comes_in_another_way() {
             assert_eq!(room.len(), size + 5);
             room.fill(0xEE);
             room[..chunk.len()].copy_from_slice(chunk);
-            let rest = decoder.rest();
+            let rest = decoder.trailing().to_vec();
             decoder.advance(chunk.len());
-            assert_eq!(decoder.rest(), rest + chunk.len());
+            assert_eq!(decoder.trailing(), [&rest[..], chunk].concat());
             for item in decoder.items() {
                 item.unwrap().append_to(&mut copied).unwrap();
             }
         }
         assert_eq!(copied, stream);
+        assert_eq!(decoder.trailing(), []);
     }
     let mut decoder = Decoder::new(8).unwrap();
     decoder.advance(9);
@@ -182,6 +183,29 @@ fn a_decoder_has_room_for_what_comes_in_another_way() {
     assert_eq!(decoder.rest(), 2);
     decoder.advance(1);
     assert_eq!(decoder.rest(), 2);
+}
+
+#[test]
+fn a_stream_that_ends_within_an_item_is_passed_on_with_its_trailing_bytes() {
+    for (version, stream) in FAITHFUL {
+        for end in 0..=stream.len() {
+            let mut decoder = Decoder::new(version).unwrap();
+            let mut copied = Vec::new();
+            for chunk in stream[..end].chunks(3) {
+                decoder.feed(chunk).unwrap();
+                // what is in whole items counts until they are taken
+                assert!(decoder.trailing().ends_with(chunk));
+                for item in decoder.items() {
+                    item.unwrap().append_to(&mut copied).unwrap();
+                }
+            }
+            let finished = decoder.finish();
+            assert_eq!(decoder.trailing().len(), decoder.rest());
+            assert_eq!(finished.is_ok(), decoder.trailing().is_empty());
+            copied.extend_from_slice(decoder.trailing());
+            assert_eq!(copied, stream[..end]);
+        }
+    }
 }
 
 #[test]
@@ -206,7 +230,8 @@ fn a_message_that_is_longer_than_the_limit_ends_the_stream() {
             error.to_string(),
             "a message of type 0x0400 at offset 8 has 10 bytes, more than the limit of 9"
         );
-        assert_eq!((decoder.offset(), decoder.rest()), (8, 9));
+        assert_eq!((decoder.offset(), decoder.rest()), (8, 0));
+        assert_eq!(decoder.trailing(), []);
         match takes {
             0 => assert_eq!(decoder.feed(&[0]), Err(error.clone())),
             1 => assert_eq!(decoder.room(1), Err(error.clone())),

@@ -1,5 +1,6 @@
 //! What every package promises beyond the calls: the cases of `conformance/packages.cases`, which its README specifies.
 
+use std::collections::HashMap;
 use std::fs;
 use std::io::{self, Cursor, Read};
 
@@ -9,7 +10,7 @@ use pendratsoa::messages::{
 };
 use pendratsoa::{
     compare_journals, is_well_formed, type_code, type_name, Decoder, Error, Ignored, Item,
-    JsonReason, Message, Mismatch, Replay, VerdictKind,
+    JsonReason, Message, Mismatch, Numbering, NumberingReason, Replay, Schema, VerdictKind,
 };
 
 mod packages_records;
@@ -416,6 +417,113 @@ fn each_case_has_its_result() {
         count += 1;
     }
     assert!(count > 100, "{count} cases");
+}
+
+/// The names of lines; `None` if they are not UTF-8, or a line is not a pair of them.
+fn renames(bytes: &[u8]) -> Option<Vec<(&str, &str)>> {
+    let text = std::str::from_utf8(bytes).ok()?;
+    text.lines().map(|line| line.split_once('=')).collect()
+}
+
+/// What a call at other field numbers returns, as a word.
+fn renumbered(found: Result<Vec<u8>, Error>) -> String {
+    match found {
+        Ok(found) => word(&found),
+        Err(Error::Malformed(_)) => "malformed".to_owned(),
+        Err(Error::Unknown(_)) => "unknown".to_owned(),
+        Err(error) => error.to_string(),
+    }
+}
+
+fn set_case(made: &Result<Numbering, Error>) -> String {
+    match made {
+        Ok(_) => "ok".to_owned(),
+        Err(Error::Numbering(error)) => {
+            let reason = match error.reason {
+                NumberingReason::NoSet => "no_set",
+                _ => "no_rename",
+            };
+            format!("{reason} {}", word(error.text.as_bytes()))
+        }
+        Err(error) => error.to_string(),
+    }
+}
+
+/// A decoder with a numbering has the messages of the stream that was read by it, or the same error.
+fn same_items(numbering: &Numbering, version: u32, stream: &[u8], read: &Result<Vec<u8>, Error>) {
+    let mut decoder = match Decoder::new(version) {
+        Ok(decoder) => decoder.with_numbering(numbering),
+        Err(error) => return assert_eq!(*read, Err(error)),
+    };
+    decoder.feed(stream).unwrap();
+    let mut own = Decoder::new(version).unwrap();
+    own.feed(read.as_deref().unwrap_or_default()).unwrap();
+    let (mut copied, mut error) = (Vec::new(), None);
+    let mut others = own.items();
+    for item in decoder.items() {
+        match item {
+            Ok(item) => {
+                item.append_to(&mut copied).unwrap();
+                let other = others.next().unwrap().unwrap();
+                assert_eq!(item.to_string(), other.to_string());
+                if let (Item::Message(message), Item::Message(other)) = (item, other) {
+                    assert_eq!(message.payload, other.payload);
+                }
+            }
+            Err(found) => error = Some(found),
+        }
+    }
+    assert_eq!(error.as_ref(), read.as_ref().err());
+    copied.extend_from_slice(decoder.trailing());
+    // the message that cannot be read is taken
+    assert!(error.is_some() || copied == stream);
+}
+
+/// The cases of `conformance/numberings.cases`. A rename that is not a pair of texts is left out.
+#[test]
+fn the_cases_of_numberings() {
+    let cases = fs::read_to_string("../conformance/numberings.cases").unwrap();
+    let (mut numberings, mut count) = (HashMap::new(), 0);
+    for line in cases.lines() {
+        if line.is_empty() || line.starts_with('#') {
+            continue;
+        }
+        let (question, expected) = line.split_once(" = ").unwrap();
+        let words: Vec<&str> = question.split(' ').collect();
+        let schema = |name| Schema::from_name(name).unwrap().number();
+        let result = match *words {
+            ["set", name, lines, set] => {
+                let lines = bytes(lines);
+                let made = match renames(&lines) {
+                    Some(renames) => Numbering::new(&bytes(set), &renames),
+                    None => continue,
+                };
+                let result = set_case(&made);
+                numberings.extend(made.ok().map(|made| (name, made)));
+                result
+            }
+            ["read", name, of, payload] => {
+                renumbered(numberings[name].read_payload(schema(of), &bytes(payload)))
+            }
+            ["write", name, of, payload] => {
+                renumbered(numberings[name].write_payload(schema(of), &bytes(payload)))
+            }
+            ["stream", "read", name, version, stream] => {
+                let (version, stream) = (version.parse().unwrap(), bytes(stream));
+                let read = numberings[name].read_stream(version, &stream);
+                same_items(&numberings[name], version, &stream, &read);
+                renumbered(read)
+            }
+            ["stream", "write", name, version, stream] => {
+                let version = version.parse().unwrap();
+                renumbered(numberings[name].write_stream(version, &bytes(stream)))
+            }
+            _ => panic!("{line}"),
+        };
+        assert_eq!(result, expected, "{line}");
+        count += 1;
+    }
+    assert!(count > 600, "{count} cases");
 }
 
 #[test]

@@ -31,6 +31,11 @@ pub(crate) const RESULT_INVOCATION_ID: u64 = 3;
 pub(crate) const RESULT_STATE_KEYS: u64 = 4;
 pub(crate) const REPLAY_IGNORE_PAYLOADS: u64 = 1;
 pub(crate) const REPLAY_IGNORE_IDS: u64 = 2;
+pub(crate) const NUMBERING_READING: u64 = 0;
+pub(crate) const NUMBERING_WRITING: u64 = 1;
+pub(crate) const LIST_LISTED: u64 = 0;
+pub(crate) const LIST_NO_SET: u64 = 1;
+pub(crate) const LIST_NO_RENAME: u64 = 2;
 
 /// The calls as the header declares them.
 mod c {
@@ -59,6 +64,11 @@ mod c {
         pub fn journal_replay_text(code: u16, recorded: *const u8, recorded_length: usize, replayed: *const u8, replayed_length: usize, replay: *const u64, replay_room: usize, out: *mut u8, room: usize) -> i64;
         pub fn journal_replay_expected(recorded: *const u8, recorded_length: usize, replay: *const u64, replay_room: usize, command: *mut u64, command_room: usize) -> i64;
         pub fn journal_replay_finish(recorded: *const u8, recorded_length: usize, replay: *const u64, replay_room: usize, mismatch: *mut u64, mismatch_room: usize) -> i64;
+        pub fn journal_numbering(direction: u32, set: *const u8, set_length: usize, renames: *const u8, renames_length: usize, renumberings: *mut [u64; 5], room: usize) -> i64;
+        pub fn journal_numbering_text(set: *const u8, set_length: usize, renames: *const u8, renames_length: usize, list: *mut u64, list_room: usize, out: *mut u8, room: usize) -> i64;
+        pub fn journal_renumber(schema: u32, renumberings: *const [u64; 5], count: usize, payload: *const u8, payload_length: usize, out: *mut u8, room: usize) -> i64;
+        pub fn journal_renumber_stream(version: u32, renumberings: *const [u64; 5], count: usize, stream: *const u8, stream_length: usize, out: *mut u8, room: usize) -> i64;
+        pub fn journal_numbering_dump(version: u32, set: *const u8, set_length: usize, renames: *const u8, renames_length: usize, stream: *const u8, stream_length: usize, out: *mut u8, room: usize) -> i64;
     }
 }
 
@@ -215,4 +225,34 @@ pub(crate) fn replay_expected(recorded: &[u8], replay: &[u64; 6], command: &mut 
 pub(crate) fn replay_finish(recorded: &[u8], replay: &[u64; 6], mismatch: &mut [u64; 6]) -> Result<usize> {
     // SAFETY: each pointer comes with the length of its slice; those that are written are borrowed for it
     count(unsafe { c::journal_replay_finish(recorded.as_ptr(), recorded.len(), replay.as_ptr(), replay.len(), mismatch.as_mut_ptr(), mismatch.len()) })
+}
+
+pub(crate) fn numbering(direction: u32, set: &[u8], renames: &[u8], renumberings: &mut [MaybeUninit<[u64; 5]>]) -> Result<usize> {
+    // SAFETY: each pointer comes with the length of its slice; those that are written are borrowed for it
+    count(unsafe { c::journal_numbering(direction, set.as_ptr(), set.len(), renames.as_ptr(), renames.len(), renumberings.as_mut_ptr().cast(), renumberings.len()) })
+}
+
+pub(crate) fn numbering_text(set: &[u8], renames: &[u8], list: &mut [u64; 1]) -> Result<Vec<u8>> {
+    // SAFETY: each pointer comes with the length of its slice, and the call writes at most `room` bytes and
+    // returns how many they are
+    unsafe { written(4 * set.len() + 4 * renames.len() + 4096, |out, room| c::journal_numbering_text(set.as_ptr(), set.len(), renames.as_ptr(), renames.len(), list.as_mut_ptr(), list.len(), out, room)) }
+}
+
+#[inline]
+pub(crate) fn renumber(schema: u32, renumberings: &[[u64; 5]], payload: &[u8], out: &mut Vec<u8>) -> Result<usize> {
+    // SAFETY: each pointer comes with the length of its slice, and the call writes at most `room` bytes and
+    // returns how many they are
+    unsafe { appended(out, 2 * payload.len() + 16, |out, room| c::journal_renumber(schema, renumberings.as_ptr(), renumberings.len(), payload.as_ptr(), payload.len(), out, room)) }
+}
+
+pub(crate) fn renumber_stream(version: u32, renumberings: &[[u64; 5]], stream: &[u8]) -> Result<Vec<u8>> {
+    // SAFETY: each pointer comes with the length of its slice, and the call writes at most `room` bytes and
+    // returns how many they are
+    unsafe { written(2 * stream.len() + 16, |out, room| c::journal_renumber_stream(version, renumberings.as_ptr(), renumberings.len(), stream.as_ptr(), stream.len(), out, room)) }
+}
+
+pub(crate) fn numbering_dump(version: u32, set: &[u8], renames: &[u8], stream: &[u8]) -> Result<Vec<u8>> {
+    // SAFETY: each pointer comes with the length of its slice, and the call writes at most `room` bytes and
+    // returns how many they are
+    unsafe { written(8 * set.len() + 8 * renames.len() + 8 * stream.len() + 4096, |out, room| c::journal_numbering_dump(version, set.as_ptr(), set.len(), renames.as_ptr(), renames.len(), stream.as_ptr(), stream.len(), out, room)) }
 }

@@ -22,7 +22,7 @@
 use std::io;
 
 use bytes::BytesMut;
-use pendratsoa::{Error, Item, OwnedItem};
+use pendratsoa::{Error, Item, Numbering, OwnedItem};
 use tokio_util::codec::{Decoder, Encoder};
 
 /// The codec of a stream of one version: it decodes items, and encodes them as received.
@@ -42,6 +42,22 @@ impl ItemCodec {
     pub fn with_max_message_size(version: u32, size: u32) -> Result<ItemCodec, Error> {
         pendratsoa::Decoder::with_max_message_size(version, size)
             .map(|decoder| ItemCodec { decoder })
+    }
+
+    /// The codec of a stream whose payloads are at the field numbers of a descriptor set, as
+    /// [`pendratsoa::Decoder::with_numbering`]. What it encodes is written as received.
+    #[must_use]
+    pub fn with_numbering(self, numbering: &Numbering) -> ItemCodec {
+        let decoder = self.decoder.with_numbering(numbering);
+        ItemCodec { decoder }
+    }
+
+    /// The bytes that the codec keeps: those taken out of the buffer that no item has yet. After the error that the
+    /// stream ended within an item, they are what a proxy passes on after the last item. After `Error::MessageTooLong`
+    /// there are none.
+    #[must_use]
+    pub fn trailing(&self) -> &[u8] {
+        self.decoder.trailing()
     }
 }
 
@@ -98,7 +114,7 @@ mod tests {
     const STREAM: [u8; 19] = [0, 3, 0, 0, 0, 0, 0, 0, 4, 3, 0, 0, 0, 0, 0, 3, 10, 1, b'a'];
 
     /// The items of a stream in chunks of a size, up to its end.
-    fn decoded(mut codec: ItemCodec, stream: &[u8], size: usize) -> io::Result<Vec<OwnedItem>> {
+    fn decoded(codec: &mut ItemCodec, stream: &[u8], size: usize) -> io::Result<Vec<OwnedItem>> {
         let (mut items, mut buffer) = (Vec::new(), BytesMut::new());
         for chunk in stream.chunks(size) {
             buffer.extend_from_slice(chunk);
@@ -121,7 +137,7 @@ mod tests {
     fn items_of_any_chunks_are_written_as_they_came() {
         for size in 1..=STREAM.len() {
             let mut codec = ItemCodec::new(8).unwrap();
-            let items = decoded(codec.clone(), &STREAM, size).unwrap();
+            let items = decoded(&mut codec, &STREAM, size).unwrap();
             let lines: Vec<String> = items.iter().map(OwnedItem::to_string).collect();
             assert_eq!(lines, ["End 0", "SetStateCommand 3"]);
             let offsets: Vec<Option<u64>> = items.iter().map(|item| item.item().offset()).collect();
@@ -137,12 +153,32 @@ mod tests {
     #[test]
     fn a_stream_that_ends_within_an_item() {
         for end in 9..STREAM.len() {
-            let codec = ItemCodec::new(8).unwrap();
-            let error = decoded(codec, &STREAM[..end], 5).unwrap_err();
+            let mut codec = ItemCodec::new(8).unwrap();
+            let error = decoded(&mut codec, &STREAM[..end], 5).unwrap_err();
             assert_eq!(error.kind(), io::ErrorKind::UnexpectedEof);
             assert_eq!(held(&error).offset(), Some(8));
+            assert_eq!(codec.trailing(), &STREAM[8..end]);
         }
         assert!(ItemCodec::new(4).is_err());
+    }
+
+    #[test]
+    fn payloads_at_other_field_numbers() {
+        // the set of a file with `message SetStateCommandMessage { bytes key = 3; }`
+        let set = b"\n=\n\x07a.proto\"*\n\x16SetStateCommandMessage\
+            \x12\x10\n\x03key\x18\x03 \x01(\x0cR\x03keyb\x06proto3";
+        let numbering = Numbering::new(set, &[]).unwrap();
+        let mut codec = ItemCodec::new(8).unwrap().with_numbering(&numbering);
+        let stream = numbering.write_stream(8, &STREAM).unwrap();
+        let mut out = BytesMut::new();
+        for item in decoded(&mut codec, &stream, 5).unwrap() {
+            if let Item::Message(message) = item.item() {
+                let begin = STREAM.len() - message.payload.len();
+                assert!(message.code == 3 || *message.payload == STREAM[begin..]);
+            }
+            codec.encode(item, &mut out).unwrap();
+        }
+        assert_eq!(out, stream);
     }
 
     #[test]
@@ -155,6 +191,7 @@ mod tests {
             assert_eq!(error.kind(), io::ErrorKind::InvalidData);
             assert!(matches!(held(&error), Error::MessageTooLong(error) if error.offset == 8));
             buffer.extend_from_slice(&[1]);
+            assert_eq!(codec.trailing(), []);
         }
         assert!(codec.decode_eof(&mut buffer).is_err());
     }

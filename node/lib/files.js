@@ -1,0 +1,3 @@
+// How files are read, where there are any: node.js says so.
+
+export const files = { read: undefined };
