@@ -8,10 +8,9 @@
 set -u
 cd "$(dirname "$0")/.." || exit 1
 
-all='layout table calls pages words generated description reference tests'
-all="$all run list streams inputs show describe get explain redact schema diff dump make shown failures journal"
-all="$all terminal waiting sweep wasm view conformance wireshark install package files c soak json python node rust go"
-all="$all ruby refusals prost"
+all='layout table calls pages words generated description reference tests run list streams inputs show describe get'
+all="$all explain redact schema renumber diff dump make shown failures journal terminal waiting sweep wasm view"
+all="$all conformance wireshark install package files c soak json python node rust go ruby refusals prost"
 before_release='arm64 release'
 
 # file_of NAME: the file of a check, which is Python, or shell that finds what its Python takes

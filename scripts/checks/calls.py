@@ -14,7 +14,7 @@ import re
 import checks
 import crates
 import interface
-from generators import calls_data
+from generators import calls_data, compiled
 
 
 def read(path: str | pathlib.Path) -> str:
@@ -75,9 +75,11 @@ def calls(check: checks.Check) -> None:
     """Each call has a function in each binding, tests of its own and a promise."""
     symbols = [call.symbol() for call in calls_data.calls()]
     names = [call.call for call in calls_data.calls()]
-    in_python = {call.name_in("Python"): call.symbol() for call in calls_data.calls()}
-    by_name = re.findall(r"\bnamed\.(\w+)\(", together("python/pendratsoa/_calls.py", "python/pendratsoa/_replay.py"))
-    in_ruby = together(*(f"ruby/lib/pendratsoa/{name}.rb" for name in ("fields", "pending", "replay")))
+    in_python = {compiled.name_of(call, "Python"): call.symbol() for call in calls_data.calls()}
+    # those with another name there
+    in_python.update(re.findall(r'^    "(\w+)": "(journal_\w+)",$', read("python/pendratsoa/_named.py"), re.M))
+    by_name = re.findall(r"\bnamed\.(\w+)", together("python/pendratsoa/*.py"))
+    in_ruby = together(*(f"ruby/lib/pendratsoa/{name}.rb" for name in ("fields", "numbering", "pending", "replay")))
     by_place = re.findall(r"\bNamed::([A-Z_]+)\b", read("ruby/lib/pendratsoa/functions.rb") + in_ruby)
     uses = {
         "python/pendratsoa": [

@@ -62,12 +62,13 @@ case_of 'the example that checks a replay is built' go build -o "$work/replay_pr
 counted 'the replays' python3 -B "$top/scripts/checks/replayed.py" "$work/replay_program"
 
 # The page: its program, its part of the proxy, the program that compares, and its part of the example of errors.
-mkdir "$work/go/page" "$work/go/compare"
+mkdir "$work/go/page" "$work/go/compare" "$work/go/other"
 awk -v page="$work/go/page/main.go" -v part="$work/part" -v compare="$work/go/compare/main.go" \
-  -v replay="$work/replay" -v errors="$work/errors" '
+  -v replay="$work/replay" -v errors="$work/errors" -v other="$work/go/other/main.go" '
   /^## / { section = $2 }
   /^```go$/ {
-    file = section == "Compare" ? compared++ ? replay : compare : section == "Errors" ? errors : blocks++ ? part : page
+    file = section == "Compare" ? compared++ ? replay : compare : section == "Errors" ? errors : \
+      section == "Other" ? other : blocks++ ? part : page
     next
   }
   /^```$/ { file = "" }
@@ -78,6 +79,10 @@ same 'the program of go/README.md' "$work/wanted" "$out"
 sed -n '/^Of `recorded/,/^|/s/^    //p' README.md > "$work/wanted"
 go run ./compare "$work/examples/streams/recorded" "$work/examples/streams/replayed_other_payload" > "$out" 2> "$err"
 same 'the program of go/README.md that compares' "$work/wanted" "$out"
+python3 -B "$top/scripts/checks/write_numbering.py" "$work/go"
+go run ./other < theirs > "$out" 2> "$err"
+sed -n '/^Of a set/,/^[A-Z]/s/^    //p' README.md > "$work/wanted"
+same 'the program of go/README.md that reads other field numbers' "$work/wanted" "$out"
 case_of 'the proxy of go/README.md' python3 -B "$top/scripts/checks/is_part.py" "$work/part" examples/proxy/main.go
 case_of 'the replay of go/README.md' python3 -B "$top/scripts/checks/is_part.py" "$work/replay" example_test.go
 case_of 'the errors of go/README.md' python3 -B "$top/scripts/checks/is_part.py" "$work/errors" example_test.go

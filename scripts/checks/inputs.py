@@ -63,6 +63,8 @@ SAID = (
     ("explain --input hex recorded.base64", 1, f"recorded.base64: {NO_DIGIT}"),
     ("get --input hex recorded.base64 0 value", 1, f"recorded.base64: {NO_DIGIT}"),
     ("redact --key k --input hex", 1, f"-: {NO_DIGIT}"),
+    ("renumber --schema /dev/null --input hex", 1, f"-: {NO_DIGIT}"),
+    ("show --schema /dev/null --input hex", 1, f"-: {NO_DIGIT}"),
     ("diff --input hex - recorded.hex", 2, f"-: {NO_DIGIT}"),
     ("diff --input hex recorded.hex -", 2, f"-: {NO_DIGIT}"),
     ("cut --input hex recorded.base64", 2, f"recorded.base64: {NO_DIGIT}"),

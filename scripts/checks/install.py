@@ -136,7 +136,8 @@ class Installation:
                 # the help of journal_view has no list
                 versions = re.split(r",\s+", listed[1]) if listed else [str(version) for version in range(5, 10)]
                 self.check.same(f"the versions of {name} in bash", versions, self.completed(*words, "--protocol", ""))
-        names = sorted(["list", "redact", "describe", "get", "explain", "schema", *(words[1] for words in by_word)])
+        names = ["list", "redact", "describe", "get", "explain", "schema", "renumber", *(words[1] for words in by_word)]
+        names.sort()
         self.check.same("the subcommands of journal help in bash", names, self.completed("journal", "help", ""))
         self.check.same("a subcommand of journal in bash", ["dump"], self.completed("journal", "du"))
         types = sorted(list_stream.type_names().values())

@@ -184,6 +184,23 @@ RUNS = {
         (("--help",), 0, ""),
         (("--version",), 0, ""),
     ),
+    "renumber": (
+        (("--schema", "/dev/null"), 0, ""),
+        (("--back", "--schema=/dev/null", "--protocol=9", "recorded"), 0, ""),
+        (("--schema", "/dev/null", "cut_short"), 0, ": offset 21: 8 bytes after the last whole item"),
+        (("--schema", "/dev/null", "replay.dump"), 1, ": no message in it; is it a journal of version 8?"),
+        (("--schema", "/dev/null", "--max-message=8", "recorded"), 1,
+         ": InputCommand at offset 0: 9 bytes of payload, more than the limit"),
+        (("recorded",), 2, ": --schema FILE names the descriptor set"),
+        (("--schema", "nothing"), 2, ": nothing: No such file or directory"),
+        (("--schema", "/dev/null", "nothing"), 2, ": nothing: No such file or directory"),
+        (("--schema", "replay"), 2, ": replay: not a descriptor set"),
+        (("--protocol", "auto"), 2, "invalid value 'auto' for '--protocol <VERSION>'"),
+        (("--schema", "/dev/null", "replay", "3"), 2, "unexpected argument '3'"),
+        ((b"\xff",), 2, ": an argument is not UTF-8"),
+        (("--help",), 0, ""),
+        (("--version",), 0, ""),
+    ),
 }
 
 # What is not a subcommand, and what the error says of it.
@@ -264,7 +281,7 @@ class Journal:
         self.check.case("journal --help in 80 columns", checks.is_narrow(ended.out), ended)
         named = re.findall(r"^  (\w+)  ", ended.out.decode(), re.M)
         linked = [name.removeprefix("journal_") for name in crates.LINKS]
-        unlinked = ["cut", "cat", "redact", "describe", "get", "explain", "schema", "help"]
+        unlinked = ["cut", "cat", "redact", "describe", "get", "explain", "schema", "renumber", "help"]
         self.check.same("the subcommands, and the links to some", ["list", *linked, *unlinked], named)
         installed = checks.run(["sh", "-c", ". scripts/up_to_date.sh && echo $links"], cwd=checks.ROOT)
         self.check.same("the links that are installed", list(crates.LINKS), installed.out.decode().split())

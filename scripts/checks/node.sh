@@ -138,9 +138,9 @@ else
 fi
 
 # The page's programs, which are JavaScript too; the others are under Compare.
-awk -v page="$user/page.mjs" -v compare="$user/compare.mjs" -v replay="$user/replay.mjs" '
+awk -v page="$user/page.mjs" -v compare="$user/compare.mjs" -v replay="$user/replay.mjs" -v other="$user/other.mjs" '
   /^## / { section = $2 }
-  /^```ts$/ { file = section == "Compare" ? compared++ ? replay : compare : page; next }
+  /^```ts$/ { file = section == "Compare" ? compared++ ? replay : compare : section == "Other" ? other : page; next }
   /^```$/ { file = "" }
   file != "" { print > file }' node/README.md
 ln -s "$PWD/examples" "$user/examples"
@@ -154,6 +154,10 @@ same 'the program of node/README.md that compares' "$work/wanted" "$out"
 (cd "$user" && node replay.mjs) > "$out" 2> "$err"
 sed -n 's/^Its line is `\(.*\)`\.$/\1/p' node/README.md > "$work/wanted"
 same 'the program of node/README.md that checks a replay' "$work/wanted" "$out"
+python3 -B scripts/checks/write_numbering.py "$user"
+(cd "$user" && node other.mjs) > "$out" 2> "$err"
+sed -n '/^Of a set/,/\.$/s/^`\(.*\)`\.$/\1/p' node/README.md > "$work/wanted"
+same 'the program of node/README.md that reads other field numbers' "$work/wanted" "$out"
 
 cp examples/typescript/proxy.mjs "$user/"
 counted 'the proxy' python3 -B scripts/checks/proxied.py node "$user/proxy.mjs"

@@ -1,10 +1,11 @@
 #!/usr/bin/env python3
-"""proxied.py [--record] COMMAND..: a proxy passes journals on over sockets of this machine.
+"""proxied.py [--record] [--trailing] COMMAND..: a proxy passes journals on over sockets of this machine.
 
 The command is one of the examples named proxy, which takes a version, a host and a port after these words, prints the
 port at which it listens, and adds 1 to each state that is set. The journals have flags that no encoder sets, lengths
 longer than they need to be, custom entries and unknown types, and come in chunks of any size. With --record the proxy
-takes --record FOLDER before the version, and writes what it takes and what it passes on there.
+takes --record FOLDER before the version, and writes what it takes and what it passes on there. With --trailing it
+passes on the beginning of a last item that is not whole too.
 """
 import pathlib
 import random
@@ -24,13 +25,14 @@ END = bytes.fromhex("0003000000000000")
 SET = bytes.fromhex("040300000000000a" "0a81000a1a040a810031")
 TWO = bytes.fromhex("0403000000000008" "0a010a1a030a0132")
 
-# version, what is sent, what is passed on, and whether the journal is whole
+# version, what is sent as whole items, what is passed on of them, and what is sent after them
 JOURNALS = (
-    (8, KEPT + SET + END, KEPT + TWO + END, True),
-    (9, SET + SKIPPED + SET + INPUT, TWO + SKIPPED + TWO + INPUT, True),
-    (8, (KEPT + SET) * 5000, (KEPT + TWO) * 5000, True),
-    (8, b"", b"", True),
-    (8, KEPT + SET + KEPT[:11], KEPT + TWO, False),
+    (8, KEPT + SET + END, KEPT + TWO + END, b""),
+    (9, SET + SKIPPED + SET + INPUT, TWO + SKIPPED + TWO + INPUT, b""),
+    (8, (KEPT + SET) * 5000, (KEPT + TWO) * 5000, b""),
+    (8, b"", b"", b""),
+    (8, KEPT + SET, KEPT + TWO, KEPT[:11]),
+    (8, SET, TWO, KEPT[:3]),
 )
 
 
@@ -61,26 +63,28 @@ def passed_on(command, version, journal):
     return bytes(found), process.returncode, said
 
 
-def is_recorded(folder, journal, wanted):
-    """Whether the folder has the items of a journal, and what was passed on."""
-    received, passed = (pathlib.Path(folder, name).read_bytes() for name in ("received", "passed_on"))
-    # the last item may be cut short
-    return journal.startswith(received) and len(journal) - len(received) < 17 and passed == wanted
+def recorded(folder):
+    """What the folder has of what was received, and of what was passed on."""
+    return tuple(pathlib.Path(folder, name).read_bytes() for name in ("received", "passed_on"))
 
 
 def main(command):
     passed = failed = 0
-    records = command[0] == "--record"
-    for version, journal, wanted, is_whole in JOURNALS:
+    options = {"--record", "--trailing"} & set(command[:2])
+    command = command[len(options) :]
+    for version, items, wanted, trailing in JOURNALS:
+        kept = trailing if "--trailing" in options else b""
         with tempfile.TemporaryDirectory() as folder:
-            words = [*command[1:], "--record", folder] if records else command
-            found, status, said = passed_on(words, version, journal)
-            is_right = not records or is_recorded(folder, journal, wanted)
-        if is_right and found == wanted and (status == 0) == is_whole and (said == "") == is_whole:
+            words = [*command, "--record", folder] if "--record" in options else command
+            found, status, said = passed_on(words, version, items + trailing)
+            is_right = "--record" not in options or recorded(folder) == (items + kept, wanted + kept)
+        is_said = (status == 0, said == "") == (not trailing, not trailing)
+        if is_right and is_said and found == wanted + kept:
             passed += 1
         else:
             failed += 1
-            print(f"failed: version {version}, {len(journal)} bytes: status {status}, {len(found)} bytes: {said}")
+            what = f"version {version}, {len(items)} bytes and {len(trailing)}"
+            print(f"failed: {what}: status {status}, {len(found)} bytes: {said}")
     print(f"{passed} passed, {failed} failed")
     return 1 if failed else 0
 

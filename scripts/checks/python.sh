@@ -116,7 +116,9 @@ awk -v folder="$work/page" '
 ' python/README.md
 cp examples/streams/* "$work/page"
 cp examples/streams/replay "$work/page/journal"
-for part in 1 3 4 5; do
+PYTHONPATH=$site:python/tests python3 -c \
+  'import sys, descriptors; sys.stdout.buffer.write(descriptors.SMALL)' > "$work/page/set.binpb"
+for part in 1 3 4 5 6; do
   if [ $part -eq 3 ] && python3 -c 'import sys; sys.exit(sys.version_info >= (3, 10))'; then
     left_out 'the match of python/README.md' 'this python3 is older than 3.10'
     continue
@@ -126,7 +128,7 @@ for part in 1 3 4 5; do
 done
 case_of 'the proxy of python/README.md' python3 -B scripts/checks/is_part.py "$work/page/part2.py" \
   examples/python/proxy.py
-counted 'the proxy' python3 -B scripts/checks/proxied.py --record python3 examples/python/proxy.py
+counted 'the proxy' python3 -B scripts/checks/proxied.py --record --trailing python3 examples/python/proxy.py
 counted 'replays beside whole journals' python3 -B scripts/checks/replays.py 7 4000
 for way in '' 1; do
   counted "the replays${way:+, without the compiled module}" \

@@ -65,6 +65,15 @@ for way in '' 1; do
 done
 unset PENDRATSOA_PURE
 
+# The signatures, by what is given and returned while a program runs.
+if ruby -rrbs/test -e '' 2> "$err"; then
+  for way in '' 1; do
+    case_of "the signatures${way:+, without the compiled module}" env PENDRATSOA_PURE=$way ruby test/typed.rb
+  done
+else
+  left_out 'the signatures' 'there is no rbs, which is a bundled gem of Ruby'
+fi
+
 # The gem with the library in it needs neither this folder nor the environment. The example is run over it.
 # says_compiled NAME: whether the gem that is installed in GEM_HOME has the module, which works with its library
 says_compiled() {
@@ -102,13 +111,13 @@ listed() {
   ruby examples/listing.rb "$2" < "$work/examples/streams/$1" > "$out" 2> "$err"
   same "the listing of $1" "$work/listing" "$out"
 }
-counted 'the proxy' python3 -B "$top/scripts/checks/proxied.py" ruby -w examples/proxy.rb
+counted 'the proxy' python3 -B "$top/scripts/checks/proxied.py" --trailing ruby -w examples/proxy.rb
 for way in '' 1; do
   counted "the replays${way:+, without the compiled module}" \
     env PENDRATSOA_PURE=$way python3 -B "$top/scripts/checks/replayed.py" ruby -w examples/replay.rb
 done
 
-# The page: its program, its part of the proxy, and its expressions, of functions, journals and a replay.
+# The page: its program, its part of the proxy, and its expressions, of functions, a numbering, journals and a replay.
 awk -v folder="$work" '
   /^```ruby$/ { file = folder "/page" ++blocks ".rb"; next }
   /^```$/ { file = "" }
@@ -119,7 +128,8 @@ printf '%s\n' 'Start 19' 'InputCommand 9' 'GetLazyStateCompletionNotification 4'
 cut -d ' ' -f 1,2 "$work/log" > "$out"
 same 'the program of ruby/README.md' "$work/wanted" "$out"
 case_of 'the proxy of ruby/README.md' python3 -B "$top/scripts/checks/is_part.py" "$work/page2.rb" examples/proxy.rb
-for part in 3 4 5; do
+ruby -rpendratsoa -I test -rdescriptors -e 'print Descriptors::SMALL' > "$work/set.binpb"
+for part in 3 4 5 6; do
   case_of "the expressions of ruby/README.md, part $part" ruby -C "$work" -rpendratsoa -e '
     File.foreach(ARGV[0]) do |line|
       found, wanted = TOPLEVEL_BINDING.eval(line).inspect, line[/# => (.*)/, 1]

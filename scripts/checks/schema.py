@@ -350,9 +350,10 @@ def compared(check: checks.Check, program: Program) -> None:
     is_same = (ours.status, ours.out) == (theirs.status, theirs.out)
     check.case("diff --schema, a stream cut short", is_same and b" after its last " in theirs.err, (ours, theirs))
     (check.work / "lacking").write_bytes(frame_of(0x0411, b"\x1a\1s"))
-    said = f"journal diff: {check.work}/lacking: item 0: message.source: unknown member\n"
+    (check.work / "also").write_bytes(frame_of(0x0411, b"\x1a\1t"))
     words = f"--schema {check.work}/other.set --rename TransferCommandMessage=RunCommand"
-    program.ends(f"diff {words} {check.work}/lacking {check.work}/lacking", "", said, 2)
+    # the protocol has no such field
+    program.ends(f"diff {words} {check.work}/lacking {check.work}/also", "same, 1 command\n")
     for word, files in (("diff", f"{check.work}/cut {check.work}/cut"), ("dump", f"{check.work}/cut")):
         said = f"journal {word}: --protocol auto reads payloads by the protocol's own description, and not by a "
         program.ends(f"{word} --schema {made} --protocol auto {files}", "", f"{said}descriptor set\n", 2)

@@ -25,7 +25,8 @@ for folder in "$@"; do
 done
 
 unproved_crate tests edit_script encoded_input shared_core_frames replay_bench shared_core_fields \
-  shared_core_fields_writer shared_core_json json_table shared_core_json_reader stream_lines shared_core \
+  shared_core_fields_writer shared_core_renumber stream_renumbering shared_core_json json_table \
+  shared_core_json_reader stream_lines shared_core \
   shared_core_io shared_core_stream shared_core_base shared_core_wire shared_core_codec shared_core_message \
   shared_core_parts shared_core_runtime shared_core_state_commands shared_core_call_commands \
   shared_core_notifications bytes hex json
