@@ -46,7 +46,7 @@ one_written entries old entry short =
     ∙ sym (append_assoc entries (entry ∷ []) (drop (suc (length entries)) old))
     ∙ ap (λ n. (entries ++ entry ∷ []) ++ drop n old) next
 
--- the entry of an item is written after so many others, and the items of all are listed
+-- the entry of an item is written at the index count, and with it the items of all entries are listed
 abbrev IsListedAt : Version → ℕ → List ℕ → List ItemEntry → List ItemEntry → List ℕ → ItemRef → ℕ → Type 0
 IsListedAt version limit bytes old entries rest item count =
     (longer : List ItemEntry) × (length longer ≡ count + 1)

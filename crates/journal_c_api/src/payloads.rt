@@ -16,6 +16,9 @@ use shared_core_json::{write_canonical as encode_canonical, write_payload};
 use std::alloc::Global;
 use std::fmt::Debug;
 
+/// Of a payload with more bytes, the room for its JSON is not asked for at once.
+const LONG: usize = 65_536;
+
 /// Writes the canonical payload of what a payload means. One that is canonical is copied: nothing is allocated then,
 /// and nothing can fail.
 #[tactic(auto, using(crate::proofs::Writing::writes_outcome, crate::proofs::Copying::returns_canonical))]
@@ -167,7 +170,8 @@ fn json(alloc: Global, schema: u32, payload: &[u8]) -> Result<Vec<u8>, CallError
     if !check::is_schema(schema) {
         return Err(CallError::UnknownSchema);
     }
-    let mut text = Writer::new(Vec::new(alloc));
+    let room = Vec::with_capacity(alloc, 2 * payload.len().min(LONG) + 128)?;
+    let mut text = Writer::new(room);
     let mut base64 = Vec::new(alloc);
     if let Some(checked) = CanonicalPayload::check(schema, payload) {
         write_payload(&mut text, &mut base64, false, checked)?;
