@@ -1,7 +1,7 @@
 //! Passes a journal on from one connection to another, with each state one greater: proxy VERSION HOST PORT
 //!
 //! It takes a connection at a port of this machine, which it prints, and opens one to HOST and PORT. All that it does
-//! not change it passes on byte for byte.
+//! not change it passes on byte for byte, also the beginning of a last item that is not whole.
 
 use std::env;
 use std::error::Error;
@@ -39,6 +39,7 @@ fn pass_on(
         target.write_all(&out)?;
         out.clear();
     }
+    target.write_all(decoder.trailing())?;
     Ok(decoder.finish()?)
 }
 

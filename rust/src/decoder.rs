@@ -3,8 +3,9 @@
 use std::io::{self, ErrorKind, Read};
 use std::iter::FusedIterator;
 
-use crate::error::{Error, Incomplete};
-use crate::item::{copied, next_item_from, next_item_within, Item, Message, Next, OwnedItem};
+use crate::error::{Argument, Error, Incomplete, MessageTooLong};
+use crate::ffi::{Found, Refusal};
+use crate::item::{copied, item_of, message_of, next_item_within, Item, Message, OwnedItem, Place};
 use crate::numbering::{keep, Kept, Numbering, Payload};
 
 /// The most bytes that are read at once.
@@ -49,6 +50,8 @@ pub struct Decoder {
     begin: usize,
     /// The index of the first byte that did not come.
     end: usize,
+    /// The items that those begin with which are in no item yet, as far as they were looked for.
+    found: Found,
     /// The number of bytes that are in the items that were taken.
     taken: u64,
     /// The error of a message that is longer than the limit, which ended the stream.
@@ -99,6 +102,7 @@ impl Decoder {
             bytes: Vec::new(),
             begin: 0,
             end: 0,
+            found: Found::new(),
             numbering: None,
             kept: Kept::default(),
         })
@@ -314,6 +318,7 @@ impl Decoder {
             ended: &mut self.ended,
             bytes: &self.bytes[..self.end],
             begin: &mut self.begin,
+            found: &mut self.found,
             numbering: self.numbering.as_ref(),
             place: Some(self.kept.emptied()),
             has_failed: false,
@@ -338,9 +343,11 @@ impl Decoder {
     pub fn next_owned(&mut self) -> Option<Result<OwnedItem, Error>> {
         let (begin, taken) = (self.begin, self.taken);
         let owned = self.items().next()?.and_then(Item::into_owned);
-        if let Err(Error::OutOfMemory) = owned {
+        // a numbering may have left it where it is
+        if matches!(owned, Err(Error::OutOfMemory)) && self.taken != taken {
             self.begin = begin;
             self.taken = taken;
+            self.found.put_back();
         }
         Some(owned)
     }
@@ -386,6 +393,7 @@ pub struct Items<'a> {
     ended: &'a mut Option<Error>,
     bytes: &'a [u8],
     begin: &'a mut usize,
+    found: &'a mut Found,
     numbering: Option<&'a Numbering>,
     /// Where the next payload that the numbering makes is kept.
     place: Option<&'a mut Vec<Payload>>,
@@ -393,6 +401,56 @@ pub struct Items<'a> {
 }
 
 impl<'a> Items<'a> {
+    /// Looks for items in the bytes that are in none.
+    #[cold]
+    fn look(&mut self) -> Result<(), Error> {
+        if let Some(error) = &*self.ended {
+            return Err(error.clone());
+        }
+        let (bytes, limit) = (&self.bytes[*self.begin..], self.max_message_size);
+        match self.found.look(self.version, limit, bytes) {
+            Ok(()) => Ok(()),
+            Err(Refusal::TooLong) => {
+                let error = Error::MessageTooLong(MessageTooLong::of(bytes, limit, *self.taken));
+                *self.ended = Some(error.clone());
+                Err(error)
+            }
+            Err(refusal) => Err(Error::of(refusal, |_| Argument::Version(self.version))),
+        }
+    }
+
+    /// Takes the item of this size.
+    #[inline]
+    fn take(&mut self, size: usize) {
+        *self.taken += size as u64;
+        *self.begin += size;
+        self.found.take();
+    }
+
+    /// Ends the iteration.
+    #[cold]
+    fn fail(&mut self, error: Error) -> Result<Item<'a>, Error> {
+        self.has_failed = true;
+        Err(error)
+    }
+
+    /// The next of the items that were found, whatever it is, and whatever reads it.
+    #[cold]
+    fn next_of_any_kind(&mut self) -> Option<Result<Item<'a>, Error>> {
+        let numbers = self.found.first()?;
+        let (bytes, place) = (&self.bytes[*self.begin..], Place::at(*self.taken));
+        Some(
+            match (item_of(self.version, bytes, numbers, place), self.numbering) {
+                (Ok((item, size)), None) => {
+                    self.take(size);
+                    Ok(item)
+                }
+                (Ok((item, size)), Some(numbering)) => self.take_read(numbering, item, size),
+                (Err(error), _) => self.fail(error),
+            },
+        )
+    }
+
     /// Takes an item of a size, as it is read by a numbering; one that cannot be read is taken too.
     #[cold]
     fn take_read(
@@ -406,10 +464,9 @@ impl<'a> Items<'a> {
             item => Ok(item),
         };
         if !matches!(read, Err(Error::OutOfMemory)) {
-            *self.taken += size as u64;
-            *self.begin += size;
+            self.take(size);
         }
-        read
+        read.or_else(|error| self.fail(error))
     }
 
     /// A message as it is read by a numbering.
@@ -430,34 +487,28 @@ impl<'a> Items<'a> {
 impl<'a> Iterator for Items<'a> {
     type Item = Result<Item<'a>, Error>;
 
+    #[inline]
     fn next(&mut self) -> Option<Result<Item<'a>, Error>> {
         if self.has_failed {
             return None;
         }
-        if let Some(error) = self.ended.clone() {
-            self.has_failed = true;
-            return Some(Err(error));
+        if self.found.first().is_none() {
+            if let Err(error) = self.look() {
+                return Some(self.fail(error));
+            }
         }
-        let bytes = &self.bytes[*self.begin..];
-        match next_item_from(*self.taken, self.version, self.max_message_size, bytes) {
-            Ok(Next::Item { item, size }) => {
-                if let Some(numbering) = self.numbering {
-                    let taken = self.take_read(numbering, item, size);
-                    self.has_failed = taken.is_err();
-                    return Some(taken);
-                }
-                *self.taken += size as u64;
-                *self.begin += size;
-                Some(Ok(item))
+        let numbers = self.found.first()?;
+        let (bytes, place) = (&self.bytes[*self.begin..], Place::at(*self.taken));
+        // most are messages: each is made where it is returned, and not moved
+        match (
+            message_of(self.version, bytes, numbers, place),
+            self.numbering,
+        ) {
+            (Some((message, size)), None) => {
+                self.take(size);
+                Some(Ok(Item::Message(message)))
             }
-            Ok(Next::Missing(_)) => None,
-            Err(error) => {
-                self.has_failed = true;
-                if let Error::MessageTooLong(_) = error {
-                    *self.ended = Some(error.clone());
-                }
-                Some(Err(error))
-            }
+            _ => self.next_of_any_kind(),
         }
     }
 }

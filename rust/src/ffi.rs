@@ -6,6 +6,7 @@ use std::alloc::{alloc, Layout};
 
 #[rustfmt::skip]
 mod declared;
+mod items;
 mod lists;
 mod numbering;
 #[rustfmt::skip]
@@ -14,6 +15,7 @@ mod table;
 mod writer;
 
 pub(crate) use declared::*;
+pub(crate) use items::{Found, ItemNumbers};
 pub(crate) use lists::append_struct;
 pub(crate) use numbering::{renumberings, Renumbering};
 pub use table::Table;

@@ -9,7 +9,7 @@ use crate::calls::{
     type_name,
 };
 use crate::error::{narrowed, Argument, Error, MessageTooLong};
-use crate::ffi::{self, Refusal, ITEM_MESSAGE, ITEM_SKIPPED, ITEM_UNKNOWN_CODE};
+use crate::ffi::{self, ItemNumbers, Refusal, ITEM_MESSAGE, ITEM_SKIPPED, ITEM_UNKNOWN_CODE};
 use crate::fields::MessageRecord;
 use crate::message_type::MessageType;
 use crate::messages::AnyMessage;
@@ -18,9 +18,14 @@ use crate::reading::from_json;
 
 /// Where an item begins in its stream. It takes no part in a comparison: the same item may come twice.
 #[derive(Clone, Copy)]
-struct Place(u64);
+pub(crate) struct Place(u64);
 
 impl Place {
+    /// That of an item at an offset of its stream.
+    pub(crate) fn at(offset: u64) -> Place {
+        Place(offset)
+    }
+
     /// That of an item received in no stream: an offset that no item has. An `Option` would be twice as long.
     const NOWHERE: Place = Place(u64::MAX);
 
@@ -590,10 +595,7 @@ pub fn next_item(version: u32, bytes: &[u8]) -> Result<Next<'_>, Error> {
     let mut numbers = [0; 6];
     let missing = ffi::next(version, bytes, &mut numbers)
         .map_err(|refusal| Error::of(refusal, |_| Argument::Version(version)))?;
-    if missing > 0 {
-        return Ok(Next::Missing(missing));
-    }
-    item_of(version, bytes, numbers, Place::NOWHERE)
+    next_of(version, bytes, missing, &numbers)
 }
 
 /// Finds the item that bytes begin with, as [`next_item`], if its payload has at most `limit` bytes.
@@ -611,43 +613,64 @@ pub fn next_item(version: u32, bytes: &[u8]) -> Result<Next<'_>, Error> {
 /// }
 /// ```
 pub fn next_item_within(version: u32, limit: u32, bytes: &[u8]) -> Result<Next<'_>, Error> {
-    next_item_at(Place::NOWHERE, version, limit, bytes)
-}
-
-/// The same of an item that begins at an offset of its stream; the error has it too.
-pub(crate) fn next_item_from(
-    offset: u64,
-    version: u32,
-    limit: u32,
-    bytes: &[u8],
-) -> Result<Next<'_>, Error> {
-    next_item_at(Place(offset), version, limit, bytes)
-}
-
-fn next_item_at(place: Place, version: u32, limit: u32, bytes: &[u8]) -> Result<Next<'_>, Error> {
     let mut numbers = [0; 6];
     let missing =
         ffi::next_within(version, limit, bytes, &mut numbers).map_err(|refusal| match refusal {
-            Refusal::TooLong => {
-                let offset = place.offset().unwrap_or(0);
-                Error::MessageTooLong(MessageTooLong::of(bytes, limit, offset))
-            }
+            Refusal::TooLong => Error::MessageTooLong(MessageTooLong::of(bytes, limit, 0)),
             refusal => Error::of(refusal, |_| Argument::Version(version)),
         })?;
+    next_of(version, bytes, missing, &numbers)
+}
+
+/// What bytes begin with: this many are missing, or there is an item of these numbers.
+fn next_of<'a>(
+    version: u32,
+    bytes: &'a [u8],
+    missing: usize,
+    numbers: &ItemNumbers,
+) -> Result<Next<'a>, Error> {
     if missing > 0 {
         return Ok(Next::Missing(missing));
     }
-    item_of(version, bytes, numbers, place)
+    let (item, size) = item_of(version, bytes, numbers, Place::NOWHERE)?;
+    Ok(Next::Item { item, size })
 }
 
-/// The item of these numbers, which the bytes begin with, at its place.
-fn item_of(
+/// The message of these numbers, which the bytes begin with, at its place, and its size in bytes. `None` if they are
+/// those of something else, as [`item_of`] tells.
+#[inline]
+pub(crate) fn message_of<'a>(
     version: u32,
-    bytes: &[u8],
-    numbers: [u64; 6],
+    bytes: &'a [u8],
+    numbers: &ItemNumbers,
     offset: Place,
-) -> Result<Next<'_>, Error> {
-    let [kind, word, code, ack, size, begin] = numbers;
+) -> Option<(Message<'a>, usize)> {
+    let [kind, word, code, ack, size, begin] = *numbers;
+    if kind != ITEM_MESSAGE {
+        return None;
+    }
+    let code = u16::try_from(code).ok()?;
+    let size = usize::try_from(size).ok()?;
+    let message = Message {
+        version,
+        code,
+        word,
+        requested_ack: ack == 1,
+        payload: bytes.get(usize::try_from(begin).ok()?..size)?,
+        received: None,
+        offset,
+    };
+    Some((message, size))
+}
+
+/// The item of these numbers, which the bytes begin with, at its place, and its size in bytes.
+pub(crate) fn item_of<'a>(
+    version: u32,
+    bytes: &'a [u8],
+    numbers: &ItemNumbers,
+    offset: Place,
+) -> Result<(Item<'a>, usize), Error> {
+    let [kind, word, code, ack, size, begin] = *numbers;
     let code = narrowed("the code", code)?;
     let size = narrowed("the size", size)?;
     let begin: usize = narrowed("the payload's index", begin)?;
@@ -679,7 +702,7 @@ fn item_of(
         }),
         kind => return Err(Error::unexpected("the kind of item", kind)),
     };
-    Ok(Next::Item { item, size })
+    Ok((item, size))
 }
 
 #[cfg(test)]
@@ -688,8 +711,8 @@ mod tests {
 
     const BYTES: [u8; 10] = [0xFC, 1, 0, 0, 0, 0, 0, 2, 7, 8];
 
-    fn kind(kind: u64) -> Result<Next<'static>, Error> {
-        item_of(8, &BYTES, [kind, 5, 0xFC01, 1, 10, 8], Place::NOWHERE)
+    fn kind(kind: u64) -> Result<(Item<'static>, usize), Error> {
+        item_of(8, &BYTES, &[kind, 5, 0xFC01, 1, 10, 8], Place::NOWHERE)
     }
 
     #[test]
@@ -729,7 +752,7 @@ mod tests {
                 }),
             ),
         ] {
-            assert_eq!(kind(number), Ok(Next::Item { item, size: 10 }));
+            assert_eq!(kind(number), Ok((item, 10)));
         }
     }
 
@@ -742,15 +765,15 @@ mod tests {
             unexpected("the kind of item 18446744073709551615")
         );
         assert_eq!(
-            item_of(8, &BYTES, [0, 0, 0x1_0000, 0, 10, 8], Place::NOWHERE),
+            item_of(8, &BYTES, &[0, 0, 0x1_0000, 0, 10, 8], Place::NOWHERE),
             unexpected("the code 65536")
         );
         assert_eq!(
-            item_of(8, &BYTES, [0, 0, 0, 0, 11, 8], Place::NOWHERE),
+            item_of(8, &BYTES, &[0, 0, 0, 0, 11, 8], Place::NOWHERE),
             unexpected("the size 11")
         );
         assert_eq!(
-            item_of(8, &BYTES, [0, 0, 0, 0, 10, 11], Place::NOWHERE),
+            item_of(8, &BYTES, &[0, 0, 0, 0, 10, 11], Place::NOWHERE),
             unexpected("the size 10")
         );
     }

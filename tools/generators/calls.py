@@ -834,11 +834,6 @@ use super::{appended, count, written, About, Refusal, Result};
 """
 
 
-def rust_calls():
-    """The calls that the crate makes: all but that for many items, since a call costs Rust less than an item."""
-    return [call for call in calls() if call.call != "items"]
-
-
 def rust():
     text = RUST_HEAD
     for entry in kinds():
@@ -847,7 +842,7 @@ def rust():
         text += "".join(f"pub(crate) const {name}: u64 = {number};\n" for number, name, _, _ in shown)
     text += "\n"
     text += "/// The calls as the header declares them.\nmod c {\n    extern \"C\" {\n"
-    for call in rust_calls():
+    for call in calls():
         text += f"        pub fn {call.symbol()}({', '.join(rust_raw(call))}) -> i64;\n"
     text += (
         "    }\n}\n\nimpl From<i64> for Refusal {\n    fn from(returned: i64) -> Refusal {\n        match returned {\n"
@@ -858,7 +853,7 @@ def rust():
             f"            {error['number']} => Refusal::{kind}{f'(About::{about})' if kind in WITH_ABOUT else ''},\n"
         )
     text += "            unlisted => Refusal::Unlisted(unlisted),\n        }\n    }\n}\n"
-    return text + "".join(rust_call(call) for call in rust_calls())
+    return text + "".join(rust_call(call) for call in calls())
 
 
 # The kinds of errors of which several arguments can be the reason, and how an argument is named in Rust.

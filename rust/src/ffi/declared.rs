@@ -46,6 +46,7 @@ mod c {
         pub fn journal_type_code(name: *const u8, name_length: usize) -> i64;
         pub fn journal_next(version: u32, bytes: *const u8, length: usize, item: *mut u64, item_room: usize) -> i64;
         pub fn journal_next_within(version: u32, limit: u32, bytes: *const u8, length: usize, item: *mut u64, item_room: usize) -> i64;
+        pub fn journal_items(version: u32, limit: u32, bytes: *const u8, length: usize, items: *mut [u64; 6], room: usize) -> i64;
         pub fn journal_header(version: u32, code: u16, payload_length: u32, out: *mut u8, room: usize) -> i64;
         pub fn journal_frame(version: u32, code: u16, payload: *const u8, payload_length: usize, out: *mut u8, room: usize) -> i64;
         pub fn journal_is_well_formed(schema: u32, payload: *const u8, payload_length: usize) -> i64;
@@ -122,6 +123,11 @@ pub(crate) fn next(version: u32, bytes: &[u8], item: &mut [u64; 6]) -> Result<us
 pub(crate) fn next_within(version: u32, limit: u32, bytes: &[u8], item: &mut [u64; 6]) -> Result<usize> {
     // SAFETY: each pointer comes with the length of its slice; those that are written are borrowed for it
     count(unsafe { c::journal_next_within(version, limit, bytes.as_ptr(), bytes.len(), item.as_mut_ptr(), item.len()) })
+}
+
+pub(crate) fn items(version: u32, limit: u32, bytes: &[u8], items: &mut [MaybeUninit<[u64; 6]>]) -> Result<usize> {
+    // SAFETY: each pointer comes with the length of its slice; those that are written are borrowed for it
+    count(unsafe { c::journal_items(version, limit, bytes.as_ptr(), bytes.len(), items.as_mut_ptr().cast(), items.len()) })
 }
 
 pub(crate) fn header(version: u32, code: u16, payload_length: u32, out: &mut [u8; 8]) -> Result<usize> {
