@@ -76,7 +76,7 @@ class TestCompiled < Minitest::Test
   end
 
   def test_classes_below_a_record
-    below = Class.new(Value).of_fields(content: "x")
+    below = Class.new(Value).of_values(["x"])
     assert_raises(NoMethodError) { below.encode }
     assert_raises(TypeError) { InputCommandMessage.new(value: below).encode }
   end

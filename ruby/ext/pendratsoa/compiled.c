@@ -46,7 +46,28 @@ static void take_row(struct field *field, struct row *row, VALUE given)
     }
 }
 
-/* A record: its class, the code of its type or -1, its defaults and its rows. */
+/* Says of each field where its value is, and which field comes after it; those of a oneof have the same name. */
+static void place_values(struct record *record)
+{
+    long slots = 0;
+    for (long end, at = 0; at < record->count; at = end) {
+        for (end = at + 1; record->fields[at].shape == MEMBER && end < record->count &&
+                           record->rows[end].name == record->rows[at].name;) {
+            end += 1;
+        }
+        for (long one = at; one < end; one += 1) {
+            record->rows[one].slot = slots;
+            record->rows[one].end = end;
+        }
+        record->has_lists = record->has_lists || record->fields[at].shape == REPEATED;
+        slots += 1;
+    }
+    if (slots != RARRAY_LEN(record->defaults)) {
+        rb_raise(rb_eArgError, "a record whose fields are not as many as its values");
+    }
+}
+
+/* A record: its class, the code of its type or -1, the values of its fields by default and its rows. */
 static void take_record(struct record *record, long schema, VALUE given)
 {
     Check_Type(given, T_ARRAY);
@@ -56,13 +77,14 @@ static void take_record(struct record *record, long schema, VALUE given)
     record->defaults = kept(given, 2);
     record->schema = schema;
     Check_Type(record->class, T_CLASS);
-    Check_Type(record->defaults, T_HASH);
+    Check_Type(record->defaults, T_ARRAY);
     Check_Type(rows, T_ARRAY);
     record->fields = ZALLOC_N(struct field, (size_t)RARRAY_LEN(rows) + 1);
     record->rows = ZALLOC_N(struct row, (size_t)RARRAY_LEN(rows) + 1);
     for (; record->count < RARRAY_LEN(rows); record->count += 1) {
         take_row(&record->fields[record->count], &record->rows[record->count], rb_ary_entry(rows, record->count));
     }
+    place_values(record);
 }
 
 /* Takes the addresses of the functions, in the order of the header. */

@@ -29,8 +29,10 @@
 /* From how many bytes on a call of the library lets other threads run. */
 #define LONG 65536
 
-/* A field of a record: what it holds, next to what the table of fields has of it. */
+/* A field of a record: what it holds, next to what the table of fields has of it. Those of a oneof have one value. */
 struct row {
+    long slot;          /* the place of its value among those of a record */
+    long end;           /* the place of the field after it, or after the others of its oneof */
     long schema;        /* of a message, the number of its schema */
     VALUE name;         /* the symbol, which is that of the oneof for a member */
     VALUE names;        /* of an enum, its names by their numbers, or nil */
@@ -39,14 +41,15 @@ struct row {
     bool is_wrapped;    /* whether that class is made for it */
 };
 
-/* A record: its class, the code of its type or -1, what its fields are by default, and its fields; those of a
- * oneof are side by side, what is held next to what the table has. */
+/* A record: its class, the code of its type or -1, the values of its fields by default, in their order, and its fields;
+ * those of a oneof are side by side, what is held next to what the table has. */
 struct record {
     VALUE class;
     VALUE defaults;
     long schema;
     long code;
     long count;
+    bool has_lists; /* whether a field is repeated */
     struct field *fields;
     struct row *rows;
 };

@@ -2,7 +2,7 @@
 #include "module.h"
 
 /* The methods in Ruby, and the variables of records and of members. */
-static ID decode_in_ruby, encode_in_ruby, frame_in_ruby, fields_variable, value_variable;
+static ID decode_in_ruby, encode_in_ruby, frame_in_ruby, values_variable, value_variable;
 
 /* The record of a class, or NULL, as for a class below one. */
 static const struct record *record_of(VALUE class)
@@ -62,19 +62,20 @@ static VALUE read_value(struct reading *reading, const struct record *record, lo
     }
 }
 
-/* Puts a value into the fields of a record, of a repeated field into its list. */
+/* Puts a value into those of a record, of a repeated field into its list. */
 static void put(VALUE values, const struct record *record, long place, VALUE value)
 {
     const struct row *row = &record->rows[place];
     if (record->fields[place].shape != REPEATED) {
-        rb_hash_aset(values, row->name, row->is_wrapped ? rb_class_new_instance(1, &value, row->member_class) : value);
+        RARRAY_ASET(values, row->slot,
+                    row->is_wrapped ? rb_class_new_instance(1, &value, row->member_class) : value);
         return;
     }
-    VALUE list = rb_hash_lookup(values, row->name);
+    VALUE list = RARRAY_AREF(values, row->slot);
     if (OBJ_FROZEN(list)) {
         /* that which is there by default */
         list = rb_ary_new();
-        rb_hash_aset(values, row->name, list);
+        RARRAY_ASET(values, row->slot, list);
     }
     rb_ary_push(list, value);
 }
@@ -82,7 +83,7 @@ static void put(VALUE values, const struct record *record, long place, VALUE val
 /* The record of the entries of a level, from the next one on; Qundef where it is left to Ruby. */
 static VALUE read_record(struct reading *reading, const struct record *record, uint64_t level)
 {
-    VALUE values = rb_hash_dup(record->defaults);
+    VALUE values = rb_ary_new_from_values(RARRAY_LEN(record->defaults), RARRAY_CONST_PTR(record->defaults));
     long place = 0;
     while (reading->at < reading->count && reading->entries[reading->at].level == level) {
         const struct journal_field *entry = &reading->entries[reading->at];
@@ -97,13 +98,13 @@ static VALUE read_record(struct reading *reading, const struct record *record, u
         }
         put(values, record, place, value);
     }
-    for (long at = 0; at < record->count; at += 1) {
+    for (long at = 0; record->has_lists && at < record->count; at += 1) {
         if (record->fields[at].shape == REPEATED) {
-            rb_obj_freeze(rb_hash_lookup(values, record->rows[at].name));
+            rb_obj_freeze(RARRAY_AREF(values, record->rows[at].slot));
         }
     }
     VALUE made = rb_obj_alloc(record->class);
-    rb_ivar_set(made, fields_variable, rb_obj_freeze(values));
+    rb_ivar_set(made, values_variable, rb_obj_freeze(values));
     return rb_obj_freeze(made);
 }
 
@@ -327,43 +328,23 @@ static bool write_fields(struct writing *writing, const struct record *record, l
     return true;
 }
 
-/* The fields of a record, which are walked, and the place of the next one. */
-struct walk {
-    struct writing *writing;
-    const struct record *record;
-    long place;
-    uint64_t level;
-    bool is_left;
-};
-
-/* Appends the entries of a field, which is the next one. */
-static int write_field(VALUE name, VALUE value, VALUE given)
-{
-    struct walk *walk = (struct walk *)given;
-    const struct record *record = walk->record;
-    long place = walk->place;
-    if (place == record->count || record->rows[place].name != name) {
-        walk->is_left = true;
-        return ST_STOP;
-    }
-    do {
-        walk->place += 1;
-    } while (record->fields[place].shape == MEMBER && walk->place < record->count &&
-             record->rows[walk->place].name == name);
-    walk->is_left = !NIL_P(value) && !write_fields(walk->writing, record, place, walk->place, walk->level, value);
-    return walk->is_left ? ST_STOP : ST_CONTINUE;
-}
-
-/* Appends the entries of a record, whose fields are in the order of its rows; false where it is left to Ruby. */
+/* Appends the entries of a record, whose values are in the order of its fields; false where it is left to Ruby. */
 static bool write_record(struct writing *writing, const struct record *record, VALUE object, uint64_t level)
 {
-    VALUE values = rb_ivar_get(object, fields_variable);
-    if (!RB_TYPE_P(values, T_HASH) || ruby_stack_check()) {
+    VALUE values = rb_ivar_get(object, values_variable);
+    if (!RB_TYPE_P(values, T_ARRAY) || RARRAY_LEN(values) != RARRAY_LEN(record->defaults) || ruby_stack_check()) {
         return false;
     }
-    struct walk walk = {writing, record, 0, level, false};
-    rb_hash_foreach(values, write_field, (VALUE)&walk);
-    return !walk.is_left && walk.place == record->count;
+    for (long place = 0, end; place < record->count; place = end) {
+        const struct row *row = &record->rows[place];
+        VALUE value = RARRAY_AREF(values, row->slot);
+        end = row->end;
+        if (!NIL_P(value) && !write_fields(writing, record, place, end, level, value)) {
+            return false;
+        }
+    }
+    RB_GC_GUARD(values);
+    return true;
 }
 
 /* How many bytes are before the payload of a frame. */
@@ -503,7 +484,7 @@ void define_records(VALUE pendratsoa)
     decode_in_ruby = rb_intern("decode_in_ruby");
     encode_in_ruby = rb_intern("encode_in_ruby");
     frame_in_ruby = rb_intern("frame_in_ruby");
-    fields_variable = rb_intern("@fields");
+    values_variable = rb_intern("@values");
     value_variable = rb_intern("@value");
     rb_define_singleton_method(record, "decode", decode, 1);
     rb_define_method(record, "encode", encode, 0);

@@ -13,7 +13,7 @@ module Pendratsoa
     def self.records
       RECORDS.map do |record|
         code = record < MessageRecord ? record::CODE : -1
-        [record, code, record.defaults, record.entries.values.flatten.map { |row| row_of(row) }]
+        [record, code, record.defaults.values.freeze, record.entries.values.flatten.map { |row| row_of(row) }]
       end
     end
 

@@ -87,7 +87,7 @@ module Pendratsoa
           end
         end
         lists&.each { |name, values| fields[name] = values.freeze }
-        record.of_fields(fields)
+        record.of_values(fields.values)
       end
 
       private

@@ -92,10 +92,10 @@ module Pendratsoa
       alias decode_in_ruby decode
       private :decode_in_ruby
 
-      # A record of fields that are all there.
-      def of_fields(fields)
+      # A record of the values of its fields, in their order.
+      def of_values(values)
         record = allocate
-        record.instance_variable_set(:@fields, fields.freeze)
+        record.instance_variable_set(:@values, values.freeze)
         record.freeze
       end
 
@@ -113,7 +113,9 @@ module Pendratsoa
         found = rows.map { |row| Row.new(*row) }
         @by_number = found.to_h { |row| [row.number, row] }.freeze
         @entries = found.group_by(&:name).transform_values { |of_name| of_name[0].member ? of_name : of_name[0] }.freeze
-        @members.each { |name| define_method(name) { @fields[name] } }
+        @members.each_with_index do |name, place|
+          class_eval "def #{name} = @values[#{place}]", __FILE__, __LINE__ # def key = @values[0]
+        end
       end
     end
 
@@ -121,13 +123,13 @@ module Pendratsoa
       unknown = fields.keys - self.class.members
       raise ArgumentError, "#{self.class} has no field #{unknown.join(", ")}" unless unknown.empty?
 
-      @fields = self.class.defaults.merge(fields).freeze
+      @values = self.class.defaults.merge(fields).values.freeze
       freeze
     end
 
     # The same record with other values of these fields.
     def with(**fields)
-      self.class.new(**@fields, **fields)
+      self.class.new(**to_h, **fields)
     end
 
     # Its canonical payload. A FieldError names the field that a value is wrong for; a value of another class is a
@@ -141,12 +143,12 @@ module Pendratsoa
 
     # Its fields by their names.
     def to_h
-      @fields
+      self.class.members.zip(@values).to_h
     end
 
     # What `case .. in` takes.
     def deconstruct_keys(_keys)
-      @fields
+      to_h
     end
 
     def ==(other)
@@ -155,11 +157,11 @@ module Pendratsoa
     alias eql? ==
 
     def hash
-      [self.class, to_h].hash
+      [self.class, @values].hash
     end
 
     def inspect
-      "#<#{[self.class, *@fields.map { |name, value| "#{name}: #{value.inspect}" }].join(" ")}>"
+      "#<#{[self.class, *to_h.map { |name, value| "#{name}: #{value.inspect}" }].join(" ")}>"
     end
     alias to_s inspect
   end
