@@ -1,4 +1,5 @@
-// The test vectors in a browser, by the page's entry of the package; scripts/checks/browser_vectors.py serves it.
+// The test vectors in a browser, by the page's entry of the package, and the cases of numberings.cases;
+// scripts/checks/browser_vectors.py serves it.
 //
 // It leaves what is found as `window.result`. Nothing of Node is there. Lines of `record` have no call.
 
@@ -7,7 +8,10 @@ import {
   JsonError,
   Malformed,
   Message,
+  Numbering,
+  NumberingError,
   Stream,
+  Unknown,
   canonical,
   compareJournals,
   decode,
@@ -94,18 +98,54 @@ const KINDS = {
   },
 };
 
-function resultOf(question) {
+/** The names of a text of lines; undefined if a line is not a pair of them, as an object has. */
+function renamesOf(word) {
+  const lines = new TextDecoder().decode(hex(word)).split('\n');
+  const pairs = lines.filter((line) => line !== '').map((line) => line.split('='));
+  const isPair = (pair) => pair.length === 2 && !pair[0].includes('\ufffd');
+  return pairs.every(isPair) ? Object.fromEntries(pairs) : undefined;
+}
+
+const numberings = new Map();
+
+// The kinds of lines of numberings.cases.
+const NUMBERINGS = {
+  set(name, word, set) {
+    const renames = renamesOf(word);
+    if (renames === undefined) {
+      return undefined;
+    }
+    try {
+      numberings.set(name, new Numbering(hex(set), { renames }));
+      return 'ok';
+    } catch (error) {
+      if (!(error instanceof NumberingError)) {
+        throw error;
+      }
+      const reason = error.reason.replace(/[A-Z]/g, (letter) => `_${letter.toLowerCase()}`);
+      return `${reason} ${digitsOf(new TextEncoder().encode(error.text))}`;
+    }
+  },
+  read: (name, schema, payload) => digitsOf(numberings.get(name).readPayload(schema, hex(payload))),
+  write: (name, schema, payload) => digitsOf(numberings.get(name).writePayload(schema, hex(payload))),
+  stream(direction, name, version, stream) {
+    return digitsOf(numberings.get(name)[`${direction}Stream`](Number(version), hex(stream)));
+  },
+};
+
+/** The result of what a line has before ` = `, by the kinds of its file; undefined if there is no call of it. */
+function resultOf(kinds, question) {
   const [kind, ...words] = question.split(' ');
-  if (KINDS[kind] === undefined) {
+  if (kinds[kind] === undefined) {
     return undefined;
   }
   try {
-    return KINDS[kind](...words) || '-';
+    return kinds[kind](...words);
   } catch (error) {
     if (error instanceof Malformed) {
       return 'malformed';
     }
-    return String(error);
+    return error instanceof Unknown ? 'unknown' : String(error);
   }
 }
 
@@ -122,12 +162,17 @@ function outcome(name, isGood) {
   }
 }
 
-const vectors = await (await fetch('/vectors.txt')).text();
-for (const line of vectors.split('\n').filter((each) => each !== '' && !each.startsWith('#'))) {
-  const end = line.indexOf(' = ');
-  const found = resultOf(line.slice(0, end));
-  if (found !== undefined) {
-    outcome(`${line.slice(0, end)}: ${found}`, found === line.slice(end + 3));
+for (const [address, kinds] of [
+  ['/vectors.txt', KINDS],
+  ['/conformance/numberings.cases', NUMBERINGS],
+]) {
+  const text = await (await fetch(address)).text();
+  for (const line of text.split('\n').filter((each) => each !== '' && !each.startsWith('#'))) {
+    const end = line.indexOf(' = ');
+    const found = resultOf(kinds, line.slice(0, end));
+    if (found !== undefined) {
+      outcome(`${line.slice(0, end)}: ${found}`, (found || '-') === line.slice(end + 3));
+    }
   }
 }
 
