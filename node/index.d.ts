@@ -118,7 +118,7 @@ export class Message<T extends TypeName = TypeName> {
 
   /**
    * The record that its payload means, which is decoded at each access; undefined of a custom entry, which has no
-   * record. Bytes in it are parts of the payload, or of its canonical encoding.
+   * record. Bytes in it are parts of the payload, or of its canonical encoding; those of a short payload may be copies.
    * @throws {Malformed} the payload is not well-formed for its schema
    * @throws {Unknown} it came in no stream, and there is no such version or type
    */

@@ -63,7 +63,7 @@ function typeOf(version, code) {
     return found;
   }
   const number = checked(addon.schema(version, code), { call: 'schema', version, code });
-  const type = { schema: number, requestsAck: undefined };
+  const type = { schema: number, requestsAck: undefined, heads: [] };
   typesOf.set(version, (typesOf.get(version) ?? new Map()).set(code, type));
   return type;
 }
@@ -123,8 +123,18 @@ export function header(version, code, payloadLength) {
   return headOf(version, code, payloadLength).slice();
 }
 
+/** The header of a message, which is not to be changed: that of a named type is remembered for each short length. */
+export function headFor(version, code, payloadLength) {
+  const heads = typesOf.get(version)?.get(code)?.heads;
+  if (heads === undefined || payloadLength >= MOST_REMEMBERED) {
+    return headOf(version, code, payloadLength);
+  }
+  heads[payloadLength] ??= header(version, code, payloadLength);
+  return heads[payloadLength];
+}
+
 /** A header, in bytes that the next one is written to. */
-export function headOf(version, code, payloadLength) {
+function headOf(version, code, payloadLength) {
   checked(addon.header(version, code, payloadLength, head), { call: 'header', version, code, payloadLength });
   return head;
 }

@@ -42,6 +42,10 @@ const HALVES = 2 * FIELD_NUMBERS;
 const SHORT_PAYLOAD = 1024;
 const SHORT_TEXT = 128;
 
+// Up to how many bytes a payload that no one else has is copied for the call, and its bytes out of the copy. Memory of
+// so few bytes is given to native code and to views only after it was moved, which takes longer than both.
+const SHORT_BYTES = 64;
+
 /** The numbers of entries, each also as its two halves, which are numbers of JavaScript. */
 function Table(entries) {
   this.numbers = new BigUint64Array(FIELD_NUMBERS * entries);
@@ -53,6 +57,10 @@ const scratch = new Table(ENTRIES);
 const scratchBytes = new Uint8Array(16384);
 const writing = new BigUint64Array(WRITING_NUMBERS);
 const writingHalves = new Uint32Array(writing.buffer);
+
+// A copy of a short payload, and its parts of each length once they were needed.
+const shortBytes = new Uint8Array(SHORT_BYTES);
+const shortParts = [];
 
 for (const record of RECORDS) {
   record.byNumber = [];
@@ -71,11 +79,14 @@ for (const record of RECORDS) {
   record.entries = [...record.members.values()];
 }
 
-/** The record that a payload means, in any encoding. Bytes in it are parts of the payload, or of its canonical one. */
-export function recordOf(schema, payload) {
+/**
+ * The record that a payload means, in any encoding. Bytes in it are parts of the payload, or of its canonical one, or
+ * copies if the payload is short and `isOwn`: an array that a stream has made.
+ */
+export function recordOf(schema, payload, isOwn = false) {
   const given = { call: 'message', schema, payload };
   let table = scratch;
-  let data = payload;
+  let data = isOwn && payload.length <= SHORT_BYTES ? copyOf(payload) : payload;
   let count = addon.fields(schema, data, table.numbers);
   if (count === NOT_CANONICAL) {
     data = canonical(schema, payload);
@@ -91,11 +102,20 @@ export function recordOf(schema, payload) {
   return new Reader(table, count, data).record(RECORDS[schema], 0);
 }
 
+/** A copy of a short payload, which is only there until the next one. */
+function copyOf(payload) {
+  const { length } = payload;
+  shortParts[length] ??= shortBytes.subarray(0, length);
+  shortParts[length].set(payload);
+  return shortParts[length];
+}
+
 class Reader {
   constructor(table, count, data) {
     this.table = table;
     this.end = HALVES * count;
     this.data = data;
+    this.isCopy = data === shortParts[data.length];
     // each byte of a short payload as a unit, once a text is read
     this.units = undefined;
     this.at = 0;
@@ -124,6 +144,10 @@ class Reader {
     return found;
   }
 
+  bytes(begin, end) {
+    return this.isCopy ? this.data.slice(begin, end) : this.data.subarray(begin, end);
+  }
+
   text(begin, end) {
     const { data } = this;
     if (data.length > SHORT_PAYLOAD || !areAscii(data, begin, end)) {
@@ -136,7 +160,7 @@ class Reader {
   value({ kind, holds }, halves, at, level) {
     switch (kind) {
       case BYTES:
-        return this.data.subarray(halves[at + OFFSET], halves[at + OFFSET] + halves[at + LENGTH]);
+        return this.bytes(halves[at + OFFSET], halves[at + OFFSET] + halves[at + LENGTH]);
       case TEXT:
         return this.text(halves[at + OFFSET], halves[at + OFFSET] + halves[at + LENGTH]);
       case MESSAGE:
@@ -239,8 +263,12 @@ class Writer {
     if (typeof values !== 'object' || values === null) {
       throw wrongKind(record.name, values, 'an object');
     }
+    // the names of a record that was read are those of its fields, in their order
+    let next = 0;
     for (const name in values) {
-      if (!record.members.has(name) && Object.hasOwn(values, name)) {
+      if (record.entries[next]?.name === name) {
+        next += 1;
+      } else if (!record.members.has(name) && Object.hasOwn(values, name)) {
         throw wrongKind(name, values[name], `a field of ${record.name}, which has none of this name`);
       }
     }

@@ -7,7 +7,7 @@ import {
   frame,
   frameInto,
   fromJson,
-  headOf,
+  headFor,
   header,
   nameOf,
   notification,
@@ -44,6 +44,8 @@ export class Message {
   #offset;
   // the payload as received, of a message whose payload a numbering read
   #received;
+  // the payload that the stream has made, which a caller may have replaced since
+  #own;
   kind = 'message';
 
   static {
@@ -52,6 +54,7 @@ export class Message {
       message.#high = high;
       message.#low = low;
       message.#offset = offset;
+      message.#own = message.payload;
       if (read !== undefined) {
         message.#received = payload;
       }
@@ -94,7 +97,7 @@ export class Message {
     // what came in no stream has the header of its type
     const { version, code } = this;
     const payload = this.#received ?? this.payload;
-    return joined(this.#high === undefined ? headOf(version, code, payload.length) : this.#head(), payload);
+    return joined(this.#high === undefined ? headFor(version, code, payload.length) : this.#head(), payload);
   }
 
   get type() {
@@ -173,7 +176,7 @@ export class Message {
   /** The record of the payload, by the number of its schema. */
   #record(number) {
     try {
-      return recordOf(number, this.payload);
+      return recordOf(number, this.payload, this.payload === this.#own);
     } catch (error) {
       throw ofMessage(error, this.code, nameOf(this.code), this.#offset);
     }
