@@ -1,7 +1,8 @@
 // Passes a journal on from one connection to another, with each state one greater: node proxy.mjs VERSION HOST PORT
 //
 // It takes a connection at a port of this machine, which it prints, and opens one to HOST and PORT. All that it does
-// not change it passes on byte for byte. It is JavaScript, since the types of node:net are in another package.
+// not change it passes on byte for byte, also the beginning of a last item that is not whole. It is JavaScript, since
+// the types of node:net are in another package.
 
 import { once } from 'node:events';
 import { connect, createServer } from 'node:net';
@@ -28,12 +29,20 @@ async function proxy(version, host, port) {
   const [source] = await once(server, 'connection');
   server.close();
   const target = connect(port, host);
-  for await (const item of items(source, version)) {
-    if (!target.write(passedOn(item))) {
-      await once(target, 'drain');
+  try {
+    for await (const item of items(source, version)) {
+      if (!target.write(passedOn(item))) {
+        await once(target, 'drain');
+      }
     }
+  } catch (error) {
+    if (error instanceof Incomplete) {
+      target.write(error.trailing);
+    }
+    throw error;
+  } finally {
+    target.end();
   }
-  target.end();
 }
 
 const [version, host, port] = process.argv.slice(2);
@@ -44,5 +53,6 @@ try {
     throw error;
   }
   console.error(`proxy.mjs: ${error.message}`);
-  process.exit(1);
+  // what was written is sent before the process ends
+  process.exitCode = 1;
 }

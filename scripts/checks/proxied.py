@@ -1,11 +1,11 @@
 #!/usr/bin/env python3
-"""proxied.py [--record] [--trailing] COMMAND..: a proxy passes journals on over sockets of this machine.
+"""proxied.py [--record] COMMAND..: a proxy passes journals on over sockets of this machine.
 
 The command is one of the examples named proxy, which takes a version, a host and a port after these words, prints the
 port at which it listens, and adds 1 to each state that is set. The journals have flags that no encoder sets, lengths
-longer than they need to be, custom entries and unknown types, and come in chunks of any size. With --record the proxy
-takes --record FOLDER before the version, and writes what it takes and what it passes on there. With --trailing it
-passes on the beginning of a last item that is not whole too.
+longer than they need to be, custom entries and unknown types, and come in chunks of any size. The beginning of a last
+item that is not whole is passed on too, and then the proxy has status 1 and says so. With --record it takes
+--record FOLDER before the version, and writes what it takes and what it passes on there.
 """
 import pathlib
 import random
@@ -70,16 +70,15 @@ def recorded(folder):
 
 def main(command):
     passed = failed = 0
-    options = {"--record", "--trailing"} & set(command[:2])
-    command = command[len(options) :]
+    is_recorded = command[:1] == ["--record"]
+    command = command[1:] if is_recorded else command
     for version, items, wanted, trailing in JOURNALS:
-        kept = trailing if "--trailing" in options else b""
         with tempfile.TemporaryDirectory() as folder:
-            words = [*command, "--record", folder] if "--record" in options else command
+            words = [*command, "--record", folder] if is_recorded else command
             found, status, said = passed_on(words, version, items + trailing)
-            is_right = "--record" not in options or recorded(folder) == (items + kept, wanted + kept)
+            is_right = not is_recorded or recorded(folder) == (items + trailing, wanted + trailing)
         is_said = (status == 0, said == "") == (not trailing, not trailing)
-        if is_right and is_said and found == wanted + kept:
+        if is_right and is_said and found == wanted + trailing:
             passed += 1
         else:
             failed += 1

@@ -128,7 +128,7 @@ for part in 1 3 4 5 6; do
 done
 case_of 'the proxy of python/README.md' python3 -B scripts/checks/is_part.py "$work/page/part2.py" \
   examples/python/proxy.py
-counted 'the proxy' python3 -B scripts/checks/proxied.py --record --trailing python3 examples/python/proxy.py
+counted 'the proxy' python3 -B scripts/checks/proxied.py --record python3 examples/python/proxy.py
 counted 'replays beside whole journals' python3 -B scripts/checks/replays.py 7 4000
 for way in '' 1; do
   counted "the replays${way:+, without the compiled module}" \

@@ -111,7 +111,7 @@ listed() {
   ruby examples/listing.rb "$2" < "$work/examples/streams/$1" > "$out" 2> "$err"
   same "the listing of $1" "$work/listing" "$out"
 }
-counted 'the proxy' python3 -B "$top/scripts/checks/proxied.py" --trailing ruby -w examples/proxy.rb
+counted 'the proxy' python3 -B "$top/scripts/checks/proxied.py" ruby -w examples/proxy.rb
 for way in '' 1; do
   counted "the replays${way:+, without the compiled module}" \
     env PENDRATSOA_PURE=$way python3 -B "$top/scripts/checks/replayed.py" ruby -w examples/replay.rb

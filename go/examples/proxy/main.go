@@ -1,10 +1,11 @@
 // Proxy passes a journal on from one connection to another, with each state one greater: proxy VERSION HOST PORT
 //
 // It takes a connection at a port of this machine, which it prints, and opens one to HOST and PORT. All that it does
-// not change it passes on byte for byte.
+// not change it passes on byte for byte, also the beginning of a last item that is not whole.
 package main
 
 import (
+	"errors"
 	"fmt"
 	"io"
 	"net"
@@ -55,6 +56,11 @@ func passOn(decoder *pendratsoa.Decoder, version int, target io.Writer) error {
 		item, err := decoder.Next()
 		if err == io.EOF {
 			return nil
+		} else if errors.Is(err, io.ErrUnexpectedEOF) {
+			if _, failed := target.Write(decoder.Trailing()); failed != nil {
+				return failed
+			}
+			return err
 		} else if err != nil {
 			return err
 		}
