@@ -16,7 +16,10 @@ from make_page import HERE, ROOT, content_hash, embedded
 
 # What of the package for Node the worker has, in the order in which they take from each other.
 LIBRARY = ("declared", "module_memory", "module_calls")
-NAMES = "CALLS, ERRORS, ITEM, ITEM_NUMBERS, REPLAY, REPLAY_NUMBERS, VERDICT, VERDICT_NUMBERS, useInstances"
+NAMES = (
+    "CALLS, ERRORS, ITEM, ITEM_NUMBERS, LIST_KINDS, LIST_NUMBERS, NUMBERING_DIRECTIONS, RENUMBERING_NUMBERS, REPLAY, "
+    "REPLAY_NUMBERS, VERDICT, VERDICT_NUMBERS, useInstances"
+)
 
 # The page's Content-Security-Policy: the two scripts, a worker of its own text, the module, and nothing else.
 POLICY = (

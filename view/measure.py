@@ -7,9 +7,9 @@ commands. Prints a row of a table: the CPU time of the maker; the page's size; u
 CPU time, the script's heap and the resident memory of the page's process; and the CPU time of a key, of a
 drawing of the overview, and of a first filter by a text. That is in Chromium.
 
-With --streams two streams of this many megabytes are chosen, which part at a command after nine tenths. Prints until
-the difference is said and until the page is there, the CPU time, the most resident memory of a process of the browser
-that is not its first, and how many addresses outside the page were requested.
+With --streams two streams of this many megabytes are chosen, which part at a command after nine tenths, and then with
+them a schema. Prints until the difference is said and until the page is there, the CPU time, the most resident memory
+of a process of the browser that is not its first, and how many addresses outside the page were requested.
 """
 import base64
 import contextlib
@@ -29,6 +29,7 @@ import make_opener  # noqa: E402
 import samples  # noqa: E402
 from browser import BROWSERS  # noqa: E402
 from chromium import Chromium  # noqa: E402
+from generators.numbering_vectors import Side  # noqa: E402
 
 KEYS = 20
 DRAWINGS = 20
@@ -142,13 +143,15 @@ def write_streams(paths, megabytes):
             file.writelines(samples.runs(count, other))
 
 
-def opened(name, page, paths):
-    """What is measured of the page that opens two streams, as the cells of a row."""
+def opened(name, page, paths, schema=None):
+    """What is measured of the page that opens two streams, by a schema or without one, as the cells of a row."""
     says = "document.getElementById('opener-says')?.textContent ?? ''"
     with BROWSERS[name]() as browser:
         browser.load(page)
         for place, path in zip(("recorded", "replayed"), paths):
             browser.choose(f"#{place}", path)
+        if schema:
+            browser.choose("#schema", schema)
         before = sum(seconds for seconds, _ in tree(browser.process.pid).values())
         start = time.monotonic()
         browser.evaluate("document.getElementById('open').click()")
@@ -167,11 +170,16 @@ def opened(name, page, paths):
 
 def measure_streams(module, megabytes):
     with tempfile.TemporaryDirectory() as folder:
-        page, *paths = [pathlib.Path(folder, name) for name in ("journal_view.html", "recorded", "replayed")]
+        names = ("journal_view.html", "own.binpb", "recorded", "replayed")
+        page, schema, *paths = [pathlib.Path(folder, name) for name in names]
         make_opener.main([module, str(page)])
+        # the set of the protocol itself, by which payloads are renumbered nevertheless
+        schema.write_bytes(Side().set())
         write_streams(paths, int(megabytes))
         for name in BROWSERS:
-            print(f"| {' | '.join([name, f'2 × {megabytes} MB', *opened(name, page, paths)])} |", flush=True)
+            for what, chosen in (("", None), (", by a schema", schema)):
+                cells = [name, f"2 × {megabytes} MB{what}", *opened(name, page, paths, chosen)]
+                print(f"| {' | '.join(cells)} |", flush=True)
 
 
 def main(words):

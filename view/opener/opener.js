@@ -46,11 +46,39 @@
     document.body.append(scriptElement(code, {}));
   }
 
+  /** Puts a file into a field. */
+  function choose(field, file) {
+    const chosen = new DataTransfer();
+    chosen.items.add(file);
+    field.files = chosen.files;
+  }
+
+  /** Whether a file begins as a descriptor set does: with its field 1. */
+  async function isSchema(file) {
+    try {
+      return new Uint8Array(await file.slice(0, 1).arrayBuffer())[0] === 0x0a;
+    } catch {
+      return false;
+    }
+  }
+
+  /** Takes files: the schemas into their field, and opens the others. */
+  async function take(files) {
+    const found = await Promise.all(files.map(isSchema));
+    const schema = files.findLast((_, place) => found[place]);
+    const streams = files.filter((_, place) => !found[place]);
+    if (schema) choose(part("schema"), schema);
+    if (streams.length > 0) open(streams.slice(0, 2));
+    else says(`${schema.name} is the schema. Now the stream, or two.`);
+  }
+
   let worker;
 
   /** Opens one file, or two. */
   function open(files) {
     worker?.terminate();
+    const [schema] = part("schema").files;
+    const renames = part("renames").value.trim().split(/\s+/).join("\n");
     const version = Number(part("version").value);
     const ignoresPayloads = part("ignore-payloads").checked;
     const script = new Blob([part("worker-script").textContent], { type: "text/javascript" });
@@ -68,13 +96,15 @@
       if (data.refused) {
         says(data.refused);
       } else {
-        show({ version, ignoresPayloads, script: null, ...data.about, ...messagesAt(version) }, data.lines);
+        const about = { version, ignoresPayloads, schema: schema?.name, script: null, ...data.about };
+        show({ ...about, ...messagesAt(version) }, data.lines);
       }
     };
     const units = atob(part("module").textContent);
     const module = new Uint8Array(units.length);
     for (let at = 0; at < units.length; at += 1) module[at] = units.charCodeAt(at);
-    worker.postMessage({ module, files, version, ignoresPayloads, types: messagesAt(version).types }, [module.buffer]);
+    const { types } = messagesAt(version);
+    worker.postMessage({ module, files, schema, renames, version, ignoresPayloads, types }, [module.buffer]);
   }
 
   part("opener").addEventListener("submit", (event) => {
@@ -84,6 +114,10 @@
   document.addEventListener("dragover", (event) => event.preventDefault());
   document.addEventListener("drop", (event) => {
     event.preventDefault();
-    if (part("opener") && event.dataTransfer.files.length > 0) open([...event.dataTransfer.files].slice(0, 2));
+    const files = [...event.dataTransfer.files];
+    if (!part("opener") || files.length === 0) return;
+    const field = event.target.closest?.("label")?.querySelector("[type=file]");
+    if (field) choose(field, files[0]);
+    else take(files);
   });
 }

@@ -1,6 +1,7 @@
 // The worker of the page that opens journals: the lines that journal dump prints of their items, and the verdict on
-// two. It reads files part by part, so that memory does not grow with them. `CALLS` are those of the package for Node,
-// over the module; `ITEM`, `VERDICT` and `REPLAY` are where the numbers of their structs are, `ERRORS` their errors.
+// two. It reads files part by part, so that memory does not grow with them. With a schema, a descriptor set, payloads
+// are at its field numbers, and read at the protocol's. `CALLS` are those of the package for Node, over the module;
+// `ITEM`, `VERDICT` and `REPLAY` are where the numbers of their structs are, `ERRORS` their errors.
 
 const MOST_ITEMS = 200_000;
 const BEFORE = 1_000;
@@ -13,6 +14,9 @@ const NO_LIMIT = 0xffffffff;
 const HEADER = 8;
 const HALVES = 2 * ITEM_NUMBERS;
 const ACK_BIT = 1n << 47n;
+// How much is read of a set, where the library says that this is too long; for how many fields its table has room.
+const READ_OF_SET = (1 << 24) + 1;
+const FIELDS = 256;
 
 const KINDS = ["message", "unknown", "skipped"];
 // By the kind of a verdict: its name in the page, and what journal diff prints of it first.
@@ -38,17 +42,25 @@ function checked(returned, what) {
   return returned;
 }
 
+/** The bytes that a call writes into this room, or into as much as it needs; undefined of what is malformed. */
+function bytesWritten(call, room, what) {
+  let length = call(room);
+  if (length < 0 && ERRORS.get(length)?.[0] === "Malformed") return undefined;
+  while (checked(length, what) > room.length) {
+    room = new Uint8Array(2 * length);
+    length = call(room);
+  }
+  return room.subarray(0, length);
+}
+
 let scratch = new Uint8Array(1 << 16);
 
-/** The text that a call writes into room that is enough, and returns the length of; undefined of what is malformed. */
+/** The text that a call writes, likewise. */
 function written(call, what) {
-  let length = call(scratch);
-  if (length < 0 && ERRORS.get(length)?.[0] === "Malformed") return undefined;
-  while (checked(length, what) > scratch.length) {
-    scratch = new Uint8Array(2 * length);
-    length = call(scratch);
-  }
-  return decoder.decode(scratch.subarray(0, length));
+  const bytes = bytesWritten(call, scratch, what);
+  if (bytes === undefined) return undefined;
+  if (bytes.length > scratch.length) scratch = new Uint8Array(bytes.buffer);
+  return decoder.decode(bytes);
 }
 
 function base64(bytes) {
@@ -59,10 +71,59 @@ function base64(bytes) {
   return btoa(text);
 }
 
+/** The field numbers of a descriptor set in a file; the renames of its messages are one per line. */
+class Numbering {
+  constructor(file, renames) {
+    const lines = new TextEncoder().encode(renames);
+    const set = new Uint8Array(reader.readAsArrayBuffer(file.slice(0, READ_OF_SET)));
+    const kind = new BigUint64Array(LIST_NUMBERS);
+    const text = written((out) => CALLS.numberingText(set, lines, kind, out), file.name);
+    const found = LIST_KINDS[Number(kind[0])];
+    if (found !== "listed") throw new Refused(found === "noSet" ? `${file.name}: ${text}` : text);
+    const reading = NUMBERING_DIRECTIONS.indexOf("reading");
+    const tableOf = (table) => checked(CALLS.numbering(reading, set, lines, table), file.name);
+    let table = new BigUint64Array(RENUMBERING_NUMBERS * FIELDS);
+    const count = tableOf(table);
+    if (count > FIELDS) tableOf((table = new BigUint64Array(RENUMBERING_NUMBERS * count)));
+    Object.assign(this, { set, lines, table: table.subarray(0, RENUMBERING_NUMBERS * count) });
+  }
+
+  /** A payload at the protocol's numbers; undefined if it is malformed at those of the set. */
+  payload(schema, payload, what) {
+    const call = (out) => CALLS.renumber(schema, this.table, payload, out);
+    return bytesWritten(call, new Uint8Array(payload.length), what);
+  }
+
+  /** Whole items at the protocol's numbers; undefined if the payload of one is malformed at those of the set. */
+  items(version, items, what) {
+    const call = (out) => CALLS.renumberStream(version, this.table, items, out);
+    return bytesWritten(call, new Uint8Array(items.length), what);
+  }
+
+  /** The lines of items by all fields of the set, as journal dump --schema prints them. */
+  linesOf(version, items, what) {
+    return written((out) => CALLS.numberingDump(version, this.set, this.lines, items, out), what).split("\n");
+  }
+}
+
+/** Arrays of bytes as one. */
+function joined(arrays) {
+  const all = new Uint8Array(arrays.reduce((sum, { length }) => sum + length, 0));
+  let at = 0;
+  for (const bytes of arrays) {
+    all.set(bytes, at);
+    at += bytes.length;
+  }
+  return all;
+}
+
+/** An item of the type of another, with a payload that is malformed at all numbers: a record of no wire type. */
+const malformedAs = ([high, low]) => Uint8Array.of(high, low, 0, 0, 0, 0, 0, 1, 7);
+
 /** A journal in a file. It holds a part at a time: some whole items. Those before `place` are taken. */
 class Journal {
-  constructor(file, version, types) {
-    Object.assign(this, { file, name: file.name, size: file.size, version, types, known: new Map() });
+  constructor(file, { version, types, numbering }) {
+    Object.assign(this, { file, name: file.name, size: file.size, version, types, numbering, known: new Map() });
     this.held = nothing;
     this.heldAt = 0;
     // the part: where it begins, its bytes, how many items are in it, and the numbers of each as two halves
@@ -162,10 +223,26 @@ class Journal {
     return { place, begin };
   }
 
-  /** The command that comes after so many, header and payload. */
+  /** The items of the part up to a place that come next, at the protocol's numbers; one that is malformed stays so. */
+  until({ place, begin }) {
+    const { numbering, version, name } = this;
+    const bytes = this.bytes.subarray(this.begin, begin);
+    const read = (items) => (numbering ? numbering.items(version, items, name) : items);
+    const whole = read(bytes);
+    if (whole !== undefined) return whole;
+    const items = [];
+    for (let at = this.place, start = 0; at < place; at += 1) {
+      const item = bytes.subarray(start, (start += this.sizeOf(at)));
+      items.push(read(item) ?? malformedAs(item));
+    }
+    return joined(items);
+  }
+
+  /** The command that comes after so many, likewise; all before it are taken. */
   command(amount) {
-    const { place, begin } = this.after(amount + 1);
-    return this.bytes.subarray(begin - this.sizeOf(place - 1), begin);
+    const end = this.after(amount + 1);
+    this.skip(end.place - 1);
+    return this.until(end);
   }
 
   /** The first place, from one on, with so many commands before it, or with no more than so many items from it on. */
@@ -208,7 +285,7 @@ class Journal {
     const members = `${flag}${head(top + BigInt(length) + (ack ? ACK_BIT : 0n))}`;
     const start = `{"offset":${offset},"type":${JSON.stringify(name)},"code":${code},"length":${length}`;
     // joined, since an engine keeps a text that is added up as its parts
-    return [start, members, membersOf(schema, payload), "}"].join("");
+    return [start, members, membersOf(schema, payload, this.numbering), "}"].join("");
   }
 
   /** The same, without its payload if it is too long for a page. */
@@ -223,14 +300,26 @@ class Journal {
     return `{"offset":${offset},${type},"code":${code},"length":${size - HEADER},"leftOut":"item ${offset}"}`;
   }
 
-  /** The lines from a place on, at most so many. */
+  /** The lines of the part by all fields of the set, if there is one; none of an item that is too long for a page. */
+  linesBySet() {
+    if (!this.numbering || this.bytes.length > LINE_CHARACTERS) return [];
+    const lines = this.numbering.linesOf(this.version, this.bytes, this.name);
+    const moved = (_, offset) => `{"offset":${this.at + Number(offset)},`;
+    return lines.map((line) => line.replace(/^\{"offset":(\d+),/, moved));
+  }
+
+  /** The lines from a place on, at most so many; after a tab that of an item by the set, if this has more of it. */
   lines(from, most) {
     const lines = [];
     let characters = 0;
     for (let { at } = from; this.load(at); at = this.at + this.begin) {
+      const bySet = this.linesBySet();
       for (; this.place < this.count; this.skip(this.place + 1)) {
         if (lines.length === most) return lines;
-        const line = this.shortened();
+        const own = this.shortened();
+        const other = bySet[this.place] ?? own;
+        const isShort = other !== own && other.length <= LINE_CHARACTERS;
+        const line = isShort && hasMore(JSON.parse(other), JSON.parse(own)) ? `${own}\t${other}` : own;
         characters += line.length;
         if (characters > JOURNAL_CHARACTERS) return lines;
         lines.push(line);
@@ -247,9 +336,17 @@ class Journal {
   }
 }
 
-/** The members of a payload. A custom entry has no schema. */
-function membersOf(schema, payload) {
-  const json = schema < 0 ? undefined : written((out) => CALLS.json(schema, payload, out), "a payload");
+/** Whether a value of JSON has a member, at any level, that another lacks. */
+const hasMore = (value, other) =>
+  other === undefined ||
+  (typeof value === "object" &&
+    Object.entries(value).some(([name, one]) => hasMore(one, Object.hasOwn(other, name) ? other[name] : undefined)));
+
+/** The members of a payload, which is at the numbers of a set, if there is one. A custom entry has no schema. */
+function membersOf(schema, payload, numbering) {
+  const what = "a payload";
+  const own = schema < 0 || !numbering ? payload : numbering.payload(schema, payload, what);
+  const json = schema < 0 || !own ? undefined : written((out) => CALLS.json(schema, own, out), what);
   if (json !== undefined) return `,"message":${json}`;
   return `${schema < 0 ? "" : ',"malformed":true'},"bytes":"${base64(payload)}"`;
 }
@@ -288,7 +385,7 @@ function verdictOn(journals, version, ignoresPayloads, say) {
     // where one has ended, the first command of the other one is beyond its end
     const amount = Math.min(...amounts) || Math.max(...amounts);
     const ends = journals.map((journal) => journal.after(Math.min(amount, journal.left)));
-    const [one, other] = journals.map(({ bytes, begin }, side) => bytes.subarray(begin, ends[side].begin));
+    const [one, other] = journals.map((journal, side) => journal.until(ends[side]));
     const call = (out) => CALLS.verdict(version, one, other, ignoresPayloads, numbers, out);
     const said = written(call, "the journals");
     const [kind, here] = [VERDICT.kind, VERDICT.index].map((number) => Number(numbers[number]));
@@ -348,11 +445,13 @@ function read(journals, version, ignoresPayloads) {
   return { about: { verdict, journals: facts }, lines };
 }
 
-onmessage = async ({ data: { module, files, version, ignoresPayloads, types } }) => {
+onmessage = async ({ data: { module, files, schema, renames, version, ignoresPayloads, types } }) => {
   try {
     const compiled = await WebAssembly.compile(module);
     useInstances(() => new WebAssembly.Instance(compiled).exports);
-    postMessage(read(files.map((file) => new Journal(file, version, types)), version, ignoresPayloads));
+    const numbering = schema && new Numbering(schema, renames);
+    const journals = files.map((file) => new Journal(file, { version, types, numbering }));
+    postMessage(read(journals, version, ignoresPayloads));
   } catch (error) {
     postMessage({ refused: error instanceof Refused ? error.message : `It cannot be read: ${error.message}` });
   }

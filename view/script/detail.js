@@ -203,7 +203,7 @@ function detailOf(place) {
 
 /** The lines of journal dump of a row, each with a button that copies it. */
 function linesNode(row) {
-  const summary = element("summary", "", "The line of journal dump");
+  const summary = element("summary", "", `The line of journal dump${about.schema === undefined ? "" : " --schema"}`);
   const details = element("details", "", summary);
   details.addEventListener("toggle", () => {
     if (details.childElementCount > 1) return;

@@ -39,8 +39,28 @@ function* valuesOf(message, schema, path = "", compared = true) {
   }
 }
 
-/** The values of an item: of its message, or the bytes that are none; `cut` is what is known of one that is cut. */
+/** The values of an item, at last those that only a schema has. */
 function itemValues(item) {
+  const own = ownValues(item);
+  if (item.bySchema === undefined) return own;
+  const { message, bytes } = item.bySchema;
+  if (message !== undefined) return [...own, ...othersOf(message, item.dump.message)];
+  return [...own, { path: "bytes", kind: "bytes", value: bytes, compared: false }];
+}
+
+/** The values in a message by a schema that another lacks: numbers, flags and texts, as which bytes are shown too. */
+function* othersOf(message, other, start = "") {
+  for (const [name, value] of Object.entries(message)) {
+    const path = Array.isArray(message) ? `${start}[${name}]` : `${start && `${start}.`}${name}`;
+    const own = Object.hasOwn(other ?? {}, name) ? other[name] : undefined;
+    const kind = { string: "text", boolean: "bool" }[typeof value] ?? "number";
+    if (typeof value === "object" && Object.keys(value).length > 0) yield* othersOf(value, own, path);
+    else if (own === undefined) yield { path, kind, value, compared: false };
+  }
+}
+
+/** The values that the protocol has of an item; `cut` is what is known of one that is cut. */
+function ownValues(item) {
   const { message, bytes, cut = {} } = item.dump;
   if (message === undefined) {
     return bytes === undefined ? [] : [{ path: "bytes", kind: "bytes", value: bytes, compared: false, cut: cut.bytes }];
@@ -130,9 +150,13 @@ function readJournal(side) {
   const { firstItem, firstCommand } = about.journals[side];
   const threads = new Map();
   const commands = [];
-  const items = lines.map((line, place) => {
-    const dump = JSON.parse(line);
-    const item = { dump, line, side, place, number: firstItem + place, direction: directionOf(dump), command: null };
+  const items = lines.map((text, place) => {
+    // after a tab it is there again by a schema, which has more of it
+    const [own, line = own] = text.split("\t");
+    const [dump, bySchema] = [JSON.parse(own), line === own ? undefined : JSON.parse(line)];
+    if (bySchema?.malformed) dump.malformed = true;
+    const item = { dump, bySchema, line, side, place, number: firstItem + place, command: null };
+    item.direction = directionOf(dump);
     item.size = dump.rest ?? HEADER + (dump.length ?? 0);
     item.failure = failureOf(item);
     item.parts = partsOf(item);

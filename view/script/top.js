@@ -131,7 +131,8 @@ function noteOnAlignment(verdict) {
 }
 
 function drawTop() {
-  const version = element("span", "journal", fact(`protocol version ${about.version}`));
+  const schema = about.schema === undefined ? null : fact(["schema ", visible(about.schema)]);
+  const version = element("span", "journal", fact(`protocol version ${about.version}`), schema);
   byId("facts").append(element("span", "", about.journals.map(factsNode), version));
   const cut = about.journals.filter((journal) => journal.shown < journal.items);
   const notices = [
