@@ -5,7 +5,7 @@ import (
 	"sync/atomic"
 )
 
-// LibraryVersion returns the version of the library, as "0.2.0".
+// LibraryVersion returns the version of the library, as "0.3.0".
 func LibraryVersion() (string, error) {
 	version, number := written(nameRoom, journalLibraryVersion)
 	if number < 0 {

@@ -343,7 +343,7 @@ export function items(
 
 // Names and numbers.
 
-/** The version of the library, as `'0.2.0'`. */
+/** The version of the library, as `'0.3.0'`. */
 export function libraryVersion(): string;
 
 /**

@@ -52,7 +52,7 @@ class Verdict:
 
 
 def library_version() -> str:
-    """The version of the library, as "0.2.0"."""
+    """The version of the library, as "0.3.0"."""
     return named.library_version().decode()
 
 

@@ -116,9 +116,9 @@ static inline const char *journal_error_text(int64_t result) {
 #define JOURNAL_SCHEMAS 53
 
 /* The version of the library that this header belongs to. */
-#define JOURNAL_LIBRARY_VERSION "0.2.0"
+#define JOURNAL_LIBRARY_VERSION "0.3.0"
 
-/* Writes the version of the library, as "0.2.0". Returns its length in bytes. */
+/* Writes the version of the library, as "0.3.0". Returns its length in bytes. */
 int64_t journal_library_version(uint8_t *out, size_t room);
 
 /*

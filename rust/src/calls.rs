@@ -4,7 +4,7 @@ use crate::error::{Argument, Error};
 use crate::ffi::{self, About, Refusal};
 use crate::LAST_VERSION;
 
-/// The version of the library, as `0.2.0`.
+/// The version of the library, as `0.3.0`.
 ///
 /// ```
 /// assert!(pendratsoa::library_version()?.starts_with("0."));

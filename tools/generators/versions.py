@@ -15,10 +15,12 @@ IS_WHOLE = False
 # By file: the texts after which the version is, each of which is there.
 PLACES = {
     "CHANGELOG.md": [r"\A(?:(?!^## ).*\n)*## "],
-    "README.md": [r"^Status: ", r"pendratsoa(?:-rust-|-go-|[-_])", r"pendratsoa@v"],
+    "README.md": [r"^Status: ", r"pendratsoa(?:-rust-|-go-|-reference-|[-_])", r"pendratsoa@v"],
     "crates/journal_c_api/mutants/another_library_version.edit": [r'^old: .*LIBRARY_VERSION: &str = "'],
     "crates/journal_c_api/src/names.rt": [r'LIBRARY_VERSION: &str = "', r'codes "'],
     "docs/C.md": [r"libpendratsoa\.so\.", r"The version\*\*, ", r"pendratsoa-"],
+    "docs/COMPATIBILITY.md": [r"^No release is published yet\. From "],
+    "docs/RELEASING.md": [r"^    echo "],
     "go/README.md": [r"pendratsoa@v", r"pendratsoa-go-"],
     "go/types.go": [r'the version of the library, as "'],
     "node/index.d.ts": [r"The version of the library, as `'"],

@@ -3,7 +3,7 @@
 
 use command_line::{Argument, Definition, Form, Values};
 
-const VERSION: &str = "0.2.0";
+const VERSION: &str = "0.3.0";
 
 const INPUT: Argument = Argument {
     name: "input",

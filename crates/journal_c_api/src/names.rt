@@ -13,11 +13,11 @@ use shared_core::header::MessageType;
 use shared_core::messages::schema_at;
 
 /// The version of the library.
-pub const LIBRARY_VERSION: &str = "0.2.0";
+pub const LIBRARY_VERSION: &str = "0.3.0";
 
 /// Writes the version of the library, and returns its length in bytes.
 pub fn write_library_version(out: &mut [u8]) -> Result<usize, CallError>
-    ensures { Writes (λ written. written ≡ Ok (codes "0.2.0")) out.old out.new result }
+    ensures { Writes (λ written. written ≡ Ok (codes "0.3.0")) out.old out.new result }
 {
     Ok(write_text(LIBRARY_VERSION, out))
 }

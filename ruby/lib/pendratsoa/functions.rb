@@ -27,7 +27,7 @@ module Pendratsoa
   end
 
   class << self
-    # The version of the library, as "0.2.0".
+    # The version of the library, as "0.3.0".
     def library_version
       Named.call(Named::LIBRARY_VERSION, "library_version").force_encoding(Encoding::UTF_8)
     end

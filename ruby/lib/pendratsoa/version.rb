@@ -2,5 +2,5 @@
 
 module Pendratsoa
   # The version of this gem, which is that of the library that it belongs to.
-  VERSION = "0.2.0"
+  VERSION = "0.3.0"
 end
