@@ -6,7 +6,7 @@ use Rattle.std.specs.Str.{is_utf8}
 use Rattle.std.proofs.lemmas.Bool.{eqb-true, eq-eqb, ne_eqb}
 use Rattle.std.proofs.lemmas.List.{append-nil, length-append, nil_from_length}
 use Rattle.shared_core_wire.specs.Acceptance.{accepts_bytes, accepts_element, accepts_message, accepts_number}
-use Rattle.shared_core_wire.specs.Acceptance.{accepts_payload, accepts_record, accepts_value}
+use Rattle.shared_core_wire.specs.Acceptance.{accepts_numbers, accepts_payload, accepts_record, accepts_value}
 use Rattle.shared_core_wire.specs.Grammar.{FieldRecord, RecordValue, Varint, Fixed64, Length, Group, Fixed32}
 use Rattle.shared_core_wire.specs.Grammar.{IsGroupContent, IsRecordBody, IsRecordWithin}
 use Rattle.shared_core_wire.specs.Reader.{packed_numbers, record_at, varint_at}
@@ -33,7 +33,7 @@ use Rattle.explain_lines.specs.Explanation.{front_line}
 use Rattle.explain_lines.specs.Explanation.{guess_explained, guess_text, message_explained, no_record}
 use Rattle.explain_lines.specs.Explanation.{nested_explained, nothing, numbers_past}
 use Rattle.explain_lines.specs.Explanation.{one_line, raw, reads_as_message, record_explained, records_past}
-use Rattle.explain_lines.specs.Explanation.{run_explained}
+use Rattle.explain_lines.specs.Explanation.{list_explained, number_explained, run_explained}
 use Rattle.explain_lines.specs.Explanation.{taken, text_explained, unknown_explained, value_explained}
 use Rattle.explain_lines.specs.Lines.{Line, Told, bytes_of, show, with_line}
 use Rattle.explain_lines.specs.Reasons.{reason_text, varint_reason}
@@ -267,17 +267,22 @@ module _ (left : ℕ) (nested : NestedExplanation) (inner : Nested left nested) 
         (is_some (packed_numbers run)) (numbers_past (path ++ field ∷ []) 0 run) in_bytes.ends
         (is_numbers (length run) (path ++ field ∷ []) run (omega arith))
 
+    is_list : (k : Kind) (w : RecordValue) (bytes : List ℕ) → accepts_number k ≡ true → AtEnd left bytes w →
+        IsExplanationOf bytes (accepts_numbers w) (list_explained path field k w bytes)
+    unfolding AtEnd
+    is_list k (Length run) bytes a at = is_run run bytes at
+    is_list k (Varint n) bytes a at = subst (λ (b : Bool). IsExplanationOf bytes b (number_explained path field k n
+        bytes)) a (is_number k n bytes)
+    is_list k (Fixed64 bs) bytes a at = is_fault _ _ bytes
+    is_list k (Fixed32 bs) bytes a at = is_fault _ _ bytes
+    is_list k (Group content) bytes a at = is_fault _ _ bytes
+
     is_element : (k : Kind) (w : RecordValue) (bytes : List ℕ) → AtEnd left bytes w → IsExplanationOf bytes
         (accepts_element (accepts_message table left) k w) (element_explained nested path field k w bytes)
-    unfolding AtEnd
-    is_element U32 (Length run) bytes at = is_run run bytes at
-    is_element U32 (Varint n) bytes at = is_number U32 n bytes
-    is_element U32 (Fixed64 bs) bytes at = is_fault _ _ bytes
-    is_element U32 (Fixed32 bs) bytes at = is_fault _ _ bytes
-    is_element U32 (Group content) bytes at = is_fault _ _ bytes
-    is_element U64 w bytes at = is_value U64 w bytes at
-    is_element Boolean w bytes at = is_value Boolean w bytes at
-    is_element Enumeration w bytes at = is_value Enumeration w bytes at
+    is_element U32 w bytes at = is_list U32 w bytes refl at
+    is_element U64 w bytes at = is_list U64 w bytes refl at
+    is_element Boolean w bytes at = is_list Boolean w bytes refl at
+    is_element Enumeration w bytes at = is_list Enumeration w bytes refl at
     is_element Text w bytes at = is_value Text w bytes at
     is_element ByteString w bytes at = is_value ByteString w bytes at
     is_element (Message s) w bytes at = is_value (Message s) w bytes at

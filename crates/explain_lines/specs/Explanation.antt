@@ -5,7 +5,7 @@ use Rattle.std.specs.Str.{is_utf8}
 use Rattle.shared_core_wire.specs.Acceptance.{accepts_message, accepts_number, accepts_payload}
 use Rattle.shared_core_wire.specs.Grammar.{FieldRecord, RecordValue, Varint, Fixed64, Length, Group, Fixed32}
 use Rattle.shared_core_wire.specs.Reader.{record_at, varint_at}
-use Rattle.shared_core_wire.specs.Schema.{Kind, U32, Text, ByteString, Message}
+use Rattle.shared_core_wire.specs.Schema.{Kind, Text, ByteString, Message}
 use Rattle.shared_core_codec.specs.ProgramRows.{field_numbered}
 use Rattle.shared_core_codec.specs.Table.{table}
 use Rattle.explain_lines.specs.declared.piece.FieldAt.{FieldAt}
@@ -126,10 +126,16 @@ abbrev pub run_explained : List FieldAt → FieldAt → List ℕ → List ℕ �
 run_explained path field run bytes =
     after_line (front_line path field (codes "numbers") run bytes) (numbers_past (path ++ field ∷ []) 0 run)
 
+-- A record of a list of numbers of a kind.
+abbrev pub list_explained : List FieldAt → FieldAt → Kind → RecordValue → List ℕ → Explanation
+list_explained path field k (Varint n) bytes = number_explained path field k n bytes
+list_explained path field k (Length run) bytes = run_explained path field run bytes
+list_explained path field k w bytes = misplaced path field k
+
 -- A record of a repeated field of a kind.
 abbrev pub element_explained : NestedExplanation → List FieldAt → FieldAt → Kind → RecordValue → List ℕ → Explanation
-element_explained nested path field U32 (Length run) bytes = run_explained path field run bytes
-element_explained nested path field k w bytes = value_explained nested path field k w bytes
+element_explained nested path field k w bytes =
+    if accepts_number k then list_explained path field k w bytes else value_explained nested path field k w bytes
 
 -- ---- records of no field of their schema
 

@@ -3,8 +3,7 @@
 ghost use Rattle.std.specs.Prelude.{◌≡◌, ◌-◌, ◌<◌, ◌≤◌, ◌^◌, drop, ◌++◌, ◌∷◌, [], Some, codes, decimal, length, take};
 ghost use Rattle.shared_core_codec.specs.ProgramRows.{field_numbered, kind_view};
 ghost use Rattle.shared_core_codec.specs.Table.{table};
-ghost use Rattle.shared_core_wire.specs.Acceptance.{accepts_number, accepts_payload};
-ghost use Rattle.shared_core_wire.specs.Schema as schema_kind;
+ghost use Rattle.shared_core_wire.specs.Acceptance.{accepts_payload};
 ghost use Rattle.shared_core_wire.specs.Reader.{varint_at};
 ghost use Rattle.shared_core_wire.specs.View.{value_of};
 ghost use Rattle.explain_lines.specs.Explanation.{after_varint, group_explained};
@@ -13,7 +12,7 @@ ghost use Rattle.explain_lines.specs.Explanation.{found_explained, front_line, g
 ghost use Rattle.explain_lines.specs.Explanation.{message_explained, misplaced, nested_explained, no_record};
 ghost use Rattle.explain_lines.specs.Explanation.{number_explained, numbers_past, one_line, opaque_lines};
 ghost use Rattle.explain_lines.specs.Explanation.{fault, payload_lines, raw, reads_as_message, run_explained};
-ghost use Rattle.explain_lines.specs.Explanation.{taken, text_explained};
+ghost use Rattle.explain_lines.specs.Explanation.{list_explained, taken, text_explained};
 ghost use Rattle.explain_lines.specs.Explanation.{unknown_explained, value_explained};
 ghost use Rattle.explain_lines.specs.Reasons.{reason_text};
 ghost use Rattle.explain_lines.specs.State.{Adds, Explains};
@@ -185,29 +184,25 @@ fn explain_element(lines: &mut Lines, known: &Known<'_>, kind: Kind) -> Result<b
         (element_explained (nested_explained known.now.left) lines.old.path.items known.now.field (kind_view kind)
         (value_of known.now.value) known.now.bytes.now) }
 {
-    match kind {
-        Kind::U32 => explain_packed(lines, known),
-        Kind::U64 => explain_value(lines, known, kind),
-        Kind::Boolean => explain_value(lines, known, kind),
-        Kind::Enumeration => explain_value(lines, known, kind),
-        Kind::Text => explain_value(lines, known, kind),
-        Kind::ByteString => explain_value(lines, known, kind),
-        Kind::Message(_) => explain_value(lines, known, kind),
+    if kind.is_number() {
+        explain_list(lines, known, kind)
+    } else {
+        explain_value(lines, known, kind)
     }
 }
 
-/// Adds the lines of a record of a repeated field of numbers, which may be packed.
-fn explain_packed(lines: &mut Lines, known: &Known<'_>) -> Result<bool, AllocError>
+/// Adds the lines of a record of a list of numbers of a kind, which may be packed.
+fn explain_list(lines: &mut Lines, known: &Known<'_>, kind: Kind) -> Result<bool, AllocError>
     ensures { Explains lines.old lines.new result
-        (element_explained (nested_explained known.now.left) lines.old.path.items known.now.field schema_kind.U32
-        (value_of known.now.value) known.now.bytes.now) }
+        (list_explained lines.old.path.items known.now.field (kind_view kind) (value_of known.now.value)
+        known.now.bytes.now) }
 {
     match known.value {
         WireValue::Length(run) => explain_run(lines, known, run),
-        WireValue::Varint(number) => explain_number(lines, known, Kind::U32, number),
-        WireValue::Fixed64(_) => add_misplaced(lines, known, Kind::U32),
-        WireValue::Fixed32(_) => add_misplaced(lines, known, Kind::U32),
-        WireValue::Group(_) => add_misplaced(lines, known, Kind::U32),
+        WireValue::Varint(number) => explain_number(lines, known, kind, number),
+        WireValue::Fixed64(_) => add_misplaced(lines, known, kind),
+        WireValue::Fixed32(_) => add_misplaced(lines, known, kind),
+        WireValue::Group(_) => add_misplaced(lines, known, kind),
     }
 }
 
@@ -245,7 +240,7 @@ fn explain_number(
     ensures { Explains lines.old lines.new result
         (number_explained lines.old.path.items known.now.field (kind_view kind) number known.now.bytes.now) }
 {
-    if !is_number(kind) {
+    if !kind.is_number() {
         return add_misplaced(lines, known, kind);
     }
     lines.add(known.bytes, Piece::Number(known.field, number, Some(kind)))?;
@@ -476,17 +471,4 @@ fn guess(bytes: &[u8]) -> &'static str
     ensures { result.now ≡ guess_text bytes.now }
 {
     if is_text(bytes) { "a text" } else { "bytes" }
-}
-
-/// Whether values of a kind are written as varints.
-fn is_number(kind: Kind) -> bool
-    ensures { result ≡ accepts_number (kind_view kind) }
-{
-    match kind {
-        Kind::U32 => true,
-        Kind::U64 => true,
-        Kind::Boolean => true,
-        Kind::Enumeration => true,
-        _ => false,
-    }
 }

@@ -1,8 +1,9 @@
 -- The fields of messages by their paths.
-use Rattle.std.specs.Prelude.{ℕ, zero, suc, ◌+◌, ◌-◌, ◌^◌, Bool, false, ◌==◌, min, List, [], ◌∷◌, ◌++◌, codes}
+use Rattle.std.specs.Prelude.{ℕ, zero, suc, ◌+◌, ◌-◌, ◌^◌, Bool, not, ◌&&◌, ◌==◌, min, List, [], ◌∷◌, ◌++◌, codes}
 use Rattle.std.specs.Prelude.{decimal, drop, eqb, length, if◌then◌else◌}
 use Rattle.std.specs.List.{starts_with}
-use Rattle.shared_core_wire.specs.Schema.{Kind, U32, Message}
+use Rattle.shared_core_wire.specs.Acceptance.{accepts_number}
+use Rattle.shared_core_wire.specs.Schema.{Kind, Message}
 use Rattle.shared_core_wire.specs.Value.{Parts, Nested}
 use Rattle.shared_core_fields.specs.Fields.{FieldPart}
 use Rattle.shared_core_fields.specs.Views.{field_part}
@@ -17,8 +18,7 @@ use Rattle.field_paths.specs.declared.label.Step.TheVariants as step
 
 -- Whether a field is one element of a list; a list of numbers is one field.
 abbrev pub is_element : Kind × Bool → Bool
-is_element (U32, repeated) = false
-is_element (k, repeated) = repeated
+is_element f = not (accepts_number f.0) && f.1
 
 -- What a path calls a field of a schema that is the element of its list with this index, if it is one.
 abbrev pub label_of : ℕ → FieldPart → ℕ → List ℕ

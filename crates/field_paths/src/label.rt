@@ -56,8 +56,10 @@ fn is_element(field: &Field<'_>) -> bool
     ensures { result ≡ is_element (field_part field.now).1 }
 {
     match field.value {
-        FieldValue::U32(_) | FieldValue::Numbers(_) => false,
-        _ => field.is_repeated,
+        FieldValue::Text(_) | FieldValue::ByteString(_) | FieldValue::Message(_) => {
+            field.is_repeated
+        }
+        _ => false,
     }
 }
 

@@ -1,16 +1,20 @@
 //! The bytes of fields.
 
 ghost use Rattle.std.specs.Prelude.{◌≡◌, ◌++◌, [], codes, IfOk, OnOk};
-ghost use Rattle.shared_core_codec.specs.FieldParts.{enum_number};
+ghost use Rattle.shared_core_codec.specs.FieldParts.{enum_number, parts_of};
+ghost use Rattle.shared_core_codec.specs.ProgramRows.{kind_view};
 ghost use Rattle.std.specs.Int.{from_bool};
-ghost use Rattle.shared_core_fields.specs.Runs.{run_numbers};
+ghost use Rattle.shared_core_fields.specs.NumberValues.{number_value};
+ghost use Rattle.shared_core_fields.specs.Runs.{held_numbers};
 ghost use Rattle.shared_core_fields.specs.Views.{field_part};
 ghost use Rattle.shared_core_json.specs.Form.{enum_digits};
-ghost use Rattle.shared_core_wire.specs.Overlay.{low_numbers};
-ghost use Rattle.field_paths.specs.Values.{flag_line, number_line, number_lines, AreBytes};
+ghost use Rattle.shared_core_wire.specs.Value.{Number};
+ghost use Rattle.field_paths.specs.Values.{flag_line, number_line, number_lines, scalar_line, AreBytes};
 
+use shared_core_codec::rows::Kind;
 use shared_core_fields::fields::{Field, FieldValue};
 use shared_core_fields::runs::Run;
+use shared_core_wire::varint::low_32;
 use std::alloc::{AllocError, Global};
 
 /// The bytes of a field: a text and bytes as they are, the payload of a message; a number or a flag as a line, and a
@@ -63,13 +67,25 @@ fn push_enumeration(alloc: Global, number: i32, out: &mut Vec<u8>) -> Result<(),
     out.extend_from_slice(line.as_bytes())
 }
 
+/// Appends the line of a number of a kind.
+fn push_scalar(alloc: Global, kind: Kind, number: u64, out: &mut Vec<u8>) -> Result<(), AllocError>
+    requires { number_value (kind_view kind) number ≡ number }
+    ensures { OnOk result (out.new.items ≡ out.old.items ++ scalar_line (kind_view kind) number) }
+{
+    match kind {
+        Kind::Boolean => push_flag(number != 0, out),
+        Kind::Enumeration => push_enumeration(alloc, low_32(number).cast_signed(), out),
+        _ => push_number(alloc, number, out),
+    }
+}
+
 /// Appends the lines of the numbers of a run.
 fn push_numbers(alloc: Global, run: Run<'_>, out: &mut Vec<u8>) -> Result<(), AllocError>
-    ensures { OnOk result (out.new.items
-        ≡ out.old.items ++ number_lines (low_numbers (run_numbers run.entry.bytes.now))) }
+    ensures { OnOk result (out.new.items ≡ out.old.items ++ number_lines (kind_view run.entry.kind)
+        (parts_of Number (held_numbers (kind_view run.entry.kind) run.entry.bytes.now))) }
 {
     for number in run.numbers() {
-        push_number(alloc, u64::from(number), out)?;
+        push_scalar(alloc, run.kind, number, out)?;
     }
     Ok(())
 }

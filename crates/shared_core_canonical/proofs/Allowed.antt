@@ -1,15 +1,15 @@
 -- What follows for the records of a row from what is accepted.
-use Rattle.std.proofs.Common.{◌≡◌, ℕ, List, [], ◌∷◌, ◌++◌, Bool, true, false, cond, ◌&&◌, ◌||◌, eqb, Option, Some, None}
+use Rattle.std.proofs.Common.{◌≡◌, ℕ, List, [], ◌∷◌, ◌++◌, Bool, true, false, cond, ◌||◌, eqb, Option, Some, None}
 use Rattle.std.proofs.Common.{Result, Ok, Err, refl, sym, ap, subst, ◌∙◌}
 use Rattle.std.proofs.lemmas.Bool.{eqb-true}
 use Rattle.std.specs.List.{list_all}
 use Rattle.shared_core_wire.specs.declared.error.WireError.{WireError}
 use Rattle.shared_core_wire.specs.Grammar.{RecordValue, Varint, Fixed64, Length, Group, Fixed32, FieldRecord, content}
 use Rattle.shared_core_wire.specs.ReadRecords.{PlacedRecord}
-use Rattle.shared_core_wire.specs.Schema.{Kind, Row, U32, U64, Boolean, Enumeration, Text, ByteString, Message, Plain}
+use Rattle.shared_core_wire.specs.Schema.{Kind, Row, Message, Plain}
 use Rattle.shared_core_wire.specs.Schema.{Optional, Repeated, OneOf, numbers, includes, member_kind}
-use Rattle.shared_core_wire.specs.Acceptance.{NestedAcceptance, accepts_value, accepts_element, accepts_in_row}
-use Rattle.shared_core_wire.specs.Acceptance.{row_allows, accepts_record}
+use Rattle.shared_core_wire.specs.Acceptance.{NestedAcceptance, accepts_number, accepts_numbers, accepts_value}
+use Rattle.shared_core_wire.specs.Acceptance.{accepts_element, row_allows, accepts_record}
 use Rattle.shared_core_wire.proofs.Runs.{and_split}
 use Rattle.shared_core_codec.specs.Checking.{all_read}
 use Rattle.shared_core_codec.specs.ProgramRows.{member_numbered, field_in_row}
@@ -42,19 +42,21 @@ member_found (m ∷ members) n f e = by_test (eqb n m.0) (member_found members n
     by_test false later g = later g
 
 module _ (nested : NestedAcceptance) where
-  pub run_allowed : (n : ℕ) (r : FieldRecord) → row_allows nested r (Repeated n U32) ≡ true → run_allows n r ≡ true
-  run_allowed n r h = by_test (eqb r.number n) h
+  pub run_allowed : (n : ℕ) (k : Kind) → accepts_number k ≡ true → (r : FieldRecord) → row_allows nested r (Repeated n
+      k) ≡ true → run_allows n r ≡ true
+  run_allowed n k a r h = by_test (eqb r.number n) h
     where
-      by_value : (w : RecordValue) → accepts_element nested U32 w ≡ true → is_run_value w ≡ true
+      by_value : (w : RecordValue) → accepts_numbers w ≡ true → is_run_value w ≡ true
       by_value (Varint v) h = refl
       by_value (Fixed64 b) h = refl
       by_value (Length b) h = h
       by_value (Group b) h = refl
       by_value (Fixed32 b) h = refl
 
-      by_test : (b : Bool) → cond (b || false) (accepts_element nested U32 r.value) true ≡ true → cond b
+      by_test : (b : Bool) → cond (b || false) (accepts_element nested k r.value) true ≡ true → cond b
           (is_run_value r.value) true ≡ true
-      by_test true h = by_value r.value h
+      by_test true h = by_value r.value (sym (ap (λ (c : Bool). cond c (accepts_numbers r.value)
+          (accepts_value nested k r.value)) a) ∙ h)
       by_test false h = refl
 
   message_content : (s : ℕ) (w : RecordValue) → accepts_value nested (Message s) w ≡ true → nested s (content w) ≡ true

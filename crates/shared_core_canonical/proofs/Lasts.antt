@@ -1,17 +1,16 @@
 -- The last record of a row, by the row's own records.
-use Rattle.std.proofs.Common.{◌≡◌, ℕ, List, [], ◌∷◌, ◌++◌, Bool, true, false, cond, ◌&&◌, ◌||◌, eqb, Option, Some, None}
+use Rattle.std.proofs.Common.{◌≡◌, ℕ, List, [], ◌∷◌, ◌++◌, Bool, true, false, cond, ◌||◌, eqb, Option, Some, None}
 use Rattle.std.proofs.Common.{refl, sym, ap, subst, ◌∙◌, append_assoc, append-nil, eq-eqb}
 use Rattle.std.proofs.lemmas.Bool.{eqb-true}
 use Rattle.std.specs.Option.{option_or, is_some}
-use Rattle.std.specs.Prelude.{flat_map}
 use Rattle.std.proofs.lemmas.List.Concat.{flat_map-append}
-use Rattle.shared_core_wire.specs.Grammar.{RecordValue, FieldRecord, content}
+use Rattle.shared_core_wire.specs.Grammar.{FieldRecord, content}
 use Rattle.shared_core_wire.specs.Schema.{Kind, Row, Plain, Optional, Repeated, OneOf, numbers, includes}
 use Rattle.shared_core_wire.specs.Overlay.{last, values, joined_contents, own_records, all_numbered, last_run}
-use Rattle.shared_core_wire.proofs.Runs.{and_split, and_join, last-append, values-append, last_run_on, last_run_none}
+use Rattle.shared_core_wire.proofs.Runs.{and_join, last-append, values-append, last_run_on, last_run_none}
 use Rattle.shared_core_wire.proofs.Runs.{last_run_whole}
 use Rattle.shared_core_codec.specs.ProgramRows.{member_numbered, field_in_row}
-use Rattle.shared_core_canonical.specs.Rows.{LastValue, joined_for, last_found, last_over}
+use Rattle.shared_core_canonical.specs.Rows.{LastValue, last_found, last_over}
 
 -- the record l is the last of these, and has the joined contents of the run at their end
 pub record IsLast (x : FieldRecord) (xs : List FieldRecord) (l : LastValue) : Type 0 where

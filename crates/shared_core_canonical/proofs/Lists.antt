@@ -1,7 +1,7 @@
 -- What is written of the records of a repeated field.
-use Rattle.std.proofs.Common.{◌≡◌, ℕ, zero, suc, ◌+◌, ◌/◌, ◌%◌, ◌^◌, ◌<◌, List, [], ◌∷◌, ◌++◌, length, Bool, true}
+use Rattle.std.proofs.Common.{◌≡◌, ℕ, zero, suc, ◌+◌, ◌/◌, ◌%◌, ◌<◌, List, [], ◌∷◌, ◌++◌, length, Bool, true}
 use Rattle.std.proofs.Common.{false, cond}
-use Rattle.std.proofs.Common.{◌&&◌, ◌||◌, eqb, Option, Some, None, refl, sym, ap, ◌∙◌, append_assoc, arith}
+use Rattle.std.proofs.Common.{◌||◌, eqb, Option, Some, None, refl, sym, ap, subst, ◌∙◌, append_assoc, arith}
 use Rattle.std.specs.Prelude.{flat_map}
 use Rattle.std.specs.List.{list_all}
 use Rattle.std.proofs.lemmas.Bool.{ne_eqb}
@@ -11,40 +11,37 @@ use Rattle.shared_core_wire.specs.Grammar.{RecordValue, Varint, Fixed64, Length,
 use Rattle.shared_core_wire.specs.Reader.{packed_numbers}
 use Rattle.shared_core_wire.specs.Schema.{Kind, Table, U32, U64, Boolean, Enumeration, Text, ByteString, Message}
 use Rattle.shared_core_wire.specs.Schema.{Repeated}
-use Rattle.shared_core_wire.specs.Value.{Part, Parts, Absent, Number, Bytes, Nested, nil, cons, ◌+++◌, one_part}
-use Rattle.shared_core_wire.specs.Acceptance.{accepts_value, accepts_element, row_allows, accepts_message}
-use Rattle.shared_core_wire.specs.Overlay.{values, own_records, scalar_part, low_numbers, packed_elements, elements_of}
-use Rattle.shared_core_wire.specs.Overlay.{all_elements, message_overlay}
-use Rattle.shared_core_wire.specs.Canonical.{number_bytes, packed_values, part_values, element_values}
+use Rattle.shared_core_wire.specs.Value.{Part, Parts, ◌+++◌, one_part}
+use Rattle.shared_core_wire.specs.Acceptance.{accepts_number, accepts_numbers, accepts_value, accepts_element}
+use Rattle.shared_core_wire.specs.Acceptance.{row_allows, accepts_message}
+use Rattle.shared_core_wire.specs.Overlay.{values, own_records, number_part, scalar_part, number_parts, packed_elements}
+use Rattle.shared_core_wire.specs.Overlay.{number_elements, elements_of, all_elements, message_overlay}
+use Rattle.shared_core_wire.specs.Canonical.{number_bytes, run_values, packed_values, part_values, element_values}
 use Rattle.shared_core_wire.specs.WrittenRecords.{content_record}
+use Rattle.shared_core_wire.proofs.ReadBack.{not_true}
 use Rattle.shared_core_wire.proofs.Runs.{and_split}
 use Rattle.shared_core_codec.specs.RowEncoding.{unpacked}
-use Rattle.shared_core_canonical.specs.Rows.{nested_bytes, scalar_record, scalar_element, message_element, low_varints}
-use Rattle.shared_core_canonical.specs.Rows.{found_varints, run_part, run_record}
+use Rattle.shared_core_canonical.specs.Rows.{nested_bytes, scalar_record, scalar_element, message_element}
+use Rattle.shared_core_canonical.specs.Rows.{rewritten_number, rewritten_varints, found_varints, run_part, run_record}
 use Rattle.shared_core_canonical.proofs.RowsWritten.{bytes_of, bytes_join, content_bytes_are, is_scalar, scalar_is}
-use Rattle.shared_core_canonical.proofs.RowsWritten.{nested_written}
+use Rattle.shared_core_canonical.proofs.RowsWritten.{number_values, nested_written}
 
 -- ---- elements that are written one by one
 
 scalar_elements : (table : Table) (left : ℕ) (k : Kind) (w : RecordValue) → is_scalar k ≡ true → unpacked k ≡ true
     → elements_of table (message_overlay table left) k w ≡ one_part (scalar_part k w)
 scalar_elements table left U32 w s u = absurd cc
-scalar_elements table left U64 w s u = refl
-scalar_elements table left Boolean w s u = refl
-scalar_elements table left Enumeration w s u = refl
+scalar_elements table left U64 w s u = absurd cc
+scalar_elements table left Boolean w s u = absurd cc
+scalar_elements table left Enumeration w s u = absurd cc
 scalar_elements table left Text w s u = refl
 scalar_elements table left ByteString w s u = refl
 scalar_elements table left (Message t) w s u = absurd cc
 
 scalar_accepted : (table : Table) (left : ℕ) (k : Kind) (w : RecordValue) → unpacked k ≡ true → accepts_element
     (accepts_message table left) k w ≡ true → accepts_value (accepts_message table left) k w ≡ true
-scalar_accepted table left U32 w u h = absurd cc
-scalar_accepted table left U64 w u h = h
-scalar_accepted table left Boolean w u h = h
-scalar_accepted table left Enumeration w u h = h
-scalar_accepted table left Text w u h = h
-scalar_accepted table left ByteString w u h = h
-scalar_accepted table left (Message t) w u h = h
+scalar_accepted table left k w u h = ap (λ (b : Bool). cond b (accepts_numbers w) (accepts_value
+    (accepts_message table left) k w)) (sym (not_true _ u)) ∙ h
 
 -- the bytes of one element and of those after it
 one_element : (table : Table) (n : ℕ) (k : Kind) (p : Part) (es qs : Parts) (b later : List ℕ) → es ≡ one_part p
@@ -128,73 +125,95 @@ AreNumbers (Length b ∷ ws) = ⊥
 AreNumbers (Group b ∷ ws) = ⊥
 AreNumbers (Fixed32 b ∷ ws) = ⊥
 
-module _ (table : Table) (left : ℕ) where
-  low_values : (ns : List ℕ) (qs : Parts) → (flat_map number_bytes (element_values table (low_numbers ns +++ qs) U32) ≡
-      low_varints ns ++ flat_map number_bytes (element_values table qs U32))
-  unfolding element_values
-  low_values [] qs = refl
-  low_values (m ∷ ns) qs =
-      ap (λ (xs : List ℕ). shortest_varint (m % 2 ^ 32) ++ xs) (low_values ns qs)
-      ∙ sym (append_assoc (shortest_varint (m % 2 ^ 32)) (low_varints ns)
-      (flat_map number_bytes (element_values table qs U32)))
+module _ (table : Table) (left : ℕ) (k : Kind) (a : accepts_number k ≡ true) where
+  one_value : (v : ℕ) → part_values table (number_part k v) k ≡ Varint (rewritten_number k v) ∷ []
+  one_value v = number_values table k v a
 
-  low_are : (ns : List ℕ) (qs : Parts) → AreNumbers (element_values table qs U32) → AreNumbers
-      (element_values table (low_numbers ns +++ qs) U32)
+  number_parts_values : (ns : List ℕ) (qs : Parts) → (flat_map number_bytes (element_values table
+      (number_parts k ns +++ qs) k) ≡ rewritten_varints k ns ++ flat_map number_bytes (element_values table qs k))
   unfolding element_values
-  low_are [] qs h = h
-  low_are (m ∷ ns) qs h = low_are ns qs h
+  number_parts_values [] qs = refl
+  number_parts_values (m ∷ ns) qs =
+      ap (λ (ws : List RecordValue). flat_map number_bytes (ws ++ element_values table (number_parts k ns +++ qs) k))
+      (one_value m)
+      ∙ ap (λ (xs : List ℕ). shortest_varint (rewritten_number k m) ++ xs) (number_parts_values ns qs)
+      ∙ sym (append_assoc (shortest_varint (rewritten_number k m)) (rewritten_varints k ns)
+      (flat_map number_bytes (element_values table qs k)))
+
+  number_parts_are : (ns : List ℕ) (qs : Parts) → AreNumbers (element_values table qs k) → AreNumbers
+      (element_values table (number_parts k ns +++ qs) k)
+  unfolding element_values
+  number_parts_are [] qs h = h
+  number_parts_are (m ∷ ns) qs h =
+      subst (λ (ws : List RecordValue). AreNumbers (ws ++ element_values table (number_parts k ns +++ qs) k))
+      (sym (one_value m)) (number_parts_are ns qs h)
 
   found_values : (o : Option (List ℕ)) (qs : Parts) → (flat_map number_bytes
-      (element_values table (packed_elements o +++ qs) U32) ≡ found_varints o ++ flat_map number_bytes
-      (element_values table qs U32))
+      (element_values table (packed_elements k o +++ qs) k) ≡ found_varints k o ++ flat_map number_bytes
+      (element_values table qs k))
   found_values None qs = refl
-  found_values (Some ns) qs = low_values ns qs
+  found_values (Some ns) qs = number_parts_values ns qs
 
-  found_are : (o : Option (List ℕ)) (qs : Parts) → AreNumbers (element_values table qs U32) → AreNumbers
-      (element_values table (packed_elements o +++ qs) U32)
+  found_are : (o : Option (List ℕ)) (qs : Parts) → AreNumbers (element_values table qs k) → AreNumbers
+      (element_values table (packed_elements k o +++ qs) k)
   found_are None qs h = h
-  found_are (Some ns) qs h = low_are ns qs h
+  found_are (Some ns) qs h = number_parts_are ns qs h
+
+  value_run : (w : RecordValue) (qs : Parts) → flat_map number_bytes (element_values table (number_elements k w +++ qs)
+      k) ≡ run_part k w ++ flat_map number_bytes (element_values table qs k)
+  unfolding element_values
+  value_run (Varint v) qs = ap (λ (ws : List RecordValue). flat_map number_bytes (ws ++ element_values table qs k))
+      (one_value v)
+  value_run (Fixed64 b) qs = refl
+  value_run (Length b) qs = found_values (packed_numbers b) qs
+  value_run (Group b) qs = refl
+  value_run (Fixed32 b) qs = refl
+
+  value_are : (w : RecordValue) (qs : Parts) → AreNumbers (element_values table qs k) → AreNumbers
+      (element_values table (number_elements k w +++ qs) k)
+  unfolding element_values
+  value_are (Varint v) qs h = subst (λ (ws : List RecordValue). AreNumbers (ws ++ element_values table qs k))
+      (sym (one_value v)) h
+  value_are (Fixed64 b) qs h = h
+  value_are (Length b) qs h = found_are (packed_numbers b) qs h
+  value_are (Group b) qs h = h
+  value_are (Fixed32 b) qs h = h
+
+  -- the elements of an occurrence
+  added : (w : RecordValue) → elements_of table (message_overlay table left) k w ≡ number_elements k w
+  added w = rw a refl
 
   one_run : (w : RecordValue) (qs : Parts) → flat_map number_bytes (element_values table (elements_of table
-      (message_overlay table left) U32 w +++ qs) U32) ≡ run_part w ++ flat_map number_bytes (element_values table qs
-      U32)
-  unfolding element_values
-  one_run (Varint v) qs = refl
-  one_run (Fixed64 b) qs = refl
-  one_run (Length b) qs = found_values (packed_numbers b) qs
-  one_run (Group b) qs = refl
-  one_run (Fixed32 b) qs = refl
+      (message_overlay table left) k w +++ qs) k) ≡ run_part k w ++ flat_map number_bytes (element_values table qs k)
+  one_run w qs = ap (λ (ps : Parts). flat_map number_bytes (element_values table (ps +++ qs) k)) (added w) ∙ value_run w
+      qs
 
-  one_are : (w : RecordValue) (qs : Parts) → AreNumbers (element_values table qs U32) → AreNumbers
-      (element_values table (elements_of table (message_overlay table left) U32 w +++ qs) U32)
-  unfolding element_values
-  one_are (Varint v) qs h = h
-  one_are (Fixed64 b) qs h = h
-  one_are (Length b) qs h = found_are (packed_numbers b) qs h
-  one_are (Group b) qs h = h
-  one_are (Fixed32 b) qs h = h
+  one_are : (w : RecordValue) (qs : Parts) → AreNumbers (element_values table qs k) → AreNumbers
+      (element_values table (elements_of table (message_overlay table left) k w +++ qs) k)
+  one_are w qs h = subst (λ (ps : Parts). AreNumbers (element_values table (ps +++ qs) k)) (sym (added w))
+      (value_are w qs h)
 
   runs_are : (ws : List RecordValue) → AreNumbers (element_values table
-      (all_elements table (message_overlay table left) U32 ws) U32)
+      (all_elements table (message_overlay table left) k ws) k)
   unfolding element_values
   runs_are [] = tt
-  runs_are (w ∷ ws) = one_are w (all_elements table (message_overlay table left) U32 ws) (runs_are ws)
+  runs_are (w ∷ ws) = one_are w (all_elements table (message_overlay table left) k ws) (runs_are ws)
 
   runs_written : (n : ℕ) (rs : List FieldRecord) → flat_map number_bytes (element_values table (all_elements table
-      (message_overlay table left) U32 (values (own_records (Repeated n U32) rs))) U32) ≡ flat_map (run_record n) rs
+      (message_overlay table left) k (values (own_records (Repeated n k) rs))) k) ≡ flat_map (run_record n k) rs
   unfolding element_values
   runs_written n [] = refl
   runs_written n (r ∷ rs) = by_test (eqb r.number n) (runs_written n rs)
     where
       by_test : (b : Bool) → flat_map number_bytes (element_values table (all_elements table (message_overlay table
-          left) U32 (values (own_records (Repeated n U32) rs))) U32) ≡ flat_map (run_record n) rs → flat_map
+          left) k (values (own_records (Repeated n k) rs))) k) ≡ flat_map (run_record n k) rs → flat_map
           number_bytes
-          (element_values table (all_elements table (message_overlay table left) U32 (values (cond (b || false)
-          (r ∷ own_records (Repeated n U32) rs) (own_records (Repeated n U32) rs)))) U32) ≡ cond b (run_part r.value) []
-          ++ flat_map (run_record n) rs
+          (element_values table (all_elements table (message_overlay table left) k (values (cond (b || false)
+          (r ∷ own_records (Repeated n k) rs) (own_records (Repeated n k) rs)))) k) ≡ cond b (run_part k r.value) []
+          ++ flat_map (run_record n k) rs
       by_test true later =
-          one_run r.value (all_elements table (message_overlay table left) U32
-          (values (own_records (Repeated n U32) rs))) ∙ ap (λ (xs : List ℕ). run_part r.value ++ xs) later
+          one_run r.value (all_elements table (message_overlay table left) k
+          (values (own_records (Repeated n k) rs))) ∙ ap (λ (xs : List ℕ). run_part k r.value ++ xs) later
       by_test false later = later
 
 some_byte : (most n : ℕ) (xs : List ℕ) → 0 < length (shortest_within most n ++ xs)
@@ -210,7 +229,7 @@ first_byte : (n : ℕ) (xs : List ℕ) → 0 < length (shortest_varint n ++ xs)
 unfolding shortest_varint
 first_byte n xs = some_byte n n xs
 
-packed_is : (n : ℕ) (ws : List RecordValue) → AreNumbers ws → bytes_of n (packed_values U32 ws) ≡ content_record true n
+packed_is : (n : ℕ) (ws : List RecordValue) → AreNumbers ws → bytes_of n (run_values ws) ≡ content_record true n
     (flat_map number_bytes ws)
 unfolding bytes_of
 packed_is n [] h = refl
@@ -225,9 +244,13 @@ packed_is n (Length b ∷ ws) h = absurd h
 packed_is n (Group b ∷ ws) h = absurd h
 packed_is n (Fixed32 b ∷ ws) h = absurd h
 
-pub run_is : (table : Table) (left n : ℕ) (rs : List FieldRecord) → bytes_of n (packed_values U32 (element_values table
-    (all_elements table (message_overlay table left) U32 (values (own_records (Repeated n U32) rs))) U32)) ≡
-    content_record true n (flat_map (run_record n) rs)
-run_is table left n rs =
-    packed_is n _ (runs_are table left (values (own_records (Repeated n U32) rs)))
-    ∙ ap (content_record true n) (runs_written table left n rs)
+pub run_is : (table : Table) (left n : ℕ) (k : Kind) (rs : List FieldRecord) → accepts_number k ≡ true → bytes_of n
+    (packed_values k (element_values table (all_elements table (message_overlay table left) k
+    (values (own_records (Repeated n k) rs))) k)) ≡ content_record true n (flat_map (run_record n k) rs)
+run_is table left n k rs a =
+    ap (λ (b : Bool). bytes_of n (cond b (run_values (element_values table
+    (all_elements table (message_overlay table left) k (values (own_records (Repeated n k) rs))) k))
+    (element_values table (all_elements table (message_overlay table left) k
+    (values (own_records (Repeated n k) rs))) k))) a
+    ∙ packed_is n _ (runs_are table left k a (values (own_records (Repeated n k) rs)))
+    ∙ ap (content_record true n) (runs_written table left k a n rs)

@@ -1,5 +1,5 @@
 -- What is written of the records of a payload, row by row, is the canonical payload of what it means.
-use Rattle.std.proofs.Common.{◌≡◌, ℕ, zero, suc, List, [], ◌∷◌, ◌++◌, Bool, true, false, cond, ◌&&◌, ◌||◌, eqb, Option}
+use Rattle.std.proofs.Common.{◌≡◌, ℕ, zero, suc, List, [], ◌∷◌, ◌++◌, Bool, true, false, cond, ◌||◌, eqb, Option}
 use Rattle.std.proofs.Common.{Some, None}
 use Rattle.std.proofs.Common.{Result, Ok, Err, refl, sym, ap, subst, ◌∙◌, ◌+◌, arith}
 use Rattle.std.specs.Prelude.{IfOk, Vec}
@@ -10,32 +10,30 @@ use Rattle.std.proofs.lemmas.List.Concat.{flat_map-append}
 use Rattle.shared_core_wire.specs.declared.error.WireError.{WireError}
 use Rattle.shared_core_wire.specs.Encoding.{record_bytes, record_list_bytes}
 use Rattle.shared_core_wire.specs.Grammar.{FieldRecord}
-use Rattle.shared_core_wire.specs.Reader.{record_list}
 use Rattle.shared_core_wire.specs.ReadRecords.{PlacedRecord, read_records}
 use Rattle.shared_core_wire.specs.Schema.{Kind, Row, Table, U32, U64, Boolean, Enumeration, Text, ByteString, Message}
-use Rattle.shared_core_wire.specs.Schema.{Plain, Optional, Repeated, OneOf, numbers, includes, member_kind}
-use Rattle.shared_core_wire.specs.Value.{Part, Parts, Absent, Elements, Member, nil, empty_part, empty_value}
+use Rattle.shared_core_wire.specs.Schema.{Plain, Optional, Repeated, OneOf, member_kind}
+use Rattle.shared_core_wire.specs.Value.{Part, Absent, Elements, nil, empty_part, empty_value}
 use Rattle.shared_core_wire.specs.Value.{default_of}
 use Rattle.shared_core_wire.specs.Acceptance.{row_allows, accepts_message, accepts_record, accepts_value}
-use Rattle.shared_core_wire.specs.Acceptance.{accepts_payload}
-use Rattle.shared_core_wire.specs.Overlay.{last, values, own_records, all_numbered, last_run, singular_of}
+use Rattle.shared_core_wire.specs.Acceptance.{accepts_number, accepts_payload}
+use Rattle.shared_core_wire.specs.Overlay.{last, values, own_records, all_numbered, last_run}
 use Rattle.shared_core_wire.specs.Overlay.{singular_over}
 use Rattle.shared_core_wire.specs.Overlay.{all_elements, member_at, oneof_over, row_over, rows_over, message_overlay}
 use Rattle.shared_core_wire.specs.Overlay.{meaning, or_empty, payload_records, joined_contents, repeated_over}
-use Rattle.shared_core_wire.specs.Canonical.{kind_of, is_default, packed_values, row_records, part_values}
+use Rattle.shared_core_wire.specs.Canonical.{kind_of, packed_values, row_records, part_values}
 use Rattle.shared_core_wire.specs.Canonical.{element_values}
 use Rattle.shared_core_wire.specs.Canonical.{message_records, canonical_payload}
 use Rattle.shared_core_wire.proofs.Merging.{accepts_payload-append, repeated_over_is}
 use Rattle.shared_core_wire.proofs.Runs.{last_run_whole}
 use Rattle.shared_core_codec.specs.Checking.{all_read}
-use Rattle.shared_core_codec.specs.ProgramRows.{field_in_row}
 use Rattle.shared_core_codec.proofs.Checked.{all_checked}
-use Rattle.shared_core_canonical.specs.Rows.{records_of, records_read, nested_bytes, last_record, single_record}
+use Rattle.shared_core_canonical.specs.Rows.{records_of, records_read, nested_bytes, single_record}
 use Rattle.shared_core_canonical.specs.Rows.{row_record}
 use Rattle.shared_core_canonical.specs.Rows.{rows_record, repeated_record, last_over, LastValue, AllPass, run_allows}
 use Rattle.shared_core_canonical.specs.Rows.{message_allows}
 use Rattle.shared_core_canonical.proofs.Readings.{all_pass, passed, weaker}
-use Rattle.shared_core_canonical.proofs.Allowed.{is_repeated, IsGood, AreGood, member_found, last_good, first_allowed}
+use Rattle.shared_core_canonical.proofs.Allowed.{AreGood, member_found, last_good, first_allowed}
 use Rattle.shared_core_canonical.proofs.Allowed.{later_allowed, run_allowed, message_allowed}
 use Rattle.shared_core_canonical.proofs.Lasts.{IsLast, AreLast, last_of_own, run_ends, own_numbered}
 use Rattle.shared_core_canonical.proofs.RowsWritten.{bytes_of, IsRunOf, optional_written, plain_written, plain_held}
@@ -171,10 +169,10 @@ module _ (table : Table) (left : ℕ) where
       (Repeated n k)) rs ≡ true → repeated_record (nested_bytes table left) n k rs ≡ bytes_of n (packed_values k
       (element_values table (all_elements table (message_overlay table left) k (values (own_records (Repeated n k) rs)))
       k))
-  repeated_row n U32 rs h = sym (run_is table left n rs)
-  repeated_row n U64 rs h = sym (scalars_are table left n U64 rs refl refl h)
-  repeated_row n Boolean rs h = sym (scalars_are table left n Boolean rs refl refl h)
-  repeated_row n Enumeration rs h = sym (scalars_are table left n Enumeration rs refl refl h)
+  repeated_row n U32 rs h = sym (run_is table left n U32 rs refl)
+  repeated_row n U64 rs h = sym (run_is table left n U64 rs refl)
+  repeated_row n Boolean rs h = sym (run_is table left n Boolean rs refl)
+  repeated_row n Enumeration rs h = sym (run_is table left n Enumeration rs refl)
   repeated_row n Text rs h = sym (scalars_are table left n Text rs refl refl h)
   repeated_row n ByteString rs h = sym (scalars_are table left n ByteString rs refl refl h)
   repeated_row n (Message s) rs h = sym (messages_are table left n s rs h)
@@ -244,11 +242,10 @@ canonical_is table left s bytes h =
 
 -- ---- what the calls require
 
-pub runs_pass : (table : Table) (left n : ℕ) (k : Kind) (bytes : List ℕ) → k ≡ U32 → AllPass
+pub runs_pass : (table : Table) (left n : ℕ) (k : Kind) (bytes : List ℕ) → accepts_number k ≡ true → AllPass
     (λ r. row_allows (accepts_message table left) r (Repeated n k)) left bytes → AllPass (run_allows n) left bytes
-runs_pass table left n k bytes e h = weaker (λ r. row_allows (accepts_message table left) r (Repeated n U32))
-    (run_allows n) (run_allowed (accepts_message table left) n) (read_records left bytes)
-    (subst (λ (x : Kind). AllPass (λ r. row_allows (accepts_message table left) r (Repeated n x)) left bytes) e h)
+runs_pass table left n k bytes a h = weaker (λ r. row_allows (accepts_message table left) r (Repeated n k))
+    (run_allows n) (run_allowed (accepts_message table left) n k a) (read_records left bytes) h
 
 pub messages_pass : (table : Table) (left n s : ℕ) (k : Kind) (bytes : List ℕ) → k ≡ Message s → AllPass
     (λ r. row_allows (accepts_message table left) r (Repeated n k)) left bytes → AllPass

@@ -4,10 +4,9 @@ use Rattle.std.proofs.Common.{Result, Ok, Err, refl, sym, ap, ◌∙◌, append_
 use Rattle.std.specs.List.{list_all}
 use Rattle.shared_core_wire.specs.declared.error.WireError.{WireError}
 use Rattle.shared_core_wire.specs.Grammar.{FieldRecord}
-use Rattle.shared_core_wire.specs.Reader.{record_list, record_at, sequence_past}
+use Rattle.shared_core_wire.specs.Reader.{record_list, record_at}
 use Rattle.shared_core_wire.specs.ReadRecords.{PlacedRecord, read_records, without_place}
 use Rattle.shared_core_wire.specs.Acceptance.{some_passes}
-use Rattle.shared_core_wire.specs.Overlay.{or_empty, payload_records}
 use Rattle.shared_core_wire.proofs.ReadRecords.{read_complete}
 use Rattle.shared_core_wire.proofs.RecordLists.{records_reads}
 use Rattle.shared_core_codec.specs.Checking.{all_read}

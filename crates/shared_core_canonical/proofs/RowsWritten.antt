@@ -1,29 +1,23 @@
 -- What is written of the records of rows is the canonical payload of what they mean.
-use Rattle.std.proofs.Common.{◌≡◌, ℕ, zero, suc, ◌+◌, ◌-◌, ◌%◌, ◌^◌, ◌<◌, ◌≤◌, List, [], ◌∷◌, ◌++◌, map, length, Bool}
+use Rattle.std.proofs.Common.{◌≡◌, ℕ, ◌+◌, ◌-◌, ◌%◌, ◌^◌, ◌≤◌, List, [], ◌∷◌, ◌++◌, map, length, Bool}
 use Rattle.std.proofs.Common.{true}
-use Rattle.std.proofs.Common.{false, cond, ◌&&◌, ◌||◌, eqb, Option, Some, None, refl, sym, ap, subst, ◌∙◌, append_assoc}
-use Rattle.std.proofs.Common.{append-nil, length-append, arith}
-use Rattle.std.specs.Prelude.{flat_map}
-use Rattle.std.specs.List.{list_all}
+use Rattle.std.proofs.Common.{false, cond, eqb, refl, sym, ap, ◌∙◌}
+use Rattle.std.proofs.Common.{append-nil, arith}
 use Rattle.std.proofs.lemmas.List.{map-append}
 use Rattle.std.proofs.lemmas.List.Concat.{flat_map-append}
 use Rattle.shared_core_wire.specs.Encoding.{shortest_varint, key_bytes, record_bytes, record_list_bytes}
-use Rattle.shared_core_wire.specs.Grammar.{RecordValue, Varint, Fixed64, Length, Group, Fixed32, FieldRecord, content}
-use Rattle.shared_core_wire.specs.Reader.{packed_numbers}
-use Rattle.shared_core_wire.specs.Schema.{Kind, Row, Table, U32, U64, Boolean, Enumeration, Text, ByteString, Message}
-use Rattle.shared_core_wire.specs.Schema.{Plain, Optional, Repeated, OneOf, numbers, includes, member_kind}
-use Rattle.shared_core_wire.specs.Value.{Part, Parts, Absent, Number, Bytes, Nested, Elements, Member, nil, cons, ◌+++◌}
-use Rattle.shared_core_wire.specs.Value.{empty_part, empty_value, default_of}
-use Rattle.shared_core_wire.specs.Acceptance.{accepts_value, accepts_element, accepts_in_row, row_allows}
-use Rattle.shared_core_wire.specs.Acceptance.{accepts_message}
-use Rattle.shared_core_wire.specs.Acceptance.{accepts_record}
-use Rattle.shared_core_wire.specs.Overlay.{last, values, joined_contents, own_records, all_numbered, last_run}
-use Rattle.shared_core_wire.specs.Overlay.{scalar_part}
-use Rattle.shared_core_wire.specs.Overlay.{low_numbers, packed_elements, singular_of, elements_of, all_elements}
-use Rattle.shared_core_wire.specs.Overlay.{message_in, member_at, row_over, rows_over, message_overlay}
-use Rattle.shared_core_wire.specs.Canonical.{kind_of, is_default, number_bytes, packed_values, written_values}
-use Rattle.shared_core_wire.specs.Canonical.{row_records}
-use Rattle.shared_core_wire.specs.Canonical.{part_values, element_values, message_records, canonical_payload}
+use Rattle.shared_core_wire.specs.Grammar.{RecordValue, Varint, Fixed64, Length, Group, Fixed32, FieldRecord}
+use Rattle.shared_core_wire.specs.Schema.{Kind, Table, U32, U64, Boolean, Enumeration, Text, ByteString, Message}
+use Rattle.shared_core_wire.specs.Value.{Part, Absent, Bytes, Nested}
+use Rattle.shared_core_wire.specs.Value.{empty_value, default_of}
+use Rattle.shared_core_wire.specs.Acceptance.{accepts_value}
+use Rattle.shared_core_wire.specs.Acceptance.{accepts_number, accepts_message}
+use Rattle.shared_core_wire.specs.Overlay.{last, values, joined_contents}
+use Rattle.shared_core_wire.specs.Overlay.{number_part, scalar_part}
+use Rattle.shared_core_wire.specs.Overlay.{singular_of}
+use Rattle.shared_core_wire.specs.Overlay.{message_overlay}
+use Rattle.shared_core_wire.specs.Canonical.{is_default}
+use Rattle.shared_core_wire.specs.Canonical.{part_values}
 use Rattle.shared_core_wire.specs.Canonical.{written_number}
 use Rattle.shared_core_wire.specs.Acceptance.{NestedAcceptance}
 use Rattle.shared_core_canonical.specs.Rows.{NestedBytes}
@@ -31,17 +25,10 @@ use Rattle.std.proofs.lemmas.Bool.{ne_eqb}
 use Rattle.std.proofs.Math.Dec.{ltb}
 use Rattle.std.proofs.lemmas.Bool.{ltb-false}
 use Rattle.shared_core_wire.specs.WrittenRecords.{number_record, content_record}
-use Rattle.shared_core_wire.proofs.Merging.{repeated_over_is}
-use Rattle.shared_core_wire.proofs.Runs.{and_split, and_join, last_run_whole}
-use Rattle.shared_core_wire.proofs.Shortest.{shortest_small, shortest_large}
-use Rattle.shared_core_codec.specs.ProgramRows.{field_in_row}
-use Rattle.shared_core_canonical.specs.Rows.{nested_bytes, rewritten_number, scalar_record, scalar_element}
-use Rattle.shared_core_canonical.specs.Rows.{message_element}
-use Rattle.shared_core_canonical.specs.Rows.{low_varints, found_varints, run_part, run_record, repeated_record}
+use Rattle.shared_core_canonical.specs.Rows.{nested_bytes, rewritten_number, scalar_record}
 use Rattle.shared_core_canonical.specs.Rows.{LastValue}
-use Rattle.shared_core_canonical.specs.Rows.{last_over, last_record, single_record, row_record, rows_record}
-use Rattle.shared_core_canonical.proofs.Allowed.{is_repeated, IsGood, AreGood, member_found}
-use Rattle.shared_core_canonical.proofs.Lasts.{IsLast, AreLast, last_of_own, run_ends, own_numbered, last_value}
+use Rattle.shared_core_canonical.specs.Rows.{last_record}
+use Rattle.shared_core_canonical.proofs.Lasts.{last_value}
 
 -- ---- records of one number
 
@@ -77,19 +64,19 @@ is_scalar Text = true
 is_scalar ByteString = true
 is_scalar (Message s) = false
 
-module _ (table : Table) (left : ℕ) where
-  -- the value of a number
-  number_written : (k : Kind) (v : ℕ) → accepts_value (accepts_message table left) k (Varint v) ≡ true → part_values
-      table (scalar_part k (Varint v)) k ≡ Varint (rewritten_number k v) ∷ []
-  unfolding part_values
-  number_written U32 v h = refl
-  number_written U64 v h = refl
-  number_written Boolean v h = refl
-  number_written Enumeration v h = refl
-  number_written Text v h = absurd cc
-  number_written ByteString v h = absurd cc
-  number_written (Message s) v h = absurd cc
+-- the value of a number
+pub number_values : (table : Table) (k : Kind) (v : ℕ) → accepts_number k ≡ true → part_values table (number_part k v) k
+    ≡ Varint (rewritten_number k v) ∷ []
+unfolding part_values
+number_values table U32 v a = refl
+number_values table U64 v a = refl
+number_values table Boolean v a = refl
+number_values table Enumeration v a = refl
+number_values table Text v a = absurd cc
+number_values table ByteString v a = absurd cc
+number_values table (Message s) v a = absurd cc
 
+module _ (table : Table) (left : ℕ) where
   bytes_written : (k : Kind) (b : List ℕ) → part_values table (Bytes b) k ≡ Length b ∷ []
   unfolding part_values
   bytes_written k b = refl
@@ -97,7 +84,7 @@ module _ (table : Table) (left : ℕ) where
   -- a scalar, also if it is a default
   pub scalar_is : (n : ℕ) (k : Kind) (w : RecordValue) → is_scalar k ≡ true → accepts_value (accepts_message table
       left) k w ≡ true → bytes_of n (part_values table (scalar_part k w) k) ≡ scalar_record false n k w
-  scalar_is n k (Varint v) s h = ap (bytes_of n) (number_written k v h) ∙ number_bytes_are n (rewritten_number k v)
+  scalar_is n k (Varint v) s h = ap (bytes_of n) (number_values table k v h) ∙ number_bytes_are n (rewritten_number k v)
   scalar_is n k (Fixed64 b) s h = absurd cc
   scalar_is n k (Length b) s h = ap (bytes_of n) (bytes_written k b) ∙ content_bytes_are n b
   scalar_is n k (Group b) s h = absurd cc

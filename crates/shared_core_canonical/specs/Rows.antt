@@ -5,9 +5,9 @@ use Rattle.shared_core_wire.specs.Grammar.{RecordValue, Varint, Length, FieldRec
 use Rattle.shared_core_wire.specs.Reader.{packed_numbers}
 use Rattle.shared_core_wire.specs.ReadRecords.{PlacedRecord, read_records}
 use Rattle.shared_core_wire.specs.Encoding.{shortest_varint}
-use Rattle.shared_core_wire.specs.Schema.{Table, Kind, Row, U32, U64, Boolean, Enumeration, Text, ByteString, Message}
+use Rattle.shared_core_wire.specs.Schema.{Table, Kind, Row, U32, U64, Boolean, Enumeration, Message}
 use Rattle.shared_core_wire.specs.Schema.{Plain, Optional, Repeated, OneOf}
-use Rattle.shared_core_wire.specs.Acceptance.{NestedAcceptance}
+use Rattle.shared_core_wire.specs.Acceptance.{NestedAcceptance, accepts_number}
 use Rattle.shared_core_wire.specs.Value.{empty_value}
 use Rattle.shared_core_wire.specs.Overlay.{message_overlay}
 use Rattle.shared_core_wire.specs.Canonical.{canonical_payload, written_number}
@@ -61,20 +61,20 @@ scalar_element n k r = if nat_eq r.number n then scalar_record false n k r.value
 abbrev pub message_element : NestedBytes → ℕ → ℕ → FieldRecord → List ℕ
 message_element nested n s r = if nat_eq r.number n then content_record false n (nested s (content r.value)) else []
 
--- The varints of the low 32 bits of numbers.
-abbrev pub low_varints : List ℕ → List ℕ
-low_varints ns = flat_map (λ n. shortest_varint (n % 2 ^ 32)) ns
+-- The varints that are written for numbers of a kind.
+abbrev pub rewritten_varints : Kind → List ℕ → List ℕ
+rewritten_varints k ns = flat_map (λ n. shortest_varint (rewritten_number k n)) ns
 
 -- The same of numbers that may not have been read.
-abbrev pub found_varints : Option (List ℕ) → List ℕ
-found_varints None = []
-found_varints (Some ns) = low_varints ns
+abbrev pub found_varints : Kind → Option (List ℕ) → List ℕ
+found_varints k None = []
+found_varints k (Some ns) = rewritten_varints k ns
 
--- What a value adds to a packed run.
-abbrev pub run_part : RecordValue → List ℕ
-run_part (Varint n) = shortest_varint (n % 2 ^ 32)
-run_part (Length bytes) = found_varints (packed_numbers bytes)
-run_part w = []
+-- What a value adds to a packed run of a kind.
+abbrev pub run_part : Kind → RecordValue → List ℕ
+run_part k (Varint n) = shortest_varint (rewritten_number k n)
+run_part k (Length bytes) = found_varints k (packed_numbers bytes)
+run_part k w = []
 
 -- Whether a value may be part of a packed run: any but bytes that varints do not fill exactly.
 abbrev pub is_run_value : RecordValue → Bool
@@ -82,14 +82,18 @@ is_run_value (Length bytes) = is_some (packed_numbers bytes)
 is_run_value w = true
 
 -- What a record adds to the packed run of the field of this number.
-abbrev pub run_record : ℕ → FieldRecord → List ℕ
-run_record n r = if nat_eq r.number n then run_part r.value else []
+abbrev pub run_record : ℕ → Kind → FieldRecord → List ℕ
+run_record n k r = if nat_eq r.number n then run_part k r.value else []
 
--- What is written for the records of a repeated field: numbers of 32 bits are packed into one record.
+-- What is written for the records of a repeated field whose elements are not packed.
+abbrev pub element_records : NestedBytes → ℕ → Kind → List FieldRecord → List ℕ
+element_records nested n (Message s) rs = flat_map (message_element nested n s) rs
+element_records nested n k rs = flat_map (scalar_element n k) rs
+
+-- What is written for the records of a repeated field: numbers are packed into one record.
 abbrev pub repeated_record : NestedBytes → ℕ → Kind → List FieldRecord → List ℕ
-repeated_record nested n U32 rs = content_record true n (flat_map (run_record n) rs)
-repeated_record nested n (Message s) rs = flat_map (message_element nested n s) rs
-repeated_record nested n k rs = flat_map (scalar_element n k) rs
+repeated_record nested n k rs =
+    if accepts_number k then content_record true n (flat_map (run_record n k) rs) else element_records nested n k rs
 
 -- ---- fields that are not repeated
 
@@ -147,7 +151,7 @@ rows_record nested (row ∷ rows) rs = row_record nested row rs ++ rows_record n
 
 -- ---- what is required of the records
 
--- Whether a record may be of a repeated number of 32 bits: it has another number, or a number or a packed run.
+-- Whether a record may be of a list of numbers: it has another number, or a number or a packed run.
 abbrev pub run_allows : ℕ → FieldRecord → Bool
 run_allows n r = if nat_eq r.number n then is_run_value r.value else true
 

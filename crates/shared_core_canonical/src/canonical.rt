@@ -104,8 +104,10 @@ fn append_repeated<T: Schemas>(
         ++ repeated_record (nested_bytes (T.table schemas.now) source.now.left) field.number (kind_view field.kind)
         (records_read source.now.left source.now.bytes.now)) }
 {
+    if field.kind.is_number() {
+        return append_run(field, source, out);
+    }
     match field.kind {
-        Kind::U32 => append_run(field.number, source, out),
         Kind::Message(schema) => {
             let messages = Messages {
                 number: field.number,

@@ -9,12 +9,12 @@ ghost use Rattle.shared_core_canonical.specs.Rows.{records_read, scalar_element,
 ghost use Rattle.shared_core_canonical.specs.Rows.{run_allows, AllPass};
 
 use crate::append::{append_content, append_varint};
-use crate::single::append_scalar;
+use crate::single::{append_scalar, rewritten_number};
 use crate::source::Source;
-use shared_core_codec::rows::Field;
+use shared_core_codec::rows::{Field, Kind};
 use shared_core_wire::record::WireValue;
 use shared_core_wire::records::{Record, Records};
-use shared_core_wire::varint::{low_32, read_varint};
+use shared_core_wire::varint::read_varint;
 use std::alloc::AllocError;
 
 /// Appends the records of a field whose elements are written one by one.
@@ -47,47 +47,50 @@ fn append_element(field: Field, found: &Record<'_>, out: &mut Vec<u8>) -> Result
 }
 
 /// Appends the record of a field whose elements are packed, unless there are none.
-pub fn append_run(number: u32, source: &Source<'_>, out: &mut Vec<u8>) -> Result<(), AllocError>
-    requires { AllPass (run_allows number) source.now.left source.now.bytes.now }
-    ensures { OnOk result (out.new.items ≡ out.old.items ++ content_record true number
-        (flat_map (run_record number) (records_read source.now.left source.now.bytes.now))) }
+pub fn append_run(field: Field, source: &Source<'_>, out: &mut Vec<u8>) -> Result<(), AllocError>
+    requires { AllPass (run_allows field.number) source.now.left source.now.bytes.now }
+    ensures { OnOk result (out.new.items ≡ out.old.items ++ content_record true field.number
+        (flat_map (run_record field.number (kind_view field.kind))
+        (records_read source.now.left source.now.bytes.now))) }
 {
     let mut run = Vec::new(source.alloc);
     for item in Records::within(source.bytes, source.left) {
         let Ok(found) = item else {
             continue;
         };
-        append_run_part(number, &found, &mut run)?;
+        append_run_part(field, &found, &mut run)?;
     }
-    append_content(out, true, number, run.as_slice())
+    append_content(out, true, field.number, run.as_slice())
 }
 
 /// Appends what a record adds to a packed run.
-fn append_run_part(number: u32, found: &Record<'_>, run: &mut Vec<u8>) -> Result<(), AllocError>
-    requires { run_allows number (field_record_of found.now) ≡ true }
-    ensures { OnOk result (run.new.items ≡ run.old.items ++ run_record number (field_record_of found.now)) }
+fn append_run_part(field: Field, found: &Record<'_>, run: &mut Vec<u8>) -> Result<(), AllocError>
+    requires { run_allows field.number (field_record_of found.now) ≡ true }
+    ensures { OnOk result (run.new.items
+        ≡ run.old.items ++ run_record field.number (kind_view field.kind) (field_record_of found.now)) }
 {
-    if found.number != number {
+    if found.number != field.number {
         return Ok(());
     }
     match found.value {
-        WireValue::Varint(value) => append_varint(run, low_32(value) as u64),
-        WireValue::Length(bytes) => append_packed(run, bytes),
+        WireValue::Varint(value) => append_varint(run, rewritten_number(field.kind, value)),
+        WireValue::Length(bytes) => append_packed(field.kind, run, bytes),
         _ => Ok(()),
     }
 }
 
-/// Appends the numbers of a packed run.
-fn append_packed(run: &mut Vec<u8>, packed: &[u8]) -> Result<(), AllocError>
+/// Appends the numbers of a packed run of a kind.
+fn append_packed(kind: Kind, run: &mut Vec<u8>, packed: &[u8]) -> Result<(), AllocError>
     requires { is_some (packed_numbers packed.now) ≡ true }
-    ensures { OnOk result (run.new.items ≡ run.old.items ++ found_varints (packed_numbers packed.now)) }
+    ensures { OnOk result (run.new.items
+        ≡ run.old.items ++ found_varints (kind_view kind) (packed_numbers packed.now)) }
 {
     let mut rest = packed;
     while !rest.is_empty() {
         let Some((number, after)) = read_varint(rest) else {
             return Ok(());
         };
-        append_varint(run, low_32(number) as u64)?;
+        append_varint(run, rewritten_number(kind, number))?;
         rest = after;
     }
     Ok(())

@@ -6,8 +6,9 @@ use Rattle.shared_core_codec.specs.Table.{table}
 pub use Rattle.shared_core_codec.specs.Tables.{is_message, may_be_empty}
 use Rattle.shared_core_codec.specs.Canonicity.{IsCanonical, all_come_read, is_canonical_message, is_canonical_payload}
 use Rattle.shared_core_codec.proofs.Tables.{is_table}
-pub use Rattle.shared_core_codec.proofs.CanonicityIn.{are_bytes, are_bytes_of, IsLow, reader_low, LowTurn, low_turn}
-pub use Rattle.shared_core_codec.proofs.CanonicityIn.{low_stop, low_end, none_written, some_written}
+pub use Rattle.shared_core_codec.proofs.CanonicityIn.{are_bytes, are_bytes_of, IsWritten, reader_written}
+pub use Rattle.shared_core_codec.proofs.CanonicityIn.{WrittenTurn, written_turn, written_stop, written_end}
+pub use Rattle.shared_core_codec.proofs.CanonicityIn.{none_written, some_written}
 unfoldable pub use Rattle.shared_core_codec.proofs.CanonicityIn.{total_size}
 use Rattle.shared_core_codec.proofs.CanonicityIn as any
 

@@ -16,27 +16,31 @@ use Rattle.shared_core_wire.specs.Schema.{Plain}
 use Rattle.shared_core_wire.specs.Schema.{Optional, Repeated, OneOf, numbers, includes, member_kind, are_distinct}
 use Rattle.shared_core_wire.specs.Schema.{all_numbers}
 use Rattle.shared_core_wire.specs.Value.{Part, Parts, Absent, Number, Bytes, Nested, Elements, Member, nil, cons}
-use Rattle.shared_core_wire.specs.Canonical.{is_default, number_bytes, packed_values, kind_of, row_records, part_values}
+use Rattle.shared_core_wire.specs.Canonical.{written_number, is_default, number_bytes, packed_values, kind_of}
+use Rattle.shared_core_wire.specs.Canonical.{row_records, part_values}
 use Rattle.shared_core_wire.specs.Canonical.{element_values, message_records, canonical_payload, part_levels, levels}
 use Rattle.shared_core_wire.specs.Fitting.{is_single, has_shape, NumberFits, BytesFit, PartFits, ElementsFit, Fits}
-use Rattle.shared_core_wire.specs.Acceptance.{NestedAcceptance, some_passes, accepts_message}
+use Rattle.shared_core_wire.specs.Acceptance.{NestedAcceptance, some_passes, accepts_number, accepts_message}
 use Rattle.shared_core_wire.specs.Overlay.{message_overlay, meaning}
 use Rattle.shared_core_wire.proofs.Shortest.{shortest_is}
 use Rattle.shared_core_wire.proofs.Readers.{varint_pos}
 use Rattle.shared_core_wire.proofs.Runs.{and_split, and_join}
-use Rattle.shared_core_wire.proofs.ReadBack.{or_split, includes-append, distinct_back, distinct_other, level_back}
+use Rattle.shared_core_wire.proofs.Numbers.{number_small, no_bytes, no_message}
+use Rattle.shared_core_wire.proofs.ReadBack.{or_split, includes-append, distinct_back, distinct_other}
+use Rattle.shared_core_wire.proofs.ReadBack.{level_back}
 use Rattle.shared_core_wire.proofs.ReadBackLevels.{canonical_back}
 use Rattle.shared_core_wire.proofs.RecordLists.{records_empty, records_append}
 use Rattle.shared_core_wire.proofs.EncodingLaws.{encodable, encodable_value, record_encoded}
 use Rattle.shared_core_wire.proofs.Sequences.{all_again}
 use Rattle.shared_core_codec.specs.ProgramRows.{field_in_row, member_numbered}
 use Rattle.shared_core_codec.specs.RowEncoding.{unpacked}
-use Rattle.shared_core_codec.specs.Canonicity.{IsCanonicalIn, is_written_value, low_varint_at, is_written_run}
+use Rattle.shared_core_codec.specs.Canonicity.{IsCanonicalIn, is_written_number, is_written_value, is_written_run}
+use Rattle.shared_core_codec.specs.Canonicity.{written_varint_at}
 use Rattle.shared_core_codec.specs.Canonicity.{is_written_element, is_default_value, is_plain, is_written_field}
 use Rattle.shared_core_codec.specs.Canonicity.{may_recur, rows_after, written_size, coming_after, all_come}
 use Rattle.shared_core_codec.specs.Canonicity.{is_canonical_message_in, is_canonical_payload_in}
 use Rattle.shared_core_codec.specs.Tables.{IsTable, is_message, may_be_empty}
-use Rattle.shared_core_codec.proofs.CanonicityIn.{total_size, schemas, rows_may_be_empty, IsLow, reader_low}
+use Rattle.shared_core_codec.proofs.CanonicityIn.{total_size, schemas, rows_may_be_empty, IsWritten, reader_written}
 
 -- ---- the bytes of records
 
@@ -267,13 +271,7 @@ module _ (table : Table) where
 
     as_element : (k : Kind) (w : RecordValue) → unpacked k ≡ true → is_written_value nested k w ≡ true →
         is_written_element nested k w ≡ true
-    as_element U32 w u h = absurd cc
-    as_element U64 w u h = h
-    as_element Boolean w u h = h
-    as_element Enumeration w u h = h
-    as_element Text w u h = h
-    as_element ByteString w u h = h
-    as_element (Message s) w u h = h
+    as_element k w u h = rw (not_included _ u) h
 
     elements_written : (ps : Parts) (k : Kind) → unpacked k ≡ true → ElementsFit table ps k → levels ps ≤ left →
         list_all
@@ -291,59 +289,62 @@ module _ (table : Table) where
 
     -- ---- packed runs
 
-    record Packed (ps : Parts) : Type 0 where
-      ns : List ℕ
-      encodes : IsSequence IsLow (flat_map number_bytes (element_values table ps U32)) ns
+    written_as_such : (n : ℕ) (k : Kind) → NumberFits k n → is_written_number k (written_number k n) ≡ true
+    unfolding part_values
+    written_as_such n k h =
+        let x = written_number_of n k h in
+        let same : Varint (written_number k n) ≡ x.w = cc x.is in
+        ap (is_written_value nested k) same ∙ x.passes
 
-    packed : (ps : Parts) → ElementsFit table ps U32 → Packed ps
+    record Packed (k : Kind) (ps : Parts) : Type 0 where
+      ns : List ℕ
+      encodes : IsSequence (IsWritten k) (flat_map number_bytes (element_values table ps k)) ns
+
+    packed : (k : Kind) (ps : Parts) → accepts_number k ≡ true → ElementsFit table ps k → Packed k ps
     unfolding PartFits part_values
-    packed nil h = record { ns = []; encodes = refl }
-    packed (cons Absent ps) h = absurd (cc h.0)
-    packed (cons (Number n) ps) h =
-        let xs = packed ps h.2 in
-        let low : n < 2 ^ 32 = h.1 in
+    packed k nil a h = record { ns = []; encodes = refl }
+    packed k (cons Absent ps) a h = absurd (cc h.0)
+    packed k (cons (Number n) ps) a h =
+        let xs = packed k ps a h.2 in
         record {
-          ns = n ∷ xs.ns;
+          ns = written_number k n ∷ xs.ns;
           encodes = (
-            shortest_varint n,
-            flat_map number_bytes (element_values table ps U32),
+            shortest_varint (written_number k n),
+            flat_map number_bytes (element_values table ps k),
             refl,
-            record
-                { is = shortest_is n (omega (arith, low)); tight = omega arith; low = low },
+            record {
+              is = shortest_is (written_number k n) (number_small k n h.1);
+              tight = omega arith;
+              written = written_as_such n k h.1;
+            },
             xs.encodes,
           );
         }
-    packed (cons (Bytes b) ps) h = absurd h.1
-    packed (cons (Nested qs) ps) h = absurd h.1
-    packed (cons (Elements qs) ps) h = absurd (cc h.0)
-    packed (cons (Member m p) ps) h = absurd (cc h.0)
+    packed k (cons (Bytes b) ps) a h = absurd (no_bytes k b a h.1)
+    packed k (cons (Nested qs) ps) a h = absurd (no_message table k qs a h.1)
+    packed k (cons (Elements qs) ps) a h = absurd (cc h.0)
+    packed k (cons (Member m p) ps) a h = absurd (cc h.0)
 
-    run_written : (n : ℕ) (ps : Parts) → ElementsFit table (cons (Number n) ps) U32 → is_written_run
-        (flat_map number_bytes (element_values table (cons (Number n) ps) U32)) ≡ true
+    run_written : (n : ℕ) (k : Kind) (ps : Parts) → accepts_number k ≡ true → ElementsFit table (cons (Number n) ps) k →
+        is_written_run k (flat_map number_bytes (element_values table (cons (Number n) ps) k)) ≡ true
     unfolding PartFits part_values
-    run_written n ps h =
-        let xs = packed (cons (Number n) ps) h in
-        let run = flat_map number_bytes (element_values table (cons (Number n) ps) U32) in
-        let low : n < 2 ^ 32 = h.1 in
-        let some = varint_pos (shortest_varint n) n (shortest_is n (omega (arith, low))) in
-        let long : length run ≡ length (shortest_varint n) + length (flat_map number_bytes (element_values table ps
-        U32))
-        = length-append (shortest_varint n) (flat_map number_bytes (element_values table ps U32)) in
+    run_written n k ps a h =
+        let xs = packed k (cons (Number n) ps) a h in
+        let run = flat_map number_bytes (element_values table (cons (Number n) ps) k) in
+        let some = varint_pos (shortest_varint (written_number k n)) (written_number k n)
+        (shortest_is (written_number k n) (number_small k n h.1)) in
+        let long : length run ≡ length (shortest_varint (written_number k n)) + length
+        (flat_map number_bytes (element_values table ps k)) = length-append (shortest_varint (written_number k n))
+        (flat_map number_bytes (element_values table ps k)) in
         let full : eqb (length run) 0 ≡ false = ne_eqb _ _ (λ z. omega (arith, z, long, some)) in
-        let read : sequence_past low_varint_at 0 run ≡ Some xs.ns = all_again IsLow low_varint_at reader_low xs.ns run
-        xs.encodes in
+        let read : sequence_past (written_varint_at k) 0 run ≡ Some xs.ns = all_again (IsWritten k)
+        (written_varint_at k) (reader_written k) xs.ns run xs.encodes in
         rw (full, read) refl
 
     -- ---- rows
 
     as_they_are : (k : Kind) (ws : List RecordValue) → unpacked k ≡ true → packed_values k ws ≡ ws
-    as_they_are U32 ws h = absurd cc
-    as_they_are U64 ws h = refl
-    as_they_are Boolean ws h = refl
-    as_they_are Enumeration ws h = refl
-    as_they_are Text ws h = refl
-    as_they_are ByteString ws h = refl
-    as_they_are (Message s) ws h = refl
+    as_they_are k ws h = rw (not_included _ h) refl
 
     plain_comes : (n : ℕ) (k : Kind) (p : Part) → is_message k ≡ false → is_single p ≡ true → PartFits table p k →
         part_levels p ≤ left → list_all encodable (row_records (Plain n k) p (part_values table p k)) ≡ true
@@ -380,13 +381,13 @@ module _ (table : Table) where
         (ap (map (λ w. record { number = n; value = w })) x.is) (member_is members n h) (and_join _ _ x.passes refl)
         refl
 
-    run_comes : (n m : ℕ) (ps : Parts) → ElementsFit table (cons (Number m) ps) U32 → RowComes (Repeated n U32)
-        (Elements (cons (Number m) ps))
+    run_comes : (n m : ℕ) (k : Kind) (ps : Parts) → accepts_number k ≡ true → ElementsFit table (cons (Number m) ps) k →
+        RowComes (Repeated n k) (Elements (cons (Number m) ps))
     unfolding with_number part_values
-    run_comes n m ps f =
-        one_comes (Repeated n U32) (Elements (cons (Number m) ps)) n
-        (Length (flat_map number_bytes (element_values table (cons (Number m) ps) U32))) U32 true refl
-        (field_is n (U32, true)) (run_written m ps f) refl
+    run_comes n m k ps a f =
+        one_comes (Repeated n k) (Elements (cons (Number m) ps)) n
+        (Length (flat_map number_bytes (element_values table (cons (Number m) ps) k))) k true (rw a refl)
+        (field_is n (k, true)) (rw a (run_written m k ps a f)) (rw a refl)
 
     list_comes : (n : ℕ) (k : Kind) (ps : Parts) → unpacked k ≡ true → ElementsFit table ps k → levels ps ≤ left →
         list_all encodable (row_records (Repeated n k) (Elements ps) (element_values table ps k)) ≡ true → RowComes
@@ -404,6 +405,20 @@ module _ (table : Table) where
         (elements_written ps k u f l (values_encode n (element_values table ps k) plainly)) a h
         (z ∙ ap (λ (ws : List RecordValue). total_size (map (λ w. record { number = n; value = w }) ws) + rest) same)
 
+    elements_or_run : (n : ℕ) (k : Kind) (ps : Parts) (b : Bool) → accepts_number k ≡ b → ElementsFit table ps k →
+        levels
+        ps ≤ left → list_all encodable (row_records (Repeated n k) (Elements ps) (element_values table ps k)) ≡ true →
+        RowComes (Repeated n k) (Elements ps)
+    unfolding PartFits part_values levels
+    elements_or_run n k nil true a f l c = nothing_comes (Repeated n k) (Elements nil) (rw a refl)
+    elements_or_run n k (cons (Number v) ps) true a f l c = run_comes n v k ps a f
+    elements_or_run n k (cons Absent ps) true a f l c = absurd (cc f.0)
+    elements_or_run n k (cons (Bytes b) ps) true a f l c = absurd (no_bytes k b a f.1)
+    elements_or_run n k (cons (Nested qs) ps) true a f l c = absurd (no_message table k qs a f.1)
+    elements_or_run n k (cons (Elements qs) ps) true a f l c = absurd (cc f.0)
+    elements_or_run n k (cons (Member v q) ps) true a f l c = absurd (cc f.0)
+    elements_or_run n k ps false a f l c = list_comes n k ps (ap not a) f l c
+
     row_comes : (row : Row) (p : Part) → may_be_empty row ≡ true → has_shape row p ≡ true → PartFits table p
         (kind_of row p) → part_levels p ≤ left → list_all encodable
         (row_records row p (part_values table p (kind_of row p))) ≡ true → RowComes row p
@@ -411,14 +426,7 @@ module _ (table : Table) where
     row_comes (Plain n k) p m i f l c = plain_comes n k p (not_included _ m) i f l c (is_default p) refl
     row_comes (Optional n k) Absent m i f l c = nothing_comes (Optional n k) Absent refl
     row_comes (Optional n k) p m i f l c = optional_comes n k p i f l c
-    row_comes (Repeated n U32) (Elements nil) m i f l c = nothing_comes (Repeated n U32) (Elements nil) refl
-    row_comes (Repeated n U32) (Elements (cons (Number v) ps)) m i f l c = run_comes n v ps f
-    row_comes (Repeated n U32) (Elements (cons Absent ps)) m i f l c = absurd (cc f.0)
-    row_comes (Repeated n U32) (Elements (cons (Bytes b) ps)) m i f l c = absurd f.1
-    row_comes (Repeated n U32) (Elements (cons (Nested qs) ps)) m i f l c = absurd f.1
-    row_comes (Repeated n U32) (Elements (cons (Elements qs) ps)) m i f l c = absurd (cc f.0)
-    row_comes (Repeated n U32) (Elements (cons (Member v q) ps)) m i f l c = absurd (cc f.0)
-    row_comes (Repeated n k) (Elements ps) m i f l c = list_comes n k ps refl f l c
+    row_comes (Repeated n k) (Elements ps) m i f l c = elements_or_run n k ps (accepts_number k) refl f l c
     row_comes (Repeated n k) p m i f l c = absurd cc
     row_comes (OneOf members) Absent m i f l c = nothing_comes (OneOf members) Absent refl
     row_comes (OneOf members) (Member n p) m i f l c = let e = and_split _ _ i in member_comes members n p e.0 e.1 f l c

@@ -20,11 +20,11 @@ use Rattle.shared_core_wire.specs.Encoding.{shortest_varint, key_bytes, record_b
 use Rattle.shared_core_wire.specs.Schema.{Kind, Row, U32, U64, Boolean, Enumeration, Text, ByteString, Message, Plain}
 use Rattle.shared_core_wire.specs.Schema.{Table, Optional, Repeated, OneOf, numbers, includes, member_kind, is_schema}
 use Rattle.shared_core_wire.specs.Value.{Part, Parts, Absent, Number, Bytes, Nested, Elements, Member, nil, cons}
-use Rattle.shared_core_wire.specs.Canonical.{written_number, is_default, number_bytes, packed_values, kind_of}
-use Rattle.shared_core_wire.specs.Canonical.{row_records, part_values, element_values, message_records}
+use Rattle.shared_core_wire.specs.Canonical.{written_number, is_default, number_bytes, run_values, packed_values}
+use Rattle.shared_core_wire.specs.Canonical.{kind_of, row_records, part_values, element_values, message_records}
 use Rattle.shared_core_wire.specs.Canonical.{canonical_payload, part_levels, levels}
 use Rattle.shared_core_wire.specs.Fitting.{is_single, has_shape, NumberFits, PartFits, ElementsFit, Fits}
-use Rattle.shared_core_wire.specs.Acceptance.{NestedAcceptance, some_passes, accepts_payload}
+use Rattle.shared_core_wire.specs.Acceptance.{NestedAcceptance, some_passes, accepts_payload, accepts_number}
 use Rattle.shared_core_wire.proofs.Shortest.{shortest_small, shortest_large, fewest}
 use Rattle.shared_core_wire.proofs.Runs.{and_split, and_join}
 use Rattle.shared_core_wire.proofs.Readers.{BeginsWith, varint_again, bind_some, passed, not_stopped, some_is}
@@ -36,7 +36,8 @@ use Rattle.shared_core_wire.proofs.ReadBackLevels.{canonical_back}
 use Rattle.shared_core_wire.specs.Overlay.{meaning}
 use Rattle.shared_core_codec.specs.ProgramRows.{field_in_row, member_numbered}
 use Rattle.shared_core_codec.specs.RowEncoding.{unpacked}
-use Rattle.shared_core_codec.specs.Canonicity.{IsCanonicalIn, is_written_value, low_varint_at, is_written_run}
+use Rattle.shared_core_codec.specs.Canonicity.{IsCanonicalIn, is_written_number, is_written_value, is_written_run}
+use Rattle.shared_core_codec.specs.Canonicity.{written_varint_at, is_written_list}
 use Rattle.shared_core_codec.specs.Canonicity.{is_written_element, is_default_value, is_plain, is_written_field}
 use Rattle.shared_core_codec.specs.Canonicity.{may_recur, found_or, next_field, rows_after_field, rows_after}
 use Rattle.shared_core_codec.specs.Canonicity.{written_size, Coming, coming_after, all_come, all_come_read}
@@ -193,102 +194,97 @@ read_list (r ∷ rs) bytes a h =
 
 -- ---- packed runs
 
-pub record IsLow (text : List ℕ) (n : ℕ) : Type 0 where
+pub record IsWritten (k : Kind) (text : List ℕ) (n : ℕ) : Type 0 where
   pub is : IsVarint text n
   pub tight : length text ≤ length (shortest_varint n)
-  pub low : n < 2 ^ 32
+  pub written : is_written_number k n ≡ true
 
-low_again : (text rest : List ℕ) (n : ℕ) → IsLow text n → low_varint_at (text ++ rest) ≡ Some (n, rest)
-unfolding low_varint_at
-low_again text rest n h =
+written_again : (k : Kind) (text rest : List ℕ) (n : ℕ) → IsWritten k text n → written_varint_at k (text ++ rest) ≡ Some
+    (n, rest)
+unfolding written_varint_at
+written_again k text rest n h =
     let f = fewest n text h.is.encoding in
     let long : length (shortest_varint n) + length rest ≡ length (text ++ rest) = omega
     (arith, f, h.tight, length-append text rest) in
-    rw (varint_again text rest n h.is, lt-ltb n 4294967296 h.low, eq-eqb _ _ long) refl
+    rw (varint_again text rest n h.is, h.written, eq-eqb _ _ long) refl
 
-low_reads : (bytes : List ℕ) (x : ℕ × List ℕ) → low_varint_at bytes ≡ Some x → BeginsWith IsLow bytes x
-unfolding low_varint_at
-low_reads bytes x e =
-    let v = bind_some (varint_at bytes) (λ y. cond (ltb y.0 4294967296 && eqb
+written_reads : (k : Kind) (bytes : List ℕ) (x : ℕ × List ℕ) → written_varint_at k bytes ≡ Some x → BeginsWith
+    (IsWritten k) bytes x
+unfolding written_varint_at
+written_reads k bytes x e =
+    let v = bind_some (varint_at bytes) (λ y. cond (is_written_number k y.0 && eqb
     (length (shortest_varint y.0) + length y.1) (length bytes)) (Some y) None) x e in
-    let w = passed (ltb v.0.0 4294967296 && eqb (length (shortest_varint v.0.0) + length v.0.1) (length bytes))
+    let w = passed (is_written_number k v.0.0 && eqb (length (shortest_varint v.0.0) + length v.0.1) (length bytes))
     (Some v.0) x v.2 in
     let t = varint_reads bytes v.0 v.1 in
     let s = and_split _ _ w.0 in
     let long = eqb-true _ _ s.1 in
-    subst (BeginsWith IsLow bytes) (some_is v.0 x w.1) (record {
+    subst (BeginsWith (IsWritten k) bytes) (some_is v.0 x w.1) (record {
       text = t.text;
       parts = t.parts;
       is = record {
         is = t.is;
         tight = omega (arith, long, ap length t.parts, length-append t.text v.0.1);
-        low =
-            ltb-true _ _ s.0;
+        written = s.0;
       };
     })
 
-pub reader_low : IsReader IsLow low_varint_at
-reader_low = record { again = low_again; reads = low_reads; long = λ text n h. varint_pos text n h.is }
+pub reader_written : (k : Kind) → IsReader (IsWritten k) (written_varint_at k)
+reader_written k = record {
+  again = written_again k;
+  reads = written_reads k;
+  long = λ text n h. varint_pos text n h.is;
+}
 
-pub record LowTurn (bytes rest : List ℕ) : Type 0 where
+pub record WrittenTurn (k : Kind) (bytes rest : List ℕ) : Type 0 where
   pub shorter : length rest < length bytes
-  pub same : is_some (sequence_past low_varint_at 0 bytes) ≡ is_some (sequence_past low_varint_at 0 rest)
+  pub same : is_some (sequence_past (written_varint_at k) 0 bytes) ≡ is_some
+      (sequence_past (written_varint_at k) 0 rest)
 
 some_more : (n : ℕ) (o : Option (List ℕ)) → is_some (o >>= λ xs. Some (n ∷ xs)) ≡ is_some o
 some_more n None = refl
 some_more n (Some xs) = refl
 
-pub low_turn : (bytes : List ℕ) (n : ℕ) (rest : List ℕ) → low_varint_at bytes ≡ Some (n, rest) → LowTurn bytes rest
-low_turn bytes n rest e =
-    let f = low_reads bytes (n, rest) e in
+pub written_turn : (k : Kind) (bytes : List ℕ) (n : ℕ) (rest : List ℕ) → written_varint_at k bytes ≡ Some (n, rest) →
+    WrittenTurn k bytes rest
+written_turn k bytes n rest e =
+    let f = written_reads k bytes (n, rest) e in
     let long = varint_pos f.text n f.is.is in
     record {
       shorter = omega (arith, ap length f.parts, length-append f.text rest);
-      same = rw (all_more low_varint_at bytes f.text rest n e f.parts long)
-          (some_more n (sequence_past low_varint_at 0 rest));
+      same = rw (all_more (written_varint_at k) bytes f.text rest n e f.parts long)
+          (some_more n (sequence_past (written_varint_at k) 0 rest));
     }
 
-pub low_stop : (bytes : List ℕ) → 0 < length bytes → low_varint_at bytes ≡ None → is_some
-    (sequence_past low_varint_at 0 bytes) ≡ false
-low_stop bytes h e = rw (all_stop low_varint_at bytes h e) refl
+pub written_stop : (k : Kind) (bytes : List ℕ) → 0 < length bytes → written_varint_at k bytes ≡ None → is_some
+    (sequence_past (written_varint_at k) 0 bytes) ≡ false
+written_stop k bytes h e = rw (all_stop (written_varint_at k) bytes h e) refl
 
-pub low_end : (bytes : List ℕ) → bytes ≡ [] → is_some (sequence_past low_varint_at 0 bytes) ≡ true
-low_end bytes e = rw (e, all_nil low_varint_at) refl
+pub written_end : (k : Kind) (bytes : List ℕ) → bytes ≡ [] → is_some (sequence_past (written_varint_at k) 0 bytes) ≡
+    true
+written_end k bytes e = rw (e, all_nil (written_varint_at k)) refl
 
-pub none_written : (run : List ℕ) → is_some (sequence_past low_varint_at 0 run) ≡ false → false ≡ is_written_run run
-none_written run e = rw e (sym (and-false (not (eqb (length run) 0))))
+pub none_written : (k : Kind) (run : List ℕ) → is_some (sequence_past (written_varint_at k) 0 run) ≡ false → false ≡
+    is_written_run k run
+none_written k run e = rw e (sym (and-false (not (eqb (length run) 0))))
 
-pub some_written : (run : List ℕ) → eqb (length run) 0 ≡ false → is_some (sequence_past low_varint_at 0 run) ≡ true →
-    true ≡ is_written_run run
-some_written run h e = rw (e, h) refl
+pub some_written : (k : Kind) (run : List ℕ) → eqb (length run) 0 ≡ false → is_some
+    (sequence_past (written_varint_at k) 0 run) ≡ true → true ≡ is_written_run k run
+some_written k run h e = rw (e, h) refl
 
 module _ (table : Table) where
-  -- a packed run is written for these elements
-  record LowRun (run : List ℕ) : Type 0 where
-    ps : Parts
-    fits : ElementsFit table ps U32
-    flat : levels ps ≤ 0
-    bytes : flat_map number_bytes (element_values table ps U32) ≡ run
+  packed_some : (k : Kind) (ws : List RecordValue) (run : List ℕ) → accepts_number k ≡ true → flat_map number_bytes ws ≡
+      run → eqb (length run) 0 ≡ false → packed_values k ws ≡ Length run ∷ []
+  packed_some k [] run a e h = absurd
+      (let f : eqb 0 0 ≡ false = ap (λ (t : List ℕ). eqb (length t) 0) e ∙ h in cc)
+  packed_some k (w ∷ ws) run a e h = rw a (ap (λ (t : List ℕ). Length t ∷ []) e)
 
-  low_run : (ns run : List ℕ) → are_bytes run ≡ true → IsSequence IsLow run ns → LowRun run
-  unfolding PartFits part_values levels
-  low_run [] run a h = record { ps = nil; fits = tt; flat = omega arith; bytes = sym h }
-  low_run (n ∷ ns) run a h =
-      let s = bytes_split h.0 h.1 (ap are_bytes (sym h.2) ∙ a) in
-      let xs = low_run ns h.1 s.1 h.4 in
-      let first = varint_tight h.0 n s.0 h.3.is.encoding h.3.tight in
-      record {
-        ps = cons (Number n) xs.ps;
-        fits = (refl, h.3.low, xs.fits);
-        flat = omega (arith, xs.flat);
-        bytes = ap (λ (t : List ℕ). shortest_varint n ++ t) xs.bytes ∙ ap (λ (t : List ℕ). t ++ h.1) (sym first) ∙ sym
-            h.2;
-      }
-
-  packed_some : (ws : List RecordValue) (run : List ℕ) → flat_map number_bytes ws ≡ run → eqb (length run) 0 ≡ false →
-      packed_values U32 ws ≡ Length run ∷ []
-  packed_some [] run e h = absurd (let f : eqb 0 0 ≡ false = ap (λ (t : List ℕ). eqb (length t) 0) e ∙ h in cc)
-  packed_some (w ∷ ws) run e h = ap (λ (t : List ℕ). Length t ∷ []) e
+  packed_none : (k : Kind) → packed_values k [] ≡ []
+  packed_none k = by_kind (accepts_number k)
+    where
+      by_kind : (b : Bool) → cond b (run_values []) [] ≡ []
+      by_kind true = refl
+      by_kind false = refl
 
   not_false : (b : Bool) → not b ≡ true → b ≡ false
   not_false true h = absurd cc
@@ -297,11 +293,6 @@ module _ (table : Table) where
   some_run : (o : Option (List ℕ)) → is_some o ≡ true → (ns : List ℕ) × (o ≡ Some ns)
   some_run None h = absurd cc
   some_run (Some ns) h = (ns, refl)
-
-  run_read : (run : List ℕ) → are_bytes run ≡ true → is_some (sequence_past low_varint_at 0 run) ≡ true → LowRun run
-  run_read run a h =
-      let o = some_run (sequence_past low_varint_at 0 run) h in
-      low_run o.0 run a (all_reads IsLow low_varint_at reader_low run o.0 o.1)
 
   no_text : is_utf8 [] ≡ true
   unfolding is_utf8 chars encode
@@ -402,6 +393,38 @@ module _ (table : Table) where
     written_single (Message s) (Length b) r h = single_message s b (nested_sound s b r h)
     written_single k w r h = absurd cc
 
+    -- ---- packed runs
+
+    -- a packed run is written for these elements
+    record WrittenRun (k : Kind) (run : List ℕ) : Type 0 where
+      ps : Parts
+      fits : ElementsFit table ps k
+      low : levels ps ≤ left
+      bytes : flat_map number_bytes (element_values table ps k) ≡ run
+
+    written_run : (k : Kind) (ns run : List ℕ) → are_bytes run ≡ true → IsSequence (IsWritten k) run ns → WrittenRun k
+        run
+    unfolding PartFits part_values levels
+    written_run k [] run a h = record { ps = nil; fits = tt; low = omega arith; bytes = sym h }
+    written_run k (n ∷ ns) run a h =
+        let s = bytes_split h.0 h.1 (ap are_bytes (sym h.2) ∙ a) in
+        let xs = written_run k ns h.1 s.1 h.4 in
+        let first = varint_tight h.0 n s.0 h.3.is.encoding h.3.tight in
+        let x = written_single k (Varint n) (lt-ltb _ _ h.3.is.fits) h.3.written in
+        record {
+          ps = cons x.p xs.ps;
+          fits = (x.single, x.fits, xs.fits);
+          low = omega (arith, x.low, xs.low);
+          bytes = rw x.is (ap (λ (t : List ℕ). shortest_varint n ++ t) xs.bytes ∙ ap (λ (t : List ℕ). t ++ h.1)
+              (sym first) ∙ sym h.2);
+        }
+
+    run_read : (k : Kind) (run : List ℕ) → are_bytes run ≡ true → is_some (sequence_past (written_varint_at k) 0 run) ≡
+        true → WrittenRun k run
+    run_read k run a h =
+        let o = some_run (sequence_past (written_varint_at k) 0 run) h in
+        written_run k o.0 run a (all_reads (IsWritten k) (written_varint_at k) (reader_written k) run o.0 o.1)
+
     -- ---- rows
 
     record Value (rows : List Row) (rs : List FieldRecord) : Type 0 where
@@ -438,8 +461,8 @@ module _ (table : Table) where
         x
     skip (Plain n (Message s)) rows rs h x = absurd cc
     skip (Optional n k) rows rs h x = front (Optional n k) rows Absent [] rs refl tt (omega arith) refl x
-    skip (Repeated n U32) rows rs h x = front (Repeated n U32) rows (Elements nil) [] rs refl tt (omega arith) refl x
-    skip (Repeated n k) rows rs h x = front (Repeated n k) rows (Elements nil) [] rs refl tt (omega arith) refl x
+    skip (Repeated n k) rows rs h x = front (Repeated n k) rows (Elements nil) [] rs refl tt (omega arith)
+        (ap (map (λ w. record { number = n; value = w })) (sym (packed_none k))) x
     skip (OneOf members) rows rs h x = front (OneOf members) rows Absent [] rs refl tt (omega arith) refl x
 
     none : (rows : List Row) → list_all may_be_empty rows ≡ true → Value rows []
@@ -480,25 +503,19 @@ module _ (table : Table) where
         front (OneOf members) rows (Member n x.p) (with_number n w ∷ []) rs (and_join _ _ h x.single) x.fits x.low
         (rw x.is refl) y
 
-    put_run : (n : ℕ) (run : List ℕ) (rows : List Row) (rs : List FieldRecord) → eqb (length run) 0 ≡ false → LowRun run
-        →
-        Value rows rs → Value (Repeated n U32 ∷ rows) (with_number n (Length run) ∷ rs)
+    put_run : (n : ℕ) (k : Kind) (run : List ℕ) (rows : List Row) (rs : List FieldRecord) → accepts_number k ≡ true →
+        eqb (length run) 0 ≡ false → WrittenRun k run → Value rows rs → Value (Repeated n k ∷ rows)
+        (with_number n (Length run) ∷ rs)
     unfolding with_number PartFits part_values levels
-    put_run n run rows rs h x y =
-        front (Repeated n U32) rows (Elements x.ps) (with_number n (Length run) ∷ []) rs refl x.fits
-        (omega (arith, x.flat))
+    put_run n k run rows rs a h x y =
+        front (Repeated n k) rows (Elements x.ps) (with_number n (Length run) ∷ []) rs refl x.fits
+        (omega (arith, x.low))
         (ap (map (λ w. record { number = n; value = w })) (sym
-        (packed_some (element_values table x.ps U32) run x.bytes h))) y
+        (packed_some k (element_values table x.ps k) run a x.bytes h))) y
 
     -- values of an unpacked kind are written one by one
     as_they_are : (k : Kind) (ws : List RecordValue) → unpacked k ≡ true → packed_values k ws ≡ ws
-    as_they_are U32 ws h = absurd cc
-    as_they_are U64 ws h = refl
-    as_they_are Boolean ws h = refl
-    as_they_are Enumeration ws h = refl
-    as_they_are Text ws h = refl
-    as_they_are ByteString ws h = refl
-    as_they_are (Message s) ws h = refl
+    as_they_are k ws h = rw (not_false _ h) refl
 
     put_element : (n : ℕ) (k : Kind) (w : RecordValue) (rows : List Row) (rs : List FieldRecord) → unpacked k ≡ true →
         Single k w
@@ -526,19 +543,18 @@ module _ (table : Table) where
     }
     put_element n k w rows rs u x (cons p ps) f l e = absurd (cc f.0)
 
-    put_repeated : (n : ℕ) (k : Kind) (w : RecordValue) (rows next : List Row) (rs : List FieldRecord) → readable w ≡
-        true
-        → is_written_element nested k w ≡ true
-        → (if_more : (unpacked k ≡ true → next ≡ Repeated n k ∷ rows)) → (unpacked k ≡ false → next ≡ rows) → Value next
-        rs → Value (Repeated n k ∷ rows) (with_number n w ∷ rs)
-    put_repeated n U32 (Length run) rows next rs r h more last x =
+    put_repeated : (n : ℕ) (k : Kind) (w : RecordValue) (rows next : List Row) (rs : List FieldRecord) (b : Bool) →
+        accepts_number k ≡ b → readable w ≡ true → cond b (is_written_list k w) (is_written_value nested k w) ≡ true
+        → (not b ≡ true → next ≡ Repeated n k ∷ rows) → (not b ≡ false → next ≡ rows) → Value next rs → Value
+        (Repeated n k ∷ rows) (with_number n w ∷ rs)
+    put_repeated n k (Length run) rows next rs true a r h more last x =
         let e = and_split _ _ h in
-        put_run n run rows rs (not_false _ e.0) (run_read run r e.1) (subst (λ (t : List Row). Value t rs) (last refl)
-        x)
-    put_repeated n U32 w rows next rs r h more last x = absurd cc
-    put_repeated n k w rows next rs r h more last x =
+        put_run n k run rows rs a (not_false _ e.0) (run_read k run r e.1)
+        (subst (λ (t : List Row). Value t rs) (last refl) x)
+    put_repeated n k w rows next rs true a r h more last x = absurd cc
+    put_repeated n k w rows next rs false a r h more last x =
         let y = subst (λ (t : List Row). Value t rs) (more refl) x in
-        put_element n k w rows rs refl (written_single k w r h) y.v y.fits y.low y.is
+        put_element n k w rows rs (ap not a) (written_single k w r h) y.v y.fits y.low y.is
 
     -- ---- a record of a row
 
@@ -585,7 +601,8 @@ module _ (table : Table) where
         let rest : cond (unpacked k) (Repeated m k ∷ rows) rows ≡ next = ap
         (λ z. cond (may_recur z) (Repeated m k ∷ rows) rows) same ∙ q in
         subst (λ z. Value (Repeated m k ∷ rows) (with_number z w ∷ rs)) (sym number)
-        (put_repeated m k w rows next rs r written (λ u. sym rest ∙ ap (λ b. cond b (Repeated m k ∷ rows) rows) u)
+        (put_repeated m k w rows next rs (accepts_number k) refl r written (λ u. sym rest ∙ ap (λ b. cond b (Repeated m
+        k ∷ rows) rows) u)
         (λ u. sym rest ∙ ap (λ b. cond b (Repeated m k ∷ rows) rows) u) x)
     row_sound (OneOf members) rows next n w rs f h r e g q x =
         let t = member_found members n f e in

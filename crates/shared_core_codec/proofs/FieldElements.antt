@@ -10,11 +10,12 @@ use Rattle.shared_core_codec.specs.FieldParts.{parts_of}
 use Rattle.shared_core_codec.specs.Occurrences.{IsEmptyField}
 use Rattle.shared_core_codec.specs.RowEncoding.{unpacked}
 use Rattle.shared_core_wire.proofs.Readers.{some_is}
+use Rattle.shared_core_wire.proofs.ReadBack.{not_true}
 use Rattle.shared_core_wire.proofs.Runs.{parts_append_nil}
 use Rattle.shared_core_wire.specs.Acceptance.{NestedAcceptance, accepts_value, accepts_element}
 use Rattle.shared_core_wire.specs.Grammar.{RecordValue, Length}
 use Rattle.shared_core_wire.specs.Schema.{Kind, U32, U64, Boolean, Enumeration, Text, ByteString, Message}
-use Rattle.shared_core_wire.specs.Overlay.{NestedOverlay, low_numbers, packed_elements, singular_of, elements_of}
+use Rattle.shared_core_wire.specs.Overlay.{NestedOverlay, number_parts, packed_elements, singular_of, elements_of}
 use Rattle.shared_core_wire.specs.Overlay.{all_elements}
 use Rattle.shared_core_codec.specs.Table.{table}
 use Rattle.shared_core_wire.specs.Reader.{packed_numbers, ◌>>=◌}
@@ -30,7 +31,7 @@ parts_push view (y ∷ ys) x = ap (cons (view y)) (parts_push view ys x)
 abbrev low : ℕ → ℕ
 low n = n % 4294967296
 
-parts_low : (ns : List ℕ) → parts_of Number (map low ns) ≡ low_numbers ns
+parts_low : (ns : List ℕ) → parts_of Number (map low ns) ≡ number_parts U32 ns
 parts_low [] = refl
 parts_low (n ∷ ns) = ap (cons (Number (low n))) (parts_low ns)
 
@@ -39,12 +40,12 @@ parts_join [] ys = refl
 parts_join (x ∷ xs) ys = ap (cons (Number x)) (parts_join xs ys)
 
 onto : (old new : List ℕ) (o : Option (List ℕ)) → (o >>= λ ns. Some (old ++ map low ns)) ≡ Some new → (is_some o ≡ true)
-    × (parts_of Number new ≡ parts_of Number old +++ (packed_elements o +++ nil))
+    × (parts_of Number new ≡ parts_of Number old +++ (packed_elements U32 o +++ nil))
 onto old new None e = absurd cc
 onto old new (Some ns) e = (
   refl,
   ap (parts_of Number) (sym (some_is _ _ e)) ∙ parts_join old (map low ns) ∙ ap
-      (λ ps. parts_of Number old +++ ps) (parts_low ns ∙ sym (parts_append_nil (low_numbers ns))),
+      (λ ps. parts_of Number old +++ ps) (parts_low ns ∙ sym (parts_append_nil (number_parts U32 ns))),
 )
 
 not_onto : (old : List ℕ) (o : Option (List ℕ)) → (o >>= λ ns. Some (old ++ map low ns)) ≡ None → is_some o ≡ false
@@ -53,7 +54,7 @@ not_onto old (Some ns) e = absurd cc
 
 pub packed_extends : {X : Type 0} (old new bytes : List ℕ) (result : Result X WireError) → IsComputed (λ _. new) result
     (packed_onto old bytes) → OnOk result ((is_some (packed_numbers bytes) ≡ true) ×
-    (parts_of Number new ≡ parts_of Number old +++ (packed_elements (packed_numbers bytes) +++ nil)))
+    (parts_of Number new ≡ parts_of Number old +++ (packed_elements U32 (packed_numbers bytes) +++ nil)))
 packed_extends old new bytes (Ok x) h = onto old new (packed_numbers bytes) h
 packed_extends old new bytes (Err e) h = tt
 
@@ -78,13 +79,7 @@ from_empty nested (Message s) p q w h e = ap (λ (t : Part). singular_of table n
 
 pub element_rejected : (accepts_nested : NestedAcceptance) (k : Kind) (w : RecordValue) → unpacked k ≡ true →
     accepts_value accepts_nested k w ≡ false → accepts_element accepts_nested k w ≡ false
-element_rejected accepts_nested U32 w u h = cc
-element_rejected accepts_nested U64 w u h = h
-element_rejected accepts_nested Boolean w u h = h
-element_rejected accepts_nested Enumeration w u h = h
-element_rejected accepts_nested Text w u h = h
-element_rejected accepts_nested ByteString w u h = h
-element_rejected accepts_nested (Message s) w u h = h
+element_rejected accepts_nested k w u h = rw (not_true _ u) h
 
 message_element : (s : ℕ) (nested : NestedOverlay) (accepts_nested : NestedAcceptance) (w : RecordValue) (p : Part)
     → accepts_value accepts_nested (Message s) w ≡ true → singular_of table nested (Message s) Absent w [] ≡ p
@@ -98,9 +93,9 @@ element : (nested : NestedOverlay) (accepts_nested : NestedAcceptance) (k : Kind
     → accepts_value accepts_nested k w ≡ true → singular_of table nested k Absent w [] ≡ p →
     (accepts_element accepts_nested k w ≡ true) × (elements_of table nested k w ≡ one_part p)
 element nested accepts_nested U32 w p u h e = cc
-element nested accepts_nested U64 w p u h e = (h, ap one_part e)
-element nested accepts_nested Boolean w p u h e = (h, ap one_part e)
-element nested accepts_nested Enumeration w p u h e = (h, ap one_part e)
+element nested accepts_nested U64 w p u h e = cc
+element nested accepts_nested Boolean w p u h e = cc
+element nested accepts_nested Enumeration w p u h e = cc
 element nested accepts_nested Text w p u h e = (h, ap one_part e)
 element nested accepts_nested ByteString w p u h e = (h, ap one_part e)
 element nested accepts_nested (Message s) w p u h e = message_element s nested accepts_nested w p h e

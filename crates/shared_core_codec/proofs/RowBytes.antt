@@ -13,6 +13,7 @@ use Rattle.shared_core_wire.specs.Canonical.{number_bytes, part_values, row_reco
 use Rattle.shared_core_wire.specs.Schema.{Boolean, ByteString, Enumeration, Kind, Message, OneOf, Optional, Plain}
 use Rattle.shared_core_wire.specs.Schema.{Repeated, Row, Text, U32, U64, member_kind}
 use Rattle.shared_core_wire.specs.Encoding.{record_bytes, record_list_bytes, shortest_varint}
+use Rattle.shared_core_wire.proofs.ReadBack.{not_true}
 use Rattle.shared_core_wire.specs.Value.{Absent, Bytes, Elements, Member, Nested, Number, Part, Parts, cons, nil}
 
 -- ---- a row's bytes
@@ -81,13 +82,7 @@ each_cons at k p ps = ap record_list_bytes (map-append (λ w. record { number = 
 pub elements_bytes : (at : ℕ) (k : Kind) (ps : Parts) → unpacked k ≡ true → row_bytes (Repeated at k) (Elements ps) ≡
     each_bytes at k ps
 unfolding row_bytes each_bytes part_values
-elements_bytes at U32 ps h = cc
-elements_bytes at U64 ps h = refl
-elements_bytes at Boolean ps h = refl
-elements_bytes at Enumeration ps h = refl
-elements_bytes at Text ps h = refl
-elements_bytes at ByteString ps h = refl
-elements_bytes at (Message s) ps h = refl
+elements_bytes at k ps h = rw (not_true _ h) refl
 
 packed_values_bytes : (ns : List ℕ) → flat_map number_bytes (element_values table (parts_of Number ns) U32) ≡ varints_of
     ns

@@ -6,9 +6,9 @@ use Rattle.shared_core_wire.specs.Grammar.{RecordValue, Varint, Length, FieldRec
 use Rattle.shared_core_wire.specs.Reader.{◌>>=◌, varint_at, sequence_past, record_list}
 use Rattle.shared_core_wire.specs.ReadRecords.{PlacedRecord}
 use Rattle.shared_core_wire.specs.Encoding.{shortest_varint}
-use Rattle.shared_core_wire.specs.Schema.{Table, Kind, Row, U32, U64, Boolean, Enumeration, Text, ByteString}
-use Rattle.shared_core_wire.specs.Schema.{Message, Plain}
-use Rattle.shared_core_wire.specs.Acceptance.{NestedAcceptance, accepts_bytes, accepts_payload, some_passes}
+use Rattle.shared_core_wire.specs.Schema.{Table, Kind, Row, U32, U64, Boolean, Enumeration, Plain}
+use Rattle.shared_core_wire.specs.Acceptance.{NestedAcceptance, accepts_number, accepts_bytes, accepts_payload}
+use Rattle.shared_core_wire.specs.Acceptance.{some_passes}
 use Rattle.shared_core_wire.specs.Overlay.{meaning}
 use Rattle.shared_core_wire.specs.Canonical.{canonical_payload, levels}
 use Rattle.shared_core_wire.specs.Fitting.{Fits}
@@ -48,20 +48,23 @@ is_written_value nested k (Varint n) = is_written_number k n
 is_written_value nested k (Length bytes) = accepts_bytes nested k bytes
 is_written_value nested k w = false
 
--- A varint of 32 bits in its shortest form.
-unfoldable pub low_varint_at : List ℕ → Option (ℕ × List ℕ)
-low_varint_at bytes = varint_at bytes >>= λ x.
-    if nat_lt x.0 4294967296 && (length (shortest_varint x.0) + length x.1 == length bytes) then Some x else None
+-- A varint in its shortest form, of a number that is written for a value of the kind.
+unfoldable pub written_varint_at : Kind → List ℕ → Option (ℕ × List ℕ)
+written_varint_at k bytes = varint_at bytes >>= λ x.
+    if is_written_number k x.0 && (length (shortest_varint x.0) + length x.1 == length bytes) then Some x else None
 
 -- Whether bytes are a packed run as it is written: one or more such varints, which fill them exactly.
-abbrev pub is_written_run : List ℕ → Bool
-is_written_run run = not (length run == 0) && is_some (sequence_past low_varint_at 0 run)
+abbrev pub is_written_run : Kind → List ℕ → Bool
+is_written_run k run = not (length run == 0) && is_some (sequence_past (written_varint_at k) 0 run)
+
+-- Whether a list of numbers of the kind is written as this value of a record.
+abbrev pub is_written_list : Kind → RecordValue → Bool
+is_written_list k (Length run) = is_written_run k run
+is_written_list k w = false
 
 -- Whether elements of a repeated field of the kind are written as this value of a record.
 abbrev pub is_written_element : NestedAcceptance → Kind → RecordValue → Bool
-is_written_element nested U32 (Length run) = is_written_run run
-is_written_element nested U32 w = false
-is_written_element nested k w = is_written_value nested k w
+is_written_element nested k w = if accepts_number k then is_written_list k w else is_written_value nested k w
 
 -- Whether a value is a default: 0, false or empty.
 abbrev pub is_default_value : RecordValue → Bool
@@ -79,15 +82,9 @@ abbrev pub is_written_field : NestedAcceptance → Bool → Kind × Bool → Rec
 is_written_field nested plain (k, true) w = is_written_element nested k w
 is_written_field nested plain (k, false) w = is_written_value nested k w && not (plain && is_default_value w)
 
--- Whether a field is a repeated uint32, which is packed.
+-- Whether a field is a list of numbers, which is packed.
 abbrev pub is_packed : Kind × Bool → Bool
-is_packed (U32, repeated) = repeated
-is_packed (U64, repeated) = false
-is_packed (Boolean, repeated) = false
-is_packed (Enumeration, repeated) = false
-is_packed (Text, repeated) = false
-is_packed (ByteString, repeated) = false
-is_packed (Message s, repeated) = false
+is_packed f = accepts_number f.0 && f.1
 
 -- Whether a field may be written as more than one record.
 abbrev pub may_recur : Kind × Bool → Bool

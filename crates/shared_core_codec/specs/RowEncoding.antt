@@ -1,8 +1,8 @@
 -- The canonical payload row by row, as it is written and measured.
-use Rattle.std.specs.Prelude.{Bool, true, false, ℕ, ◌+◌, ◌^◌, List, ◌∷◌, ◌++◌, map, flat_map, length, min}
+use Rattle.std.specs.Prelude.{Bool, not, ℕ, ◌+◌, ◌^◌, List, ◌∷◌, ◌++◌, map, flat_map, length, min}
 use Rattle.shared_core_wire.specs.Encoding.{shortest_varint, key_bytes, record_list_bytes}
-use Rattle.shared_core_wire.specs.Schema.{Kind, Row, U32, U64, Boolean, Enumeration, Text, ByteString, Message, Plain}
-use Rattle.shared_core_wire.specs.Schema.{Optional, Repeated, OneOf, member_kind}
+use Rattle.shared_core_wire.specs.Schema.{Kind, Row, Plain, Optional, Repeated, OneOf, member_kind}
+use Rattle.shared_core_wire.specs.Acceptance.{accepts_number}
 use Rattle.shared_core_wire.specs.Value.{Part, Parts, Absent, Member, cons}
 use Rattle.shared_core_wire.specs.Canonical.{row_records, part_values, kind_of}
 use Rattle.shared_core_codec.specs.Table.{table}
@@ -46,13 +46,7 @@ varints_of ns = flat_map shortest_varint ns
 
 -- Whether the elements of a repeated field of this kind are written one by one, and not packed.
 abbrev pub unpacked : Kind → Bool
-unpacked U32 = false
-unpacked U64 = true
-unpacked Boolean = true
-unpacked Enumeration = true
-unpacked Text = true
-unpacked ByteString = true
-unpacked (Message s) = true
+unpacked k = not (accepts_number k)
 
 -- ---- sizes
 

@@ -7,7 +7,7 @@ ghost use Rattle.shared_core_codec.specs.Checking.{field_record_of};
 ghost use Rattle.shared_core_codec.specs.RowEncoding.{length_record};
 ghost use Rattle.shared_core_codec.specs.ProgramRows.{kind_view, row_view};
 ghost use Rattle.shared_core_codec.specs.Canonicity.{next_view, next_field, is_plain, written_size};
-ghost use Rattle.shared_core_codec.specs.Canonicity.{is_written_number, is_written_run, low_varint_at};
+ghost use Rattle.shared_core_codec.specs.Canonicity.{is_written_number, is_written_run, written_varint_at};
 
 use crate::rows::{Found, Kind, Row, find_in_row};
 use crate::size::{LENGTH, VARINT, key, varint_size};
@@ -67,16 +67,17 @@ fn is_plain(row: &Row) -> bool
     }
 }
 
-/// Whether bytes are a packed run as it is written: the shortest varints of one or more numbers of 32 bits.
-pub fn is_written_run(run: &[u8]) -> bool
-    ensures { result ≡ is_written_run run.now }
+/// Whether bytes are a packed run as it is written for a kind: the shortest varints of one or more numbers that are
+/// written for its values.
+pub fn is_written_run(kind: Kind, run: &[u8]) -> bool
+    ensures { result ≡ is_written_run (kind_view kind) run.now }
 {
     if run.is_empty() {
         return false;
     }
     let mut rest = run;
     while !rest.is_empty() {
-        let Some((_number, after)) = read_low_varint(rest) else {
+        let Some((_number, after)) = read_written_varint(kind, rest) else {
             return false;
         };
         rest = after;
@@ -84,13 +85,13 @@ pub fn is_written_run(run: &[u8]) -> bool
     true
 }
 
-/// Reads a varint of 32 bits that is in its shortest form.
-#[tactic(auto, unfolding(crate::specs::Canonicity::low_varint_at))]
-fn read_low_varint(bytes: &[u8]) -> Option<(u64, &[u8])>
-    ensures { Gives (λ x. (x.0, x.1.now)) result (low_varint_at bytes.now) }
+/// Reads a varint in its shortest form, of a number that is written for a value of a kind.
+#[tactic(auto, unfolding(crate::specs::Canonicity::written_varint_at))]
+fn read_written_varint(kind: Kind, bytes: &[u8]) -> Option<(u64, &[u8])>
+    ensures { Gives (λ x. (x.0, x.1.now)) result (written_varint_at (kind_view kind) bytes.now) }
 {
     let (number, rest) = read_varint(bytes)?;
-    if number < 4_294_967_296 && varint_size(number) as usize + rest.len() == bytes.len() {
+    if is_written_number(kind, number) && varint_size(number) as usize + rest.len() == bytes.len() {
         Some((number, rest))
     } else {
         None

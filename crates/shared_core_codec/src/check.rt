@@ -3,7 +3,7 @@
 ghost use Rattle.std.specs.Prelude.{◌≡◌, ◌↔◌, IsTrue, map, true};
 ghost use Rattle.std.specs.Option.{is_some};
 ghost use Rattle.shared_core_wire.specs.Acceptance.{accepts_payload, accepts_message, accepts_record};
-ghost use Rattle.shared_core_wire.specs.Acceptance.{accepts_element, accepts_value, accepts_number};
+ghost use Rattle.shared_core_wire.specs.Acceptance.{accepts_element, accepts_numbers, accepts_value};
 ghost use Rattle.shared_core_wire.specs.Reader.{packed_numbers};
 ghost use Rattle.shared_core_wire.specs.Schema.{are_distinct, all_numbers};
 ghost use Rattle.shared_core_wire.specs.View.{value_of};
@@ -76,12 +76,22 @@ fn accepts_element<T: Schemas>(schemas: &T, kind: Kind, value: WireValue<'_>, le
     ensures { result ≡ accepts_element (accepts_message (T.table schemas.now) left) (kind_view kind)
         (value_of value.entry) }
 {
-    if let Kind::U32 = kind {
-        if let WireValue::Length(run) = value {
-            return is_run(run);
-        }
+    if kind.is_number() {
+        accepts_numbers(value)
+    } else {
+        accepts_value(schemas, kind, value, left)
     }
-    accepts_value(schemas, kind, value, left)
+}
+
+/// Whether a list of numbers accepts the value of a record.
+fn accepts_numbers(value: WireValue<'_>) -> bool
+    ensures { result ≡ accepts_numbers (value_of value.entry) }
+{
+    match value {
+        WireValue::Varint(_number) => true,
+        WireValue::Length(run) => is_run(run),
+        _ => false,
+    }
 }
 
 /// Whether a field of a kind accepts the value of a record.
@@ -91,26 +101,13 @@ fn accepts_value<T: Schemas>(schemas: &T, kind: Kind, value: WireValue<'_>, left
         (value_of value.entry) }
 {
     match value {
-        WireValue::Varint(_number) => is_number(kind),
+        WireValue::Varint(_number) => kind.is_number(),
         WireValue::Length(bytes) => match kind {
             Kind::Text => is_text(bytes),
             Kind::ByteString => true,
             Kind::Message(schema) => left > 0 && accepts_payload(schemas, schema, bytes, left - 1),
             _ => false,
         },
-        _ => false,
-    }
-}
-
-/// Whether values of a kind are written as varints.
-fn is_number(kind: Kind) -> bool
-    ensures { result ≡ accepts_number (kind_view kind) }
-{
-    match kind {
-        Kind::U32 => true,
-        Kind::U64 => true,
-        Kind::Boolean => true,
-        Kind::Enumeration => true,
         _ => false,
     }
 }

@@ -1,8 +1,9 @@
 //! The rows of each schema, for the program.
 
 ghost use Rattle.std.specs.Prelude.{◌≡◌, map, nat_lt, option_map};
+ghost use Rattle.shared_core_wire.specs.Acceptance.{accepts_number};
 ghost use Rattle.shared_core_codec.specs.Table.{table, schemas, schema_count};
-ghost use Rattle.shared_core_codec.specs.ProgramRows.{rows_view, field_view, found_view};
+ghost use Rattle.shared_core_codec.specs.ProgramRows.{rows_view, kind_view, field_view, found_view};
 ghost use Rattle.shared_core_codec.specs.ProgramRows.{if_numbered, member_numbered, field_in_row, field_numbered};
 ghost use Rattle.shared_core_codec.specs.Canonicity.{is_packed, may_recur};
 
@@ -20,6 +21,22 @@ pub enum Kind {
     ByteString,
     /// A message of the schema at this index of the table.
     Message(u32),
+}
+
+impl Kind {
+    /// Whether values of the kind are written as varints.
+    #[inline(always)]
+    pub fn is_number(self) -> bool
+        ensures { result ≡ accepts_number (kind_view self) }
+    {
+        match self {
+            Kind::U32 => true,
+            Kind::U64 => true,
+            Kind::Boolean => true,
+            Kind::Enumeration => true,
+            _ => false,
+        }
+    }
 }
 
 /// A field of a schema.
@@ -54,15 +71,12 @@ impl Found {
         self.is_repeated && !self.is_packed()
     }
 
-    /// Whether it is a repeated uint32, which is packed.
+    /// Whether it is a list of numbers, which is packed.
     #[inline(always)]
     pub fn is_packed(self) -> bool
         ensures { result ≡ is_packed (found_view self) }
     {
-        match self.kind {
-            Kind::U32 => self.is_repeated,
-            _ => false,
-        }
+        self.kind.is_number() && self.is_repeated
     }
 }
 

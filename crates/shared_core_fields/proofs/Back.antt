@@ -4,14 +4,14 @@ use Rattle.std.proofs.Common.{sym, ap, ◌∙◌}
 use Rattle.std.specs.Prelude.{flat_map}
 use Rattle.shared_core_wire.specs.Grammar.{RecordValue, FieldRecord}
 use Rattle.shared_core_wire.specs.Encoding.{record_list_bytes}
-use Rattle.shared_core_wire.specs.Schema.{Kind, Row, U32, U64, Boolean, Enumeration, Text, ByteString, Message, Plain}
-use Rattle.shared_core_wire.specs.Schema.{Optional, Repeated, OneOf}
+use Rattle.shared_core_wire.specs.Schema.{Kind, Row, Plain, Optional, Repeated, OneOf}
+use Rattle.shared_core_wire.specs.Acceptance.{accepts_number}
 use Rattle.shared_core_wire.specs.Value.{Part, Parts, Absent, Number, Bytes, Nested, Elements, Member, nil, cons}
-use Rattle.shared_core_wire.specs.Canonical.{is_default, kind_of, row_records, part_values, element_values}
+use Rattle.shared_core_wire.specs.Canonical.{is_default, run_values, kind_of, row_records, part_values, element_values}
 use Rattle.shared_core_wire.specs.Canonical.{message_records, canonical_payload}
 use Rattle.shared_core_wire.specs.Fitting.{has_shape, PartFits, Fits}
 use Rattle.shared_core_codec.specs.Table.{table}
-use Rattle.shared_core_fields.specs.Fields.{FieldPart, each_field, row_fields, message_fields, field_values}
+use Rattle.shared_core_fields.specs.Fields.{FieldPart, list_field, each_field, row_fields, message_fields, field_values}
 use Rattle.shared_core_fields.specs.Fields.{field_records, fields_payload}
 
 abbrev numbered : ℕ → RecordValue → FieldRecord
@@ -24,13 +24,7 @@ with_append n (x ∷ xs) ys = ap (λ (rs : List FieldRecord). numbered n x ∷ r
 
 one : (n : ℕ) (k : Kind) (p : Part) → flat_map field_records ((n, (k, false), p) ∷ []) ≡ map (numbered n)
     (part_values table p k)
-one n U32 p = append-nil _
-one n U64 p = append-nil _
-one n Boolean p = append-nil _
-one n Enumeration p = append-nil _
-one n Text p = append-nil _
-one n ByteString p = append-nil _
-one n (Message s) p = append-nil _
+one n k p = append-nil _
 
 plain : (n : ℕ) (k : Kind) (p : Part) (default : Bool) → flat_map field_records
     (cond default [] ((n, (k, false), p) ∷ [])) ≡ map (numbered n) (cond default [] (part_values table p k))
@@ -47,6 +41,17 @@ each n k h (cons p ps) =
     ∙ ap (λ (rs : List FieldRecord). map (numbered n) (part_values table p k) ++ rs) (each n k h ps)
     ∙ sym (with_append n (part_values table p k) (element_values table ps k))
 
+list : (n : ℕ) (k : Kind) (ps : Parts) (b : Bool) → accepts_number k ≡ b → flat_map field_records
+    (cond b (list_field n k ps) (each_field n k ps)) ≡ map (numbered n)
+    (cond b (run_values (element_values table ps k)) (element_values table ps k))
+unfolding part_values
+list n k nil true a = refl
+list n k (cons p ps) true a =
+    append-nil _ ∙ ap (λ (b : Bool). map (numbered n) (cond b
+    (run_values (part_values table p k ++ element_values table ps k))
+    (part_values table p k ++ element_values table ps k))) a
+list n k ps false a = each n k (λ p. rw a refl) ps
+
 row : (r : Row) (p : Part) → has_shape r p ≡ true → PartFits table p (kind_of r p) → flat_map field_records
     (row_fields r p) ≡ row_records r p (part_values table p (kind_of r p))
 unfolding part_values PartFits
@@ -62,14 +67,7 @@ row (Optional n k) (Member m p) i h = absurd cc
 row (Optional n k) (Number m) i h = one n k (Number m)
 row (Optional n k) (Bytes bytes) i h = one n k (Bytes bytes)
 row (Optional n k) (Nested ps) i h = one n k (Nested ps)
-row (Repeated n U32) (Elements nil) i h = refl
-row (Repeated n U32) (Elements (cons p ps)) i h = append-nil _
-row (Repeated n U64) (Elements ps) i h = each n U64 (λ p. refl) ps
-row (Repeated n Boolean) (Elements ps) i h = each n Boolean (λ p. refl) ps
-row (Repeated n Enumeration) (Elements ps) i h = each n Enumeration (λ p. refl) ps
-row (Repeated n Text) (Elements ps) i h = each n Text (λ p. refl) ps
-row (Repeated n ByteString) (Elements ps) i h = each n ByteString (λ p. refl) ps
-row (Repeated n (Message s)) (Elements ps) i h = each n (Message s) (λ p. refl) ps
+row (Repeated n k) (Elements ps) i h = list n k ps (accepts_number k) refl
 row (Repeated n k) p i h = absurd cc
 row (OneOf members) Absent i h = refl
 row (OneOf members) (Member m p) i h = one m _ p

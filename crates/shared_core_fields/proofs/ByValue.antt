@@ -12,12 +12,14 @@ use Rattle.shared_core_wire.specs.Schema.{Table, Kind, Row, U32, U64, Boolean, E
 use Rattle.shared_core_wire.specs.Schema.{Plain}
 use Rattle.shared_core_wire.specs.Schema.{Optional, Repeated, OneOf, numbers, includes, member_kind}
 use Rattle.shared_core_wire.specs.Value.{Part, Parts, Absent, Number, Bytes, Nested, Elements, Member, nil, cons}
-use Rattle.shared_core_wire.specs.Canonical.{is_default, number_bytes, written_number, kind_of, row_records}
+use Rattle.shared_core_wire.specs.Canonical.{is_default, number_bytes, run_values, written_number, kind_of, row_records}
 use Rattle.shared_core_wire.specs.Canonical.{part_values, element_values, message_records, canonical_payload}
 use Rattle.shared_core_wire.specs.Canonical.{part_levels, levels}
 use Rattle.shared_core_wire.specs.Fitting.{is_single, has_shape, NumberFits, BytesFit, PartFits, ElementsFit, Fits}
-use Rattle.shared_core_wire.specs.Overlay.{low_numbers}
-use Rattle.shared_core_wire.proofs.Runs.{and_split, and_join}
+use Rattle.shared_core_wire.specs.Overlay.{number_parts}
+use Rattle.shared_core_wire.specs.Acceptance.{accepts_number}
+use Rattle.shared_core_wire.proofs.Numbers.{no_bytes, no_message, element_numbers, run_back}
+use Rattle.shared_core_wire.proofs.Runs.{and_split}
 use Rattle.shared_core_wire.proofs.ReadBackLevels.{canonical_back}
 use Rattle.shared_core_wire.proofs.EncodingLaws.{encodable, encodable_value, varints_encoded}
 use Rattle.shared_core_codec.specs.Tables.{IsTable}
@@ -25,7 +27,8 @@ use Rattle.shared_core_codec.specs.ProgramRows.{member_numbered, field_in_row, f
 use Rattle.shared_core_wire.specs.Schema.{is_schema}
 use Rattle.shared_core_codec.proofs.NextFields.{AreLeft, later_left}
 use Rattle.shared_core_fields.specs.Runs.{numbers_or_none, run_numbers}
-use Rattle.shared_core_fields.specs.Fields.{FieldPart, each_field, row_fields, message_fields, record_part_in}
+use Rattle.shared_core_fields.specs.Fields.{FieldPart, list_field, each_field, row_fields, message_fields}
+use Rattle.shared_core_fields.specs.Fields.{number_part_of, other_part_in, record_part_in}
 
 -- ---- the field of a record
 
@@ -152,40 +155,20 @@ module _ (table : Table) (valid : IsTable table) where
 
   -- ---- packed runs
 
-  numbers_in : Parts → List ℕ
-  numbers_in nil = []
-  numbers_in (cons (Number n) ps) = n ∷ numbers_in ps
-  numbers_in (cons p ps) = numbers_in ps
+  record Run (k : Kind) (ps : Parts) : Type 0 where
+    bytes : flat_map number_bytes (element_values table ps k) ≡ flat_map shortest_varint (element_numbers k ps)
+    fit : list_all (λ n. ltb n (2 ^ 64)) (element_numbers k ps) ≡ true
+    elements : number_parts k (element_numbers k ps) ≡ ps
 
-  record Run (ps : Parts) : Type 0 where
-    bytes : flat_map number_bytes (element_values table ps U32) ≡ flat_map shortest_varint (numbers_in ps)
-    fit : list_all (λ n. ltb n (2 ^ 64)) (numbers_in ps) ≡ true
-    elements : low_numbers (numbers_in ps) ≡ ps
+  run : (k : Kind) (ps : Parts) → accepts_number k ≡ true → ElementsFit table ps k → Run k ps
+  run k ps a h = let r = run_back table k ps a h in record { bytes = r.0; fit = r.2; elements = r.1 }
 
-  run : (ps : Parts) → ElementsFit table ps U32 → Run ps
-  unfolding part_values PartFits numbers_in
-  run nil h = record { bytes = refl; fit = refl; elements = refl }
-  run (cons (Number n) ps) h =
-      let r = run ps h.2 in
-      let low : n % 2 ^ 32 ≡ n = omega (arith, h.1) in
-      record {
-        bytes = ap (λ (bs : List ℕ). shortest_varint n ++ bs) r.bytes;
-        fit = and_join _ _ (lt-ltb n (2 ^ 64) (omega (arith, h.1))) r.fit;
-        elements = ap (λ (m : ℕ). cons (Number m) (low_numbers (numbers_in ps))) low ∙ ap
-            (λ (qs : Parts). cons (Number n) qs) r.elements;
-      }
-  run (cons Absent ps) h = absurd (cc h.0)
-  run (cons (Elements qs) ps) h = absurd (cc h.0)
-  run (cons (Member m p) ps) h = absurd (cc h.0)
-  run (cons (Bytes bytes) ps) h = absurd h.1
-  run (cons (Nested qs) ps) h = absurd h.1
-
-  packed : (ps : Parts) → ElementsFit table ps U32 → low_numbers
-      (run_numbers (flat_map number_bytes (element_values table ps U32))) ≡ ps
-  packed ps h =
-      let r = run ps h in
-      ap (λ (bs : List ℕ). low_numbers (run_numbers bs)) r.bytes ∙ ap (λ o. low_numbers (numbers_or_none o))
-      (varints_encoded (numbers_in ps) r.fit) ∙ r.elements
+  packed : (k : Kind) (ps : Parts) → accepts_number k ≡ true → ElementsFit table ps k → number_parts k
+      (run_numbers (flat_map number_bytes (element_values table ps k))) ≡ ps
+  packed k ps a h =
+      let r = run k ps a h in
+      ap (λ (bs : List ℕ). number_parts k (run_numbers bs)) r.bytes ∙ ap (λ o. number_parts k (numbers_or_none o))
+      (varints_encoded (element_numbers k ps) r.fit) ∙ r.elements
 
   -- ---- rows
 
@@ -233,15 +216,31 @@ module _ (table : Table) (valid : IsTable table) where
         (map (λ w. record { number = n; value = w }) (element_values table ps k))) (x.back true (and_split _ _ e.0).1)
         ∙ ap (λ (fs : List FieldPart). (n, (k, true), p) ∷ fs) (each_fields n k ps f h.2 low_rest e.1)
 
-    run_fields : (n : ℕ) (ps : Parts) → field_numbered all n ≡ Some (U32, true) → ElementsFit table ps U32
-        → map (record_field table all) (record {
-          number = n;
-          value = Length
-              (flat_map number_bytes (element_values table ps U32));
-        } ∷ []) ≡ (n, (U32, true), Elements ps) ∷ []
-    run_fields n ps f h =
-        ap (λ o. found_field table n (Length (flat_map number_bytes (element_values table ps U32))) o ∷ []) f
-        ∙ ap (λ (qs : Parts). (n, (U32, true), Elements qs) ∷ []) (packed ps h)
+    list_fields : (n : ℕ) (k : Kind) (ps : Parts) (b : Bool) → accepts_number k ≡ b → field_numbered all n ≡ Some
+        (k, true) → ElementsFit table ps k → levels ps ≤ 100
+        → list_all encodable (map (λ w. record { number = n; value = w })
+        (cond b (run_values (element_values table ps k)) (element_values table ps k))) ≡ true
+        → map (record_field table all) (map (λ w. record { number = n; value = w })
+        (cond b (run_values (element_values table ps k)) (element_values table ps k))) ≡ cond b (list_field n k ps)
+        (each_field n k ps)
+    unfolding part_values PartFits levels
+    list_fields n k nil true a f h l s = refl
+    list_fields n k (cons (Number m) ps) true a f h l s =
+        let bytes = flat_map number_bytes (element_values table (cons (Number m) ps) k) in
+        ap (λ o. found_field table n (Length bytes) o ∷ []) f
+        ∙ ap (λ (b : Bool). (
+          n,
+          (k, true),
+          cond b (number_part_of k (Length bytes))
+              (other_part_in table k (Length bytes)),
+        ) ∷ []) a
+        ∙ ap (λ (qs : Parts). (n, (k, true), Elements qs) ∷ []) (packed k (cons (Number m) ps) a h)
+    list_fields n k (cons Absent ps) true a f h l s = absurd (cc h.0)
+    list_fields n k (cons (Elements qs) ps) true a f h l s = absurd (cc h.0)
+    list_fields n k (cons (Member m p) ps) true a f h l s = absurd (cc h.0)
+    list_fields n k (cons (Bytes bytes) ps) true a f h l s = absurd (no_bytes k bytes a h.1)
+    list_fields n k (cons (Nested qs) ps) true a f h l s = absurd (no_message table k qs a h.1)
+    list_fields n k ps false a f h l s = each_fields n k ps f h l s
 
     row_back : (row : Row) (p : Part) → ((n : ℕ) → includes (numbers row) n ≡ true → field_numbered all n ≡ Some
         (own_kind row n))
@@ -267,15 +266,8 @@ module _ (table : Table) (valid : IsTable table) where
         (single (Bytes bytes) k i h l) s
     row_back (Optional n k) (Nested ps) f i h l s = one_field n k false (Nested ps) (f n (own_number n))
         (single (Nested ps) k i h l) s
-    row_back (Repeated n U32) (Elements nil) f i h l s = refl
-    row_back (Repeated n U32) (Elements (cons (Number m) ps)) f i h l s = run_fields n (cons (Number m) ps)
-        (f n (own_number n)) h
-    row_back (Repeated n U32) (Elements (cons Absent ps)) f i h l s = absurd (cc h.0)
-    row_back (Repeated n U32) (Elements (cons (Elements qs) ps)) f i h l s = absurd (cc h.0)
-    row_back (Repeated n U32) (Elements (cons (Member m p) ps)) f i h l s = absurd (cc h.0)
-    row_back (Repeated n U32) (Elements (cons (Bytes bytes) ps)) f i h l s = absurd h.1
-    row_back (Repeated n U32) (Elements (cons (Nested qs) ps)) f i h l s = absurd h.1
-    row_back (Repeated n k) (Elements ps) f i h l s = each_fields n k ps (f n (own_number n)) h l s
+    row_back (Repeated n k) (Elements ps) f i h l s = list_fields n k ps (accepts_number k) refl (f n (own_number n)) h
+        l s
     row_back (Repeated n k) p f i h l s = absurd cc
     row_back (OneOf members) Absent f i h l s = refl
     row_back (OneOf members) (Member m p) f i h l s =

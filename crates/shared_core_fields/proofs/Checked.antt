@@ -2,30 +2,31 @@
 use Rattle.std.proofs.Common.{◌≡◌, ℕ, zero, suc, ◌+◌, ◌-◌, ◌*◌, ◌%◌, ◌^◌, ◌<◌, ◌≤◌, Bool, true, false, cond, ◌&&◌, ◌||◌}
 use Rattle.std.proofs.Common.{List, [], ◌∷◌, ◌++◌, map, take, drop, set, length, Option, Some, None, Result, Ok}
 use Rattle.std.proofs.Common.{refl, sym, ap, ◌∙◌, subst, arith, append-nil, min, ltb, eqb, inl, inr, get_or}
-use Rattle.std.proofs.lemmas.Bool.{cases_lt, ltb-true, lt-ltb, le-ltb}
+use Rattle.std.proofs.lemmas.Bool.{cases_lt, ltb-true, le-ltb}
 use Rattle.std.proofs.lemmas.List.{length-append, length-map, length-set, take_all, drop_all, take-append-le}
 use Rattle.std.specs.Prelude.{flat_map, option_map, IfSome, not}
 use Rattle.shared_core_wire.specs.Grammar.{RecordValue, Varint, Length, FieldRecord, content}
 use Rattle.shared_core_wire.specs.Encoding.{shortest_varint, key_bytes}
 use Rattle.shared_core_wire.specs.Reader.{◌>>=◌, varint_at, sequence_past, packed_numbers}
-use Rattle.shared_core_wire.specs.Schema.{Kind, Row, U32, U64, Boolean, Enumeration, Text, ByteString, Message}
-use Rattle.shared_core_wire.specs.Value.{Parts, Number, Bytes, Nested, Elements}
+use Rattle.shared_core_wire.specs.Schema.{Kind, Row, Text, ByteString, Message}
+use Rattle.shared_core_wire.specs.Value.{Part, Parts, Number, Bytes, Nested, Elements}
 use Rattle.shared_core_wire.specs.Canonical.{written_number, canonical_payload}
-use Rattle.shared_core_wire.specs.Overlay.{low_numbers}
+use Rattle.shared_core_codec.specs.FieldParts.{parts_of}
 use Rattle.shared_core_wire.specs.declared.error.WireError.{WireError}
+use Rattle.shared_core_wire.proofs.Runs.{and_split}
 use Rattle.shared_core_wire.proofs.Shortest.{shortest_small, shortest_large}
 use Rattle.shared_core_codec.specs.Table.{table}
 use Rattle.shared_core_codec.specs.Payloads.{payload_meaning}
-use Rattle.shared_core_wire.specs.Acceptance.{NestedAcceptance}
+use Rattle.shared_core_wire.specs.Acceptance.{NestedAcceptance, accepts_number}
 use Rattle.shared_core_wire.specs.ReadRecords.{PlacedRecord}
 use Rattle.shared_core_wire.specs.Places.{LiesBefore}
 use Rattle.shared_core_codec.specs.Canonicity.{IsCanonical, is_written_number, is_canonical_payload, written_size}
 use Rattle.shared_core_codec.specs.Canonicity.{Next, Coming, next_field, is_written_field, rows_after_field}
-use Rattle.shared_core_codec.specs.Canonicity.{coming_after, all_come_read}
+use Rattle.shared_core_codec.specs.Canonicity.{coming_after, all_come_read, is_packed}
 use Rattle.shared_core_codec.proofs.Canonicity.{are_bytes_of, payload_sound, sound}
 use Rattle.shared_core_codec.proofs.CanonicityExact.{canonical_comes}
 use Rattle.shared_core_fields.specs.Fields.{FieldPart, record_part, message_fields}
-use Rattle.shared_core_fields.specs.Runs.{numbers_or_none, run_numbers}
+use Rattle.shared_core_fields.specs.Runs.{held_numbers, numbers_or_none, run_numbers}
 use Rattle.shared_core_fields.specs.Entries.{LevelField, field_entries}
 use Rattle.shared_core_fields.specs.Rows.{TableRow, entry_row, run_rows, bytes_row, number_entry, level_rows}
 use Rattle.shared_core_fields.specs.Rows.{bytes_entry, fields_rows, table_rows, kind_number, IsPlaced}
@@ -34,8 +35,10 @@ use Rattle.shared_core_fields.specs.Views.{IsAt, unplaced, item_fields, placed_r
 use Rattle.shared_core_fields.specs.Checked.{WritesNext, WritesTo, record_rows}
 use Rattle.shared_core_fields.specs.declared.table.FieldEntry.{FieldEntry}
 use Rattle.shared_core_fields.proofs.FewRows.{whole_rows}
+use Rattle.shared_core_fields.proofs.NumberParts.{written_part, number_field_part}
 use Rattle.shared_core_fields.proofs.Reading.{content_at}
-use Rattle.shared_core_fields.proofs.Written.{one, joined, run_length, rows_more, at_within}
+use Rattle.shared_core_fields.proofs.ValueParts.{held_part}
+use Rattle.shared_core_fields.proofs.Written.{one, joined, held_length, rows_more, at_within}
 
 -- ---- numbers
 
@@ -44,32 +47,6 @@ number_field : (left level n : ℕ) (k : Kind) (repeated : Bool) (m : ℕ) → f
 unfolding field_entries
 number_field zero level n k repeated m = refl
 number_field (suc left) level n k repeated m = refl
-
-of_or : (a b : Bool) → a || b ≡ true → a ≡ false → b ≡ true
-of_or true b h f = absurd cc
-of_or false b h f = h
-
-sign_extended : (m : ℕ) → ltb m 2147483648 || ltb 18446744071562067967 m ≡ true → m < 2 ^ 64 → written_number
-    Enumeration (m % 2 ^ 32) ≡ m
-sign_extended m h l =
-    elim (cases_lt m 2147483648) [
-      | inl low ↦
-          let same : m % 2 ^ 32 ≡ m = omega (arith, low) in
-          let small : ltb (m % 2 ^ 32) (2 ^ 31) ≡ true = lt-ltb _ _ (omega (arith, same, low)) in
-          rw small same
-      | inr high ↦
-          let great = ltb-true _ _ (of_or (ltb m 2147483648) (ltb 18446744071562067967 m) h (le-ltb _ _ high)) in
-          let rest : m % 2 ^ 32 + (2 ^ 64 - 2 ^ 32) ≡ m = omega (arith, great, l) in
-          let big : ltb (m % 2 ^ 32) (2 ^ 31) ≡ false = le-ltb _ _ (omega (arith, rest, great)) in
-          rw big rest
-    ]
-
-bool_same : (m : ℕ) → m < 2 → cond (eqb m 0) 0 1 ≡ m
-bool_same m h =
-    elim (cases_lt m 1) [
-      | inl low ↦ let none : m ≡ 0 = omega (arith, low) in rw none refl
-      | inr high ↦ let some : m ≡ 1 = omega (arith, high, h) in rw some refl
-    ]
 
 number_row_of : (payload : List ℕ) (left n : ℕ) (k : Kind) (repeated : Bool) (j m : ℕ) → written_number k j ≡ m →
     level_rows (field_entries left (100 - left) (n, (k, repeated), Number j)) ≡ entry_row payload
@@ -81,17 +58,11 @@ number_row_of payload left n k repeated j m e =
 pub number_rows : (payload : List ℕ) (left n : ℕ) (k : Kind) (repeated : Bool) (m : ℕ) → is_written_number k m ≡ true
     → m < 2 ^ 64
     → record_rows left n (k, repeated) (Varint m) ≡ entry_row payload (number_entry k m n (100 - left)) ∷ []
-number_rows payload left n U32 repeated m h l =
-    let low = ltb-true _ _ h in
-    number_row_of payload left n U32 repeated (m % 2 ^ 32) m (omega (arith, low))
-number_rows payload left n U64 repeated m h l = number_row_of payload left n U64 repeated m m refl
-number_rows payload left n Boolean repeated m h l =
-    number_row_of payload left n Boolean repeated (cond (eqb m 0) 0 1) m (bool_same m (ltb-true _ _ h))
-number_rows payload left n Enumeration repeated m h l =
-    number_row_of payload left n Enumeration repeated (m % 2 ^ 32) m (sign_extended m h l)
-number_rows payload left n Text repeated m h l = absurd cc
-number_rows payload left n ByteString repeated m h l = absurd cc
-number_rows payload left n (Message s) repeated m h l = absurd cc
+number_rows payload left n k repeated m h l =
+    let p = written_part k m h l in
+    ap (λ (q : Part). level_rows (field_entries left (100 - left) (n, (k, repeated), q)))
+    (number_field_part k repeated m ∙ p.1)
+    ∙ number_row_of payload left n k repeated p.0 m p.2
 
 pub single : (payload : List ℕ) (rows : List TableRow) (at : ℕ) (old new : List FieldEntry) (e is : FieldEntry) → rows
     ≡ entry_row payload is ∷ [] → e ≡ is → IsPlaced payload is → new ≡ set old at e → WritesTo payload rows at old new
@@ -137,19 +108,20 @@ bytes_placed payload k m n offset level bytes h a = (a.0, λ l. absurd (omega (a
 
 -- ---- packed runs
 
-run_field_of : (left level n : ℕ) (ps : Parts) → field_entries left level (n, (U32, true), Elements ps) ≡
-    (level, (n, (U32, true), Elements ps)) ∷ []
+run_field_of : (left level n : ℕ) (k : Kind) (ps : Parts) → field_entries left level (n, (k, true), Elements ps) ≡
+    (level, (n, (k, true), Elements ps)) ∷ []
 unfolding field_entries
-run_field_of zero level n ps = refl
-run_field_of (suc left) level n ps = refl
+run_field_of zero level n k ps = refl
+run_field_of (suc left) level n k ps = refl
 
-pub packed_rows : (left n : ℕ) (k : Kind) (repeated : Bool) (run : List ℕ) → k ≡ U32 → repeated ≡ true →
-    record_rows left n (k, repeated) (Length run) ≡ run_rows (100 - left) n U32 (low_numbers (run_numbers run))
-packed_rows left n k repeated run e r =
-    ap (λ (j : Kind). record_rows left n (j, repeated) (Length run)) e
-    ∙ ap (λ (b : Bool). record_rows left n (U32, b) (Length run)) r
-    ∙ ap (λ (es : List LevelField). level_rows es) (run_field_of left (100 - left) n (low_numbers (run_numbers run)))
-    ∙ append-nil (run_rows (100 - left) n U32 (low_numbers (run_numbers run)))
+pub packed_rows : (left n : ℕ) (k : Kind) (repeated : Bool) (run : List ℕ) → accepts_number k ≡ true → repeated ≡ true
+    → record_rows left n (k, repeated) (Length run) ≡ run_rows (100 - left) n k (parts_of Number (held_numbers k run))
+packed_rows left n k repeated run a r =
+    ap (λ (b : Bool). record_rows left n (k, b) (Length run)) r
+    ∙ ap (λ (q : Part). level_rows (field_entries left (100 - left) (n, (k, true), q))) (held_part table k true run a)
+    ∙ ap (λ (es : List LevelField). level_rows es)
+    (run_field_of left (100 - left) n k (parts_of Number (held_numbers k run)))
+    ∙ append-nil (run_rows (100 - left) n k (parts_of Number (held_numbers k run)))
 
 few_past : (past : ℕ) (bytes : List ℕ) → length (numbers_or_none (sequence_past varint_at past bytes)) ≤ length bytes
 unfolding sequence_past
@@ -275,12 +247,13 @@ if_some_then None P Q f h = h
 if_some_then (Some n) P Q f h = f n refl h
 
 pub run_to : (payload : List ℕ) (left n : ℕ) (k : Kind) (repeated : Bool) (run : List ℕ) (at after : ℕ)
-    (old new : List FieldEntry) → k ≡ U32 → repeated ≡ true → after ≡ at + length (run_numbers run) → WritesRows payload
-    (run_rows (100 - left) n U32 (low_numbers (run_numbers run))) at old new
+    (old new : List FieldEntry) → is_packed (k, repeated) ≡ true → after ≡ at + length (run_numbers run) → WritesRows
+    payload (run_rows (100 - left) n k (parts_of Number (held_numbers k run))) at old new
     → WritesTo payload (record_rows left n (k, repeated) (Length run)) at old new after
-run_to payload left n k repeated run at after old new e r count w =
-    let rows = packed_rows left n k repeated run e r in
-    let many = ap length rows ∙ run_length (100 - left) n (run_numbers run) in (
+run_to payload left n k repeated run at after old new h count w =
+    let e = and_split (accepts_number k) repeated h in
+    let rows = packed_rows left n k repeated run e.0 e.1 in
+    let many = ap length rows ∙ held_length (100 - left) n k run in (
       omega (arith, many, count),
       subst (λ (rs : List TableRow). WritesRows payload rs at old new) (sym rows) w,
     )

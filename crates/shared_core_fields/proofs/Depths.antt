@@ -4,10 +4,11 @@ use Rattle.std.proofs.Common.{◌∙◌, arith}
 use Rattle.std.specs.Prelude.{flat_map}
 use Rattle.shared_core_wire.specs.Schema.{Kind, Row, U32, U64, Boolean, Enumeration, Text, ByteString, Message, Plain}
 use Rattle.shared_core_wire.specs.Schema.{Optional, Repeated, OneOf}
+use Rattle.shared_core_wire.specs.Acceptance.{accepts_number}
 use Rattle.shared_core_wire.specs.Value.{Part, Parts, Absent, Number, Bytes, Nested, Elements, Member, nil, cons}
 use Rattle.shared_core_wire.specs.Canonical.{is_default, part_levels, levels}
 use Rattle.shared_core_codec.specs.Table.{table}
-use Rattle.shared_core_fields.specs.Fields.{FieldPart, each_field, row_fields, message_fields}
+use Rattle.shared_core_fields.specs.Fields.{FieldPart, list_field, each_field, row_fields, message_fields}
 use Rattle.shared_core_fields.specs.Entries.{LevelField, within_part, within_field, field_entries, message_entries}
 
 -- ---- how deep messages are nested in fields
@@ -33,6 +34,13 @@ plain_low : (top n : ℕ) (k : Kind) (p : Part) (default : Bool) → part_levels
 plain_low top n k p true h = tt
 plain_low top n k p false h = (h, tt)
 
+list_low : (top n : ℕ) (k : Kind) (ps : Parts) (b : Bool) → levels ps ≤ top → EachLow top
+    (cond b (list_field n k ps) (each_field n k ps))
+unfolding levels
+list_low top n k nil true h = tt
+list_low top n k (cons p ps) true h = (h, tt)
+list_low top n k ps false h = each_low top n k ps h
+
 row_low : (top : ℕ) (row : Row) (p : Part) → part_levels p ≤ top → EachLow top (row_fields row p)
 unfolding levels
 row_low top (Plain n k) Absent h = tt
@@ -47,9 +55,7 @@ row_low top (Optional n k) (Bytes bytes) h = (h, tt)
 row_low top (Optional n k) (Nested ps) h = (h, tt)
 row_low top (Optional n k) (Elements ps) h = (h, tt)
 row_low top (Optional n k) (Member m p) h = (h, tt)
-row_low top (Repeated n U32) (Elements nil) h = tt
-row_low top (Repeated n U32) (Elements (cons p ps)) h = (h, tt)
-row_low top (Repeated n k) (Elements ps) h = each_low top n k ps h
+row_low top (Repeated n k) (Elements ps) h = list_low top n k ps (accepts_number k) h
 row_low top (Repeated n k) p h = tt
 row_low top (OneOf members) Absent h = tt
 row_low top (OneOf members) (Member m p) h = (h, tt)

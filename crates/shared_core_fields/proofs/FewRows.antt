@@ -7,18 +7,20 @@ use Rattle.std.proofs.lemmas.List.Concat.{flat_map-append}
 use Rattle.std.specs.Prelude.{flat_map}
 use Rattle.shared_core_wire.specs.Grammar.{RecordValue, Varint, Length, FieldRecord}
 use Rattle.shared_core_wire.specs.Encoding.{shortest_varint, key_bytes, record_bytes, record_list_bytes}
-use Rattle.shared_core_wire.specs.Schema.{Kind, Row, U32, Message, Plain}
+use Rattle.shared_core_wire.specs.Schema.{Kind, Row, Message, Plain}
 use Rattle.shared_core_wire.specs.Schema.{Optional, Repeated, OneOf, member_kind}
 use Rattle.shared_core_wire.specs.Value.{Part, Parts, Absent, Number, Bytes, Nested, Elements, Member, nil, cons}
-use Rattle.shared_core_wire.specs.Canonical.{is_default, kind_of, row_records, part_values, element_values}
+use Rattle.shared_core_wire.specs.Acceptance.{accepts_number}
+use Rattle.shared_core_wire.specs.Canonical.{is_default, run_values, kind_of, row_records, part_values, element_values}
 use Rattle.shared_core_wire.specs.Canonical.{number_bytes, message_records, canonical_payload, levels, written_number}
 use Rattle.shared_core_wire.specs.Fitting.{is_single, has_shape, PartFits, ElementsFit, Fits}
+use Rattle.shared_core_wire.proofs.Numbers.{no_bytes, no_message}
 use Rattle.shared_core_wire.proofs.Runs.{and_split}
 use Rattle.shared_core_wire.proofs.Shortest.{shortest_small, shortest_large}
 use Rattle.shared_core_codec.specs.Canonicity.{IsCanonical}
 use Rattle.shared_core_codec.specs.Payloads.{payload_meaning}
 use Rattle.shared_core_codec.specs.Table.{table}
-use Rattle.shared_core_fields.specs.Fields.{FieldPart, each_field, row_fields, message_fields}
+use Rattle.shared_core_fields.specs.Fields.{FieldPart, list_field, each_field, row_fields, message_fields}
 use Rattle.shared_core_fields.specs.Entries.{field_entries}
 use Rattle.shared_core_fields.specs.Rows.{run_rows, level_rows, fields_rows, table_rows}
 use Rattle.shared_core_fields.proofs.Depths.{all_entries}
@@ -137,33 +139,47 @@ each_few left level n k (cons p ps) i h =
     let sum = taken_append n (part_values table p k) (element_values table ps k) in
     omega (arith, first, rest, split, sum)
 
-numbers_few : (level n : ℕ) (ps : Parts) → ElementsFit table ps U32 → length (run_rows level n U32 ps) ≤ length
-    (flat_map number_bytes (element_values table ps U32))
+numbers_few : (level n : ℕ) (k : Kind) (ps : Parts) → accepts_number k ≡ true → ElementsFit table ps k → length
+    (run_rows level n k ps) ≤ length (flat_map number_bytes (element_values table ps k))
 unfolding part_values PartFits
-numbers_few level n nil h = omega arith
-numbers_few level n (cons (Number m) ps) h =
-    let rest = numbers_few level n ps h.2 in
-    let sum = length-append (shortest_varint m) (flat_map number_bytes (element_values table ps U32)) in
-    omega (arith, rest, sum, varint_there m)
-numbers_few level n (cons Absent ps) h = absurd (cc h.0)
-numbers_few level n (cons (Elements qs) ps) h = absurd (cc h.0)
-numbers_few level n (cons (Member m p) ps) h = absurd (cc h.0)
-numbers_few level n (cons (Bytes bytes) ps) h = absurd h.1
-numbers_few level n (cons (Nested qs) ps) h = absurd h.1
+numbers_few level n k nil a h = omega arith
+numbers_few level n k (cons (Number m) ps) a h =
+    let rest = numbers_few level n k ps a h.2 in
+    let sum = length-append (shortest_varint (written_number k m)) (flat_map number_bytes (element_values table ps k))
+    in
+    omega (arith, rest, sum, varint_there (written_number k m))
+numbers_few level n k (cons Absent ps) a h = absurd (cc h.0)
+numbers_few level n k (cons (Elements qs) ps) a h = absurd (cc h.0)
+numbers_few level n k (cons (Member m p) ps) a h = absurd (cc h.0)
+numbers_few level n k (cons (Bytes bytes) ps) a h = absurd (no_bytes k bytes a h.1)
+numbers_few level n k (cons (Nested qs) ps) a h = absurd (no_message table k qs a h.1)
 
-run_few : (left level n : ℕ) (ps : Parts) → ElementsFit table ps U32 → rows_of left level
-    ((n, (U32, true), Elements ps) ∷ []) ≤ taken n (Length (flat_map number_bytes (element_values table ps U32)) ∷ [])
+run_entries : (left level n : ℕ) (k : Kind) (ps : Parts) → rows_of left level ((n, (k, true), Elements ps) ∷ []) ≡
+    length (run_rows level n k ps)
 unfolding field_entries
-run_few zero level n ps h =
-    let whole = ap length (append-nil (run_rows level n U32 ps)) in
-    let few = numbers_few level n ps h in
-    let all = bytes_take n (flat_map number_bytes (element_values table ps U32)) in
+run_entries zero level n k ps = ap length (append-nil (run_rows level n k ps))
+run_entries (suc left) level n k ps = ap length (append-nil (run_rows level n k ps))
+
+run_few : (left level n : ℕ) (k : Kind) (ps : Parts) → accepts_number k ≡ true → ElementsFit table ps k → rows_of left
+    level ((n, (k, true), Elements ps) ∷ []) ≤ taken n (Length (flat_map number_bytes (element_values table ps k)) ∷ [])
+run_few left level n k ps a h =
+    let whole = run_entries left level n k ps in
+    let few = numbers_few level n k ps a h in
+    let all = bytes_take n (flat_map number_bytes (element_values table ps k)) in
     omega (arith, whole, few, all)
-run_few (suc left) level n ps h =
-    let whole = ap length (append-nil (run_rows level n U32 ps)) in
-    let few = numbers_few level n ps h in
-    let all = bytes_take n (flat_map number_bytes (element_values table ps U32)) in
-    omega (arith, whole, few, all)
+
+list_few : (left level n : ℕ) (k : Kind) (ps : Parts) (b : Bool) → accepts_number k ≡ b → Inner left → ElementsFit table
+    ps k → rows_of left level (cond b (list_field n k ps) (each_field n k ps)) ≤ taken n
+    (cond b (run_values (element_values table ps k)) (element_values table ps k))
+unfolding part_values PartFits
+list_few left level n k nil true a i h = omega arith
+list_few left level n k (cons (Number m) ps) true a i h = run_few left level n k (cons (Number m) ps) a h
+list_few left level n k (cons Absent ps) true a i h = absurd (cc h.0)
+list_few left level n k (cons (Elements qs) ps) true a i h = absurd (cc h.0)
+list_few left level n k (cons (Member m p) ps) true a i h = absurd (cc h.0)
+list_few left level n k (cons (Bytes bytes) ps) true a i h = absurd (no_bytes k bytes a h.1)
+list_few left level n k (cons (Nested qs) ps) true a i h = absurd (no_message table k qs a h.1)
+list_few left level n k ps false a i h = each_few left level n k ps i h
 
 -- ---- rows of the schema
 
@@ -190,14 +206,7 @@ row_few left level (Optional n k) (Member m p) i b h = absurd cc
 row_few left level (Optional n k) (Number m) i b h = field_few left level n k false (Number m) i b h
 row_few left level (Optional n k) (Bytes bytes) i b h = field_few left level n k false (Bytes bytes) i b h
 row_few left level (Optional n k) (Nested ps) i b h = field_few left level n k false (Nested ps) i b h
-row_few left level (Repeated n U32) (Elements nil) i b h = omega arith
-row_few left level (Repeated n U32) (Elements (cons (Number m) ps)) i b h = run_few left level n (cons (Number m) ps) h
-row_few left level (Repeated n U32) (Elements (cons Absent ps)) i b h = absurd (cc h.0)
-row_few left level (Repeated n U32) (Elements (cons (Elements qs) ps)) i b h = absurd (cc h.0)
-row_few left level (Repeated n U32) (Elements (cons (Member m p) ps)) i b h = absurd (cc h.0)
-row_few left level (Repeated n U32) (Elements (cons (Bytes bytes) ps)) i b h = absurd h.1
-row_few left level (Repeated n U32) (Elements (cons (Nested qs) ps)) i b h = absurd h.1
-row_few left level (Repeated n k) (Elements ps) i b h = each_few left level n k ps i h
+row_few left level (Repeated n k) (Elements ps) i b h = list_few left level n k ps (accepts_number k) refl i h
 row_few left level (Repeated n k) p i b h = absurd cc
 row_few left level (OneOf members) Absent i b h = omega arith
 row_few left level (OneOf members) (Member m p) i b h =

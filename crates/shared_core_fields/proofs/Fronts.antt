@@ -9,14 +9,15 @@ use Rattle.shared_core_wire.specs.Grammar.{RecordValue, Varint, Fixed64, Length,
 use Rattle.shared_core_wire.specs.Grammar.{IsRecordWithin}
 use Rattle.shared_core_wire.specs.Reader.{◌>>=◌, varint_at, varint_within, bytes_at, key_at, record_at}
 use Rattle.shared_core_wire.specs.ReadRecords.{records_past}
-use Rattle.shared_core_wire.specs.Schema.{Table, Kind, Row, U32, U64, Boolean, Enumeration, Text, ByteString, Message}
+use Rattle.shared_core_wire.specs.Schema.{Table, Kind, Row}
+use Rattle.shared_core_wire.specs.Acceptance.{accepts_number}
 use Rattle.shared_core_wire.proofs.Readers.{BeginsWith, some_is, varint_again, bytes_again, key_again, key_reads}
 use Rattle.shared_core_wire.proofs.Readers.{key_pos}
 use Rattle.shared_core_wire.proofs.VarintLoop.{varint_one}
 use Rattle.shared_core_wire.specs.Value.{Part}
 use Rattle.shared_core_wire.proofs.ReadRecords.{cases_option, place, step, read_stop, read_encoded}
 use Rattle.shared_core_wire.proofs.Runs.{and_split}
-use Rattle.shared_core_codec.specs.Canonicity.{Next, next_field, is_written_value, is_written_element}
+use Rattle.shared_core_codec.specs.Canonicity.{Next, next_field, is_written_value, is_written_list}
 use Rattle.shared_core_fields.specs.Coming.{is_nested_in, is_short, is_typed_in, are_coming_in}
 use Rattle.shared_core_fields.specs.KnownValues.{front_at, is_known_in, typed_parts_in, value_after}
 use Rattle.shared_core_fields.specs.Fields.{record_part_in}
@@ -222,16 +223,14 @@ front_parts bytes key body rest e = e ∙ append_assoc key body rest
 
 module _ (table : Table) where
   untyped : (w : RecordValue) → ((k : Kind) → is_written_value (is_nested_in table) k w ≡ false)
-      → is_written_element (is_nested_in table) U32 w
-      ≡ false → (k : Kind) (repeated : Bool) → is_typed_in table (k, repeated) w ≡ false
+      → ((k : Kind) → is_written_list k w ≡ false) → (k : Kind) (repeated : Bool) → is_typed_in table (k, repeated) w ≡
+      false
   untyped w v u k false = v k
-  untyped w v u U32 true = u
-  untyped w v u U64 true = v U64
-  untyped w v u Boolean true = v Boolean
-  untyped w v u Enumeration true = v Enumeration
-  untyped w v u Text true = v Text
-  untyped w v u ByteString true = v ByteString
-  untyped w v u (Message s) true = v (Message s)
+  untyped w v u k true = by_kind (accepts_number k)
+    where
+      by_kind : (b : Bool) → cond b (is_written_list k w) (is_written_value (is_nested_in table) k w) ≡ false
+      by_kind true = u k
+      by_kind false = v k
 
   known_of : (f : Kind × Bool) (n : ℕ) (w : RecordValue) (bytes rest : List ℕ) → is_typed_in table f w ≡ true
       → BeginsWith
@@ -263,11 +262,11 @@ module _ (table : Table) where
         value = ap (λ (o : Option (List ℕ × List ℕ)). o >>= as_length) (bytes_again bs rest (length bs) refl);
       }
   known_of (k, b) n (Fixed64 bs) bytes rest h t =
-      absurd (let none = untyped (Fixed64 bs) (λ j. refl) refl k b in cc)
+      absurd (let none = untyped (Fixed64 bs) (λ j. refl) (λ j. refl) k b in cc)
   known_of (k, b) n (Group bs) bytes rest h t =
-      absurd (let none = untyped (Group bs) (λ j. refl) refl k b in cc)
+      absurd (let none = untyped (Group bs) (λ j. refl) (λ j. refl) k b in cc)
   known_of (k, b) n (Fixed32 bs) bytes rest h t =
-      absurd (let none = untyped (Fixed32 bs) (λ j. refl) refl k b in cc)
+      absurd (let none = untyped (Fixed32 bs) (λ j. refl) (λ j. refl) k b in cc)
 
   -- What a payload begins with if the records of these rows are left: a record of one of them.
   pub record Front (rows : List Row) (end : ℕ) (bytes : List ℕ) : Type 0 where

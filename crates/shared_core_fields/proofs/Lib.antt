@@ -4,6 +4,7 @@ pub mod Reading
 pub mod Back
 pub mod Depths
 pub mod FieldEntries
+pub mod NumberParts
 pub mod Written
 pub mod FewRows
 pub mod Checked

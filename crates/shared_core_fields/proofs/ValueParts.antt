@@ -1,14 +1,19 @@
 -- What the length-delimited values of a canonical payload give to the fields that they are of.
-use Rattle.std.proofs.Common.{◌≡◌, ℕ, List, take, drop, Bool, true, false, Option, Some, refl, sym, ap, ◌∙◌}
+use Rattle.std.proofs.Common.{◌≡◌, ℕ, List, take, drop, Bool, true, false, cond, Option, Some, refl, sym, ap, ◌∙◌}
 use Rattle.std.specs.Prelude.{option_map}
 use Rattle.shared_core_wire.specs.Grammar.{Varint, Length}
-use Rattle.shared_core_wire.specs.Schema.{Table, Kind, U32, Text, ByteString, Message}
-use Rattle.shared_core_wire.specs.Value.{Part}
-use Rattle.shared_core_codec.specs.Canonicity.{is_canonical_payload_in, is_written_run}
-use Rattle.shared_core_fields.specs.Coming.{is_typed_in}
+use Rattle.shared_core_wire.specs.Schema.{Table, Kind, U32, U64, Boolean, Enumeration, Text, ByteString, Message}
+use Rattle.shared_core_wire.specs.Value.{Part, Number, Elements}
+use Rattle.shared_core_wire.specs.Acceptance.{accepts_number}
+use Rattle.shared_core_wire.specs.Overlay.{number_parts}
+use Rattle.shared_core_codec.specs.Canonicity.{is_canonical_payload_in, is_written_run, is_written_value}
+use Rattle.shared_core_fields.specs.Coming.{is_nested_in, is_typed_in}
 use Rattle.shared_core_fields.specs.Fields.{record_part_in}
+use Rattle.shared_core_fields.specs.Runs.{held_numbers, run_numbers}
 use Rattle.shared_core_fields.specs.KnownValues.{is_known_in, typed_parts_in, value_after}
+use Rattle.shared_core_codec.specs.FieldParts.{parts_of}
 use Rattle.shared_core_fields.proofs.Fronts.{Delimited, delimited_by_kind}
+use Rattle.shared_core_fields.proofs.NumberParts.{numbers_held}
 
 -- ---- no number is of such a kind
 
@@ -42,10 +47,25 @@ module _ (table : Table) where
 
   -- ---- what is said of the bytes
 
-  pub typed_run : (k : Kind) (r : Bool) (bytes : List ℕ) → k ≡ U32 → is_typed_in table (k, r) (Length bytes) ≡ true →
-      is_written_run bytes ≡ true
-  typed_run k true bytes e h = sym (ap (λ (j : Kind). is_typed_in table (j, true) (Length bytes)) e) ∙ h
-  typed_run k false bytes e h = absurd (let no = ap (λ (j : Kind). is_typed_in table (j, false) (Length bytes)) e in cc)
+  pub typed_run : (k : Kind) (r : Bool) (bytes : List ℕ) → accepts_number k ≡ true → is_typed_in table (k, r)
+      (Length bytes) ≡ true → is_written_run k bytes ≡ true
+  typed_run k true bytes a h = sym (ap (λ (b : Bool). cond b (is_written_run k bytes)
+      (is_written_value (is_nested_in table) k (Length bytes))) a) ∙ h
+  typed_run U32 false bytes a h = absurd cc
+  typed_run U64 false bytes a h = absurd cc
+  typed_run Boolean false bytes a h = absurd cc
+  typed_run Enumeration false bytes a h = absurd cc
+  typed_run Text false bytes a h = absurd cc
+  typed_run ByteString false bytes a h = absurd cc
+  typed_run (Message s) false bytes a h = absurd cc
+
+  pub run_part : (k : Kind) (r : Bool) (bytes : List ℕ) → accepts_number k ≡ true → record_part_in table (k, r)
+      (Length bytes) ≡ Elements (number_parts k (run_numbers bytes))
+  run_part k r bytes a = rw a refl
+
+  pub held_part : (k : Kind) (r : Bool) (bytes : List ℕ) → accepts_number k ≡ true → record_part_in table (k, r)
+      (Length bytes) ≡ Elements (parts_of Number (held_numbers k bytes))
+  held_part k r bytes a = run_part k r bytes a ∙ ap Elements (numbers_held k (run_numbers bytes) a)
 
   pub typed_message : (k : Kind) (r : Bool) (s : ℕ) (bytes : List ℕ) → k ≡ Message s
       → is_typed_in table (k, r) (Length bytes) ≡
@@ -55,7 +75,7 @@ module _ (table : Table) where
 
   -- ---- what they give
 
-  abbrev four : Kind → Part → List ℕ → List ℕ → Option (Kind × Part × List ℕ × List ℕ)
+  abbrev pub four : Kind → Part → List ℕ → List ℕ → Option (Kind × Part × List ℕ × List ℕ)
   four k p content rest = Some (k, p, content, rest)
 
   pub parts_are : (k j : Kind) (r : Bool) (wire n : ℕ) (bytes content rest : List ℕ)

@@ -4,14 +4,17 @@ use Rattle.std.proofs.Common.{drop, set, length, refl, sym, ap, ◌∙◌, arith
 use Rattle.std.proofs.lemmas.List.{map-append, length-map, length-append, drop-drop, take-take, drop-take}
 use Rattle.std.proofs.lemmas.List.Concat.{flat_map-append}
 use Rattle.std.specs.Prelude.{flat_map}
-use Rattle.shared_core_wire.specs.Schema.{U32, Text, ByteString, Message}
-use Rattle.shared_core_wire.specs.Overlay.{low_numbers}
+use Rattle.shared_core_wire.specs.Schema.{Kind, Text, ByteString, Message}
+use Rattle.shared_core_wire.specs.Value.{Number}
+use Rattle.shared_core_codec.specs.FieldParts.{parts_of}
+use Rattle.shared_core_codec.specs.ProgramRows.{kind_view}
 use Rattle.shared_core_codec.specs.Table.{table}
 use Rattle.shared_core_fields.specs.Fields.{FieldPart, message_fields}
-use Rattle.shared_core_fields.specs.Runs.{run_numbers}
+use Rattle.shared_core_fields.specs.NumberValues.{number_value}
+use Rattle.shared_core_fields.specs.Runs.{held_numbers, run_numbers}
 use Rattle.shared_core_fields.specs.Views.{IsAt, message_meaning, value_kind, value_part, value_bytes}
 use Rattle.shared_core_fields.specs.Entries.{LevelField, within_field, field_entries}
-use Rattle.shared_core_fields.specs.Rows.{TableRow, number_row, bytes_row, run_rows, field_rows, level_rows}
+use Rattle.shared_core_fields.specs.Rows.{TableRow, bytes_row, run_rows, field_rows, level_rows}
 use Rattle.shared_core_fields.specs.Rows.{fields_rows, entry_row, IsPlaced, ArePlaced, written_at, WritesRows}
 use Rattle.shared_core_fields.specs.Rows.{value_entry, IsExact}
 use Rattle.shared_core_fields.specs.declared.table.FieldEntry.{FieldEntry}
@@ -75,13 +78,6 @@ rows_more left level f fs = rows_append (field_entries left level f) (flat_map (
 
 -- ---- a packed run
 
-pub run_turn : (level n m : ℕ) (ns rest : List ℕ) → ns ≡ m ∷ rest → m < 4294967296 → run_rows level n U32
-    (low_numbers ns) ≡ number_row level n U32 m ∷ run_rows level n U32 (low_numbers rest)
-run_turn level n m ns rest e l =
-    let low : m % 2 ^ 32 ≡ m = omega (arith, l) in
-    ap (λ (xs : List ℕ). run_rows level n U32 (low_numbers xs)) e ∙ ap
-    (λ (x : ℕ). number_row level n U32 x ∷ run_rows level n U32 (low_numbers rest)) low
-
 pub run_step : (payload : List ℕ) (rows rest all : List TableRow) (at count : ℕ) (start old mid new : List FieldEntry)
     (e : FieldEntry) → rows ≡ entry_row payload e ∷ rest → IsPlaced payload e → mid ≡ set old count e
     → ((n : List FieldEntry) → WritesRows payload rows count old n → WritesRows payload all at start n)
@@ -90,14 +86,18 @@ run_step payload rows rest all at count start old mid new e is placed written go
     goes new (joined payload (entry_row payload e ∷ []) rest rows count (count + 1) old mid new is (omega arith)
     (one payload (entry_row payload e ∷ []) count old mid e refl placed written) w)
 
-pub run_length : (level n : ℕ) (ns : List ℕ) → length (run_rows level n U32 (low_numbers ns)) ≡ length ns
-run_length level n [] = refl
-run_length level n (m ∷ ns) = ap suc (run_length level n ns)
+pub run_length : (level n : ℕ) (k : Kind) (ns : List ℕ) → length (run_rows level n k (parts_of Number ns)) ≡ length ns
+run_length level n k [] = refl
+run_length level n k (m ∷ ns) = ap suc (run_length level n k ns)
+
+pub held_length : (level n : ℕ) (k : Kind) (run : List ℕ) → length (run_rows level n k
+    (parts_of Number (held_numbers k run))) ≡ length (run_numbers run)
+held_length level n k run = run_length level n k (held_numbers k run) ∙ length-map (run_numbers run) (number_value k)
 
 pub run_field : {T S : _} (level n : ℕ) (repeated : Bool) (value : FieldValue (CanonicalPayload T S)) (run : Run)
     → value ≡ v.Numbers run → field_rows
-    level (n, (value_kind value, repeated), value_part value) ≡ run_rows level n U32
-    (low_numbers (run_numbers run.bytes.now))
+    level (n, (value_kind value, repeated), value_part value) ≡ run_rows level n (kind_view run.kind)
+    (parts_of Number (held_numbers (kind_view run.kind) run.bytes.now))
 run_field {T} {S} level n repeated value run e = ap
     (λ (x : FieldValue (CanonicalPayload T S)). field_rows level (n, (value_kind x, repeated), value_part x)) e
 

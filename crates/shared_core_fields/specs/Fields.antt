@@ -2,15 +2,16 @@
 use Rattle.std.specs.Prelude.{ℕ, Bool, true, false, List, [], ◌∷◌, ◌++◌, if◌then◌else◌, map, flat_map}
 use Rattle.shared_core_wire.specs.Grammar.{RecordValue, Length, FieldRecord}
 use Rattle.shared_core_wire.specs.Encoding.{record_list_bytes}
-use Rattle.shared_core_wire.specs.Schema.{Table, Kind, Row, U32, Message, member_kind, Plain, Optional, Repeated, OneOf}
+use Rattle.shared_core_wire.specs.Schema.{Table, Kind, Row, Message, member_kind, Plain, Optional, Repeated, OneOf}
+use Rattle.shared_core_wire.specs.Acceptance.{accepts_number}
 use Rattle.shared_core_wire.specs.Value.{Part, Parts, Absent, Nested, Elements, Member, nil, cons}
 use Rattle.shared_core_wire.specs.Canonical.{is_default, packed_values, part_values}
-use Rattle.shared_core_wire.specs.Overlay.{scalar_part, low_numbers, meaning}
+use Rattle.shared_core_wire.specs.Overlay.{scalar_part, number_parts, meaning}
 use Rattle.shared_core_codec.specs.Table.{table as protocol}
 use Rattle.shared_core_fields.specs.Runs.{run_numbers}
 
 -- A field: its number, its kind and whether it is repeated, and the part that it holds; of a repeated field one
--- element, or all numbers of a uint32.
+-- element, or all numbers.
 abbrev pub FieldPart : Type 0
 FieldPart = ℕ × (Kind × Bool) × Part
 
@@ -21,11 +22,14 @@ abbrev pub each_field : ℕ → Kind → Parts → List FieldPart
 each_field n k nil = []
 each_field n k (cons p ps) = (n, (k, true), p) ∷ each_field n k ps
 
--- The fields of a repeated field's elements: of a uint32 one field with all numbers, if there are any.
+-- One field with all these numbers, if there are any.
+abbrev pub list_field : ℕ → Kind → Parts → List FieldPart
+list_field n k nil = []
+list_field n k (cons p ps) = (n, (k, true), Elements (cons p ps)) ∷ []
+
+-- The fields of a repeated field's elements: one for each, and of numbers one for all.
 abbrev pub element_fields : ℕ → Kind → Parts → List FieldPart
-element_fields n U32 nil = []
-element_fields n U32 (cons p ps) = (n, (U32, true), Elements (cons p ps)) ∷ []
-element_fields n k ps = each_field n k ps
+element_fields n k ps = if accepts_number k then list_field n k ps else each_field n k ps
 
 -- The fields of a row's part: none of what is absent, nor of a plain field that is a default.
 abbrev pub row_fields : Row → Part → List FieldPart
@@ -44,11 +48,19 @@ message_fields rows ps = []
 
 -- ---- by a record
 
+-- The part that a record gives to a field of numbers: a number, or the elements of a packed run.
+abbrev pub number_part_of : Kind → RecordValue → Part
+number_part_of k (Length run) = Elements (number_parts k (run_numbers run))
+number_part_of k w = scalar_part k w
+
+-- The part that a record of a canonical payload of a table gives to a field of another kind.
+abbrev pub other_part_in : Table → Kind → RecordValue → Part
+other_part_in table (Message s) (Length bytes) = Nested (meaning table 100 s bytes)
+other_part_in table k w = scalar_part k w
+
 -- The part that a record of a canonical payload of a table gives to a field of a kind, repeated or not.
 abbrev pub record_part_in : Table → Kind × Bool → RecordValue → Part
-record_part_in table (U32, repeated) (Length run) = Elements (low_numbers (run_numbers run))
-record_part_in table (Message s, repeated) (Length bytes) = Nested (meaning table 100 s bytes)
-record_part_in table (k, repeated) w = scalar_part k w
+record_part_in table f w = if accepts_number f.0 then number_part_of f.0 w else other_part_in table f.0 w
 
 -- The same for the schemas of the protocol.
 abbrev pub record_part : Kind × Bool → RecordValue → Part
@@ -58,8 +70,8 @@ record_part = record_part_in protocol
 
 -- The record values of a field of a kind, repeated or not, that holds a part.
 abbrev pub field_values : Kind × Bool → Part → List RecordValue
-field_values (U32, true) p = packed_values U32 (part_values protocol p U32)
-field_values (k, repeated) p = part_values protocol p k
+field_values (k, true) p = packed_values k (part_values protocol p k)
+field_values (k, false) p = part_values protocol p k
 
 -- The records of a field.
 abbrev pub field_records : FieldPart → List FieldRecord

@@ -1,3 +1,4 @@
+pub mod NumberValues
 pub mod Runs
 pub mod Fields
 pub mod WrittenRecords

@@ -6,6 +6,7 @@ use Rattle.shared_core_wire.specs.Schema.{Kind, U32, U64, Boolean, Enumeration, 
 use Rattle.shared_core_wire.specs.Value.{Part, Parts, Number, Bytes, Nested, Elements, nil, cons}
 use Rattle.shared_core_wire.specs.Canonical.{written_number, canonical_payload}
 use Rattle.shared_core_codec.specs.FieldParts.{enum_number}
+use Rattle.shared_core_codec.specs.ProgramRows.{kind_view}
 use Rattle.shared_core_codec.specs.Table.{table}
 use Rattle.shared_core_fields.specs.Fields.{FieldPart}
 use Rattle.shared_core_fields.specs.Views.{message_meaning}
@@ -150,7 +151,7 @@ value_entry (v.Enumeration z) n offset level =
 value_entry (v.Text text) n offset level = bytes_entry Text 0 (length text.now) n offset level
 value_entry (v.ByteString bytes) n offset level = bytes_entry ByteString 0 (length bytes.now) n offset level
 value_entry (v.Message m) n offset level = bytes_entry (Message m.schema) m.schema (length m.bytes.now) n offset level
-value_entry (v.Numbers run) n offset level = bytes_entry U32 0 (length run.bytes.now) n offset level
+value_entry (v.Numbers run) n offset level = bytes_entry (kind_view run.kind) 0 (length run.bytes.now) n offset level
 
 -- The bytes of a message are the canonical payload of what it means.
 abbrev pub IsExact : {T S : _} → FieldValue (CanonicalPayload T S) → Type 0

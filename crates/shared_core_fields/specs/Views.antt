@@ -6,12 +6,13 @@ use Rattle.shared_core_wire.specs.Reader.{record_at}
 use Rattle.shared_core_wire.specs.ReadRecords.{PlacedRecord, records_past}
 use Rattle.shared_core_wire.specs.Schema.{Table, Kind, Row, U32, U64, Boolean, Enumeration, Text, ByteString, Message}
 use Rattle.shared_core_wire.specs.Value.{Part, Parts, Number, Bytes, Nested, Elements}
-use Rattle.shared_core_wire.specs.Overlay.{low_numbers, meaning}
+use Rattle.shared_core_wire.specs.Overlay.{meaning}
 use Rattle.shared_core_wire.specs.declared.error.WireError.{WireError}
 use Rattle.shared_core_codec.specs.Table.{table as protocol}
 use Rattle.shared_core_codec.specs.Canonicity.{next_field}
-use Rattle.shared_core_codec.specs.FieldParts.{boolean_part, enum_part}
-use Rattle.shared_core_fields.specs.Runs.{run_numbers}
+use Rattle.shared_core_codec.specs.FieldParts.{boolean_part, enum_part, parts_of}
+use Rattle.shared_core_codec.specs.ProgramRows.{kind_view}
+use Rattle.shared_core_fields.specs.Runs.{held_numbers}
 use Rattle.shared_core_fields.specs.Fields.{FieldPart, record_part_in}
 use Rattle.shared_core_fields.specs.declared.fields.CanonicalPayload.{CanonicalPayload}
 use Rattle.shared_core_fields.specs.declared.fields.FieldValue.{FieldValue}
@@ -36,7 +37,7 @@ value_part (v.Enumeration z) = enum_part z
 value_part (v.Text text) = Bytes text.now
 value_part (v.ByteString bytes) = Bytes bytes.now
 value_part (v.Message m) = Nested (message_meaning m)
-value_part (v.Numbers run) = Elements (low_numbers (run_numbers run.bytes.now))
+value_part (v.Numbers run) = Elements (parts_of Number (held_numbers (kind_view run.kind) run.bytes.now))
 
 -- The kind of a value of the program.
 abbrev pub value_kind : {T S : _} → FieldValue (CanonicalPayload T S) → Kind
@@ -47,7 +48,7 @@ value_kind (v.Enumeration z) = Enumeration
 value_kind (v.Text text) = Text
 value_kind (v.ByteString bytes) = ByteString
 value_kind (v.Message m) = Message m.schema
-value_kind (v.Numbers run) = U32
+value_kind (v.Numbers run) = kind_view run.kind
 
 -- The field that a field of the program is.
 abbrev pub field_part : {T S : _} → Field (CanonicalPayload T S) → FieldPart

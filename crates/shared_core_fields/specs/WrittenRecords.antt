@@ -1,11 +1,11 @@
 -- Records as they are written.
-use Rattle.std.specs.Prelude.{◌≡◌, ℕ, Bool, true, false, ◌+◌, ◌==◌, List, length, Option, Some, None, option_map}
+use Rattle.std.specs.Prelude.{◌≡◌, ℕ, Bool, ◌&&◌, ◌+◌, ◌==◌, List, length, Option, Some, None, option_map}
 use Rattle.std.specs.Prelude.{if◌then◌else◌}
 use Rattle.shared_core_wire.specs.Grammar.{FieldRecord}
 use Rattle.shared_core_wire.specs.Encoding.{shortest_varint}
 use Rattle.shared_core_wire.specs.Reader.{◌>>=◌, varint_at, record_at}
-use Rattle.shared_core_wire.specs.Schema.{Kind, Row, U32}
-use Rattle.shared_core_wire.specs.Acceptance.{NestedAcceptance}
+use Rattle.shared_core_wire.specs.Schema.{Kind, Row}
+use Rattle.shared_core_wire.specs.Acceptance.{NestedAcceptance, accepts_number}
 use Rattle.shared_core_codec.specs.Canonicity.{is_written_run, rows_after, written_size}
 
 -- The bytes begin with the varint of a number, in as few bytes as can be, and then these come.
@@ -25,5 +25,4 @@ rows_and_rest nested rows bytes = written_record_at bytes >>= λ x.
 
 -- Whether bytes are a packed run of a field of a kind, repeated or not.
 abbrev pub is_run : Kind → Bool → List ℕ → Bool
-is_run U32 true run = is_written_run run
-is_run k repeated run = false
+is_run k repeated run = (accepts_number k && repeated) && is_written_run k run

@@ -160,8 +160,12 @@ fn is_number<R: SchemaRow>(row: &R, field: &Field, value: u64) -> bool
     if is_plain(row) && value == 0 {
         return false;
     }
+    // numbers of a list are in a packed run
+    if is_repeated(row) {
+        return false;
+    }
     if let Kind::U32 = field.kind {
-        return !is_repeated(row) && value < Size::LIMIT;
+        return value < Size::LIMIT;
     }
     is_other_number(field.kind, value)
 }
@@ -221,8 +225,5 @@ fn is_message<T: Schemas>(schemas: &T, schema: u32, bytes: &[u8], left: u32) -> 
 fn is_run(kind: Kind, is_repeated: bool, run: &[u8]) -> bool
     ensures { result ≡ is_run (kind_view kind) is_repeated run.now }
 {
-    if let Kind::U32 = kind {
-        return is_repeated && is_written_run(run);
-    }
-    false
+    kind.is_number() && is_repeated && is_written_run(kind, run)
 }

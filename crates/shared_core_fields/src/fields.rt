@@ -59,11 +59,11 @@ pub enum FieldValue<'a, M = CanonicalPayload<'a>> {
     Text(&'a str),
     ByteString(&'a [u8]),
     Message(M),
-    /// All elements of a repeated uint32, which is packed.
+    /// All elements of a repeated field of numbers, which is packed.
     Numbers(Run<'a>),
 }
 
-/// A field of a canonical payload; of a repeated field one element, or all numbers of a uint32.
+/// A field of a canonical payload; of a repeated field one element, or all numbers.
 #[derive(Clone, Copy)]
 pub struct Field<'a, M = CanonicalPayload<'a>> {
     /// The field number, from 1 to 536,870,911.

@@ -18,7 +18,7 @@ use Rattle.shared_core_fields_writer.specs.Given.{Given, Number, Content, Opens,
 use Rattle.shared_core_fields_writer.specs.Given.{text_given, bytes_given, field_next}
 use Rattle.shared_core_fields_writer.specs.Walk.{Walked, onto, nested_onto, More, Nothing, walk, varints}
 use Rattle.shared_core_fields_writer.specs.Walk.{Inward, Onward, value_walk, message_walk, number_walk, field_walk}
-use Rattle.shared_core_fields_writer.specs.Walk.{more_walk, entries_payload, is_within, is_more}
+use Rattle.shared_core_fields_writer.specs.Walk.{more_walk, entries_payload, is_within, is_more, run_kind}
 use Rattle.shared_core_fields_writer.proofs.Canonical.{short_is}
 
 abbrev Bytes : List ℕ → Type 0
@@ -195,7 +195,7 @@ walked bytes h s left last more level depth (e ∷ es) =
     (choice (ltb level e.level) _ _
     (choice (is_within more) _ _ (walked bytes h s left last more level depth es) (bad (WrongLevel, count)))
     (choice (is_more more last e.number) _ _
-    (of_more count _ (walked bytes h s left last more level depth es) (given bytes U32 e))
+    (of_more count _ (walked bytes h s left last more level depth es) (given bytes (run_kind more) e))
     (of_field bytes h _ _ level depth e es
     (λ t below. walked bytes h t (table t) None Nothing (suc level) below es)
     (λ rows m next. walked bytes h s rows m next level depth es) (field_next (table s) left last e.number))))

@@ -18,7 +18,7 @@ use Rattle.shared_core_wire.specs.Schema.{are_distinct}
 use Rattle.shared_core_wire.specs.Grammar.{IsSequence}
 use Rattle.shared_core_wire.specs.Reader.{sequence_past}
 use Rattle.shared_core_wire.specs.Encoding.{shortest_varint, key_bytes}
-use Rattle.shared_core_wire.specs.Acceptance.{NestedAcceptance, some_passes, accepts_bytes}
+use Rattle.shared_core_wire.specs.Acceptance.{NestedAcceptance, some_passes, accepts_number, accepts_bytes}
 use Rattle.shared_core_wire.proofs.Shortest.{shortest_is}
 use Rattle.shared_core_wire.proofs.Readers.{varint_pos, some_is}
 use Rattle.shared_core_wire.proofs.Sequences.{all_again}
@@ -31,11 +31,11 @@ use Rattle.shared_core_codec.specs.Canonicity.{Next, next_field, is_written_fiel
 use Rattle.shared_core_codec.specs.Canonicity.{Coming, is_packed}
 use Rattle.shared_core_codec.specs.Canonicity.{written_size, is_canonical_message, is_canonical_message_in}
 use Rattle.shared_core_codec.specs.Canonicity.{is_written_number, is_written_value, is_default_value}
-use Rattle.shared_core_codec.specs.Canonicity.{is_written_run, low_varint_at, IsCanonical, may_recur, found_or}
+use Rattle.shared_core_codec.specs.Canonicity.{is_written_run, written_varint_at, IsCanonical, may_recur, found_or}
 use Rattle.shared_core_codec.specs.Canonicity.{is_plain}
 use Rattle.shared_core_codec.specs.ProgramRows.{member_numbered, field_in_row}
 use Rattle.shared_core_codec.proofs.Tables.{are_schemas}
-use Rattle.shared_core_codec.proofs.Canonicity.{total_size, IsLow, reader_low, is_message}
+use Rattle.shared_core_codec.proofs.Canonicity.{total_size, IsWritten, reader_written, is_message}
 use Rattle.shared_core_codec.proofs.Canonicity.{may_be_empty, rows_may_be_empty, sound}
 use Rattle.shared_core_codec.proofs.CanonicityExact.{records_encoded}
 use Rattle.shared_core_fields.specs.declared.table.FieldEntry.{FieldEntry}
@@ -49,7 +49,7 @@ use Rattle.shared_core_fields_writer.specs.Given.{bytes_given, content, field_ne
 use Rattle.shared_core_fields_writer.specs.Walk.{Walked, Inward, Onward, onto, nested_onto, message_walk, number_walk}
 use Rattle.shared_core_fields_writer.specs.Walk.{value_walk, field_walk, more_walk}
 use Rattle.shared_core_fields_writer.proofs.Walking.{past_number, no_number}
-use Rattle.shared_core_fields_writer.specs.Walk.{is_within, is_more, entries_payload, short_enough}
+use Rattle.shared_core_fields_writer.specs.Walk.{is_within, is_more, run_kind, entries_payload, short_enough}
 use Rattle.shared_core_fields_writer.specs.Walk.{More, Nothing, Within, Numbers, run_numbers, varints, walk}
 
 -- ---- sizes
@@ -408,14 +408,22 @@ module _ (bytes : List ℕ) (e : FieldEntry) where
   pub opens_of : (k : Kind) (t : ℕ) → given bytes k e ≡ Ok (Opens t) → k ≡ Message t
   opens_of k t w = value_opens k t (of_kind k (Opens t) w)
 
-  pub u32_low : (g : Given) → given bytes U32 e ≡ Ok g → e.value < 2 ^ 32
-  u32_low g w = by_test (ltb e.value 18446744073709551616 && ltb e.value 4294967296) refl (of_kind U32 g w)
+  value_written : (k : Kind) (g : Given) → number_given k e ≡ Ok g → IsNumber k e.value
+  value_written k g = by_test (ltb e.value 18446744073709551616 && is_written_number k e.value) refl
     where
-      by_test : (b : Bool) → (ltb e.value 18446744073709551616 && ltb e.value 4294967296) ≡ b → cond b (Ok (Number
-          e.value))
-          (Err OutOfRange) ≡ Ok g → e.value < 2 ^ 32
-      by_test true i u = ltb-true _ _ (and_split _ _ i).1
+      by_test : (b : Bool) → (ltb e.value 18446744073709551616 && is_written_number k e.value) ≡ b → cond b (Ok (Number
+          e.value)) (Err OutOfRange) ≡ Ok g → IsNumber k e.value
+      by_test true i u = let both = and_split _ _ i in record { short = both.0; written = both.1 }
       by_test false i u = absurd cc
+
+  pub written_of : (k : Kind) (g : Given) → accepts_number k ≡ true → given bytes k e ≡ Ok g → IsNumber k e.value
+  written_of U32 g a w = value_written U32 g (of_kind U32 g w)
+  written_of U64 g a w = value_written U64 g (of_kind U64 g w)
+  written_of Boolean g a w = value_written Boolean g (of_kind Boolean g w)
+  written_of Enumeration g a w = value_written Enumeration g (of_kind Enumeration g w)
+  written_of Text g a w = absurd cc
+  written_of ByteString g a w = absurd cc
+  written_of (Message s) g a w = absurd cc
 
 -- ---- fields that are written
 
@@ -424,9 +432,9 @@ field_written : (nested : NestedAcceptance) (plain : Bool) (f : Kind × Bool) (w
     true
 field_written nested plain (k, false) w p h d = and_join _ _ h (ap not d)
 field_written nested plain (U32, true) w p h d = absurd cc
-field_written nested plain (U64, true) w p h d = h
-field_written nested plain (Boolean, true) w p h d = h
-field_written nested plain (Enumeration, true) w p h d = h
+field_written nested plain (U64, true) w p h d = absurd cc
+field_written nested plain (Boolean, true) w p h d = absurd cc
+field_written nested plain (Enumeration, true) w p h d = absurd cc
 field_written nested plain (Text, true) w p h d = h
 field_written nested plain (ByteString, true) w p h d = h
 field_written nested plain (Message s, true) w p h d = h
@@ -442,74 +450,58 @@ not_packed nested (Text, r) c h = refl
 not_packed nested (ByteString, r) c h = refl
 not_packed nested (Message s, r) c h = refl
 
-run_written : (nested : NestedAcceptance) (plain : Bool) (f : Kind × Bool) (run : List ℕ) → is_packed f ≡ true →
-    is_written_run run ≡ true → is_written_field nested plain f (Length run) ≡ true
-run_written nested plain (U32, true) run p h = h
-run_written nested plain (U32, false) run p h = absurd cc
-run_written nested plain (U64, r) run p h = absurd cc
-run_written nested plain (Boolean, r) run p h = absurd cc
-run_written nested plain (Enumeration, r) run p h = absurd cc
-run_written nested plain (Text, r) run p h = absurd cc
-run_written nested plain (ByteString, r) run p h = absurd cc
-run_written nested plain (Message s, r) run p h = absurd cc
+pub packed_parts : (f : Kind × Bool) → is_packed f ≡ true → (accepts_number f.0 ≡ true) × (f.1 ≡ true)
+packed_parts f p = and_split (accepts_number f.0) f.1 p
 
-pub packed_kind : (f : Kind × Bool) → is_packed f ≡ true → f.0 ≡ U32
-packed_kind (U32, r) p = refl
-packed_kind (U64, r) p = absurd cc
-packed_kind (Boolean, r) p = absurd cc
-packed_kind (Enumeration, r) p = absurd cc
-packed_kind (Text, r) p = absurd cc
-packed_kind (ByteString, r) p = absurd cc
-packed_kind (Message s, r) p = absurd cc
+run_written : (nested : NestedAcceptance) (plain : Bool) (f : Kind × Bool) (run : List ℕ) → is_packed f ≡ true →
+    is_written_run f.0 run ≡ true → is_written_field nested plain f (Length run) ≡ true
+run_written nested plain (k, true) run p h = rw (packed_parts (k, true) p).0 h
+run_written nested plain (k, false) run p h = absurd (let no = (packed_parts (k, false) p).1 in cc)
 
 -- ---- runs
 
-low_varint : (v : ℕ) → v < 2 ^ 32 → IsLow (shortest_varint v) v
-low_varint v h = record { is = shortest_is v (omega (arith, h)); tight = omega arith; low = h }
+written_varint : (k : Kind) (v : ℕ) → v < 2 ^ 64 → is_written_number k v ≡ true → IsWritten k (shortest_varint v) v
+written_varint k v h w = record { is = shortest_is v h; tight = omega arith; written = w }
 
-pub run_low : (bytes : List ℕ) (s : ℕ) (left : List Row) (n level depth : ℕ) (es : List FieldEntry) (out : List ℕ) →
-    walk bytes s
-    left (Some n) Numbers level depth es ≡ Ok out → IsSequence IsLow (varints (run_numbers level n es)) (run_numbers
-    level n
-    es)
-run_low bytes s left n level depth [] out w = refl
-run_low bytes s left n level depth (e ∷ es) out w = by_test (run_low bytes s left n level depth es out)
-    (eqb e.level level && eqb e.number n) refl
+pub run_written_each : (bytes : List ℕ) (s : ℕ) (left : List Row) (n level depth : ℕ) (k : Kind) (es : List FieldEntry)
+    (out : List ℕ) → accepts_number k ≡ true → walk bytes s left (Some n) (Numbers k) level depth es ≡ Ok out →
+    IsSequence (IsWritten k) (varints (run_numbers level n es)) (run_numbers level n es)
+run_written_each bytes s left n level depth k [] out a w = refl
+run_written_each bytes s left n level depth k (e ∷ es) out a w =
+    by_test (run_written_each bytes s left n level depth k es out a) (eqb e.level level && eqb e.number n) refl
   where
-    by_given : (walk bytes s left (Some n) Numbers level depth es ≡ Ok out → IsSequence IsLow (varints
+    by_given : (walk bytes s left (Some n) (Numbers k) level depth es ≡ Ok out → IsSequence (IsWritten k) (varints
         (run_numbers level n es)) (run_numbers level n es)) → (eqb e.level level && eqb e.number n) ≡ true
-        → (r : Result Given Reason) → given bytes U32 e ≡ r → IsSequence IsLow (varints (e.value ∷ run_numbers level n
-        es))
-        (e.value ∷ run_numbers level n es)
+        → (r : Result Given Reason) → given bytes k e ≡ r → IsSequence (IsWritten k)
+        (varints (e.value ∷ run_numbers level n es)) (e.value ∷ run_numbers level n es)
     by_given later i (Err x) g = absurd
-        (let bad = sym (no_number bytes s left n level depth e es x i g) ∙ w in cc)
-    by_given later i (Ok y) g = (
-      shortest_varint e.value,
-      varints (run_numbers level n es),
-      refl,
-      low_varint e.value (u32_low bytes e y g),
-      later (sym (past_number bytes s left n level depth e es y i g) ∙ w),
-    )
+        (let bad = sym (no_number bytes s left n level depth k e es x i g) ∙ w in cc)
+    by_given later i (Ok y) g =
+        let is = written_of bytes e k y a g in (
+          shortest_varint e.value,
+          varints (run_numbers level n es),
+          refl,
+          written_varint k e.value (ltb-true _ _ is.short) is.written,
+          later (sym (past_number bytes s left n level depth k e es y i g) ∙ w),
+        )
 
-    by_test : (walk bytes s left (Some n) Numbers level depth es ≡ Ok out → IsSequence IsLow (varints
+    by_test : (walk bytes s left (Some n) (Numbers k) level depth es ≡ Ok out → IsSequence (IsWritten k) (varints
         (run_numbers level n es)) (run_numbers level n es)) → (b : Bool) → (eqb e.level level && eqb e.number n) ≡ b
-        → IsSequence IsLow (varints (cond b (e.value ∷ run_numbers level n es) [])) (cond b (e.value ∷ run_numbers level
-        n es)
-        [])
+        → IsSequence (IsWritten k) (varints (cond b (e.value ∷ run_numbers level n es) []))
+        (cond b (e.value ∷ run_numbers level n es) [])
     by_test later false i = refl
-    by_test later true i = by_given later i (given bytes U32 e) refl
+    by_test later true i = by_given later i (given bytes k e) refl
 
-pub run_is_written : (v : ℕ) (ns : List ℕ) → v < 2 ^ 32 → IsSequence IsLow (varints ns) ns → is_written_run (varints (v
-    ∷ ns)) ≡
-    true
-run_is_written v ns h q =
-    let some = varint_pos (shortest_varint v) v (shortest_is v (omega (arith, h))) in
+pub run_is_written : (k : Kind) (v : ℕ) (ns : List ℕ) → v < 2 ^ 64 → is_written_number k v ≡ true → IsSequence
+    (IsWritten k) (varints ns) ns → is_written_run k (varints (v ∷ ns)) ≡ true
+run_is_written k v ns h i q =
+    let some = varint_pos (shortest_varint v) v (shortest_is v h) in
     let long : length (varints (v ∷ ns)) ≡ length (shortest_varint v) + length (varints ns) = length-append
     (shortest_varint v) (varints ns) in
     let full : eqb (length (varints (v ∷ ns))) 0 ≡ false = ne_eqb _ _ (λ x. omega (arith, x, long, some)) in
-    let read : sequence_past low_varint_at 0 (varints (v ∷ ns)) ≡ Some (v ∷ ns) = all_again IsLow low_varint_at
-    reader_low
-    (v ∷ ns) (varints (v ∷ ns)) (shortest_varint v, varints ns, refl, low_varint v h, q) in
+    let read : sequence_past (written_varint_at k) 0 (varints (v ∷ ns)) ≡ Some (v ∷ ns) = all_again (IsWritten k)
+    (written_varint_at k) (reader_written k) (v ∷ ns) (varints (v ∷ ns))
+    (shortest_varint v, varints ns, refl, written_varint k v h i, q) in
     rw (full, read) refl
 
 -- ---- one entry and those after it
@@ -537,8 +529,8 @@ module _ (bytes : List ℕ) (left : List Row) (depth : ℕ) (e : FieldEntry) (ou
     Good rows → Records depth rows rest)
     (within : (t below : ℕ) (rest : List ℕ) → inward t below ≡ Ok rest → length rest < 2 ^ 64 → Records below (table t)
     rest)
-    (low : (rows : List Row) (rest : List ℕ) → onward rows (Some n) Numbers ≡ Ok rest → IsSequence IsLow (varints run)
-    run)
+    (each : (k : Kind) (rows : List Row) (rest : List ℕ) → accepts_number k ≡ true → onward rows (Some n) (Numbers k) ≡
+    Ok rest → IsSequence (IsWritten k) (varints run) run)
     (next : Next) (found : next_field left n ≡ Some next) where
   one_more : (w : RecordValue) (more : More) (rest : List ℕ) → is_written_field (is_canonical_message depth)
       next.is_plain
@@ -593,13 +585,12 @@ module _ (bytes : List ℕ) (left : List Row) (depth : ℕ) (e : FieldEntry) (ou
       next n v
       run b ≡ Ok out → Records depth left out
   by_packed v k true p w =
-      let x = onto_split (length_record n (varints (v ∷ run))) (onward next.rows (Some n) Numbers) out w in
-      let small : v < 2 ^ 32 = ltb-true _ _ (ap (λ (j : Kind). is_written_number j v) (sym (packed_kind next.field p))
-      ∙ k.written) in
-      one_more (Length (varints (v ∷ run))) Numbers x.0 (run_written (is_canonical_message depth) next.is_plain
-      next.field
-      (varints (v ∷ run)) p (run_is_written v run small (low next.rows x.0 x.1))) (fits (varints (v ∷ run)) x.0 x.2) x.1
-      x.2
+      let number = (packed_parts next.field p).0 in
+      let x = onto_split (length_record n (varints (v ∷ run))) (onward next.rows (Some n) (Numbers next.field.0)) out w
+      in
+      one_more (Length (varints (v ∷ run))) (Numbers next.field.0) x.0 (run_written (is_canonical_message depth)
+      next.is_plain next.field (varints (v ∷ run)) p (run_is_written next.field.0 v run (ltb-true _ _ k.short) k.written
+      (each next.field.0 next.rows x.0 number x.1))) (fits (varints (v ∷ run)) x.0 x.2) x.1 x.2
   by_packed v k false p w = by_default v k p (next.is_plain && eqb v 0) refl w
 
   by_content : (c : List ℕ) → given bytes next.field.0 e ≡ Ok (Content c) → (b : Bool) → (next.is_plain && eqb (length
@@ -683,7 +674,7 @@ module _ (bytes : List ℕ) (s : ℕ) (left : List Row) (last : Option ℕ) (lev
   by_next (Err x) i w = absurd cc
   by_next (Ok next) i w = by_value bytes left depth e out z g inward onward e.number (length (e ∷ es))
       (run_numbers level e.number es) (λ rows more rest. later rows (Some e.number) more rest) within
-      (λ rows rest v. run_low bytes s rows e.number level depth es rest v) next
+      (λ k rows rest a v. run_written_each bytes s rows e.number level depth k es rest a v) next
       (found_is (table s) left last e.number next i) (given bytes next.field.0 e) refl w
 
   by_given : (more : More) (r : Result Given Reason) → more_walk (length (e ∷ es)) (walk bytes s left last more level
@@ -693,10 +684,11 @@ module _ (bytes : List ℕ) (s : ℕ) (left : List Row) (last : Option ℕ) (lev
   by_given more (Ok y) w = later left last more out w z g
 
   by_more : (more : More) (b : Bool) → cond b (more_walk (length (e ∷ es)) (walk bytes s left last more level depth es)
-      (given bytes U32 e)) (field_walk bytes inward onward level depth e es (field_next (table s) left last e.number)) ≡
+      (given bytes (run_kind more) e)) (field_walk bytes inward onward level depth e es (field_next (table s) left last
+      e.number)) ≡
       Ok out
       → Records depth left out
-  by_more more true w = by_given more (given bytes U32 e) w
+  by_more more true w = by_given more (given bytes (run_kind more) e) w
   by_more more false w = by_next (field_next (table s) left last e.number) refl w
 
   by_within : (more : More) (b : Bool) → cond b (walk bytes s left last more level depth es) (Err (
@@ -711,7 +703,8 @@ module _ (bytes : List ℕ) (s : ℕ) (left : List Row) (last : Option ℕ) (lev
   by_deeper : (more : More) (b : Bool) → cond b (cond (is_within more) (walk bytes s left last more level depth es) (Err
       (WrongLevel, length (e ∷ es)))) (cond (is_more more last e.number) (more_walk (length (e ∷ es)) (walk bytes s left
       last
-      more level depth es) (given bytes U32 e)) (field_walk bytes inward onward level depth e es (field_next (table s)
+      more level depth es) (given bytes (run_kind more) e)) (field_walk bytes inward onward level depth e es (field_next
+      (table s)
       left last
       e.number))) ≡ Ok out → Records depth left out
   by_deeper more true w = by_within more (is_within more) w
@@ -721,7 +714,8 @@ module _ (bytes : List ℕ) (s : ℕ) (left : List Row) (last : Option ℕ) (lev
       left last
       more level depth es) (Err (WrongLevel, length (e ∷ es)))) (cond (is_more more last e.number) (more_walk (length (e
       ∷ es))
-      (walk bytes s left last more level depth es) (given bytes U32 e)) (field_walk bytes inward onward level depth e es
+      (walk bytes s left last more level depth es) (given bytes (run_kind more) e)) (field_walk bytes inward onward
+      level depth e es
       (field_next (table s) left last e.number)))) ≡ Ok out → Records depth left out
   by_below more true w = let same : [] ≡ out = cc in subst (Records depth left) same (none depth left)
   by_below more false w = by_deeper more (ltb level e.level) w

@@ -1,22 +1,25 @@
 -- The fields of a value come in the order that its schema has, each with a part that is written for it.
-use Rattle.std.proofs.Common.{◌≡◌, ℕ, ◌<◌, ◌≤◌, List, [], ◌∷◌, ◌++◌, Bool, true, false, cond, ◌&&◌}
+use Rattle.std.proofs.Common.{◌≡◌, ℕ, ◌<◌, ◌≤◌, List, [], ◌∷◌, ◌++◌, Bool, true, false, cond, not, ◌&&◌}
 use Rattle.std.proofs.Common.{Option, Some, None, refl, sym, ap, ◌∙◌, arith}
 use Rattle.std.proofs.lemmas.Bool.{ltb-true}
+use Rattle.std.proofs.Math.Bool.{and-false}
 use Rattle.std.proofs.lemmas.List.Folds.{list_all-append}
 use Rattle.shared_core_wire.specs.Encoding.{is_field_number}
-use Rattle.shared_core_wire.specs.Schema.{Kind, Row, U32, U64, Boolean, Enumeration, Text, ByteString, Message, Plain}
-use Rattle.shared_core_wire.specs.Schema.{Optional, Repeated, OneOf, numbers, includes, all_numbers}
+use Rattle.shared_core_wire.specs.Schema.{Kind, Row, Plain, Optional, Repeated, OneOf, numbers, includes}
+use Rattle.shared_core_wire.specs.Schema.{all_numbers}
+use Rattle.shared_core_wire.specs.Acceptance.{accepts_number}
 use Rattle.shared_core_wire.specs.Value.{Part, Parts, Absent, Number, Bytes, Nested, Elements, Member, nil, cons}
 use Rattle.shared_core_wire.specs.Canonical.{is_default, kind_of, part_levels, levels}
 use Rattle.shared_core_wire.specs.Fitting.{is_single, has_shape, NumberFits, BytesFit, PartFits, ElementsFit, Fits}
-use Rattle.shared_core_wire.proofs.ReadBack.{distinct_other}
-use Rattle.shared_core_wire.proofs.Runs.{and_split}
+use Rattle.shared_core_wire.proofs.ReadBack.{distinct_other, not_true}
+use Rattle.shared_core_wire.proofs.Runs.{and_split, and_join}
 use Rattle.shared_core_codec.specs.Table.{table}
 use Rattle.shared_core_codec.specs.RowEncoding.{unpacked}
 use Rattle.shared_core_codec.specs.Canonicity.{Next, next_field, found_or, is_plain, may_recur, is_packed}
-use Rattle.shared_core_fields.specs.Fields.{FieldPart, each_field, row_fields, message_fields}
+use Rattle.shared_core_fields.specs.Fields.{FieldPart, list_field, each_field, row_fields, message_fields}
 use Rattle.shared_core_fields.proofs.ByValue.{own_kind, row_own, own_number}
 use Rattle.shared_core_fields_writer.proofs.Canonical.{Good, good_later, all_good, next_has, widen_one, one_of}
+use Rattle.shared_core_fields_writer.proofs.Canonical.{packed_parts}
 
 -- A field of a kind, repeated or not, holds the part as one entry does, or as those of a run do; messages may be nested
 -- in it `depth` deep.
@@ -24,7 +27,7 @@ abbrev pub Holds : ℕ → Kind × Bool → Part → Type 0
 Holds depth f (Number m) = NumberFits f.0 m × (is_packed f ≡ false)
 Holds depth f (Bytes bytes) = BytesFit f.0 bytes
 Holds depth f (Nested ps) = PartFits table (Nested ps) f.0 × (levels ps < depth)
-Holds depth f (Elements (cons p ps)) = (f ≡ (U32, true)) × ElementsFit table (cons p ps) U32
+Holds depth f (Elements (cons p ps)) = (is_packed f ≡ true) × ElementsFit table (cons p ps) f.0
 Holds depth f p = ⊥
 
 -- The field may come where these rows are left, and is written.
@@ -60,32 +63,13 @@ no_next rows n h = by_next (next_field rows n) refl
 -- ---- kinds
 
 unpacked_one : (k : Kind) → is_packed (k, false) ≡ false
-unpacked_one U32 = refl
-unpacked_one U64 = refl
-unpacked_one Boolean = refl
-unpacked_one Enumeration = refl
-unpacked_one Text = refl
-unpacked_one ByteString = refl
-unpacked_one (Message s) = refl
+unpacked_one k = and-false (accepts_number k)
 
 unpacked_each : (k : Kind) → unpacked k ≡ true → is_packed (k, true) ≡ false
-unpacked_each U32 u = absurd cc
-unpacked_each U64 u = refl
-unpacked_each Boolean u = refl
-unpacked_each Enumeration u = refl
-unpacked_each Text u = refl
-unpacked_each ByteString u = refl
-unpacked_each (Message s) u = refl
+unpacked_each k u = rw (not_true _ u) refl
 
 packed_once : (f : Kind × Bool) → is_packed f ≡ true → may_recur f ≡ false
-packed_once (U32, true) p = refl
-packed_once (U32, false) p = absurd cc
-packed_once (U64, r) p = absurd cc
-packed_once (Boolean, r) p = absurd cc
-packed_once (Enumeration, r) p = absurd cc
-packed_once (Text, r) p = absurd cc
-packed_once (ByteString, r) p = absurd cc
-packed_once (Message s, r) p = absurd cc
+packed_once f p = let e = packed_parts f p in rw (e.0, e.1) refl
 
 holds_single : (depth : ℕ) (f : Kind × Bool) (p : Part) → is_packed f ≡ false → is_single p ≡ true → PartFits table p
     f.0 → part_levels p ≤ depth → Holds depth f p
@@ -172,6 +156,18 @@ each_comes depth left n k rows u c g fs later (cons p ps) h l =
           (λ m x e. ap (λ b. next_field (cond b (Repeated n k ∷ rows) rows) m) u ∙ e) g fs later ps h.2 low_rest,
     )
 
+-- the elements of any repeated field: those of numbers come at once
+list_comes : (depth : ℕ) (left : List Row) (n : ℕ) (k : Kind) (rows : List Row) (b : Bool) → accepts_number k ≡ b →
+    Covers left (Repeated n k ∷ rows) → Good (Repeated n k ∷ rows) → (fs : List FieldPart) →
+    ((l : List Row) → Covers l rows → Comes depth l fs) → (ps : Parts) → ElementsFit table ps k → levels ps ≤ depth →
+    Comes depth left (cond b (list_field n k ps) (each_field n k ps) ++ fs)
+list_comes depth left n k rows true a c g fs later nil h l = none_comes depth left (Repeated n k) rows c g fs later
+list_comes depth left n k rows true a c g fs later (cons p ps) h l =
+    one_comes depth left (Repeated n k) rows c g fs later n (Elements (cons p ps)) (own_number n)
+    (and_join _ _ a refl, h) refl
+list_comes depth left n k rows false a c g fs later ps h l = each_comes depth left n k rows (ap not a) c g fs later ps h
+    l
+
 -- ---- rows of the schema
 
 row_comes : (depth : ℕ) (left : List Row) (row : Row) (rows : List Row) → Covers left (row ∷ rows) → Good (row ∷ rows) →
@@ -199,22 +195,8 @@ row_comes depth left (Optional n k) rows c g fs later (Bytes bytes) i h l =
 row_comes depth left (Optional n k) rows c g fs later (Nested ps) i h l =
     one_comes depth left (Optional n k) rows c g fs later n (Nested ps) (own_number n) (holds_single depth (k, false)
     (Nested ps) (unpacked_one k) i h l) refl
-row_comes depth left (Repeated n U32) rows c g fs later (Elements nil) i h l =
-    none_comes depth left (Repeated n U32) rows c g fs later
-row_comes depth left (Repeated n U32) rows c g fs later (Elements (cons p ps)) i h l =
-    one_comes depth left (Repeated n U32) rows c g fs later n (Elements (cons p ps)) (own_number n) (refl, h) refl
-row_comes depth left (Repeated n U64) rows c g fs later (Elements ps) i h l = each_comes depth left n U64 rows refl c g
-    fs later ps h l
-row_comes depth left (Repeated n Boolean) rows c g fs later (Elements ps) i h l = each_comes depth left n Boolean rows
-    refl c g fs later ps h l
-row_comes depth left (Repeated n Enumeration) rows c g fs later (Elements ps) i h l = each_comes depth left n
-    Enumeration rows refl c g fs later ps h l
-row_comes depth left (Repeated n Text) rows c g fs later (Elements ps) i h l = each_comes depth left n Text rows refl c
-    g fs later ps h l
-row_comes depth left (Repeated n ByteString) rows c g fs later (Elements ps) i h l = each_comes depth left n ByteString
-    rows refl c g fs later ps h l
-row_comes depth left (Repeated n (Message s)) rows c g fs later (Elements ps) i h l = each_comes depth left n
-    (Message s) rows refl c g fs later ps h l
+row_comes depth left (Repeated n k) rows c g fs later (Elements ps) i h l =
+    list_comes depth left n k rows (accepts_number k) refl c g fs later ps h l
 row_comes depth left (Repeated n k) rows c g fs later p i h l = absurd cc
 row_comes depth left (OneOf members) rows c g fs later Absent i h l =
     none_comes depth left (OneOf members) rows c g fs later

@@ -13,11 +13,11 @@ use Rattle.shared_core_wire.specs.Reader.{record_list}
 use Rattle.shared_core_wire.specs.Encoding.{shortest_varint, key_bytes, record_bytes, record_list_bytes}
 use Rattle.shared_core_wire.specs.Schema.{Kind, Row, U32, U64, Boolean, Enumeration, Text, ByteString, Message, Plain}
 use Rattle.shared_core_wire.specs.Schema.{Optional, Repeated, OneOf}
-use Rattle.shared_core_wire.specs.Value.{Parts, Nested, Elements}
+use Rattle.shared_core_wire.specs.Value.{Part, Parts, Nested, Elements, cons}
 use Rattle.shared_core_wire.specs.Canonical.{written_number, message_records, canonical_payload, levels}
 use Rattle.shared_core_wire.specs.Fitting.{Fits}
-use Rattle.shared_core_wire.specs.Acceptance.{accepts_bytes}
-use Rattle.shared_core_wire.specs.Overlay.{meaning, low_numbers}
+use Rattle.shared_core_wire.specs.Acceptance.{accepts_number, accepts_bytes}
+use Rattle.shared_core_wire.specs.Overlay.{meaning, number_parts}
 use Rattle.shared_core_wire.proofs.Runs.{and_split, and_join}
 use Rattle.shared_core_wire.proofs.Readers.{some_is}
 use Rattle.shared_core_wire.proofs.ReadBackLevels.{canonical_back}
@@ -29,17 +29,20 @@ use Rattle.shared_core_codec.specs.ProgramRows.{field_in_row, field_numbered}
 use Rattle.shared_core_codec.specs.Canonicity.{Next, next_field, is_written_number}
 use Rattle.shared_core_codec.specs.Canonicity.{found_or, is_plain, is_packed}
 use Rattle.shared_core_codec.proofs.Tables.{are_schemas, is_table}
-use Rattle.shared_core_codec.proofs.Canonicity.{are_bytes, are_bytes_of, IsLow, payload_sound, canonical_below}
+use Rattle.shared_core_codec.proofs.Canonicity.{are_bytes, are_bytes_of, IsWritten, payload_sound}
+use Rattle.shared_core_codec.proofs.Canonicity.{canonical_below}
 use Rattle.shared_core_codec.proofs.CanonicityExact.{records_encoded, records_encode}
 use Rattle.shared_core_codec.proofs.NextFields.{AreLeft, all_left, next_left}
 use Rattle.shared_core_fields.specs.Fields.{FieldPart, message_fields, record_part}
 use Rattle.shared_core_fields.specs.Runs.{numbers_or_none}
 use Rattle.shared_core_fields.specs.Entries.{field_entries}
-use Rattle.shared_core_fields.specs.Rows.{TableRow, kind_number, run_rows, level_rows}
+use Rattle.shared_core_fields.specs.Rows.{TableRow, kind_number, number_row, run_rows, level_rows}
 use Rattle.shared_core_fields.specs.Rows.{fields_rows, table_rows, entry_row}
 use Rattle.shared_core_fields.specs.declared.table.FieldEntry.{FieldEntry}
 use Rattle.shared_core_fields.proofs.ByValue.{found_field, record_field, fields_by_value}
 use Rattle.shared_core_fields.proofs.FewRows.{whole_rows}
+use Rattle.shared_core_fields.proofs.NumberParts.{written_part, number_field_part}
+use Rattle.shared_core_fields.proofs.ValueParts.{run_part}
 use Rattle.shared_core_fields.proofs.Written.{rows_more}
 use Rattle.shared_core_fields_writer.specs.declared.error.Reason.{Reason}
 use Rattle.shared_core_fields_writer.specs.declared.error.Reason.TheVariants.{WrongKind, NotUtf8, OutOfRange}
@@ -48,12 +51,13 @@ use Rattle.shared_core_fields_writer.specs.declared.error.Reason.TheVariants.{Ou
 use Rattle.shared_core_fields_writer.specs.Given.{Given, Number as GivenNumber, Content, Opens, given, value_given}
 use Rattle.shared_core_fields_writer.specs.Given.{number_given, text_given, bytes_given, content, field_next}
 use Rattle.shared_core_fields_writer.specs.Walk.{Walked, onto, nested_onto, message_walk, number_walk, value_walk}
-use Rattle.shared_core_fields_writer.specs.Walk.{field_walk, more_walk, is_within, is_more, entries_payload}
+use Rattle.shared_core_fields_writer.specs.Walk.{field_walk, more_walk, is_within, is_more, run_kind, entries_payload}
 use Rattle.shared_core_fields_writer.specs.Walk.{More, Nothing, Within, Numbers, run_numbers, varints, walk}
 use Rattle.shared_core_fields_writer.specs.Tables.{has_bytes, given_row, gives_default, gives_nothing, given_rows}
 use Rattle.shared_core_fields_writer.proofs.Canonical.{Good, all_good, step, records_of}
-use Rattle.shared_core_fields_writer.proofs.Canonical.{nested_canonical, onto_split, run_low, found_is}
-use Rattle.shared_core_fields_writer.proofs.Canonical.{number_of, content_of, opens_of, of_kind, u32_low}
+use Rattle.shared_core_fields_writer.proofs.Canonical.{nested_canonical, onto_split, run_written_each, found_is}
+use Rattle.shared_core_fields_writer.proofs.Canonical.{number_of, content_of, opens_of, of_kind, written_of}
+use Rattle.shared_core_fields_writer.proofs.Canonical.{packed_parts}
 use Rattle.shared_core_fields_writer.proofs.Canonical.{short_is, all_bytes}
 use Rattle.shared_core_fields_writer.proofs.Canonical.{payload_is_canonical}
 use Rattle.shared_core_fields_writer.proofs.TableBack.{number_rows, bytes_rows, runs_rows, message_rows}
@@ -226,42 +230,22 @@ given_more : (depth level : ℕ) (f : FieldPart) (fs : List FieldPart) → given
 given_more depth level f fs = ap (map given_row) (rows_more depth level f fs) ∙ map-append given_row
     (level_rows (field_entries depth level f)) (fields_rows depth level fs)
 
-enum_again : (v : ℕ) → v < 18446744073709551616 → (ltb v 2147483648 || ltb 18446744071562067967 v) ≡ true →
-    written_number Enumeration (v % 2 ^ 32) ≡ v
-enum_again v z h = by_low (ltb v 2147483648) refl h
-  where
-    by_low : (b : Bool) → ltb v 2147483648 ≡ b → (b || ltb 18446744071562067967 v) ≡ true → written_number Enumeration
-        (v % 2 ^ 32) ≡ v
-    by_low true i g =
-        let low = ltb-true _ _ i in
-        let same : v % 4294967296 ≡ v = omega (arith, low) in
-        ap (written_number Enumeration) same ∙ rw i refl
-    by_low false i g =
-        let high = ltb-true _ _ g in
-        let same : v % 4294967296 + 18446744069414584320 ≡ v = omega (arith, high, z) in
-        let up : ltb (v % 4294967296) 2147483648 ≡ false = le-ltb _ _ (omega (arith, high, z)) in
-        rw up same
-
-boolean_again : (v : ℕ) → v < 2 → cond (eqb v 0) 0 1 ≡ v
-boolean_again zero h = refl
-boolean_again (suc zero) h = refl
-boolean_again (suc (suc v)) h = absurd (omega arith)
+given_number : (level n : ℕ) (k : Kind) (m v : ℕ) → is_written_number k v ≡ true → given_row (number_row level n k m) ≡
+    plain_row level n (kind_number k) (written_number k m)
+given_number level n U32 m v h = refl
+given_number level n U64 m v h = refl
+given_number level n Boolean m v h = refl
+given_number level n Enumeration m v h = refl
+given_number level n k m v h = absurd cc
 
 number_given_one : (depth level n : ℕ) (f : Kind × Bool) (v : ℕ) → v < 18446744073709551616 → is_written_number f.0 v ≡
     true → given_one depth level (n, f, record_part f (Varint v)) ≡ plain_row level n (kind_number f.0) v ∷ []
-number_given_one depth level n (U32, r) v z h =
-    let low = ltb-true _ _ h in
-    let same : v % 2 ^ 32 ≡ v = omega (arith, low) in
-    ap (map given_row) (number_rows depth level n (U32, r) (v % 2 ^ 32)) ∙ ap
-    (λ (m : ℕ). plain_row level n 1 m ∷ []) same
-number_given_one depth level n (U64, r) v z h = ap (map given_row) (number_rows depth level n (U64, r) v)
-number_given_one depth level n (Boolean, r) v z h =
-    ap (map given_row) (number_rows depth level n (Boolean, r) (cond (eqb v 0) 0 1)) ∙ ap
-    (λ (m : ℕ). plain_row level n 3 m ∷ []) (boolean_again v (ltb-true _ _ h))
-number_given_one depth level n (Enumeration, r) v z h =
-    ap (map given_row) (number_rows depth level n (Enumeration, r) (v % 2 ^ 32)) ∙ ap
-    (λ (m : ℕ). plain_row level n 4 m ∷ []) (enum_again v z h)
-number_given_one depth level n (k, r) v z h = absurd cc
+number_given_one depth level n (k, r) v z h =
+    let p = written_part k v h z in
+    ap (λ (q : Part). given_one depth level (n, (k, r), q)) (number_field_part k r v ∙ p.1)
+    ∙ ap (map given_row) (number_rows depth level n (k, r) p.0)
+    ∙ ap (λ (row : TableRow). row ∷ []) (given_number level n k p.0 v h)
+    ∙ ap (λ (m : ℕ). plain_row level n (kind_number k) m ∷ []) p.2
 
 content_given_one : (depth level n : ℕ) (f : Kind × Bool) (c : List ℕ) → accepts_bytes (λ t b. false) f.0 c ≡ true →
     given_one depth level (n, f, record_part f (Length c)) ≡ content_row level n (kind_number f.0) c ∷ []
@@ -273,39 +257,46 @@ content_given_one depth level n (Boolean, r) c h = absurd cc
 content_given_one depth level n (Enumeration, r) c h = absurd cc
 content_given_one depth level n (Message s, r) c h = absurd cc
 
-lows : (text ns : List ℕ) → IsSequence IsLow text ns → list_all (λ (m : ℕ). ltb m 4294967296) ns ≡ true
-lows text [] q = refl
-lows text (n ∷ ns) q = and_join _ _ (lt-ltb _ _ q.3.low) (lows q.1 ns q.4)
+-- Whether a number is written for a kind, and fits 64 bits, as each of a run does.
+abbrev is_one : Kind → ℕ → Bool
+is_one k m = is_written_number k m && ltb m (2 ^ 64)
 
-low_fit : (ns : List ℕ) → list_all (λ (m : ℕ). ltb m 4294967296) ns ≡ true → list_all (λ (m : ℕ). ltb m (2 ^ 64)) ns ≡
-    true
-low_fit [] h = refl
-low_fit (n ∷ ns) h =
+each_is : (k : Kind) (text ns : List ℕ) → IsSequence (IsWritten k) text ns → list_all (is_one k) ns ≡ true
+each_is k text [] q = refl
+each_is k text (n ∷ ns) q = and_join _ _ (and_join _ _ q.3.written (lt-ltb _ _ q.3.is.fits)) (each_is k q.1 ns q.4)
+
+each_fits : (k : Kind) (ns : List ℕ) → list_all (is_one k) ns ≡ true → list_all (λ (m : ℕ). ltb m (2 ^ 64)) ns ≡ true
+each_fits k [] h = refl
+each_fits k (n ∷ ns) h =
     let e = and_split _ _ h in
-    let low : n < 4294967296 = ltb-true _ _ e.0 in
-    and_join _ _ (lt-ltb _ _ (omega (arith, low))) (low_fit ns e.1)
+    and_join _ _ (and_split (is_written_number k n) _ e.0).1 (each_fits k ns e.1)
 
--- The rows of the numbers of a run.
-abbrev number_rows_of : ℕ → ℕ → List ℕ → List TableRow
-number_rows_of level n ns = map (plain_row level n 1) ns
+-- The rows of the numbers of a run of a kind.
+abbrev number_rows_of : Kind → ℕ → ℕ → List ℕ → List TableRow
+number_rows_of k level n ns = map (plain_row level n (kind_number k)) ns
 
-run_given : (level n : ℕ) (ns : List ℕ) → list_all (λ (m : ℕ). ltb m 4294967296) ns ≡ true → map given_row
-    (run_rows level n U32 (low_numbers ns)) ≡ number_rows_of level n ns
-run_given level n [] h = refl
-run_given level n (m ∷ ns) h =
+run_given : (level n : ℕ) (k : Kind) (ns : List ℕ) → list_all (is_one k) ns ≡ true → map given_row
+    (run_rows level n k (number_parts k ns)) ≡ number_rows_of k level n ns
+run_given level n k [] h = refl
+run_given level n k (m ∷ ns) h =
     let e = and_split _ _ h in
-    let low : m < 4294967296 = ltb-true _ _ e.0 in
-    let same : m % 2 ^ 32 ≡ m = omega (arith, low) in
-    ap (λ (x : ℕ). plain_row level n 1 x ∷ map given_row (run_rows level n U32 (low_numbers ns))) same ∙ ap
-    (λ (rs : List TableRow). plain_row level n 1 m ∷ rs) (run_given level n ns e.1)
+    let one = and_split (is_written_number k m) _ e.0 in
+    let p = written_part k m one.0 (ltb-true _ _ one.1) in
+    ap (λ (q : Part). map given_row (run_rows level n k (cons q (number_parts k ns)))) p.1
+    ∙ ap (λ (row : TableRow). row ∷ map given_row (run_rows level n k (number_parts k ns)))
+    (given_number level n k p.0 m one.0)
+    ∙ ap (λ (x : ℕ). plain_row level n (kind_number k) x ∷ map given_row (run_rows level n k (number_parts k ns))) p.2
+    ∙ ap (λ (rs : List TableRow). plain_row level n (kind_number k) m ∷ rs) (run_given level n k ns e.1)
 
-run_given_one : (depth level n : ℕ) (ns : List ℕ) → list_all (λ (m : ℕ). ltb m 4294967296) ns ≡ true → given_one depth
-    level (n, (U32, true), record_part (U32, true) (Length (varints ns))) ≡ number_rows_of level n ns
-run_given_one depth level n ns h =
-    ap (λ (o : Option (List ℕ)). given_one depth level (n, (U32, true), Elements (low_numbers (numbers_or_none o))))
-    (varints_encoded ns (low_fit ns h))
-    ∙ ap (map given_row) (runs_rows depth level n (U32, true) (low_numbers ns))
-    ∙ run_given level n ns h
+run_given_one : (depth level n : ℕ) (f : Kind × Bool) (ns : List ℕ) → is_packed f ≡ true → list_all (is_one f.0) ns ≡
+    true → given_one depth level (n, f, record_part f (Length (varints ns))) ≡ number_rows_of f.0 level n ns
+run_given_one depth level n f ns p h =
+    ap (λ (q : Part). given_one depth level (n, f, q))
+    (run_part table f.0 f.1 (varints ns) (packed_parts f p).0
+    ∙ ap (λ (o : Option (List ℕ)). Elements (number_parts f.0 (numbers_or_none o)))
+    (varints_encoded ns (each_fits f.0 ns h)))
+    ∙ ap (map given_row) (runs_rows depth level n f (number_parts f.0 ns))
+    ∙ run_given level n f.0 ns h
 
 -- ---- records and what they mean
 
@@ -335,26 +326,32 @@ record Here (s : ℕ) (left : List Row) : Type 0 where
   of : AreLeft (table s) left
   covers : (m : ℕ) (x : Next) → next_field left m ≡ Some x → next_field (table s) m ≡ Some x
 
--- A run that may have further numbers is of a field that is not plain.
+-- A run that may have further numbers is of a packed field.
+record IsRun (s n : ℕ) (k : Kind) : Type 0 where
+  next : Next
+  found : next_field (table s) n ≡ Some next
+  plain : next.is_plain ≡ false
+  number : accepts_number k ≡ true
+
 abbrev InRun : ℕ → More → Option ℕ → Type 0
-InRun s Numbers (Some n) = (x : Next) × (next_field (table s) n ≡ Some x) × (x.is_plain ≡ false)
+InRun s (Numbers k) (Some n) = IsRun s n k
 InRun s more last = Unit {0}
 
 -- The rows of the further numbers of the last field's run.
 abbrev pending : More → Option ℕ → ℕ → List FieldEntry → List TableRow
-pending Numbers (Some n) level es = number_rows_of level n (run_numbers level n es)
+pending (Numbers k) (Some n) level es = number_rows_of k level n (run_numbers level n es)
 pending more last level es = []
 
 pending_end : (more : More) (last : Option ℕ) (level : ℕ) → pending more last level [] ≡ []
-pending_end Numbers (Some n) level = refl
-pending_end Numbers None level = refl
+pending_end (Numbers k) (Some n) level = refl
+pending_end (Numbers k) None level = refl
 pending_end Nothing last level = refl
 pending_end Within last level = refl
 
 pending_other : (more : More) (last : Option ℕ) (level : ℕ) (e : FieldEntry) (es : List FieldEntry) →
     (eqb e.level level && is_more more last e.number) ≡ false → pending more last level (e ∷ es) ≡ []
-pending_other Numbers (Some n) level e es h = rw h refl
-pending_other Numbers None level e es h = refl
+pending_other (Numbers k) (Some n) level e es h = rw h refl
+pending_other (Numbers k) None level e es h = refl
 pending_other Nothing last level e es h = refl
 pending_other Within last level e es h = refl
 
@@ -376,17 +373,9 @@ packed_not_plain (row ∷ left) n next e p = by_row (λ g. packed_not_plain left
     plain_found true k f e = sym (ap (λ (x : Kind × Bool). x.1) (some_is _ _ e))
     plain_found false k f e = absurd cc
 
-    one_packed : (f : Kind × Bool) → is_packed f ≡ true → f.1 ≡ true
-    one_packed (U32, r) p = p
-    one_packed (U64, r) p = absurd cc
-    one_packed (Boolean, r) p = absurd cc
-    one_packed (Enumeration, r) p = absurd cc
-    one_packed (Text, r) p = absurd cc
-    one_packed (ByteString, r) p = absurd cc
-    one_packed (Message s, r) p = absurd cc
-
     by_plain : (row : Row) (f : Kind × Bool) → field_in_row row n ≡ Some f → is_packed f ≡ true → is_plain row ≡ false
-    by_plain (Plain m k) f i q = absurd (let no : true ≡ false = sym (one_packed f q) ∙ plain_found (eqb n m) k f i in
+    by_plain (Plain m k) f i q = absurd (let no : true ≡ false = sym (packed_parts f q).1 ∙ plain_found (eqb n m) k f i
+        in
         cc)
     by_plain (Optional m k) f i q = refl
     by_plain (Repeated m k) f i q = refl
@@ -508,19 +497,6 @@ module _ (bytes : List ℕ) (s : ℕ) (left : List Row) (last : Option ℕ) (mor
       ∙ ap (λ (l : ℕ). plain_row l e.number (kind_number next.field.0) v ∷ given_rows bytes s level es) h
       ∙ ap (λ (rs : List TableRow). plain_row level e.number (kind_number next.field.0) v ∷ rs) rest.rows)
 
-  packed_field : is_packed next.field ≡ true → next.field ≡ (U32, true)
-  packed_field p = by_field next.field p
-    where
-      by_field : (f : Kind × Bool) → is_packed f ≡ true → f ≡ (U32, true)
-      by_field (U32, true) q = refl
-      by_field (U32, false) q = absurd cc
-      by_field (U64, r) q = absurd cc
-      by_field (Boolean, r) q = absurd cc
-      by_field (Enumeration, r) q = absurd cc
-      by_field (Text, r) q = absurd cc
-      by_field (ByteString, r) q = absurd cc
-      by_field (Message u, r) q = absurd cc
-
   by_packed : (v : ℕ) → is_written_number next.field.0 v ≡ true → ltb v 18446744073709551616 ≡ true → given bytes
       next.field.0 e ≡ Ok (GivenNumber v) → (b : Bool) → is_packed next.field ≡ b → number_walk onward next e.number v
       (run_numbers level e.number es) b ≡ Ok out → Gives bytes s last more level depth (e ∷ es) out
@@ -528,25 +504,23 @@ module _ (bytes : List ℕ) (s : ℕ) (left : List Row) (last : Option ℕ) (mor
   by_packed v a short k true p w =
       let run = run_numbers level e.number es in
       let front = length_record e.number (varints (v ∷ run)) in
-      let x = onto_split front (onward next.rows (Some e.number) Numbers) out w in
-      let field = packed_field p in
-      let low : ltb v 4294967296 ≡ true = ap (λ (f : Kind × Bool). is_written_number f.0 v) (sym field) ∙ a in
-      let all : list_all (λ (m : ℕ). ltb m 4294967296) (v ∷ run) ≡ true = and_join _ _ low
-      (lows (varints run) run (run_low bytes s next.rows e.number level depth es x.0 x.1)) in
+      let x = onto_split front (onward next.rows (Some e.number) (Numbers next.field.0)) out w in
+      let number = (packed_parts next.field p).0 in
+      let first : is_one next.field.0 v ≡ true = and_join _ _ a short in
+      let all : list_all (is_one next.field.0) (v ∷ run) ≡ true = and_join _ _ first
+      (each_is next.field.0 (varints run) run (run_written_each bytes s next.rows e.number level depth next.field.0 es
+      x.0 number x.1)) in
       let plain = packed_not_plain left e.number next found p in
-      let rest = later next.rows (Some e.number) Numbers x.0 x.1 (shorter front x.0 x.2) (bytes_after front x.0 x.2)
-      here (next, owned, plain) in
+      let rest = later next.rows (Some e.number) (Numbers next.field.0) x.0 x.1 (shorter front x.0 x.2)
+      (bytes_after front x.0 x.2) here (record { next = next; found = owned; plain = plain; number = number }) in
       let row = number_row_given bytes e next.field.0 v a k in
-      let kind : kind_number next.field.0 ≡ 1 = ap (λ (f : Kind × Bool). kind_number f.0) field in
-      one_more (Length (varints (v ∷ run))) (number_rows_of level e.number (v ∷ run)) x.0 rest.rs x.2 rest.is
-      rest.encodes (fits (varints (v ∷ run)) x.0 x.2)
-      (ap (λ (f : Kind × Bool). given_one depth level (e.number, f, record_part f (Length (varints (v ∷ run))))) field
-      ∙ run_given_one depth level e.number (v ∷ run) all)
+      one_more (Length (varints (v ∷ run))) (number_rows_of next.field.0 level e.number (v ∷ run)) x.0 rest.rs x.2
+      rest.is rest.encodes (fits (varints (v ∷ run)) x.0 x.2)
+      (run_given_one depth level e.number next.field (v ∷ run) p all)
       (gives_own bytes s level e es h (nothing_is false (ap (λ b. b && gives_default (entry_row bytes e)) plain)) row.2
       ∙ ap (λ (r : TableRow). r ∷ given_rows bytes s level es) row.0
       ∙ ap (λ (l : ℕ). plain_row l e.number (kind_number next.field.0) v ∷ given_rows bytes s level es) h
-      ∙ ap (λ (j : ℕ). plain_row level e.number j v ∷ given_rows bytes s level es) kind
-      ∙ ap (λ (rs : List TableRow). plain_row level e.number 1 v ∷ rs) rest.rows)
+      ∙ ap (λ (rs : List TableRow). plain_row level e.number (kind_number next.field.0) v ∷ rs) rest.rows)
 
   by_content : (c : List ℕ) → given bytes next.field.0 e ≡ Ok (Content c) → (b : Bool) → (next.is_plain && eqb (length
       c) 0) ≡ b → onto (cond b [] (length_record e.number c)) (onward next.rows (Some e.number) Nothing) ≡ Ok out →
@@ -636,11 +610,20 @@ module _ (bytes : List ℕ) (s : ℕ) (left : List Row) (last : Option ℕ) (mor
 
 -- ---- entries that give no record of their own
 
-u32_given : (bytes : List ℕ) (e : FieldEntry) (x : Given) → given bytes U32 e ≡ Ok x → given bytes U32 e ≡ Ok
-    (GivenNumber e.value)
-u32_given bytes e x w = w ∙ by_test (ltb e.value 18446744073709551616 && ltb e.value 4294967296)
-    (of_kind bytes e U32 x w)
+more_given : (bytes : List ℕ) (k : Kind) (e : FieldEntry) (x : Given) → accepts_number k ≡ true → given bytes k e ≡ Ok
+    x → given bytes k e ≡ Ok (GivenNumber e.value)
+more_given bytes k e x a w = w ∙ by_test (ltb e.value 18446744073709551616 && is_written_number k e.value)
+    (by_kind k a (of_kind bytes e k x w))
   where
+    by_kind : (j : Kind) → accepts_number j ≡ true → value_given bytes j e ≡ Ok x → number_given j e ≡ Ok x
+    by_kind U32 b v = v
+    by_kind U64 b v = v
+    by_kind Boolean b v = v
+    by_kind Enumeration b v = v
+    by_kind Text b v = absurd cc
+    by_kind ByteString b v = absurd cc
+    by_kind (Message s) b v = absurd cc
+
     by_test : (b : Bool) → cond b (Ok (GivenNumber e.value)) (Err OutOfRange) ≡ Ok x → ◌≡◌ {A = Result Given Reason}
         (Ok x) (Ok (GivenNumber e.value))
     by_test true v = sym v
@@ -649,16 +632,16 @@ u32_given bytes e x w = w ∙ by_test (ltb e.value 18446744073709551616 && ltb e
 -- one more number of a run
 more_gives : (bytes : List ℕ) (s : ℕ) (last : Option ℕ) (more : More) (level depth : ℕ) (e : FieldEntry)
     (es : List FieldEntry) (out : List ℕ) → InRun s more last → e.level ≡ level → is_more more last e.number ≡ true →
-    (x : Given) → given bytes U32 e ≡ Ok x → Gives bytes s last more level depth es out → Gives bytes s last more level
-    depth (e ∷ es) out
-more_gives bytes s (Some n) Numbers level depth e es out r l m x i later =
+    (x : Given) → given bytes (run_kind more) e ≡ Ok x → Gives bytes s last more level depth es out → Gives bytes s last
+    more level depth (e ∷ es) out
+more_gives bytes s (Some n) (Numbers kind) level depth e es out r l m x i later =
     let number : e.number ≡ n = eqb-true _ _ m in
-    let low = u32_low bytes e x i in
-    let row = number_row_given bytes e U32 e.value (lt-ltb _ _ low) (u32_given bytes e x i) in
-    let found : next_field (table s) e.number ≡ Some r.0 = ap (next_field (table s)) number ∙ r.1 in
+    let is = written_of bytes e kind x r.number i in
+    let row = number_row_given bytes e kind e.value is.written (more_given bytes kind e x r.number i) in
+    let found : next_field (table s) e.number ≡ Some r.next = ap (next_field (table s)) number ∙ r.found in
     let kept : gives_nothing (next_field (table s) e.number) (entry_row bytes e) ≡ false = ap
     (λ (o : Option Next). gives_nothing o (entry_row bytes e)) found ∙ ap
-    (λ b. b && gives_default (entry_row bytes e)) r.2 in
+    (λ b. b && gives_default (entry_row bytes e)) r.plain in
     let here : (eqb e.level level && eqb e.number n) ≡ true = rw (eq-eqb _ _ l, m) refl in
     record {
       rs = later.rs;
@@ -667,13 +650,13 @@ more_gives bytes s (Some n) Numbers level depth e es out r l m x i later =
       rows =
           gives_own bytes s level e es l kept row.2
           ∙ ap (λ (t : TableRow). t ∷ given_rows bytes s level es) row.0
-          ∙ ap (λ (k : ℕ). plain_row k e.number 1 e.value ∷ given_rows bytes s level es) l
-          ∙ ap (λ (k : ℕ). plain_row level k 1 e.value ∷ given_rows bytes s level es) number
-          ∙ ap (λ (ts : List TableRow). plain_row level n 1 e.value ∷ ts) later.rows
-          ∙ ap (λ b. number_rows_of level n (cond b (e.value ∷ run_numbers level n es) []) ++ given_of depth level
+          ∙ ap (λ (k : ℕ). plain_row k e.number (kind_number kind) e.value ∷ given_rows bytes s level es) l
+          ∙ ap (λ (k : ℕ). plain_row level k (kind_number kind) e.value ∷ given_rows bytes s level es) number
+          ∙ ap (λ (ts : List TableRow). plain_row level n (kind_number kind) e.value ∷ ts) later.rows
+          ∙ ap (λ b. number_rows_of kind level n (cond b (e.value ∷ run_numbers level n es) []) ++ given_of depth level
           (fields_of s later.rs)) (sym here);
     }
-more_gives bytes s None Numbers level depth e es out r l m x i later = absurd cc
+more_gives bytes s None (Numbers kind) level depth e es out r l m x i later = absurd cc
 more_gives bytes s last Nothing level depth e es out r l m x i later = absurd cc
 more_gives bytes s last Within level depth e es out r l m x i later = absurd cc
 
@@ -688,7 +671,7 @@ deeper_gives bytes s last Within level depth e es out l m later = record {
   rows = gives_deeper bytes s level e es l ∙ later.rows;
 }
 deeper_gives bytes s last Nothing level depth e es out l m later = absurd cc
-deeper_gives bytes s last Numbers level depth e es out l m later = absurd cc
+deeper_gives bytes s last (Numbers k) level depth e es out l m later = absurd cc
 
 -- ---- any entry, and those after it
 
@@ -723,7 +706,8 @@ module _ (bytes : List ℕ) (s : ℕ) (left : List Row) (last : Option ℕ) (mor
         (pending_other more last level e es (ap (λ b. eqb e.level level && b) m ∙ and-false (eqb e.level level))) later
         within next (found_is (table s) left last e.number next i) (given bytes next.field.0 e) refl w
 
-    by_given : e.level ≡ level → is_more more last e.number ≡ true → (o : Result Given Reason) → given bytes U32 e ≡ o →
+    by_given : e.level ≡ level → is_more more last e.number ≡ true → (o : Result Given Reason) → given bytes (run_kind
+        more) e ≡ o →
         more_walk (length (e ∷ es)) (walk bytes s left last more level depth es) o ≡ Ok out → Gives bytes s last more
         level depth (e ∷ es) out
     by_given l m (Err x) i w = absurd cc
@@ -731,11 +715,11 @@ module _ (bytes : List ℕ) (s : ℕ) (left : List Row) (last : Option ℕ) (mor
         (later left last more out w z y g r)
 
     by_more : e.level ≡ level → (b : Bool) → is_more more last e.number ≡ b → cond b (more_walk (length (e ∷ es))
-        (walk bytes s left last more level depth es) (given bytes U32 e)) (field_walk bytes
+        (walk bytes s left last more level depth es) (given bytes (run_kind more) e)) (field_walk bytes
         (λ t below. walk bytes t (table t) None Nothing (suc level) below es)
         (λ rows n mores. walk bytes s rows n mores level depth es) level depth e es (field_next (table s) left last
         e.number)) ≡ Ok out → Gives bytes s last more level depth (e ∷ es) out
-    by_more l true m w = by_given l m (given bytes U32 e) refl w
+    by_more l true m w = by_given l m (given bytes (run_kind more) e) refl w
     by_more l false m w = by_next l m (field_next (table s) left last e.number) refl w
 
     by_within : level < e.level → (b : Bool) → is_within more ≡ b → cond b (walk bytes s left last more level depth es)
@@ -745,7 +729,8 @@ module _ (bytes : List ℕ) (s : ℕ) (left : List Row) (last : Option ℕ) (mor
 
     by_deeper : level ≤ e.level → (b : Bool) → ltb level e.level ≡ b → cond b (cond (is_within more)
         (walk bytes s left last more level depth es) (Err (WrongLevel, length (e ∷ es)))) (cond (is_more more last
-        e.number) (more_walk (length (e ∷ es)) (walk bytes s left last more level depth es) (given bytes U32 e))
+        e.number) (more_walk (length (e ∷ es)) (walk bytes s left last more level depth es) (given bytes (run_kind more)
+        e))
         (field_walk bytes (λ t below. walk bytes t (table t) None Nothing (suc level) below es)
         (λ rows n mores. walk bytes s rows n mores level depth es) level depth e es (field_next (table s) left last
         e.number))) ≡ Ok out → Gives bytes s last more level depth (e ∷ es) out
@@ -756,7 +741,8 @@ module _ (bytes : List ℕ) (s : ℕ) (left : List Row) (last : Option ℕ) (mor
 
     by_below : (b : Bool) → ltb e.level level ≡ b → cond b (Ok []) (cond (ltb level e.level) (cond (is_within more)
         (walk bytes s left last more level depth es) (Err (WrongLevel, length (e ∷ es)))) (cond (is_more more last
-        e.number) (more_walk (length (e ∷ es)) (walk bytes s left last more level depth es) (given bytes U32 e))
+        e.number) (more_walk (length (e ∷ es)) (walk bytes s left last more level depth es) (given bytes (run_kind more)
+        e))
         (field_walk bytes (λ t below. walk bytes t (table t) None Nothing (suc level) below es)
         (λ rows n mores. walk bytes s rows n mores level depth es) level depth e es (field_next (table s) left last
         e.number)))) ≡ Ok out → Gives bytes s last more level depth (e ∷ es) out

@@ -8,7 +8,7 @@ use Rattle.std.specs.Result.{IsErrAnd}
 use Rattle.std.proofs.lemmas.Bool.{eqb-true, lt-ltb, le-ltb, cases_lt}
 use Rattle.shared_core_wire.specs.Encoding.{shortest_varint}
 use Rattle.shared_core_wire.proofs.Shortest.{shortest_small, shortest_large}
-use Rattle.shared_core_wire.specs.Schema.{Row, U32}
+use Rattle.shared_core_wire.specs.Schema.{Kind, Row}
 use Rattle.shared_core_wire.proofs.Runs.{and_split}
 use Rattle.shared_core_codec.specs.Table.{table}
 use Rattle.shared_core_codec.specs.RowEncoding.{length_record}
@@ -130,35 +130,40 @@ nested_error n inner next x m e = ap (λ (w : Walked). nested_onto n w next) e
 
 -- ---- the numbers of a run
 
-module _ (bytes : List ℕ) (s : ℕ) (left : List Row) (n level depth : ℕ) (now es : List FieldEntry) (e : FieldEntry)
+module _ (bytes : List ℕ) (s : ℕ) (left : List Row) (n level depth : ℕ) (kind : Kind) (now es : List FieldEntry) (e :
+    FieldEntry)
     (i : now ≡ e ∷ es) where
-  pub numbers_stop : false ≡ (eqb e.level level && eqb e.number n) → walk bytes s left (Some n) Numbers level depth now
+  pub numbers_stop : false ≡ (eqb e.level level && eqb e.number n) → walk bytes s left (Some n) (Numbers kind) level
+      depth now
       ≡
       walk bytes s left (Some n) Nothing level depth now
   numbers_stop t =
-      ap (walk bytes s left (Some n) Numbers level depth) i ∙ after_numbers bytes s left n level depth e es (sym t)
+      ap (walk bytes s left (Some n) (Numbers kind) level depth) i ∙ after_numbers bytes s left n level depth kind e es
+      (sym t)
       ∙ ap (walk bytes s left (Some n) Nothing level depth) (sym i)
 
-  pub numbers_past : (g : Given) → true ≡ (eqb e.level level && eqb e.number n) → Ok g ≡ given bytes U32 e → walk bytes
+  pub numbers_past : (g : Given) → true ≡ (eqb e.level level && eqb e.number n) → Ok g ≡ given bytes kind e → walk bytes
       s left
-      (Some n) Numbers level depth es ≡ walk bytes s left (Some n) Numbers level depth now
-  numbers_past g t v = sym (ap (walk bytes s left (Some n) Numbers level depth) i ∙ past_number bytes s left n level
-      depth e
+      (Some n) (Numbers kind) level depth es ≡ walk bytes s left (Some n) (Numbers kind) level depth now
+  numbers_past g t v = sym (ap (walk bytes s left (Some n) (Numbers kind) level depth) i ∙ past_number bytes s left n
+      level depth kind e
       es g (sym t) (sym v))
 
-  pub numbers_fail : (r : Reason) → true ≡ (eqb e.level level && eqb e.number n) → Err r ≡ given bytes U32 e → walk
+  pub numbers_fail : (r : Reason) → true ≡ (eqb e.level level && eqb e.number n) → Err r ≡ given bytes kind e → walk
       bytes s
-      left (Some n) Numbers level depth now ≡ Err (r, length now)
+      left (Some n) (Numbers kind) level depth now ≡ Err (r, length now)
   numbers_fail r t v =
-      ap (walk bytes s left (Some n) Numbers level depth) i ∙ no_number bytes s left n level depth e es r (sym t) (sym
+      ap (walk bytes s left (Some n) (Numbers kind) level depth) i ∙ no_number bytes s left n level depth kind e es r
+      (sym t) (sym
       v)
       ∙ ap (λ (ys : List FieldEntry). Err (r, length ys)) (sym i)
 
-pub numbers_end : (bytes : List ℕ) (s : ℕ) (left : List Row) (n level depth : ℕ) (now : List FieldEntry) → now ≡ [] →
+pub numbers_end : (bytes : List ℕ) (s : ℕ) (left : List Row) (n level depth : ℕ) (kind : Kind) (now : List FieldEntry) →
+    now ≡ [] →
     walk
-    bytes s left (Some n) Numbers level depth now ≡ walk bytes s left (Some n) Nothing level depth now
-numbers_end bytes s left n level depth now i =
-    ap (walk bytes s left (Some n) Numbers level depth) i ∙ no_numbers bytes s left n level depth
+    bytes s left (Some n) (Numbers kind) level depth now ≡ walk bytes s left (Some n) Nothing level depth now
+numbers_end bytes s left n level depth kind now i =
+    ap (walk bytes s left (Some n) (Numbers kind) level depth) i ∙ no_numbers bytes s left n level depth kind
     ∙ ap (walk bytes s left (Some n) Nothing level depth) (sym i)
 
 pub number_more : (level n : ℕ) (now es : List FieldEntry) (e : FieldEntry) → now ≡ e ∷ es → true ≡ (eqb e.level
@@ -224,7 +229,8 @@ module _ (bytes : List ℕ) (s : ℕ) (left : List Row) (last : Option ℕ) (n l
       depth es)) k
 
   pub field_run : (value : ℕ) → Ok (Number value) ≡ given bytes next.field.0 e → true ≡ is_packed next.field → onto
-      (length_record n (varints (value ∷ run_numbers level n es))) (walk bytes s next.rows (Some n) Numbers level depth
+      (length_record n (varints (value ∷ run_numbers level n es))) (walk bytes s next.rows (Some n) (Numbers
+      next.field.0) level depth
       es) ≡
       walk bytes s left last Nothing level depth now
   field_run value v p = sym (ap (walk bytes s left last Nothing level depth) i ∙ of_run bytes s left last level depth e
@@ -232,7 +238,7 @@ module _ (bytes : List ℕ) (s : ℕ) (left : List Row) (last : Option ℕ) (n l
       next value own_next (sym v) (sym p)
       ∙ ap (λ (m : ℕ). onto (length_record m (varints (value ∷ run_numbers level m es))) (walk bytes s next.rows (Some
       m)
-      Numbers level depth es)) k)
+      (Numbers next.field.0) level depth es)) k)
 
   pub field_last : (t : ℕ) → depth ≡ 0 → Ok (Opens t) ≡ given bytes next.field.0 e → walk bytes s left last Nothing
       level

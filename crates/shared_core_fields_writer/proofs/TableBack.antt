@@ -4,7 +4,7 @@ use Rattle.std.proofs.Common.{false, cond, ◌&&◌, Option, Some, None, Ok, ref
 use Rattle.std.proofs.Common.{append-nil, append_assoc, eqb, ltb, take, drop}
 use Rattle.std.proofs.lemmas.Bool.{lt-ltb, le-ltb, ltb-false, le-leb, eq-eqb, eqb-true, ne_eqb}
 use Rattle.std.proofs.lemmas.List.Concat.{flat_map-append}
-use Rattle.std.proofs.Math.Bool.{and-false}
+use Rattle.std.proofs.Math.Bool.{and-false, and-true}
 use Rattle.std.specs.Prelude.{flat_map}
 use Rattle.shared_core_wire.specs.Grammar.{RecordValue, Varint, Length}
 use Rattle.shared_core_wire.specs.Encoding.{shortest_varint, record_bytes, record_list_bytes}
@@ -13,6 +13,9 @@ use Rattle.shared_core_wire.specs.Value.{Part, Parts, Absent, Number, Bytes, Nes
 use Rattle.shared_core_wire.specs.Canonical.{written_number, number_bytes, part_values, element_values}
 use Rattle.shared_core_wire.specs.Canonical.{canonical_payload, levels}
 use Rattle.shared_core_wire.specs.Fitting.{NumberFits, BytesFit, PartFits, ElementsFit, Fits}
+use Rattle.shared_core_wire.specs.Acceptance.{accepts_number}
+use Rattle.shared_core_wire.proofs.Numbers.{no_bytes, no_message}
+use Rattle.shared_core_wire.proofs.Runs.{and_join}
 use Rattle.shared_core_codec.specs.Table.{table}
 use Rattle.shared_core_codec.specs.RowEncoding.{varint_record, length_record}
 use Rattle.shared_core_codec.specs.Canonicity.{Next, next_field, is_written_number, is_packed}
@@ -29,6 +32,7 @@ use Rattle.shared_core_fields_writer.specs.Walk.{Walked, onto, nested_onto}
 use Rattle.shared_core_fields_writer.specs.Walk.{Nothing, Within, Numbers, run_numbers, varints, walk}
 use Rattle.shared_core_fields_writer.proofs.Walking.{stops, of_number, of_run, of_content, of_message, past_within}
 use Rattle.shared_core_fields_writer.proofs.Walking.{past_number, after_numbers, no_numbers}
+use Rattle.shared_core_fields_writer.proofs.Canonical.{packed_parts}
 use Rattle.shared_core_fields_writer.proofs.FieldsCome.{Holds, Turn, Comes, message_comes}
 use Rattle.shared_core_fields_writer.proofs.Tables.{Are, split, Above, past_deep, fields_deep}
 
@@ -109,14 +113,8 @@ message_opens bytes t e i v = same_kind bytes (Message t) e i ∙ rw (eq-eqb _ _
 -- ---- the bytes of a field
 
 unpacked_values : (f : Kind × Bool) (p : Part) → is_packed f ≡ false → field_values f p ≡ part_values table p f.0
-unpacked_values (U32, true) p u = absurd cc
-unpacked_values (U32, false) p u = refl
-unpacked_values (U64, r) p u = refl
-unpacked_values (Boolean, r) p u = refl
-unpacked_values (Enumeration, r) p u = refl
-unpacked_values (Text, r) p u = refl
-unpacked_values (ByteString, r) p u = refl
-unpacked_values (Message s, r) p u = refl
+unpacked_values (k, false) p u = refl
+unpacked_values (k, true) p u = rw (sym (and-true (accepts_number k)) ∙ u) refl
 
 -- The bytes of a field.
 abbrev written_field : ℕ → Kind × Bool → Part → List ℕ
@@ -137,20 +135,23 @@ number_field n f m u = one_value n f (Number m) (Varint (written_number f.0 m)) 
 bytes_field : (n : ℕ) (f : Kind × Bool) (xs : List ℕ) → BytesFit f.0 xs → written_field n f (Bytes xs) ≡ length_record n
     xs
 unfolding part_values
-bytes_field n (Text, r) xs h = one_value n (Text, r) (Bytes xs) (Length xs) refl
-bytes_field n (ByteString, r) xs h = one_value n (ByteString, r) (Bytes xs) (Length xs) refl
+bytes_field n (Text, r) xs h = one_value n (Text, r) (Bytes xs) (Length xs) (unpacked_values (Text, r) (Bytes xs) refl)
+bytes_field n (ByteString, r) xs h = one_value n (ByteString, r) (Bytes xs) (Length xs)
+    (unpacked_values (ByteString, r) (Bytes xs) refl)
 bytes_field n (k, r) xs h = absurd h
 
 message_field : (n t : ℕ) (r : Bool) (ps : Parts) → written_field n (Message t, r) (Nested ps) ≡ length_record n
     (canonical_payload table t ps)
 unfolding part_values
-message_field n t r ps = one_value n (Message t, r) (Nested ps) (Length (canonical_payload table t ps)) refl
+message_field n t r ps = one_value n (Message t, r) (Nested ps) (Length (canonical_payload table t ps))
+    (unpacked_values (Message t, r) (Nested ps) refl)
 
-run_field : (n m : ℕ) (ps : Parts) → written_field n (U32, true) (Elements (cons (Number m) ps)) ≡ length_record n
-    (flat_map number_bytes (element_values table (cons (Number m) ps) U32))
+run_field : (n m : ℕ) (k : Kind) (ps : Parts) → accepts_number k ≡ true → written_field n (k, true)
+    (Elements (cons (Number m) ps)) ≡ length_record n
+    (flat_map number_bytes (element_values table (cons (Number m) ps) k))
 unfolding part_values
-run_field n m ps = one_value n (U32, true) (Elements (cons (Number m) ps))
-    (Length (flat_map number_bytes (element_values table (cons (Number m) ps) U32))) refl
+run_field n m k ps a = one_value n (k, true) (Elements (cons (Number m) ps))
+    (Length (flat_map number_bytes (element_values table (cons (Number m) ps) k))) (rw a refl)
 
 -- ---- the rows of a field
 
@@ -276,28 +277,31 @@ message_walks bytes below s left last level n t r next rest inner ps e es x row 
 
 -- ---- runs
 
-no_number_left : (level n : ℕ) (t : List FieldEntry) → Follows level (U32, true) n t → run_numbers level n t ≡ []
-no_number_left level n [] h = refl
-no_number_left level n (e ∷ es) h = rw (h.1 refl) refl
+no_number_left : (level n : ℕ) (k : Kind) (t : List FieldEntry) → accepts_number k ≡ true → Follows level (k, true) n t
+    → run_numbers level n t ≡ []
+no_number_left level n k [] a h = refl
+no_number_left level n k (e ∷ es) a h = rw (h.1 (and_join _ _ a refl)) refl
 
-numbers_done : (bytes : List ℕ) (s : ℕ) (rows : List Row) (level n depth : ℕ) (t : List FieldEntry) → Follows level
-    (U32, true) n t → walk bytes s rows (Some n) Numbers level depth t ≡ walk bytes s rows (Some n) Nothing level depth
-    t
-numbers_done bytes s rows level n depth [] h = no_numbers bytes s rows n level depth
-numbers_done bytes s rows level n depth (e ∷ es) h = after_numbers bytes s rows n level depth e es (h.1 refl)
+numbers_done : (bytes : List ℕ) (s : ℕ) (rows : List Row) (level n depth : ℕ) (k : Kind) (t : List FieldEntry) →
+    accepts_number k ≡ true → Follows level (k, true) n t → walk bytes s rows (Some n) (Numbers k) level depth t ≡ walk
+    bytes s rows (Some n) Nothing level depth t
+numbers_done bytes s rows level n depth k [] a h = no_numbers bytes s rows n level depth k
+numbers_done bytes s rows level n depth k (e ∷ es) a h = after_numbers bytes s rows n level depth k e es
+    (h.1 (and_join _ _ a refl))
 
-module _ (bytes : List ℕ) (s : ℕ) (rows : List Row) (level n depth : ℕ) (t : List FieldEntry)
-    (h : Follows level (U32, true) n t) where
+module _ (bytes : List ℕ) (s : ℕ) (rows : List Row) (level n depth : ℕ) (k : Kind) (number : accepts_number k ≡ true)
+    (t : List FieldEntry) (h : Follows level (k, true) n t) where
   record Run (es : List FieldEntry) (ps : Parts) : Type 0 where
-    written : varints (run_numbers level n (es ++ t)) ≡ flat_map number_bytes (element_values table ps U32)
-    walked : walk bytes s rows (Some n) Numbers level depth (es ++ t) ≡ walk bytes s rows (Some n) Nothing level depth t
+    written : varints (run_numbers level n (es ++ t)) ≡ flat_map number_bytes (element_values table ps k)
+    walked : walk bytes s rows (Some n) (Numbers k) level depth (es ++ t) ≡ walk bytes s rows (Some n) Nothing level
+        depth t
 
-  run : (ps : Parts) → ElementsFit table ps U32 → (es : List FieldEntry) → Are bytes es (run_rows level n U32 ps) → Run
-      es ps
+  run : (ps : Parts) → ElementsFit table ps k → (es : List FieldEntry) → Are bytes es (run_rows level n k ps) → Run es
+      ps
   unfolding part_values PartFits
   run nil f [] a = record {
-    written = ap varints (no_number_left level n t h);
-    walked = numbers_done bytes s rows level n depth t h;
+    written = ap varints (no_number_left level n k t number h);
+    walked = numbers_done bytes s rows level n depth k t number h;
   }
   run nil f (e ∷ es) a = absurd a
   run (cons (Number m) ps) f [] a = absurd a
@@ -305,50 +309,53 @@ module _ (bytes : List ℕ) (s : ℕ) (rows : List Row) (level n depth : ℕ) (t
       let later = run ps f.2 es a.2 in
       let l : e.level ≡ level = ap (λ (y : TableRow). y.level) a.0 in
       let i : e.number ≡ n = ap (λ (y : TableRow). y.number) a.0 in
-      let k : e.kind ≡ 1 = ap (λ (y : TableRow). y.kind) a.0 in
-      let v : e.value ≡ m = ap (λ (y : TableRow). y.value) a.0 in
+      let kind : e.kind ≡ kind_number k = ap (λ (y : TableRow). y.kind) a.0 in
+      let v : e.value ≡ written_number k m = ap (λ (y : TableRow). y.value) a.0 in
       let here : (eqb e.level level && eqb e.number n) ≡ true = rw (eq-eqb _ _ l, eq-eqb _ _ i) refl in
       record {
         written =
             ap (λ b. varints (cond b (e.value ∷ run_numbers level n (es ++ t)) [])) here
             ∙ ap (λ (w : ℕ). shortest_varint w ++ varints (run_numbers level n (es ++ t))) v
-            ∙ ap (λ (bs : List ℕ). shortest_varint m ++ bs) later.written;
+            ∙ ap (λ (bs : List ℕ). shortest_varint (written_number k m) ++ bs) later.written;
         walked =
-            past_number bytes s rows n level depth e (es ++ t) (GivenNumber e.value) here
-            (number_gives bytes U32 m e f.1 k v)
+            past_number bytes s rows n level depth k e (es ++ t) (GivenNumber e.value) here
+            (number_gives bytes k m e f.1 kind v)
             ∙ later.walked;
       }
   run (cons Absent ps) f es a = absurd (cc f.0)
   run (cons (Elements qs) ps) f es a = absurd (cc f.0)
   run (cons (Member m p) ps) f es a = absurd (cc f.0)
-  run (cons (Bytes xs) ps) f es a = absurd f.1
-  run (cons (Nested qs) ps) f es a = absurd f.1
+  run (cons (Bytes xs) ps) f es a = absurd (no_bytes k xs number f.1)
+  run (cons (Nested qs) ps) f es a = absurd (no_message table k qs number f.1)
 
-run_walks : (bytes : List ℕ) (depth s : ℕ) (left : List Row) (last : Option ℕ) (level n : ℕ) (next : Next)
-    (t : List FieldEntry) → Follows level (U32, true) n t → (m : ℕ) (ps : Parts) (e : FieldEntry)
-    (es : List FieldEntry) → Turn depth left (n, (U32, true), Elements (cons (Number m) ps)) next → Are bytes (e ∷ es)
-    (run_rows level n U32 (cons (Number m) ps)) → Walks bytes depth s left last level n (U32, true) next t
+run_walks : (bytes : List ℕ) (depth s : ℕ) (left : List Row) (last : Option ℕ) (level n : ℕ) (k : Kind) → accepts_number
+    k ≡ true → (next : Next) (t : List FieldEntry) → Follows level (k, true) n t → (m : ℕ) (ps : Parts) (e : FieldEntry)
+    (es : List FieldEntry) → Turn depth left (n, (k, true), Elements (cons (Number m) ps)) next → Are bytes (e ∷ es)
+    (run_rows level n k (cons (Number m) ps)) → Walks bytes depth s left last level n (k, true) next t
     (Elements (cons (Number m) ps)) (e ∷ es)
 unfolding part_values PartFits
-run_walks bytes depth s left last level n next t h m ps e es x a =
+run_walks bytes depth s left last level n k number next t h m ps e es x a =
     let l : e.level ≡ level = ap (λ (y : TableRow). y.level) a.0 in
     let i : e.number ≡ n = ap (λ (y : TableRow). y.number) a.0 in
-    let k : e.kind ≡ 1 = ap (λ (y : TableRow). y.kind) a.0 in
-    let v : e.value ≡ m = ap (λ (y : TableRow). y.value) a.0 in
-    let fits : ElementsFit table (cons (Number m) ps) U32 = x.holds.1 in
-    let r = run bytes s next.rows level n depth t h ps fits.2 es a.2 in
+    let kind : e.kind ≡ kind_number k = ap (λ (y : TableRow). y.kind) a.0 in
+    let v : e.value ≡ written_number k m = ap (λ (y : TableRow). y.value) a.0 in
+    let fits : ElementsFit table (cons (Number m) ps) k = x.holds.1 in
+    let r = run bytes s next.rows level n depth k number t h ps fits.2 es a.2 in
     of_run bytes s left last level depth e (es ++ t) l next e.value
-    (found bytes depth s left last level n (U32, true) next t (Elements (cons (Number m) ps)) e.number x i)
-    (ap (λ (g : Kind × Bool). given bytes g.0 e) x.field ∙ number_gives bytes U32 m e fits.1 k v)
-    (ap is_packed x.field)
+    (found bytes depth s left last level n (k, true) next t (Elements (cons (Number m) ps)) e.number x i)
+    (ap (λ (g : Kind × Bool). given bytes g.0 e) x.field ∙ number_gives bytes k m e fits.1 kind v)
+    (ap is_packed x.field ∙ x.holds.0)
+    ∙ ap (λ (g : Kind × Bool). onto (length_record e.number (varints (e.value ∷ run_numbers level e.number (es ++ t))))
+    (walk bytes s next.rows (Some e.number) (Numbers g.0) level depth (es ++ t))) x.field
     ∙ ap (λ (j : ℕ). onto (length_record j (varints (e.value ∷ run_numbers level j (es ++ t))))
-    (walk bytes s next.rows (Some j) Numbers level depth (es ++ t))) i
+    (walk bytes s next.rows (Some j) (Numbers k) level depth (es ++ t))) i
     ∙ ap (onto (length_record n (varints (e.value ∷ run_numbers level n (es ++ t))))) r.walked
     ∙ ap (λ (w : ℕ). onto (length_record n (shortest_varint w ++ varints (run_numbers level n (es ++ t))))
     (walk bytes s next.rows (Some n) Nothing level depth t)) v
-    ∙ ap (λ (bs : List ℕ). onto (length_record n (shortest_varint m ++ bs))
+    ∙ ap (λ (bs : List ℕ). onto (length_record n (shortest_varint (written_number k m) ++ bs))
     (walk bytes s next.rows (Some n) Nothing level depth t)) r.written
-    ∙ ap (λ (w : List ℕ). onto w (walk bytes s next.rows (Some n) Nothing level depth t)) (sym (run_field n m ps))
+    ∙ ap (λ (w : List ℕ). onto w (walk bytes s next.rows (Some n) Nothing level depth t))
+    (sym (run_field n m k ps number))
 
 -- ---- any field
 
@@ -398,25 +405,26 @@ field_walks bytes (suc below) s left last level n (Enumeration, r) next t inner 
 field_walks bytes (suc below) s left last level n (Text, r) next t inner h (Nested ps) x es a = absurd x.holds.0
 field_walks bytes (suc below) s left last level n (ByteString, r) next t inner h (Nested ps) x es a = absurd x.holds.0
 field_walks bytes depth s left last level n f next t inner h (Elements nil) x es a = absurd x.holds
-field_walks bytes depth s left last level n (U32, true) next t inner h (Elements (cons (Number m) ps)) x es a =
-    by_first es (subst (Are bytes es) (runs_rows depth level n (U32, true) (cons (Number m) ps)) a)
+field_walks bytes depth s left last level n (k, true) next t inner h (Elements (cons (Number m) ps)) x es a =
+    by_first es (subst (Are bytes es) (runs_rows depth level n (k, true) (cons (Number m) ps)) a)
   where
-    by_first : (es : List FieldEntry) → Are bytes es (run_rows level n U32 (cons (Number m) ps)) → Walks bytes depth s
-        left last level n (U32, true) next t (Elements (cons (Number m) ps)) es
+    by_first : (es : List FieldEntry) → Are bytes es (run_rows level n k (cons (Number m) ps)) → Walks bytes depth s
+        left last level n (k, true) next t (Elements (cons (Number m) ps)) es
     by_first [] b = absurd b
-    by_first (e ∷ es) b = run_walks bytes depth s left last level n next t h m ps e es x b
-field_walks bytes depth s left last level n (U32, true) next t inner h (Elements (cons Absent ps)) x es a = absurd
+    by_first (e ∷ es) b = run_walks bytes depth s left last level n k (packed_parts (k, true) x.holds.0).0 next t h m ps
+        e es x b
+field_walks bytes depth s left last level n (k, false) next t inner h (Elements (cons (Number m) ps)) x es a = absurd
+    (let no = (packed_parts (k, false) x.holds.0).1 in cc)
+field_walks bytes depth s left last level n f next t inner h (Elements (cons Absent ps)) x es a = absurd
     (cc x.holds.1.0)
-field_walks bytes depth s left last level n (U32, true) next t inner h (Elements (cons (Elements qs) ps)) x es a =
-    absurd (cc x.holds.1.0)
-field_walks bytes depth s left last level n (U32, true) next t inner h (Elements (cons (Member m p) ps)) x es a = absurd
+field_walks bytes depth s left last level n f next t inner h (Elements (cons (Elements qs) ps)) x es a = absurd
     (cc x.holds.1.0)
-field_walks bytes depth s left last level n (U32, true) next t inner h (Elements (cons (Bytes xs) ps)) x es a = absurd
-    x.holds.1.1
-field_walks bytes depth s left last level n (U32, true) next t inner h (Elements (cons (Nested qs) ps)) x es a = absurd
-    x.holds.1.1
-field_walks bytes depth s left last level n f next t inner h (Elements (cons p ps)) x es a = absurd
-    (let no : is_packed f ≡ true = ap is_packed x.holds.0 in cc)
+field_walks bytes depth s left last level n f next t inner h (Elements (cons (Member m p) ps)) x es a = absurd
+    (cc x.holds.1.0)
+field_walks bytes depth s left last level n f next t inner h (Elements (cons (Bytes xs) ps)) x es a = absurd
+    (no_bytes f.0 xs (packed_parts f x.holds.0).0 x.holds.1.1)
+field_walks bytes depth s left last level n f next t inner h (Elements (cons (Nested qs) ps)) x es a = absurd
+    (no_message table f.0 qs (packed_parts f x.holds.0).0 x.holds.1.1)
 field_walks bytes depth s left last level n f next t inner h Absent x es a = absurd x.holds
 field_walks bytes depth s left last level n f next t inner h (Member m p) x es a = absurd x.holds
 
@@ -470,8 +478,9 @@ first depth level n f (Elements (cons (Number m) ps)) h = record {
 first depth level n f (Elements (cons Absent ps)) h = absurd (cc h.1.0)
 first depth level n f (Elements (cons (Elements qs) ps)) h = absurd (cc h.1.0)
 first depth level n f (Elements (cons (Member m p) ps)) h = absurd (cc h.1.0)
-first depth level n f (Elements (cons (Bytes xs) ps)) h = absurd h.1.1
-first depth level n f (Elements (cons (Nested qs) ps)) h = absurd h.1.1
+first depth level n f (Elements (cons (Bytes xs) ps)) h = absurd (no_bytes f.0 xs (packed_parts f h.0).0 h.1.1)
+first depth level n f (Elements (cons (Nested qs) ps)) h = absurd
+    (no_message table f.0 qs (packed_parts f h.0).0 h.1.1)
 first depth level n f Absent h = absurd h
 first depth level n f (Member m p) h = absurd h
 

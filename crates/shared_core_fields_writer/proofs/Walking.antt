@@ -5,7 +5,7 @@ use Rattle.std.proofs.Common.{arith, inl, inr}
 use Rattle.std.proofs.lemmas.Bool.{lt-ltb, le-ltb, eqb-true, eqb-false, cases_lt}
 use Rattle.std.specs.Str.{is_utf8}
 use Rattle.shared_core_wire.proofs.Runs.{and_split}
-use Rattle.shared_core_wire.specs.Schema.{Row, U32, Text, ByteString}
+use Rattle.shared_core_wire.specs.Schema.{Kind, Row, Text, ByteString}
 use Rattle.shared_core_codec.specs.Table.{table}
 use Rattle.shared_core_codec.specs.RowEncoding.{length_record}
 use Rattle.shared_core_codec.specs.Canonicity.{Next, is_packed}
@@ -67,7 +67,7 @@ module _ (bytes : List ℕ) (s : ℕ) (left : List Row) (last : Option ℕ) (lev
       Ok (Number value) → is_packed next.field ≡ true
       → walk bytes s left last Nothing level depth (e ∷ es) ≡ onto
       (length_record e.number (varints (value ∷ run_numbers level e.number es)))
-      (walk bytes s next.rows (Some e.number) Numbers level depth es)
+      (walk bytes s next.rows (Some e.number) (Numbers next.field.0) level depth es)
   unfolding walk
   of_run next value f g p =
       rw (le-ltb e.level level (omega (arith, h)), le-ltb level e.level (omega (arith, h)), f, g, p) refl
@@ -134,26 +134,30 @@ past_within bytes s left last level depth (e ∷ es) =
 
 -- ---- the numbers of a run
 
-module _ (bytes : List ℕ) (s : ℕ) (left : List Row) (n level depth : ℕ) (e : FieldEntry) (es : List FieldEntry) where
-  pub past_number : (g : Given) → (eqb e.level level && eqb e.number n) ≡ true → given bytes U32 e ≡ Ok g → walk bytes s
+module _ (bytes : List ℕ) (s : ℕ) (left : List Row) (n level depth : ℕ) (kind : Kind) (e : FieldEntry) (es : List
+    FieldEntry) where
+  pub past_number : (g : Given) → (eqb e.level level && eqb e.number n) ≡ true → given bytes kind e ≡ Ok g → walk bytes
+      s
       left
-      (Some n) Numbers level depth (e ∷ es) ≡ walk bytes s left (Some n) Numbers level depth es
+      (Some n) (Numbers kind) level depth (e ∷ es) ≡ walk bytes s left (Some n) (Numbers kind) level depth es
   unfolding walk
   past_number g t v =
       let k = and_split _ _ t in
       let h : e.level ≡ level = eqb-true _ _ k.0 in
       rw (le-ltb e.level level (omega (arith, h)), le-ltb level e.level (omega (arith, h)), k.1, v) refl
 
-  pub no_number : (r : Reason) → (eqb e.level level && eqb e.number n) ≡ true → given bytes U32 e ≡ Err r → walk bytes s
+  pub no_number : (r : Reason) → (eqb e.level level && eqb e.number n) ≡ true → given bytes kind e ≡ Err r → walk bytes
+      s
       left
-      (Some n) Numbers level depth (e ∷ es) ≡ Err (r, length (e ∷ es))
+      (Some n) (Numbers kind) level depth (e ∷ es) ≡ Err (r, length (e ∷ es))
   unfolding walk
   no_number r t v =
       let k = and_split _ _ t in
       let h : e.level ≡ level = eqb-true _ _ k.0 in
       rw (le-ltb e.level level (omega (arith, h)), le-ltb level e.level (omega (arith, h)), k.1, v) refl
 
-  other_level : e.level ≢ level → walk bytes s left (Some n) Numbers level depth (e ∷ es) ≡ walk bytes s left (Some n)
+  other_level : e.level ≢ level → walk bytes s left (Some n) (Numbers kind) level depth (e ∷ es) ≡ walk bytes s left
+      (Some n)
       Nothing level depth (e ∷ es)
   unfolding walk
   other_level k =
@@ -162,25 +166,29 @@ module _ (bytes : List ℕ) (s : ℕ) (left : List Row) (n level depth : ℕ) (e
         | inr other ↦ rw (lt-ltb e.level level (omega (arith, other, k))) refl
       ]
 
-  other_number : eqb e.number n ≡ false → walk bytes s left (Some n) Numbers level depth (e ∷ es) ≡ walk bytes s left
+  other_number : eqb e.number n ≡ false → walk bytes s left (Some n) (Numbers kind) level depth (e ∷ es) ≡ walk bytes s
+      left
       (Some n)
       Nothing level depth (e ∷ es)
   unfolding walk
   other_number k = rw k refl
 
-  pub after_numbers : (eqb e.level level && eqb e.number n) ≡ false → walk bytes s left (Some n) Numbers level depth (e
+  pub after_numbers : (eqb e.level level && eqb e.number n) ≡ false → walk bytes s left (Some n) (Numbers kind) level
+      depth (e
       ∷ es) ≡
       walk bytes s left (Some n) Nothing level depth (e ∷ es)
   after_numbers t = by_level (eqb e.level level) refl t
     where
-      by_level : (b : Bool) → eqb e.level level ≡ b → (b && eqb e.number n) ≡ false → walk bytes s left (Some n) Numbers
+      by_level : (b : Bool) → eqb e.level level ≡ b → (b && eqb e.number n) ≡ false → walk bytes s left (Some n)
+          (Numbers kind)
           level
           depth (e ∷ es) ≡ walk bytes s left (Some n) Nothing level depth (e ∷ es)
       by_level true f g = other_number g
       by_level false f g = other_level (eqb-false _ _ f)
 
-pub no_numbers : (bytes : List ℕ) (s : ℕ) (left : List Row) (n level depth : ℕ) → walk bytes s left (Some n) Numbers
+pub no_numbers : (bytes : List ℕ) (s : ℕ) (left : List Row) (n level depth : ℕ) (kind : Kind) → walk bytes s left (Some
+    n) (Numbers kind)
     level
     depth [] ≡ walk bytes s left (Some n) Nothing level depth []
 unfolding walk
-no_numbers bytes s left n level depth = refl
+no_numbers bytes s left n level depth kind = refl

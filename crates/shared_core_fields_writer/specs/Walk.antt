@@ -2,7 +2,7 @@
 use Rattle.std.specs.Prelude.{◌≡◌, ◌≤◌, ℕ, zero, suc, Bool, true, false, ◌&&◌, List, [], ◌∷◌, ◌++◌, length, take, drop}
 use Rattle.std.specs.Prelude.{nat_lt, nat_eq, flat_map, if◌then◌else◌, Option, Some, None, Result, Ok, Err, MatchResult}
 use Rattle.shared_core_wire.specs.Encoding.{shortest_varint}
-use Rattle.shared_core_wire.specs.Schema.{Row, U32}
+use Rattle.shared_core_wire.specs.Schema.{Kind, Row, U32}
 use Rattle.shared_core_wire.specs.WrittenRecords.{number_record, content_record}
 use Rattle.shared_core_fields_writer.specs.Room.{Wrote}
 use Rattle.shared_core_codec.specs.Table.{table}
@@ -28,22 +28,27 @@ abbrev pub nested_onto : ℕ → Walked → Walked → Walked
 nested_onto n (Ok bytes) after = onto (length_record n bytes) after
 nested_onto n (Err e) after = Err e
 
--- What the last field may have more entries for: nothing, the fields within it, or further numbers of a run.
+-- What the last field may have more entries for: nothing, the fields within it, or further numbers of a run of a kind.
 pub data More : Type 0 where
   Nothing : More
   Within : More
-  Numbers : More
+  Numbers : Kind → More
 
 -- The last field is a message, within which deeper entries are.
 abbrev pub is_within : More → Bool
 is_within Nothing = false
 is_within Within = true
-is_within Numbers = false
+is_within (Numbers k) = false
 
 -- An entry of the number n is one more number of the last field's run.
 abbrev pub is_more : More → Option ℕ → ℕ → Bool
-is_more Numbers (Some m) n = nat_eq n m
+is_more (Numbers k) (Some m) n = nat_eq n m
 is_more more last n = false
+
+-- The kind of the further numbers; of what has none, any.
+abbrev pub run_kind : More → Kind
+run_kind (Numbers k) = k
+run_kind more = U32
 
 -- The numbers of the entries of a run.
 abbrev pub run_numbers : ℕ → ℕ → List FieldEntry → List ℕ
@@ -78,7 +83,7 @@ message_walk inward onward next n count t (suc below) =
 -- The same of a number, with the further numbers of its run, if it is of a packed field.
 abbrev pub number_walk : Onward → Next → ℕ → ℕ → List ℕ → Bool → Walked
 number_walk onward next n value run true =
-    onto (length_record n (varints (value ∷ run))) (onward next.rows (Some n) Numbers)
+    onto (length_record n (varints (value ∷ run))) (onward next.rows (Some n) (Numbers next.field.0))
 number_walk onward next n value run false =
     onto (number_record next.is_plain n value) (onward next.rows (Some n) Nothing)
 
@@ -113,7 +118,7 @@ walk bytes s left last more level depth (e ∷ es) =
     else if nat_lt level e.level then
     (if is_within more then walk bytes s left last more level depth es else Err (WrongLevel, length (e ∷ es)))
     else if is_more more last e.number then
-    more_walk (length (e ∷ es)) (walk bytes s left last more level depth es) (given bytes U32 e)
+    more_walk (length (e ∷ es)) (walk bytes s left last more level depth es) (given bytes (run_kind more) e)
     else
     field_walk bytes (λ t below. walk bytes t (table t) None Nothing (suc level) below es)
     (λ rows n more. walk bytes s rows n more level depth es) level depth e es

@@ -9,6 +9,7 @@ ghost use Rattle.shared_core_wire.specs.Encoding.{shortest_varint};
 ghost use Rattle.shared_core_wire.specs.Schema as schema;
 ghost use Rattle.shared_core_codec.specs.Table.{table};
 ghost use Rattle.shared_core_codec.specs.Canonicity.{next_view};
+ghost use Rattle.shared_core_codec.specs.ProgramRows.{kind_view};
 ghost use Rattle.shared_core_codec.specs.RowEncoding.{length_record};
 ghost use Rattle.shared_core_fields_writer.specs.Room.{Wrote};
 ghost use Rattle.shared_core_fields_writer.specs.Walk.{Nothing, Numbers, walk, entries_from, rest_of, varints};
@@ -21,7 +22,7 @@ use crate::flat::write_flat;
 use crate::measure::{MOST_NOTED, SHORT, known_length, measure};
 use crate::room::{write_content, write_key, write_length, write_number, write_varint};
 use shared_core_codec::canonical::NextField;
-use shared_core_codec::rows::{Kind, rows_of};
+use shared_core_codec::rows::{Field, rows_of};
 use shared_core_codec::size::LENGTH;
 use shared_core_fields::table::FieldEntry;
 use shared_core_wire::records::LEVELS;
@@ -114,7 +115,11 @@ fn write_field(
     match given_value(next.field.kind, entry, source.bytes)? {
         Given::Number(value) => {
             if next.field.is_packed() {
-                return write_run(out, at, source, number, value, entry.level);
+                let field = Field {
+                    number,
+                    kind: next.field.kind,
+                };
+                return write_run(out, at, source, field, value, entry.level);
             }
             at.byte = write_number(out, at.byte, next.is_plain, number, value);
             at.entry += 1;
@@ -308,28 +313,29 @@ fn write_run(
     out: &mut [u8],
     at: &mut Place,
     source: &Source<'_>,
-    number: u32,
+    field: Field,
     value: u64,
     level: u64,
 ) -> Result<(), Reason>
     requires start { at.old.entry < length source.now.entries.now }
     ensures written { (s : ℕ) (rows : List schema.Row) (depth : ℕ) → Goes result
-        (onto (length_record number
-        (varints (value ∷ run_numbers level number (entries_from source.now (at.old.entry + 1)))))
-        (walk source.now.bytes.now s rows (Some number) Numbers level depth
+        (onto (length_record field.number
+        (varints (value ∷ run_numbers level field.number (entries_from source.now (at.old.entry + 1)))))
+        (walk source.now.bytes.now s rows (Some field.number) (Numbers (kind_view field.kind)) level depth
         (entries_from source.now (at.old.entry + 1))))
-        (walk source.now.bytes.now s rows (Some number) Nothing level depth (entries_from source.now at.new.entry))
+        (walk source.now.bytes.now s rows (Some field.number) Nothing level depth (entries_from source.now
+        at.new.entry))
         out.old at.old.byte out.new at.new.byte (entries_from source.now at.new.entry) }
     ensures rest { OnOk result (rest_of level (entries_from source.now at.new.entry)
         ≡ rest_of level (entries_from source.now (at.old.entry + 1))) }
     ensures end { at.new.entry ≤ length source.now.entries.now }
     ensures more { OnOk result (at.old.entry < at.new.entry) }
 {
-    let place = write_key(out, at.byte, number, LENGTH);
+    let place = write_key(out, at.byte, field.number, LENGTH);
     let start = write_varint(out, place, 0);
     at.byte = write_varint(out, start, value);
     at.entry += 1;
-    write_numbers(out, at, source, number, level)?;
+    write_numbers(out, at, source, field, level)?;
     at.byte = write_length(out, place, start, at.byte);
     Ok(())
 }
@@ -346,15 +352,17 @@ fn write_numbers(
     out: &mut [u8],
     at: &mut Place,
     source: &Source<'_>,
-    number: u32,
+    field: Field,
     level: u64,
 ) -> Result<(), Reason>
     requires start { at.old.entry ≤ length source.now.entries.now }
     ensures numbers { OnOk result (Wrote out.old at.old.byte out.new at.new.byte
-        (varints (run_numbers level number (entries_from source.now at.old.entry)))) }
+        (varints (run_numbers level field.number (entries_from source.now at.old.entry)))) }
     ensures walked { (s : ℕ) (rows : List schema.Row) (depth : ℕ) → Continues result
-        (walk source.now.bytes.now s rows (Some number) Numbers level depth (entries_from source.now at.old.entry))
-        (walk source.now.bytes.now s rows (Some number) Nothing level depth (entries_from source.now at.new.entry))
+        (walk source.now.bytes.now s rows (Some field.number) (Numbers (kind_view field.kind)) level depth (entries_from
+        source.now at.old.entry))
+        (walk source.now.bytes.now s rows (Some field.number) Nothing level depth (entries_from source.now
+        at.new.entry))
         (entries_from source.now at.new.entry) }
     ensures rest { OnOk result (rest_of level (entries_from source.now at.new.entry)
         ≡ rest_of level (entries_from source.now at.old.entry)) }
@@ -363,10 +371,10 @@ fn write_numbers(
 {
     while at.entry < source.entries.len() {
         let entry = &source.entries[at.entry];
-        if !is_number_of(entry, number, level) {
+        if !is_number_of(entry, field.number, level) {
             return Ok(());
         }
-        given_value(Kind::U32, entry, source.bytes)?;
+        given_value(field.kind, entry, source.bytes)?;
         at.byte = write_varint(out, at.byte, entry.value);
         at.entry += 1;
     }

@@ -11,6 +11,7 @@ pub mod VarintLoop
 pub mod Runs
 pub mod Merging
 pub mod EncodingLaws
+pub mod Numbers
 pub mod ReadBack
 pub mod ReadBackLevels
 pub mod TemplateView

@@ -18,46 +18,20 @@ use Rattle.shared_core_wire.specs.Schema.{Optional, Repeated, OneOf, numbers, in
 use Rattle.shared_core_wire.specs.Schema.{all_numbers, is_schema}
 use Rattle.shared_core_wire.specs.Value.{Part, Parts, Absent, Number, Bytes, Nested, Elements, Member, nil, cons, ◌+++◌}
 use Rattle.shared_core_wire.specs.Value.{one_part, empty_value, empty_part, default_of}
-use Rattle.shared_core_wire.specs.Overlay.{values, own_records, NestedOverlay, number_part, low_numbers, singular_of}
+use Rattle.shared_core_wire.specs.Overlay.{values, own_records, NestedOverlay, number_part, number_parts, singular_of}
 use Rattle.shared_core_wire.specs.Overlay.{elements_of, all_elements, row_over, rows_over}
 use Rattle.shared_core_wire.specs.Acceptance.{NestedAcceptance, accepts_value, accepts_element, accepts_in_row}
-use Rattle.shared_core_wire.specs.Acceptance.{row_allows, accepts_record}
+use Rattle.shared_core_wire.specs.Acceptance.{row_allows, accepts_record, accepts_number}
 use Rattle.shared_core_wire.specs.Fitting.{is_single, has_shape, NumberFits, BytesFit, PartFits, ElementsFit, Fits}
-use Rattle.shared_core_wire.specs.Canonical.{kind_of, written_number, is_default, number_bytes, row_records}
+use Rattle.shared_core_wire.specs.Canonical.{kind_of, written_number, is_default, number_bytes, run_values, row_records}
 use Rattle.shared_core_wire.specs.Canonical.{part_values, element_values, message_records, canonical_payload}
 use Rattle.shared_core_wire.specs.Canonical.{part_levels, levels}
 use Rattle.shared_core_wire.proofs.Merging.{repeated_over_is}
 use Rattle.shared_core_wire.proofs.Runs.{and_split, and_join, parts_append_nil}
+use Rattle.shared_core_wire.proofs.Numbers.{number_back, number_small, no_bytes, no_message, element_numbers}
+use Rattle.shared_core_wire.proofs.Numbers.{run_back}
 
 -- ---- numbers
-
-number_back : (k : Kind) (n : ℕ) → NumberFits k n → number_part k (written_number k n) ≡ Number n
-number_back U32 n h = ap Number (omega arith)
-number_back U64 n h = refl
-number_back Boolean zero h = refl
-number_back Boolean (suc zero) h = refl
-number_back Boolean (suc (suc n)) h = absurd (omega arith)
-number_back Enumeration n h = by_sign (ltb n (2 ^ 31))
-  where
-    by_sign : (b : Bool) → Number (cond b n (n + (2 ^ 64 - 2 ^ 32)) % 2 ^ 32) ≡ Number n
-    by_sign true = ap Number (omega arith)
-    by_sign false = ap Number (omega arith)
-number_back Text n h = absurd h
-number_back ByteString n h = absurd h
-number_back (Message s) n h = absurd h
-
-number_small : (k : Kind) (n : ℕ) → NumberFits k n → written_number k n < 2 ^ 64
-number_small U32 n h = omega arith
-number_small U64 n h = h
-number_small Boolean n h = omega arith
-number_small Enumeration n h = by_sign (ltb n (2 ^ 31))
-  where
-    by_sign : (b : Bool) → cond b n (n + (2 ^ 64 - 2 ^ 32)) < 2 ^ 64
-    by_sign true = omega arith
-    by_sign false = omega arith
-number_small Text n h = absurd h
-number_small ByteString n h = absurd h
-number_small (Message s) n h = absurd h
 
 default_number : (n : ℕ) (k : Kind) → NumberFits k n → eqb n 0 ≡ true → default_of k ≡ Number n
 default_number n U32 h d = ap Number (sym (eqb-true n 0 d))
@@ -196,15 +170,6 @@ no_rows accepts_nested [] = refl
 no_rows accepts_nested (r ∷ rs) = no_rows accepts_nested rs
 
 -- ---- one level
-
-element_numbers : Parts → List ℕ
-element_numbers nil = []
-element_numbers (cons Absent ps) = element_numbers ps
-element_numbers (cons (Number n) ps) = n ∷ element_numbers ps
-element_numbers (cons (Bytes bytes) ps) = element_numbers ps
-element_numbers (cons (Nested qs) ps) = element_numbers ps
-element_numbers (cons (Elements qs) ps) = element_numbers ps
-element_numbers (cons (Member n p) ps) = element_numbers ps
 
 abbrev small : RecordValue → Bool
 small w = ltb (length (content w)) (2 ^ 64)
@@ -405,27 +370,6 @@ module _ (table : ℕ → List Row) (overlay_nested : NestedOverlay) (accepts_ne
         encode_them = rw x.is (and_join _ _ x.encodes xs.encode_them);
       }
 
-  -- ---- packed numbers
-
-  packed_run_back : (ps : Parts) → ElementsFit table ps U32 →
-      (flat_map number_bytes (element_values table ps U32) ≡ flat_map shortest_varint (element_numbers ps)) ×
-      (low_numbers (element_numbers ps) ≡ ps) × (list_all (λ n. ltb n (2 ^ 64)) (element_numbers ps) ≡ true)
-  unfolding part_values PartFits element_numbers
-  packed_run_back nil h = (refl, refl, refl)
-  packed_run_back (cons Absent ps) h = absurd (cc h.0)
-  packed_run_back (cons (Number n) ps) h =
-      let r = packed_run_back ps h.2 in (
-        ap (λ (bytes : List ℕ). shortest_varint n ++ bytes) r.0,
-        ap (λ q. cons q (low_numbers (element_numbers ps)))
-            (number_back U32 n h.1) ∙ ap (cons (Number n)) r.1,
-        and_join _ _ (lt-ltb n (2 ^ 64) (number_small U32 n h.1))
-            r.2,
-      )
-  packed_run_back (cons (Bytes bytes) ps) h = absurd h.1
-  packed_run_back (cons (Nested qs) ps) h = absurd h.1
-  packed_run_back (cons (Elements qs) ps) h = absurd (cc h.0)
-  packed_run_back (cons (Member n p) ps) h = absurd (cc h.0)
-
   -- ---- rows
 
   -- what these records leave of the empty part, and that they are accepted
@@ -515,17 +459,37 @@ module _ (table : ℕ → List Row) (overlay_nested : NestedOverlay) (accepts_ne
         (λ (w : RecordValue). record { number = n; value = w }) (element_values table ps k) ∙ e.encode_them;
   }
 
-  packed_back : (n : ℕ) (ps : Parts) (bytes : List ℕ) (ns : List ℕ) → bytes ≡ flat_map shortest_varint ns → low_numbers
-      ns ≡ ps → list_all (λ m. ltb m (2 ^ 64)) ns ≡ true → list_all small (Length bytes ∷ []) ≡ true → RowBack
-      (Repeated n U32) (Elements ps) (record { number = n; value = Length bytes } ∷ [])
-  packed_back n ps bytes ns b l h z =
+  packed_back : (n : ℕ) (k : Kind) (ps : Parts) (bytes : List ℕ) (ns : List ℕ) → accepts_number k ≡ true → bytes ≡
+      flat_map shortest_varint ns → number_parts k ns ≡ ps → list_all (λ m. ltb m (2 ^ 64)) ns ≡ true → list_all small
+      (Length bytes ∷ []) ≡ true → RowBack (Repeated n k) (Elements ps)
+      (record { number = n; value = Length bytes } ∷ [])
+  packed_back n k ps bytes ns a b l h z =
       let found : packed_numbers bytes ≡ Some ns = ap packed_numbers b ∙ varints_encoded ns h in
       record {
-        gives = rw found (ap Elements (parts_append_nil (low_numbers ns) ∙ l));
-        takes_all = rw found refl;
+        gives = rw (a, found) (ap Elements (parts_append_nil (number_parts k ns) ∙ l));
+        takes_all = rw (a, found) refl;
         encodes = z;
         mine = rw (eq-eqb n n refl) refl;
       }
+
+  list_back : (n : ℕ) (k : Kind) (ps : Parts) (b : Bool) → accepts_number k ≡ b → ElementsFit table ps k → levels ps ≤
+      left → list_all (λ r. small r.value) (with_number n (cond b (run_values (element_values table ps k))
+      (element_values table ps k))) ≡ true → RowBack (Repeated n k) (Elements ps)
+      (with_number n (cond b (run_values (element_values table ps k)) (element_values table ps k)))
+  unfolding part_values PartFits levels with_number
+  list_back n k nil true a h l s = record { gives = refl; takes_all = refl; mine = refl; encodes = refl }
+  list_back n k (cons (Number m) ps) true a h l s =
+      let r = run_back table k (cons (Number m) ps) a h in
+      packed_back n k (cons (Number m) ps) (flat_map number_bytes (element_values table (cons (Number m) ps) k))
+      (element_numbers k (cons (Number m) ps)) a r.0 r.1 r.2 s
+  list_back n k (cons Absent ps) true a h l s = absurd (cc h.0)
+  list_back n k (cons (Elements qs) ps) true a h l s = absurd (cc h.0)
+  list_back n k (cons (Member m p) ps) true a h l s = absurd (cc h.0)
+  list_back n k (cons (Bytes bytes) ps) true a h l s = absurd (no_bytes k bytes a h.1)
+  list_back n k (cons (Nested qs) ps) true a h l s = absurd (no_message table k qs a h.1)
+  list_back n k ps false a h l s = repeated_back n k ps
+      (elements_back ps k h l (sym (list_all-map (λ (r : FieldRecord). small r.value)
+      (λ (w : RecordValue). record { number = n; value = w }) (element_values table ps k)) ∙ s))
 
   row_back : (row : Row) (p : Part) → has_shape row p ≡ true → PartFits table p (kind_of row p) → part_levels p ≤ left →
       list_all (λ r. small r.value) (row_records row p (part_values table p (kind_of row p))) ≡ true → RowBack row p
@@ -534,25 +498,7 @@ module _ (table : ℕ → List Row) (overlay_nested : NestedOverlay) (accepts_ne
   row_back (Plain n k) p i h l s = plain_back n k p i h l (is_default p) refl s
   row_back (Optional n k) Absent i h l s = record { gives = refl; takes_all = refl; mine = refl; encodes = refl }
   row_back (Optional n k) p i h l s = optional_back n k p i h l s
-  row_back (Repeated n U32) (Elements nil) i h l s = record {
-    gives = refl;
-    takes_all = refl;
-    mine = refl;
-    encodes =
-        refl;
-  }
-  row_back (Repeated n U32) (Elements (cons (Number m) ps)) i h l s =
-      let r = packed_run_back (cons (Number m) ps) h in
-      packed_back n (cons (Number m) ps) (flat_map number_bytes (element_values table (cons (Number m) ps) U32))
-      (element_numbers (cons (Number m) ps)) r.0 r.1 r.2 s
-  row_back (Repeated n U32) (Elements (cons Absent ps)) i h l s = absurd (cc h.0)
-  row_back (Repeated n U32) (Elements (cons (Elements qs) ps)) i h l s = absurd (cc h.0)
-  row_back (Repeated n U32) (Elements (cons (Member m p) ps)) i h l s = absurd (cc h.0)
-  row_back (Repeated n U32) (Elements (cons (Bytes bytes) ps)) i h l s = absurd h.1
-  row_back (Repeated n U32) (Elements (cons (Nested qs) ps)) i h l s = absurd h.1
-  row_back (Repeated n k) (Elements ps) i h l s = repeated_back n k ps
-      (elements_back ps k h l (sym (list_all-map (λ (r : FieldRecord). small r.value)
-      (λ (w : RecordValue). record { number = n; value = w }) (element_values table ps k)) ∙ s))
+  row_back (Repeated n k) (Elements ps) i h l s = list_back n k ps (accepts_number k) refl h l s
   row_back (Repeated n k) p i h l s = absurd cc
   row_back (OneOf ms) Absent i h l s = record { gives = refl; takes_all = refl; mine = refl; encodes = refl }
   row_back (OneOf ms) (Member n p) i h l s = let e = and_split _ _ i in variant_back ms n p e.0 e.1 h l s

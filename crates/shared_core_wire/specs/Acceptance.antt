@@ -33,10 +33,15 @@ accepts_value nested k (Varint n) = accepts_number k
 accepts_value nested k (Length bytes) = accepts_bytes nested k bytes
 accepts_value nested k w = false
 
--- Whether a repeated field of this kind accepts the value of a record; a repeated uint32 also accepts a packed run.
+-- Whether a list of numbers accepts the value of a record: one number, or a packed run.
+abbrev pub accepts_numbers : RecordValue → Bool
+accepts_numbers (Varint n) = true
+accepts_numbers (Length bytes) = is_some (packed_numbers bytes)
+accepts_numbers w = false
+
+-- Whether a repeated field of this kind accepts the value of a record; one of numbers also accepts a packed run.
 abbrev pub accepts_element : NestedAcceptance → Kind → RecordValue → Bool
-accepts_element nested U32 (Length bytes) = is_some (packed_numbers bytes)
-accepts_element nested k w = accepts_value nested k w
+accepts_element nested k w = if accepts_number k then accepts_numbers w else accepts_value nested k w
 
 -- Whether the row, which has the record's number, accepts its value.
 abbrev pub accepts_in_row : NestedAcceptance → Row → FieldRecord → Bool

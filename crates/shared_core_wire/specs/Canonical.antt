@@ -3,8 +3,9 @@ use Rattle.std.specs.Prelude.{ℕ, suc, ◌+◌, ◌-◌, ◌^◌, max, Bool, fa
 use Rattle.std.specs.Prelude.{if◌then◌else◌, flat_map}
 use Rattle.shared_core_wire.specs.Grammar.{RecordValue, Varint, Length, FieldRecord}
 use Rattle.shared_core_wire.specs.Encoding.{shortest_varint, record_list_bytes}
-use Rattle.shared_core_wire.specs.Schema.{Table, Kind, Row, U32, Enumeration, Message, Plain, Optional, Repeated, OneOf}
+use Rattle.shared_core_wire.specs.Schema.{Table, Kind, Row, Enumeration, Message, Plain, Optional, Repeated, OneOf}
 use Rattle.shared_core_wire.specs.Schema.{member_kind}
+use Rattle.shared_core_wire.specs.Acceptance.{accepts_number}
 use Rattle.shared_core_wire.specs.Value.{Part, Parts, Absent, Number, Bytes, Nested, Elements, Member, nil, cons}
 
 -- ---- how a row is written
@@ -49,12 +50,14 @@ abbrev pub number_bytes : RecordValue → List ℕ
 number_bytes (Varint n) = shortest_varint n
 number_bytes w = []
 
--- The record values that a repeated field is written as: the elements of a repeated uint32 are one packed run, if there
--- are any.
+-- Numbers as one packed run, if there are any.
+abbrev pub run_values : List RecordValue → List RecordValue
+run_values [] = []
+run_values (w ∷ ws) = Length (flat_map number_bytes (w ∷ ws)) ∷ []
+
+-- The record values that a repeated field is written as: elements that are numbers are one packed run.
 abbrev pub packed_values : Kind → List RecordValue → List RecordValue
-packed_values U32 [] = []
-packed_values U32 (w ∷ ws) = Length (flat_map number_bytes (w ∷ ws)) ∷ []
-packed_values k ws = ws
+packed_values k ws = if accepts_number k then run_values ws else ws
 
 -- Which of a part's values are written: a plain field not if it is a default, an optional field, a member and an
 -- element even if it is one.

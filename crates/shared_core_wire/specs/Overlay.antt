@@ -8,6 +8,7 @@ use Rattle.shared_core_wire.specs.Schema.{Table, Kind, Row, U32, U64, Boolean, E
 use Rattle.shared_core_wire.specs.Schema.{Repeated, OneOf, numbers, includes, member_kind}
 use Rattle.shared_core_wire.specs.Value.{Part, Parts, Absent, Number, Bytes, Nested, Elements, Member, nil, cons, ◌+++◌}
 use Rattle.shared_core_wire.specs.Value.{one_part, empty_value}
+use Rattle.shared_core_wire.specs.Acceptance.{accepts_number}
 
 -- ---- record lists
 
@@ -59,15 +60,20 @@ abbrev pub message_in : Parts → Part → Parts
 message_in e (Nested ps) = ps
 message_in e p = e
 
--- The low 32 bits of numbers, as elements.
-abbrev pub low_numbers : List ℕ → Parts
-low_numbers [] = nil
-low_numbers (n ∷ ns) = cons (Number (n % 2 ^ 32)) (low_numbers ns)
+-- Numbers as elements of a field of the kind.
+abbrev pub number_parts : Kind → List ℕ → Parts
+number_parts k [] = nil
+number_parts k (n ∷ ns) = cons (number_part k n) (number_parts k ns)
 
 -- The elements of a packed run.
-abbrev pub packed_elements : Option (List ℕ) → Parts
-packed_elements None = nil
-packed_elements (Some ns) = low_numbers ns
+abbrev pub packed_elements : Kind → Option (List ℕ) → Parts
+packed_elements k None = nil
+packed_elements k (Some ns) = number_parts k ns
+
+-- The elements that one occurrence adds to a list of numbers: each number of a packed run, or one number.
+abbrev pub number_elements : Kind → RecordValue → Parts
+number_elements k (Length bytes) = packed_elements k (packed_numbers bytes)
+number_elements k w = one_part (scalar_part k w)
 
 -- A repeated field's part with further elements at its end.
 abbrev pub with_elements : Part → Parts → Part
@@ -98,12 +104,15 @@ module _ (table : Table) (nested : NestedOverlay) where
   singular_over k p [] = p
   singular_over k p (w ∷ ws) = singular_of k p w ws
 
-  -- The elements that one occurrence adds to a repeated field: each number of a packed run, or one element; a message
-  -- is the meaning only of its own bytes.
+  -- The element that one occurrence adds to a repeated field of no numbers; a message is the meaning only of its own
+  -- bytes.
+  abbrev pub element_of : Kind → RecordValue → Parts
+  element_of (Message s) (Length bytes) = one_part (Nested (nested s (empty_value (table s)) bytes))
+  element_of k w = one_part (scalar_part k w)
+
+  -- The elements that one occurrence adds to a repeated field: each number of a packed run, or one element.
   abbrev pub elements_of : Kind → RecordValue → Parts
-  elements_of U32 (Length bytes) = packed_elements (packed_numbers bytes)
-  elements_of (Message s) (Length bytes) = one_part (Nested (nested s (empty_value (table s)) bytes))
-  elements_of k w = one_part (scalar_part k w)
+  elements_of k w = if accepts_number k then number_elements k w else element_of k w
 
   -- The elements that the occurrences add, in order.
   abbrev pub all_elements : Kind → List RecordValue → Parts

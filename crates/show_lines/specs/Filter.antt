@@ -85,7 +85,7 @@ scalar_passes t name (n, (Text, repeated), Bytes text) = text_passes t name text
 scalar_passes t name (n, (ByteString, repeated), Bytes bytes) = bytes_pass t name bytes
 scalar_passes t name (n, (U32, repeated), Number number) = number_passes t name number
 scalar_passes t name (n, (U64, repeated), Number number) = number_passes t name number
-scalar_passes t name (n, (U32, repeated), Elements numbers) = numbers_pass t name numbers
+scalar_passes t name (n, (k, repeated), Elements numbers) = numbers_pass t name numbers
 scalar_passes t name field = false
 
 -- Whether a field of a schema passes, where this decides of messages.

@@ -5,9 +5,11 @@ ghost use Rattle.std.specs.List.{ends_with};
 ghost use Rattle.std.specs.Prelude.{eqb};
 ghost use Rattle.std.specs.Option.{option_map};
 ghost use Rattle.shared_core_codec.specs.Payloads.{payload_meaning};
-ghost use Rattle.shared_core_fields.specs.Runs.{run_numbers};
+ghost use Rattle.shared_core_fields.specs.Runs.{held_numbers};
 ghost use Rattle.shared_core_fields.specs.Views.{field_part};
-ghost use Rattle.shared_core_wire.specs.Overlay.{low_numbers};
+ghost use Rattle.shared_core_wire.specs.Value.{Number};
+ghost use Rattle.shared_core_codec.specs.FieldParts.{parts_of};
+ghost use Rattle.shared_core_codec.specs.ProgramRows.{kind_view};
 ghost use Rattle.show_lines.specs.Contents.{held_view, item_held, type_text};
 ghost use Rattle.show_lines.specs.Filter.{bytes_pass, fails, field_passes, fields_pass, has, has_all, has_state};
 ghost use Rattle.show_lines.specs.Filter.{has_word, held_passes, is_id_name, is_name, is_same, kind_of, matches};
@@ -298,10 +300,11 @@ impl<'a> Search<'a> {
     /// Whether a number of a run in a field of this name passes.
     fn numbers_pass(&self, name: &str, run: Run<'_>) -> Result<bool, AllocError>
         ensures { IfOk result (λ found. found
-            ≡ numbers_pass self.now.test.now name.now (low_numbers (run_numbers run.entry.bytes.now))) }
+            ≡ numbers_pass self.now.test.now name.now
+            (parts_of Number (held_numbers (kind_view run.entry.kind) run.entry.bytes.now))) }
     {
         for number in run.numbers() {
-            if self.number_passes(name, u64::from(number))? {
+            if self.number_passes(name, number)? {
                 return Ok(true);
             }
         }

@@ -1,14 +1,17 @@
 -- A redacted payload is well-formed if and only if the payload is.
 use Rattle.std.proofs.Common.{◌≡◌, ℕ, zero, suc, ◌<◌, List, [], ◌∷◌, length, map, Bool, true, false, Option, Some, None}
 use Rattle.std.proofs.Common.{cond, refl, sym, ap, ◌∙◌, arith}
+use Rattle.std.specs.Prelude.{is_some}
 use Rattle.std.specs.List.{list_all}
 use Rattle.std.proofs.lemmas.List.{length-replicate}
 use Rattle.shared_core_base.specs.declared.header.MessageType.{MessageType}
 use Rattle.shared_core_base.specs.declared.version.Version.{Version}
-use Rattle.shared_core_wire.specs.Acceptance.{NestedAcceptance, accepts_element, accepts_message, accepts_payload}
+use Rattle.shared_core_wire.specs.Acceptance.{NestedAcceptance, accepts_element, accepts_message, accepts_numbers}
+use Rattle.shared_core_wire.specs.Acceptance.{accepts_payload}
 use Rattle.shared_core_wire.specs.Acceptance.{accepts_record, accepts_records, accepts_value, some_passes}
 use Rattle.shared_core_wire.specs.Grammar.{RecordValue, Varint, Fixed64, Length, Group, Fixed32, FieldRecord}
-use Rattle.shared_core_wire.specs.Reader.{key_at, record_at, record_list, record_with, varint_at, varint_within}
+use Rattle.shared_core_wire.specs.Reader.{key_at, packed_numbers, record_at, record_list, record_with, varint_at}
+use Rattle.shared_core_wire.specs.Reader.{varint_within}
 use Rattle.shared_core_wire.specs.Schema.{Kind, Row, U32, U64, Boolean, Enumeration, Text, ByteString, Message}
 use Rattle.shared_core_wire.specs.Schema.{all_numbers, are_distinct}
 use Rattle.shared_core_wire.proofs.Merging.{accepted_payload_records}
@@ -22,7 +25,8 @@ use Rattle.shared_core_codec.specs.Tables.{protocol_is_table}
 use Rattle.shared_core_codec.proofs.Checked.{distinct_rows, field_accepts}
 use Rattle.shared_core_message.specs.Schemas.{is_well_formed_at, is_well_formed_for, schema_at}
 use Rattle.stream_redaction.specs.declared.key.Key.{Key}
-use Rattle.stream_redaction.specs.Redaction.{Nested, redacted_for, redacted_nested, redacted_payload, redacted_record}
+use Rattle.stream_redaction.specs.Redaction.{Nested, content_of_kind, redacted_for, redacted_nested, redacted_payload}
+use Rattle.stream_redaction.specs.Redaction.{redacted_record}
 use Rattle.stream_redaction.specs.Redaction.{redacted_records, redacted_value}
 use Rattle.stream_redaction.specs.Replacement.{zeros}
 use Rattle.stream_redaction.proofs.Kept.{length_records, length_replacement, records_kept, utf8_replacement}
@@ -43,16 +47,20 @@ module _ (key : Key) (accepts : NestedAcceptance) (nested : Nested)
   value_kept ByteString repeated (Length bytes) h = refl
   value_kept (Message s) repeated (Length bytes) h = messages s bytes h
 
+  list_kept : (kind : Kind) → ((bytes : List ℕ) → content_of_kind key nested kind bytes ≡ bytes) → (v : RecordValue) →
+      accepts_numbers v ≡ true → accepts_numbers (redacted_value key nested (Some (kind, true)) v) ≡ true
+  list_kept kind e (Varint n) h = h
+  list_kept kind e (Fixed64 bytes) h = h
+  list_kept kind e (Length bytes) h = ap (λ bs. is_some (packed_numbers bs)) (e bytes) ∙ h
+  list_kept kind e (Group bytes) h = h
+  list_kept kind e (Fixed32 bytes) h = h
+
   element_kept : (kind : Kind) (v : RecordValue) → accepts_element accepts kind v ≡ true → accepts_element accepts kind
       (redacted_value key nested (Some (kind, true)) v) ≡ true
-  element_kept U32 (Varint n) h = h
-  element_kept U32 (Fixed64 bytes) h = h
-  element_kept U32 (Length bytes) h = h
-  element_kept U32 (Group bytes) h = h
-  element_kept U32 (Fixed32 bytes) h = h
-  element_kept U64 v h = value_kept U64 true v h
-  element_kept Boolean v h = value_kept Boolean true v h
-  element_kept Enumeration v h = value_kept Enumeration true v h
+  element_kept U32 v h = list_kept U32 (λ bytes. refl) v h
+  element_kept U64 v h = list_kept U64 (λ bytes. refl) v h
+  element_kept Boolean v h = list_kept Boolean (λ bytes. refl) v h
+  element_kept Enumeration v h = list_kept Enumeration (λ bytes. refl) v h
   element_kept Text v h = value_kept Text true v h
   element_kept ByteString v h = value_kept ByteString true v h
   element_kept (Message s) v h = value_kept (Message s) true v h

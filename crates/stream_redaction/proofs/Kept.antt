@@ -68,10 +68,10 @@ module _ (key : Key) (nested : Nested) (long : (rows : List Row) (bytes : List �
     bytes) where
   length_kind : (kind : Kind) (bytes : List ℕ) → length (content_of_kind key nested kind bytes) ≡ length bytes
   length_kind U32 bytes = refl
+  length_kind U64 bytes = refl
+  length_kind Boolean bytes = refl
+  length_kind Enumeration bytes = refl
   length_kind (Message s) bytes = long (table s) bytes
-  length_kind U64 bytes = length_replacement key bytes
-  length_kind Boolean bytes = length_replacement key bytes
-  length_kind Enumeration bytes = length_replacement key bytes
   length_kind Text bytes = length_replacement key bytes
   length_kind ByteString bytes = length_replacement key bytes
 

@@ -25,10 +25,10 @@ Nested = List Row → List ℕ → List ℕ
 -- and all else is replaced.
 abbrev pub content_of_kind : Key → Nested → Kind → List ℕ → List ℕ
 content_of_kind key nested U32 bytes = bytes
+content_of_kind key nested U64 bytes = bytes
+content_of_kind key nested Boolean bytes = bytes
+content_of_kind key nested Enumeration bytes = bytes
 content_of_kind key nested (Message s) bytes = nested (table s) bytes
-content_of_kind key nested U64 bytes = replacement key bytes
-content_of_kind key nested Boolean bytes = replacement key bytes
-content_of_kind key nested Enumeration bytes = replacement key bytes
 content_of_kind key nested Text bytes = replacement key bytes
 content_of_kind key nested ByteString bytes = replacement key bytes
 

@@ -132,6 +132,9 @@ fn append_content(
     };
     match field.kind {
         Kind::U32 => out.extend_from_slice(content),
+        Kind::U64 => out.extend_from_slice(content),
+        Kind::Boolean => out.extend_from_slice(content),
+        Kind::Enumeration => out.extend_from_slice(content),
         Kind::Message(schema) => append_nested(
             key,
             Level {

@@ -30,7 +30,7 @@ scalar_label name (n, (ByteString, repeated), Bytes bytes) =
     named name ++ (codes "\"" ++ (excerpt bytes ++ codes "\""))
 scalar_label name (n, (U32, repeated), Number number) = number_label name number
 scalar_label name (n, (U64, repeated), Number number) = number_label name number
-scalar_label name (n, (U32, repeated), Elements numbers) = numbers_labels name numbers
+scalar_label name (n, (k, repeated), Elements numbers) = numbers_labels name numbers
 scalar_label name field = []
 
 -- A field of a schema, where this gives the fields of messages. Repeated messages are left out, except futures.

@@ -3,9 +3,11 @@
 ghost use Rattle.std.specs.Prelude.{◌≡◌, ◌++◌, OnOk};
 ghost use Rattle.std.specs.String.{string_bytes};
 ghost use Rattle.shared_core_codec.specs.Payloads.{payload_meaning};
-ghost use Rattle.shared_core_fields.specs.Runs.{run_numbers};
+ghost use Rattle.shared_core_fields.specs.Runs.{held_numbers};
 ghost use Rattle.shared_core_fields.specs.Views.{field_part};
-ghost use Rattle.shared_core_wire.specs.Overlay.{low_numbers};
+ghost use Rattle.shared_core_wire.specs.Value.{Number};
+ghost use Rattle.shared_core_codec.specs.FieldParts.{parts_of};
+ghost use Rattle.shared_core_codec.specs.ProgramRows.{kind_view};
 ghost use Rattle.show_lines.specs.Contents.{held_view};
 ghost use Rattle.stream_summary.specs.Labels.{held_labels, label, labels, named, number_label, numbers_labels};
 ghost use Rattle.stream_summary.specs.Labels.{scalar_label};
@@ -133,10 +135,11 @@ fn push_number(line: &mut String, name: &str, number: u64) -> Result<(), AllocEr
 /// Appends the numbers of a run, each after their name.
 fn push_numbers(line: &mut String, name: &str, run: Run<'_>) -> Result<(), AllocError>
     ensures { OnOk result (string_bytes line.new ≡ string_bytes line.old
-        ++ numbers_labels name.now (low_numbers (run_numbers run.entry.bytes.now))) }
+        ++ numbers_labels name.now
+        (parts_of Number (held_numbers (kind_view run.entry.kind) run.entry.bytes.now))) }
 {
     for number in run.numbers() {
-        push_number(line, name, u64::from(number))?;
+        push_number(line, name, number)?;
     }
     Ok(())
 }

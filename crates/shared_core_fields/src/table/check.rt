@@ -219,11 +219,8 @@ fn check_number(
     if !is_written_number(next.field.kind, value) {
         return None;
     }
-    if next.field.is_repeated {
-        if let Kind::U32 = next.field.kind {
-            return None;
-        }
-    } else if next.is_plain && value == 0 {
+    // numbers of a list are in a packed run
+    if next.field.is_repeated || next.is_plain && value == 0 {
         return None;
     }
     put(
@@ -325,13 +322,16 @@ fn check_content<'a>(
             };
             check_message(out, at + 1, schema, content, inner)
         }
-        Kind::U32 => {
-            if !next.field.is_repeated || !is_written_run(content) {
+        kind => {
+            if !next.field.is_packed() || !is_written_run(kind, content) {
                 return None;
             }
-            Some(write_run(out, at, Run { bytes: content }, level, number))
+            let run = Run {
+                kind,
+                bytes: content,
+            };
+            Some(write_run(out, at, run, level, number))
         }
-        _ => None,
     }
 }
 

@@ -7,18 +7,22 @@ ghost use Rattle.shared_core_codec.specs.Table.{table};
 ghost use Rattle.shared_core_fields.specs.Fields.{message_fields};
 ghost use Rattle.shared_core_fields.specs.Rows.{field_rows, fields_rows, table_rows, run_rows, value_entry};
 ghost use Rattle.shared_core_fields.specs.Rows.{WritesRows, IsExact, bytes_entry};
-ghost use Rattle.shared_core_fields.specs.Runs.{run_numbers};
+ghost use Rattle.shared_core_fields.specs.NumberValues.{number_value};
+ghost use Rattle.shared_core_fields.specs.Runs.{held_numbers, run_numbers};
 ghost use Rattle.shared_core_fields.specs.Views.{IsAt, field_part, value_bytes};
-ghost use Rattle.shared_core_wire.specs.Schema.{U32, Enumeration, Message};
+ghost use Rattle.shared_core_wire.specs.Schema.{Enumeration, Message};
 ghost use Rattle.shared_core_wire.specs.Canonical.{canonical_payload, written_number};
-ghost use Rattle.shared_core_codec.specs.FieldParts.{enum_number};
-ghost use Rattle.shared_core_wire.specs.Overlay.{low_numbers};
+ghost use Rattle.shared_core_codec.specs.FieldParts.{enum_number, parts_of};
+ghost use Rattle.shared_core_codec.specs.ProgramRows.{kind_view};
+ghost use Rattle.shared_core_wire.specs.Value.{Number};
 
-use super::FieldEntry;
+use super::{FieldEntry, kind_number};
 use crate::fields::{CanonicalPayload, Field, FieldValue};
 use crate::runs::Run;
 use shared_core_codec::any_table::ProtocolSchemas;
+use shared_core_codec::rows::Kind;
 use shared_core_wire::records::LEVELS;
+use shared_core_wire::varint::low_32;
 
 /// Writes the entries of the fields of all levels of a canonical payload, in order, at the front of a slice: as many as
 /// there is room for. Returns how many the payload has, at most as many as it has bytes. Does not allocate, and makes
@@ -121,16 +125,15 @@ pub(super) fn write_run(
     requires few { at + length (run_numbers run.bytes.now) < 2 ^ 63 }
     // numbers have no bytes, whatever the payload
     ensures rows { (payload : List ℕ) → WritesRows payload
-        (run_rows level number U32 (low_numbers (run_numbers run.entry.bytes.now))) at out.old out.new }
+        (run_rows level number (kind_view run.entry.kind)
+        (parts_of Number (held_numbers (kind_view run.entry.kind) run.entry.bytes.now))) at out.old out.new }
     ensures count { result ≡ at + length (run_numbers run.entry.bytes.now) }
 {
+    let kind = kind_number(run.kind);
     let mut count = at;
     for value in run.numbers() {
-        put(
-            out,
-            count,
-            entry_of(FieldValue::U32(value), number, 0, level),
-        );
+        let written = written_number(run.kind, value);
+        put(out, count, number_entry(kind, written, number, level));
         count += 1;
     }
     count
@@ -178,9 +181,14 @@ fn entry_of(value: FieldValue<'_>, number: u32, offset: usize, level: u32) -> Fi
         FieldValue::Message(message) => {
             message_entry(message.schema, message.bytes, number, offset, level)
         }
-        FieldValue::Numbers(run) => {
-            bytes_entry(FieldEntry::U32, 0, run.bytes.len(), number, offset, level)
-        }
+        FieldValue::Numbers(run) => bytes_entry(
+            kind_number(run.kind),
+            0,
+            run.bytes.len(),
+            number,
+            offset,
+            level,
+        ),
     }
 }
 
@@ -244,6 +252,17 @@ pub(super) fn number_entry(kind: u64, value: u64, number: u32, level: u32) -> Fi
         value,
         offset: 0,
         length: 0,
+    }
+}
+
+/// The number that is written for one that a value of a kind holds.
+fn written_number(kind: Kind, value: u64) -> u64
+    requires { number_value (kind_view kind) value ≡ value }
+    ensures { result ≡ written_number (kind_view kind) value }
+{
+    match kind {
+        Kind::Enumeration => sign_extended(low_32(value).cast_signed()),
+        _ => value,
     }
 }
 

@@ -1,9 +1,8 @@
-use Rattle.std.proofs.Common.{◌≡◌, [], ◌∷◌, ◌++◌, true, false, ◌-◌, ◌+◌, List, ℕ, map, sym, ap, refl, ◌∙◌, arith, rules}
+use Rattle.std.proofs.Common.{◌≡◌, [], ◌∷◌, ◌++◌, true, false, ◌-◌, List, ℕ, map, sym, ap, ◌∙◌, arith, rules}
 use Rattle.std.proofs.Common.{append_assoc, subst, length}
-use Rattle.std.specs.Prelude.{IfOk}
 use Rattle.std.proofs.lemmas.List.{append-nil, nil_from_length}
 use Rattle.shared_core_wire.specs.Acceptance.{accepts_message, accepts_payload, accepts_record}
-use Rattle.shared_core_wire.specs.Schema.{Kind, Row}
+use Rattle.shared_core_wire.specs.Schema.{Row}
 use Rattle.shared_core_codec.proofs.Checked.{message_below_in, message_zero_in}
 use Rattle.shared_core_codec.specs.ProgramRows.{kind_view}
 use Rattle.shared_core_canonical.specs.Rows.{rows_record, nested_bytes, records_read, row_record, AllPass}
@@ -14,7 +13,9 @@ use Rattle.shared_core_canonical.proofs.canonical.+message.Goals as goal
 
 pub append_repeated-append_run-requires : goal.append_repeated-append_run-requires
 append_repeated-append_run-requires g t c = runs_pass (g.T.Schemas.table c.args.schemas.now) c.args.source.now.left
-    c.args.field.number (kind_view c.args.field.kind) c.args.source.now.bytes.now (ap kind_view c.in-U32.is) c.requires
+    c.args.field.number (kind_view c.args.field.kind) c.args.source.now.bytes.now (sym c.is_number.ensures ∙
+    c.if-is_number.true)
+    c.requires
 
 pub append_repeated-append_messages-requires : goal.append_repeated-append_messages-requires
 append_repeated-append_messages-requires g t c =

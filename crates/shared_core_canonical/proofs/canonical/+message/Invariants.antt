@@ -1,7 +1,5 @@
 use Rattle.std.proofs.Common.{◌≡◌, ◌+◌, ◌*◌, ◌++◌, flat_map, length, map, true}
-use Rattle.std.specs.List.{list_all}
 use Rattle.shared_core_wire.specs.RecordsLeft.{records_left}
-use Rattle.shared_core_wire.specs.ReadRecords.{read_records}
 use Rattle.shared_core_wire.specs.Acceptance.{accepts_message, accepts_record}
 use Rattle.shared_core_codec.specs.Checking.{all_read}
 use Rattle.shared_core_canonical.specs.Rows.{records_of, records_read, nested_bytes, rows_record, message_element}

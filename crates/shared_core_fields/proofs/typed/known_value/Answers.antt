@@ -3,46 +3,16 @@ use Rattle.std.proofs.lemmas.Bool.{ltb-true}
 use Rattle.std.proofs.lemmas.Str.{IsUtf8-from_is_utf8}
 use Rattle.shared_core_codec.specs.ProgramRows.{kind_view}
 use Rattle.shared_core_wire.specs.Grammar.{Length}
-use Rattle.shared_core_wire.specs.Schema.{U32, Text, ByteString, Message}
+use Rattle.shared_core_wire.specs.Schema.{Text, ByteString, Message}
 use Rattle.shared_core_fields.specs.Coming.{is_short, is_typed_in}
-use Rattle.shared_core_fields.proofs.Fronts.{delimited}
 use Rattle.shared_core_fields.proofs.Reading.{typed_text}
-use Rattle.shared_core_fields.proofs.ValueParts.{of_text, of_bytes, of_message, typed_run, typed_message, parts_are}
+use Rattle.shared_core_fields.proofs.ValueParts.{of_text, of_bytes, of_message, typed_message, parts_are}
 use Rattle.shared_core_fields.proofs.typed.known_value.Goals as goal
-
--- ---- runs
-
-pub split_at-requires : goal.split_at-requires
-split_at-requires g c =
-    let table = g.T.Tabled.table_of c.args.schemas in
-    (delimited table (kind_view c.args.found.kind, c.args.found.is_repeated) c.args.wire c.args.number c.args.bytes.now
-    c.if-wire-eq2.true c.requires).enough
-
-pub invariant_of-result : goal.invariant_of-result
-invariant_of-result g c =
-    let table = g.T.Tabled.table_of c.args.schemas in
-    let k = kind_view c.args.found.kind in
-    let r = c.args.found.is_repeated in
-    let d = delimited table (k, r) c.args.wire c.args.number c.args.bytes.now c.if-wire-eq2.true c.requires in
-    let bytes = c.split_at.result.0.now in
-    record {
-      written = typed_run table k r bytes (ap kind_view c.in-U32.is)
-          (ap (λ (bs : List ℕ). is_typed_in table (k, r) (Length bs)) c.split_at.ensures.front ∙ d.typed);
-    }
-
-pub returns-then-wire-eq2-clause-parts : goal.returns-then-wire-eq2-clause-parts
-returns-then-wire-eq2-clause-parts g c =
-    let table = g.T.Tabled.table_of c.args.schemas in
-    let k = kind_view c.args.found.kind in
-    let r = c.args.found.is_repeated in
-    let d = delimited table (k, r) c.args.wire c.args.number c.args.bytes.now c.if-wire-eq2.true c.requires in
-    parts_are table k U32 r c.args.wire c.args.number c.args.bytes.now c.split_at.result.0.now c.split_at.result.1.now d
-    (ap kind_view c.in-U32.is) c.split_at.ensures.front c.split_at.ensures.back
 
 -- ---- texts
 
-pub split_at-requires-in-Text : goal.split_at-requires-in-Text
-split_at-requires-in-Text g c =
+pub split_at-requires : goal.split_at-requires
+split_at-requires g c =
     let table = g.T.Tabled.table_of c.args.schemas in
     (of_text table (kind_view c.args.found.kind) c.args.found.is_repeated c.args.wire c.args.number c.args.bytes.now
     c.requires (ap kind_view c.in-Text.is)).enough
@@ -54,9 +24,9 @@ from_utf8_unchecked-text-requires g c =
     let r = c.args.found.is_repeated in
     let text = ap kind_view c.in-Text.is in
     let d = of_text table k r c.args.wire c.args.number c.args.bytes.now c.requires text in
-    let bytes = c.split_at-in-Text.result.0.now in
+    let bytes = c.split_at.result.0.now in
     IsUtf8-from_is_utf8 bytes (typed_text table k r (Length bytes) bytes text refl
-    (ap (λ (bs : List ℕ). is_typed_in table (k, r) (Length bs)) c.split_at-in-Text.ensures.front ∙ d.typed))
+    (ap (λ (bs : List ℕ). is_typed_in table (k, r) (Length bs)) c.split_at.ensures.front ∙ d.typed))
 
 pub returns-in-Text-clause-parts : goal.returns-in-Text-clause-parts
 returns-in-Text-clause-parts g c =
@@ -66,8 +36,8 @@ returns-in-Text-clause-parts g c =
     let text = ap kind_view c.in-Text.is in
     let d = of_text table k r c.args.wire c.args.number c.args.bytes.now c.requires text in
     parts_are table k Text r c.args.wire c.args.number c.args.bytes.now c.from_utf8_unchecked-text.result.now
-    c.split_at-in-Text.result.1.now d text (c.from_utf8_unchecked-text.ensures ∙ c.split_at-in-Text.ensures.front)
-    c.split_at-in-Text.ensures.back
+    c.split_at.result.1.now d text (c.from_utf8_unchecked-text.ensures ∙ c.split_at.ensures.front)
+    c.split_at.ensures.back
 
 -- ---- bytes
 
@@ -96,8 +66,8 @@ split_at-requires-in-Message g c =
     (of_message table (kind_view c.args.found.kind) c.args.found.is_repeated c.args.wire c.args.number c.args.bytes.now
     c.requires c.in-Message.schema (ap kind_view c.in-Message.is)).enough
 
-pub invariant_of-result-in-Message : goal.invariant_of-result-in-Message
-invariant_of-result-in-Message g c =
+pub invariant_of-result : goal.invariant_of-result
+invariant_of-result g c =
     let table = g.T.Tabled.table_of c.args.schemas in
     let k = kind_view c.args.found.kind in
     let r = c.args.found.is_repeated in

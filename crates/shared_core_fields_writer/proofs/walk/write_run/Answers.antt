@@ -24,19 +24,20 @@ write_length-at-requires-clause-few c =
 
 pub returns-clause-written : goal.returns-clause-written
 returns-clause-written c s rows depth =
-    let rest : List ℕ = varints (run_numbers c.args.level c.args.number (entries_from c.args.source.now
+    let rest : List ℕ = varints (run_numbers c.args.level c.args.field.number (entries_from c.args.source.now
     (c.args.at.now.entry + 1))) in
-    let content : List ℕ = varints (c.args.value ∷ run_numbers c.args.level c.args.number (entries_from
+    let content : List ℕ = varints (c.args.value ∷ run_numbers c.args.level c.args.field.number (entries_from
     c.args.source.now (c.args.at.now.entry + 1))) in
     let one : length (shortest_varint 0) ≡ 1 = ap length (shortest_small 0 (omega arith)) in
     let end = c.write_numbers.new.at.byte in
     let few : c.write_varint-start.result - c.write_key-place.result ≤ length (shortest_varint
     (end - c.write_varint-start.result)) = omega
     (arith, one, c.write_varint-start.ensures.written.count, some_bytes (end - c.write_varint-start.result)) in (
-      length_record c.args.number content,
-      ap (onto (length_record c.args.number content)) (c.in_ok-write_numbers.ensures.walked s rows depth),
+      length_record c.args.field.number content,
+      ap (onto (length_record c.args.field.number content)) (c.in_ok-write_numbers.ensures.walked s rows depth),
       wrote_both c.args.out.now c.write_key-place.new.out c.write_length-at.new.out c.args.at.now.byte
-          c.write_key-place.result c.write_length-at.result (key_bytes c.args.number 2) _ c.write_key-place.ensures
+          c.write_key-place.result c.write_length-at.result (key_bytes c.args.field.number 2) _
+          c.write_key-place.ensures
           (put_nested c.write_key-place.new.out c.write_varint-start.new.out c.write_numbers.new.out
           c.write_length-at.new.out c.write_key-place.result c.write_varint-start.result end c.write_length-at.result
           (shortest_varint 0) content c.write_varint-start.ensures.written

@@ -191,7 +191,7 @@ pub check_content-returns-else-not-is_written_run-clause-rows :
 check_content-returns-else-not-is_written_run-clause-rows t c =
     run_to c.args.place.whole.now c.args.place.left c.args.number (kind_view c.args.next.field.kind)
     c.args.next.field.is_repeated c.args.content.now c.args.at c.write_run.result c.args.out.now c.write_run.new.out
-    (ap kind_view c.in-U32.is) c.if-not-next-2.false c.write_run.ensures.count
+    (sym c.is_packed.ensures ∙ c.if-not-is_packed.false) c.write_run.ensures.count
     (c.write_run.ensures.rows c.args.place.whole.now)
 
 pub check_content-returns-else-not-is_written_run-clause-few :

@@ -1,21 +1,23 @@
 use Rattle.std.proofs.Common.{[], ◌∷◌, ap, sym, ◌∙◌, subst, arith, length}
+use Rattle.shared_core_codec.specs.ProgramRows.{kind_view}
 use Rattle.shared_core_fields.specs.Rows.{entry_row, IsPlaced}
-use Rattle.shared_core_fields.specs.Runs.{run_numbers}
-use Rattle.shared_core_fields.proofs.Written.{run_field, run_length, own_entry, one}
+use Rattle.shared_core_fields.proofs.Written.{run_field, held_length, own_entry, one}
 use Rattle.shared_core_fields.proofs.table.write.write_field.Goals as goal
 
 pub write_run-requires : goal.write_run-requires
 write_run-requires c =
     let f = c.args.field in
     let rows = run_field c.args.place.level f.number f.is_repeated f.value c.in-Numbers.run' c.in-Numbers.is in
-    let many = ap length rows ∙ run_length c.args.place.level f.number (run_numbers c.in-Numbers.run'.bytes.now) in
+    let many = ap length rows ∙ held_length c.args.place.level f.number (kind_view
+    c.in-Numbers.run'.kind) c.in-Numbers.run'.bytes.now in
     record { few = omega (arith, many, c.requires.few) }
 
 pub returns-in-Numbers-clause-count : goal.returns-in-Numbers-clause-count
 returns-in-Numbers-clause-count c =
     let f = c.args.field in
     let rows = run_field c.args.place.level f.number f.is_repeated f.value c.in-Numbers.run' c.in-Numbers.is in
-    let many = ap length rows ∙ run_length c.args.place.level f.number (run_numbers c.in-Numbers.run'.bytes.now) in
+    let many = ap length rows ∙ held_length c.args.place.level f.number (kind_view
+    c.in-Numbers.run'.kind) c.in-Numbers.run'.bytes.now in
     omega (arith, many, c.write_run.ensures.count)
 
 pub returns : goal.returns
