@@ -9,6 +9,7 @@ use shared_core_codec::loaded_rows::LoadedRow;
 use shared_core_codec::loaded_table::LoadedSchemas;
 use shared_core_codec::rows::{Field, Kind};
 use shared_core_codec::table_error::{TableError, TableFault};
+use shared_core_json::digits::Digits;
 use shared_core_json::loaded_names::LoadedName;
 use shared_core_json::named_table::NamedTable;
 use shared_core_json_reader::{
@@ -23,8 +24,6 @@ pub enum NoForm {
     Kind,
     /// It is a map.
     Map,
-    /// It is a list of numbers that are written as one record, of another type than uint32.
-    PackedList,
 }
 
 /// A field that is passed over as an unknown number is.
@@ -62,26 +61,29 @@ fn message_form(set: &DescriptorSet, field: &FieldDescriptor) -> Form {
     }
 }
 
-/// What a number is in a table: only lists of uint32 are packed.
-fn number_form(field: &FieldDescriptor, kind: Kind) -> Form {
-    if field.presence == Presence::Repeated && kind != Kind::U32 {
-        return Form::None(NoForm::PackedList);
-    }
-    Form::Kind(kind)
-}
-
-/// What a field is in a table.
+/// What a field is in a table. Lists of numbers are read packed and one by one, whatever the set says, and written
+/// packed, as each reader accepts them. A number with a sign is of the kind of its bytes; its digits tell it apart in
+/// JSON.
 fn form_of(set: &DescriptorSet, field: &FieldDescriptor) -> Form {
     match field.kind {
-        FieldKind::Uint32 => number_form(field, Kind::U32),
-        FieldKind::Uint64 => number_form(field, Kind::U64),
-        FieldKind::Boolean => number_form(field, Kind::Boolean),
+        FieldKind::Uint32 | FieldKind::Sint32 => Form::Kind(Kind::U32),
+        FieldKind::Uint64 | FieldKind::Int64 | FieldKind::Sint64 => Form::Kind(Kind::U64),
+        FieldKind::Boolean => Form::Kind(Kind::Boolean),
         // int32 is written as an enum is
-        FieldKind::Enumeration | FieldKind::Int32 => number_form(field, Kind::Enumeration),
+        FieldKind::Enumeration | FieldKind::Int32 => Form::Kind(Kind::Enumeration),
         FieldKind::Text => Form::Kind(Kind::Text),
         FieldKind::ByteString => Form::Kind(Kind::ByteString),
         FieldKind::Message => message_form(set, field),
         _ => Form::None(NoForm::Kind),
+    }
+}
+
+/// How the numbers of a field are written in JSON.
+fn digits_of(kind: FieldKind) -> Digits {
+    match kind {
+        FieldKind::Int64 => Digits::Signed,
+        FieldKind::Sint32 | FieldKind::Sint64 => Digits::ZigZag,
+        _ => Digits::Unsigned,
     }
 }
 
@@ -233,6 +235,7 @@ fn names_of(alloc: Global, set: &DescriptorSet) -> Result<Vec<Vec<LoadedName>>, 
                 own.push(LoadedName {
                     number: field.number,
                     name: String::from_str(alloc, field.json_name.as_str())?,
+                    digits: digits_of(field.kind),
                 })?;
             }
         }

@@ -1,33 +1,45 @@
 -- What a well-formed payload means fits its schema, is at most one hundred levels deep, and its bytes are the
 -- payload's.
 use Rattle.std.proofs.Common.{◌≡◌, ℕ, zero, suc, ◌^◌, ◌<◌, ◌≤◌, List, [], ◌∷◌, ◌++◌, Bool, true, false, cond, ◌&&◌}
-use Rattle.std.proofs.Common.{Option, Some, None, refl, sym, ap, subst, ◌∙◌, append-nil, arith, eqb, eq-eqb}
-use Rattle.std.proofs.lemmas.Bool.{eqb-true}
+use Rattle.std.proofs.Common.{Option, Some, None, refl, sym, ap, subst, ◌∙◌, append-nil, arith, eqb, eq-eqb, ltb}
+use Rattle.std.proofs.lemmas.Bool.{eqb-true, lt-ltb, ltb-true}
 use Rattle.std.proofs.lemmas.Str.{is_utf8-from_IsUtf8, IsUtf8-nil}
 use Rattle.std.specs.List.{list_all}
 use Rattle.base64.specs.GeneralPurpose.{IsBytes}
 use Rattle.base64.proofs.EngineFacts.{front_bytes}
 use Rattle.shared_core_wire.specs.Grammar.{RecordValue, Varint, Fixed64, Length, Group, Fixed32, FieldRecord, content}
-use Rattle.shared_core_wire.specs.Grammar.{IsRecordBody, IsGroupContent, IsRecordListWithin}
+use Rattle.shared_core_wire.specs.Grammar.{IsVarint, IsSequence, IsRecordBody, IsGroupContent, IsRecordListWithin}
 use Rattle.shared_core_wire.specs.Reader.{packed_numbers, record_list}
 use Rattle.shared_core_wire.specs.Schema.{Kind, Row, U32, U64, Boolean, Enumeration, Text, ByteString, Message, Plain}
 use Rattle.shared_core_wire.specs.Schema.{Optional, Repeated, OneOf, numbers, includes, member_kind}
 use Rattle.shared_core_wire.specs.Value.{Part, Parts, Absent, Number, Bytes, Nested, Elements, Member, nil, cons, ◌+++◌}
 use Rattle.shared_core_wire.specs.Value.{one_part, default_of, empty_value}
-use Rattle.shared_core_wire.specs.Acceptance.{NestedAcceptance, accepts_number, accepts_value, accepts_element}
-use Rattle.shared_core_wire.specs.Acceptance.{accepts_in_row, row_allows, accepts_record, some_passes, accepts_message}
+use Rattle.shared_core_wire.specs.Acceptance.{NestedAcceptance, accepts_number, accepts_numbers, accepts_value}
+use Rattle.shared_core_wire.specs.Acceptance.{accepts_element, accepts_in_row, row_allows}
+use Rattle.shared_core_wire.specs.Acceptance.{accepts_record, some_passes, accepts_message}
 use Rattle.shared_core_wire.specs.Overlay.{NestedOverlay, last, values, joined_contents, own_records, all_numbered}
-use Rattle.shared_core_wire.specs.Overlay.{last_run, number_part, scalar_part, message_in, low_numbers, packed_elements}
-use Rattle.shared_core_wire.specs.Overlay.{with_elements, member_at, singular_of, singular_over, elements_of}
-use Rattle.shared_core_wire.specs.Overlay.{all_elements, row_over, rows_over, or_empty, message_overlay}
+use Rattle.shared_core_wire.specs.Overlay.{last_run, number_part, scalar_part}
+use Rattle.shared_core_wire.specs.Overlay.{message_in, number_parts, packed_elements}
+use Rattle.shared_core_wire.specs.Overlay.{with_elements, member_at, singular_of, singular_over, number_elements}
+use Rattle.shared_core_wire.specs.Overlay.{elements_of, all_elements, row_over, rows_over, or_empty, message_overlay}
 use Rattle.shared_core_wire.specs.Canonical.{kind_of, part_levels, levels}
 use Rattle.shared_core_wire.specs.Fitting.{is_single, has_shape, PartFits, ElementsFit, Fits}
 use Rattle.shared_core_wire.proofs.Merging.{accepts_payload-append}
 use Rattle.shared_core_wire.proofs.RecordLists.{records_reads}
 use Rattle.shared_core_wire.proofs.Runs.{and_split, and_join}
+use Rattle.shared_core_wire.proofs.Sequences.{packed_reads}
 use Rattle.shared_core_codec.specs.Table.{table}
 use Rattle.shared_core_codec.specs.Payloads.{IsAccepted, payload_meaning}
 use Rattle.shared_core_json.proofs.PlainScalars.{is_scalar, plain_scalars, have_scalars}
+
+-- ---- numbers
+
+smalls : (bytes ns : List ℕ) → IsSequence IsVarint bytes ns → list_all (λ n. ltb n (2 ^ 64)) ns ≡ true
+smalls bytes [] h = refl
+smalls bytes (n ∷ ns) h = and_join _ _ (lt-ltb n (2 ^ 64) h.3.fits) (smalls h.1 ns h.4)
+
+small_numbers : (bytes ns : List ℕ) → packed_numbers bytes ≡ Some ns → list_all (λ n. ltb n (2 ^ 64)) ns ≡ true
+small_numbers bytes ns e = smalls bytes ns (packed_reads bytes ns e)
 
 -- ---- what the bytes of a value are
 
@@ -215,21 +227,6 @@ module _ (bound : ℕ) where
             (h.bytes.0, more.bytes);
       }
 
-  low_listed : (ns : List ℕ) → Listed (low_numbers ns) U32
-  unfolding PartFits part_levels
-  low_listed [] = record { fits = tt; low = omega arith; bytes = tt }
-  low_listed (n ∷ ns) = let more = low_listed ns in record {
-    fits = (refl, omega arith, more.fits);
-    low = omega
-        (arith, more.low);
-    bytes = (tt, more.bytes);
-  }
-
-  run_listed : (o : Option (List ℕ)) → Listed (packed_elements o) U32
-  unfolding PartFits part_levels
-  run_listed None = record { fits = tt; low = omega arith; bytes = tt }
-  run_listed (Some ns) = low_listed ns
-
   -- ---- scalars
 
   truth_fits : (b : Bool) → cond b 0 1 < 2
@@ -245,6 +242,26 @@ module _ (bound : ℕ) where
   number_single Text n a h = absurd cc
   number_single ByteString n a h = absurd cc
   number_single (Message s) n a h = absurd cc
+
+  numbers_listed : (k : Kind) (ns : List ℕ) → accepts_number k ≡ true → list_all (λ n. ltb n (2 ^ 64)) ns ≡ true →
+      Listed (number_parts k ns) k
+  unfolding PartFits part_levels
+  numbers_listed k [] a h = record { fits = tt; low = omega arith; bytes = tt }
+  numbers_listed k (n ∷ ns) a h =
+      let e = and_split _ _ h in
+      let one = number_single k n a (ltb-true _ _ e.0) in
+      let more = numbers_listed k ns a e.1 in
+      record {
+        fits = (one.single, one.fits, more.fits);
+        low = omega (arith, one.low, more.low);
+        bytes = (one.bytes, more.bytes);
+      }
+
+  run_listed : (k : Kind) (o : Option (List ℕ)) → accepts_number k ≡ true → ((ns : List ℕ) → o ≡ Some ns → list_all
+      (λ n. ltb n (2 ^ 64)) ns ≡ true) → Listed (packed_elements k o) k
+  unfolding PartFits part_levels
+  run_listed k None a h = record { fits = tt; low = omega arith; bytes = tt }
+  run_listed k (Some ns) a h = numbers_listed k ns a (h ns refl)
 
   module _ (nested : NestedOverlay) (accepts : NestedAcceptance)
       (some : (s : ℕ) (b : List ℕ) → accepts s b ≡ true → 1 ≤ bound)
@@ -341,22 +358,26 @@ module _ (bound : ℕ) where
 
     -- ---- elements of occurrences
 
+    number_listed : (k : Kind) (w : RecordValue) → accepts_number k ≡ true → accepts_numbers w ≡ true → ValueRead w →
+        Listed (number_elements k w) k
+    number_listed k (Varint n) n_is a h = one_listed _ k (number_single k n n_is h)
+    number_listed k (Length b) n_is a h = run_listed k (packed_numbers b) n_is (λ ns e. small_numbers b ns e)
+    number_listed k (Fixed64 b) n_is a h = absurd cc
+    number_listed k (Group b) n_is a h = absurd cc
+    number_listed k (Fixed32 b) n_is a h = absurd cc
+
     element_listed : (k : Kind) (w : RecordValue) → accepts_element accepts k w ≡ true → ValueRead w → Listed
         (elements_of table nested k w) k
-    element_listed U32 (Length b) a h = run_listed (packed_numbers b)
-    element_listed U32 (Varint n) a h = one_listed _ U32 (number_single U32 n a h)
-    element_listed U32 (Fixed64 b) a h = absurd cc
-    element_listed U32 (Group b) a h = absurd cc
-    element_listed U32 (Fixed32 b) a h = absurd cc
+    element_listed U32 w a h = number_listed U32 w refl a h
+    element_listed U64 w a h = number_listed U64 w refl a h
+    element_listed Boolean w a h = number_listed Boolean w refl a h
+    element_listed Enumeration w a h = number_listed Enumeration w refl a h
     element_listed (Message s) (Length b) a h = one_listed _ (Message s)
         (good_single s _ (good s (empty_value (table s)) b a h (empty_good s (some s b a))))
     element_listed (Message s) (Varint n) a h = absurd cc
     element_listed (Message s) (Fixed64 b) a h = absurd cc
     element_listed (Message s) (Group b) a h = absurd cc
     element_listed (Message s) (Fixed32 b) a h = absurd cc
-    element_listed U64 w a h = one_listed _ U64 (scalar_single U64 w refl a h)
-    element_listed Boolean w a h = one_listed _ Boolean (scalar_single Boolean w refl a h)
-    element_listed Enumeration w a h = one_listed _ Enumeration (scalar_single Enumeration w refl a h)
     element_listed Text w a h = one_listed _ Text (scalar_single Text w refl a h)
     element_listed ByteString w a h = one_listed _ ByteString (scalar_single ByteString w refl a h)
 

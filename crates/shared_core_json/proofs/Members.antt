@@ -7,7 +7,8 @@ use Rattle.std.specs.Prelude.{if◌then◌else◌}
 use Rattle.json.specs.Token.{Token, begin_object, end_object, begin_array, end_array, key}
 use Rattle.json.specs.Json.{Members, member, array}
 use Rattle.json.specs.Tree.{json_tokens, members_tokens, items_tokens}
-use Rattle.shared_core_wire.specs.Schema.{Table, Kind, Row, U32, Plain, Optional, Repeated, OneOf, numbers, includes}
+use Rattle.shared_core_wire.specs.Schema.{Table, Kind, Row, Plain, Optional, Repeated, OneOf, numbers, includes}
+use Rattle.shared_core_wire.specs.Acceptance.{accepts_number}
 use Rattle.shared_core_wire.specs.Schema.{member_kind, are_distinct, all_numbers}
 use Rattle.shared_core_wire.specs.Value.{Part, Parts, Absent, Number, Bytes, Nested, Elements, Member, nil, cons}
 use Rattle.shared_core_wire.specs.Fitting.{has_shape, Fits}
@@ -20,10 +21,10 @@ use Rattle.shared_core_codec.specs.Tables.{IsTable}
 use Rattle.shared_core_wire.specs.Encoding.{is_field_number}
 use Rattle.std.specs.List.{list_all}
 use Rattle.shared_core_codec.specs.RowEncoding.{unpacked}
-use Rattle.shared_core_fields.specs.Fields.{FieldPart, each_field, row_fields, message_fields}
-use Rattle.shared_core_json.specs.Fields.{Names, name_of, named}
+use Rattle.shared_core_fields.specs.Fields.{FieldPart, list_field, each_field, row_fields, message_fields}
+use Rattle.shared_core_json.specs.Fields.{Names, SchemaNames, name_of, named}
 use Rattle.shared_core_json.specs.Form.{is_present, member_if, part_json_in, items_json_in, members_json_in}
-use Rattle.shared_core_json.specs.Form.{json_with_in}
+use Rattle.shared_core_json.specs.Form.{json_with_in, writing}
 use Rattle.shared_core_json.specs.Written.{end_tokens, lead_tokens, open_list_after, fields_tokens}
 
 regroup : {A : Type 0} (a b c d e : List A) → ((a ++ b) ++ (c ++ d)) ++ e ≡ a ++ (b ++ (c ++ (d ++ e)))
@@ -53,36 +54,37 @@ no_zero (n ∷ ns) h = let e = and_split _ _ h in by_test (eqb 0 n) refl (ltb-tr
 own_number : (n : ℕ) → includes (n ∷ []) n ≡ true
 own_number n = rw (eq-eqb n n refl) refl
 
-module _ (table : Table) (all_names : Names) (texts : Bool) (names : List (ℕ × List ℕ)) where
+module _ (table : Table) (all_names : Names) (texts : Bool) (names : SchemaNames) where
   -- a field that is not an element
   one : (n : ℕ) (k : Kind) (repeated : Bool) (p : Part) (rest : List FieldPart) (ms : Members) (open_list : ℕ)
       → may_recur (k, repeated) ≡ false → eqb open_list n ≡ false
       → fields_tokens table all_names texts names 0 rest ++ end_object ∷ [] ≡ members_tokens ms
       → fields_tokens table all_names texts names open_list ((n, (k, repeated), p) ∷ rest) ++ end_object ∷ []
-      ≡ end_tokens open_list ++ members_tokens (member (name_of names n) (part_json_in table all_names texts p k) ms)
+      ≡ end_tokens open_list ++ members_tokens (member (name_of names n) (part_json_in table all_names (writing texts
+      names n) p k) ms)
   unfolding fields_tokens
   one n k repeated p rest ms open_list m ne next =
       rw (m, ne) (regroup (end_tokens open_list) (key (name_of names n) ∷ [])
-      (json_tokens (part_json_in table all_names texts p k))
+      (json_tokens (part_json_in table all_names (writing texts names n) p k))
       (fields_tokens table all_names texts names 0 rest) (end_object ∷ [])
       ∙ ap (λ (ts : List Token). end_tokens open_list ++ (key (name_of names n) ∷
-      (json_tokens (part_json_in table all_names texts p k) ++
+      (json_tokens (part_json_in table all_names (writing texts names n) p k) ++
       ts))) next)
 
   -- the elements of an open list
   others : (n : ℕ) (k : Kind) (ps : Parts) (rest : List FieldPart) (tail : List Token) → unpacked k ≡ true
       → fields_tokens table all_names texts names n rest ++ end_object ∷ [] ≡ end_array ∷ tail
       → fields_tokens table all_names texts names n (each_field n k ps ++ rest) ++ end_object ∷ []
-      ≡ items_tokens (items_json_in table all_names texts ps k) ++ tail
+      ≡ items_tokens (items_json_in table all_names (writing texts names n) ps k) ++ tail
   unfolding fields_tokens part_json_in
   others n k nil rest tail u next = next
   others n k (cons p ps) rest tail u next =
-      let json = json_tokens (part_json_in table all_names texts p k) in
+      let json = json_tokens (part_json_in table all_names (writing texts names n) p k) in
       rw (eq-eqb n n refl, u) (append_assoc json (fields_tokens table all_names texts names n
       (each_field n k ps ++ rest))
       (end_object ∷ [])
       ∙ ap (λ (ts : List Token). json ++ ts) (others n k ps rest tail u next)
-      ∙ sym (append_assoc json (items_tokens (items_json_in table all_names texts ps k)) tail))
+      ∙ sym (append_assoc json (items_tokens (items_json_in table all_names (writing texts names n) ps k)) tail))
 
   -- a list
   list : (n : ℕ) (k : Kind) (p : Part) (ps : Parts) (rest : List FieldPart) (ms : Members) (open_list : ℕ)
@@ -90,10 +92,10 @@ module _ (table : Table) (all_names : Names) (texts : Bool) (names : List (ℕ �
       → fields_tokens table all_names texts names n rest ++ end_object ∷ [] ≡ end_tokens n ++ members_tokens ms
       → fields_tokens table all_names texts names open_list (each_field n k (cons p ps) ++ rest) ++ end_object ∷ []
       ≡ end_tokens open_list ++ members_tokens (member (name_of names n) (array
-      (items_json_in table all_names texts (cons p ps) k)) ms)
+      (items_json_in table all_names (writing texts names n) (cons p ps) k)) ms)
   unfolding fields_tokens part_json_in
   list n k p ps rest ms open_list u ne nz next =
-      let json = json_tokens (part_json_in table all_names texts p k) in
+      let json = json_tokens (part_json_in table all_names (writing texts names n) p k) in
       let ended : fields_tokens table all_names texts names n rest ++ end_object ∷ [] ≡ end_array ∷ members_tokens ms =
       rw nz at next in
       rw (u, ne) (regroup (end_tokens open_list) (key (name_of names n) ∷ begin_array ∷ []) json
@@ -101,7 +103,8 @@ module _ (table : Table) (all_names : Names) (texts : Bool) (names : List (ℕ �
       ∙ ap (λ (ts : List Token). end_tokens open_list ++ (key (name_of names n) ∷ (begin_array ∷ (json ++ ts))))
       (others n k ps rest (members_tokens ms) u ended)
       ∙ ap (λ (ts : List Token). end_tokens open_list ++ (key (name_of names n) ∷ (begin_array ∷ ts)))
-      (sym (append_assoc json (items_tokens (items_json_in table all_names texts ps k)) (members_tokens ms))))
+      (sym (append_assoc json (items_tokens (items_json_in table all_names (writing texts names n) ps k))
+      (members_tokens ms))))
 
   module _ (rest : List FieldPart) (ms : Members) (open_list : ℕ) where
     -- a plain field, whose default is left out
@@ -113,9 +116,27 @@ module _ (table : Table) (all_names : Names) (texts : Bool) (names : List (ℕ �
         rest) ++
         end_object ∷ []
         ≡ end_tokens open_list ++ members_tokens (member_if (not default) (name_of names n)
-        (part_json_in table all_names texts p k) ms)
+        (part_json_in table all_names (writing texts names n) p k) ms)
     plain n k p true ne stay next = stay
     plain n k p false ne stay next = one n k false p rest ms open_list refl ne next
+
+    -- a repeated field, whose numbers are one field
+    listed : (n : ℕ) (k : Kind) (ps : Parts) (b : Bool) → accepts_number k ≡ b → eqb open_list n ≡ false → eqb n 0 ≡
+        false
+        → fields_tokens table all_names texts names open_list rest ++ end_object ∷ [] ≡ end_tokens open_list ++
+        members_tokens ms
+        → fields_tokens table all_names texts names 0 rest ++ end_object ∷ [] ≡ members_tokens ms
+        → fields_tokens table all_names texts names n rest ++ end_object ∷ [] ≡ end_tokens n ++ members_tokens ms
+        → fields_tokens table all_names texts names open_list ((if b then list_field n k ps else each_field n k ps) ++
+        rest) ++ end_object ∷ []
+        ≡ end_tokens open_list ++ members_tokens (member_if (is_present (Repeated n k) (Elements ps)) (name_of names n)
+        (part_json_in table all_names (writing texts names n) (Elements ps) k) ms)
+    unfolding part_json_in
+    listed n k nil true a ne nz stay next own = stay
+    listed n k nil false a ne nz stay next own = stay
+    listed n k (cons p ps) true a ne nz stay next own =
+        one n k true (Elements (cons p ps)) rest ms open_list (rw a refl) ne next
+    listed n k (cons p ps) false a ne nz stay next own = list n k p ps rest ms open_list (ap not a) ne nz own
 
     row : (row : Row) (p : Part) → includes (numbers row) open_list ≡ false → includes (numbers row) 0 ≡ false
         → has_shape row p ≡ true
@@ -127,7 +148,7 @@ module _ (table : Table) (all_names : Names) (texts : Bool) (names : List (ℕ �
         n ++ members_tokens ms)
         → fields_tokens table all_names texts names open_list (row_fields row p ++ rest) ++ end_object ∷ []
         ≡ end_tokens open_list ++ members_tokens (member_if (is_present row p) (name_of names (number_of row p))
-        (part_json_in table all_names texts p (kind_of row p)) ms)
+        (part_json_in table all_names (writing texts names (number_of row p)) p (kind_of row p)) ms)
     unfolding part_json_in
     row (Plain n k) Absent b z h stay next nextn = absurd cc
     row (Plain n k) (Elements ps) b z h stay next nextn = absurd cc
@@ -144,14 +165,9 @@ module _ (table : Table) (all_names : Names) (texts : Bool) (names : List (ℕ �
     row (Optional n k) (Member m p) b z h stay next nextn = absurd cc
     row (Optional n k) p b z h stay next nextn =
         one n k false p rest ms open_list refl (other_number (n ∷ []) open_list n b (own_number n)) next
-    row (Repeated n U32) (Elements nil) b z h stay next nextn = stay
-    row (Repeated n k) (Elements nil) b z h stay next nextn = stay
-    row (Repeated n U32) (Elements (cons p ps)) b z h stay next nextn =
-        one n U32 true (Elements (cons p ps)) rest ms open_list refl
-        (other_number (n ∷ []) open_list n b (own_number n)) next
-    row (Repeated n k) (Elements (cons p ps)) b z h stay next nextn =
-        list n k p ps rest ms open_list refl (other_number (n ∷ []) open_list n b (own_number n))
-        (not_zero (n ∷ []) n z (own_number n)) (nextn n (own_number n))
+    row (Repeated n k) (Elements ps) b z h stay next nextn =
+        listed n k ps (accepts_number k) refl (other_number (n ∷ []) open_list n b (own_number n))
+        (not_zero (n ∷ []) n z (own_number n)) stay next (nextn n (own_number n))
     row (Repeated n k) p b z h stay next nextn = absurd cc
     row (OneOf members) Absent b z h stay next nextn = stay
     row (OneOf members) (Member m p) b z h stay next nextn =
@@ -181,16 +197,17 @@ module _ (table : Table) (all_names : Names) (texts : Bool) (names : List (ℕ �
 -- ---- a walk
 
 -- one more field
-pub turn : (table : Table) (all_names : Names) (texts : Bool) (names : List (ℕ × List ℕ)) (open_list now : ℕ)
+pub turn : (table : Table) (all_names : Names) (texts : Bool) (names : SchemaNames) (open_list now : ℕ)
     (f : FieldPart) (fs rest : List FieldPart)
     (old mid new all : List Token) → fs ≡ f ∷ rest → mid ≡ old ++ lead_tokens open_list (named names f.0 f.1)
-    → new ≡ mid ++ json_tokens (part_json_in table all_names texts f.2 f.1.0) → now ≡ open_list_after
+    → new ≡ mid ++ json_tokens (part_json_in table all_names (writing texts names f.0) f.2 f.1.0) → now ≡
+    open_list_after
     (named names f.0 f.1)
     → old ++ fields_tokens table all_names texts names open_list fs ≡ all → new ++ fields_tokens table all_names texts
     names now rest ≡ all
 unfolding fields_tokens
 turn table all_names texts names open_list now f fs rest old mid new all e m n o h =
-    let json = json_tokens (part_json_in table all_names texts f.2 f.1.0) in
+    let json = json_tokens (part_json_in table all_names (writing texts names f.0) f.2 f.1.0) in
     rw (n, m, o) (append_assoc (old ++ lead_tokens open_list (named names f.0 f.1)) json _
     ∙ append_assoc old (lead_tokens open_list (named names f.0 f.1)) _)
     ∙ (rw e at h)
@@ -238,14 +255,19 @@ low_plain : (left n : ℕ) (k : Kind) (p : Part) (default : Bool) → part_level
 low_plain left n k p true h = tt
 low_plain left n k p false h = (h, tt)
 
+low_list : (left n : ℕ) (k : Kind) (ps : Parts) (b : Bool) → levels ps ≤ left → AllLow left
+    (if b then list_field n k ps else each_field n k ps)
+unfolding levels
+low_list left n k nil true h = tt
+low_list left n k (cons p ps) true h = (h, tt)
+low_list left n k ps false h = low_each left n k ps h
+
 low_row : (left : ℕ) (row : Row) (p : Part) → part_levels p ≤ left → AllLow left (row_fields row p)
 unfolding levels
 low_row left row Absent h = tt
 low_row left (Plain n k) p h = low_plain left n k p (is_default p) h
 low_row left (Optional n k) p h = (h, tt)
-low_row left (Repeated n U32) (Elements nil) h = tt
-low_row left (Repeated n U32) (Elements (cons p ps)) h = (h, tt)
-low_row left (Repeated n k) (Elements ps) h = low_each left n k ps h
+low_row left (Repeated n k) (Elements ps) h = low_list left n k ps (accepts_number k) h
 low_row left (Repeated n k) p h = tt
 low_row left (OneOf members) (Member n p) h = (h, tt)
 low_row left (OneOf members) p h = tt

@@ -2,7 +2,7 @@
 use Rattle.std.proofs.Common.{◌≡◌, ℕ, zero, suc, ◌<◌, ◌≤◌, List, [], ◌∷◌, map, length, get_or, refl, arith}
 use Rattle.shared_core_json.specs.Fields.{names_at}
 
-module _ {A : Type 0} (view : A → List (ℕ × List ℕ)) where
+module _ {A B : Type 0} (view : A → List (ℕ × B)) where
   pub at_index : (xs : List A) (s : ℕ) (d : A) → s < length xs → view (get_or xs s d) ≡ names_at (map view xs) s
   at_index [] s d h = absurd (omega arith)
   at_index (x ∷ xs) zero d h = refl

@@ -1,7 +1,7 @@
 -- The JSON form of a value of a message, by proto3's JSON mapping, and with bytes as texts: for any table of schemas
 -- with names, and for the messages of the protocol.
-use Rattle.std.specs.Prelude.{ℕ, ◌-◌, ◌^◌, Bool, true, false, not, ◌&&◌, List, [], ◌∷◌, ◌++◌, codes, decimal, nat_lt}
-use Rattle.std.specs.Prelude.{◌==◌, if◌then◌else◌}
+use Rattle.std.specs.Prelude.{ℕ, suc, ◌-◌, ◌*◌, ◌/◌, ◌%◌, ◌^◌, Bool, true, false, not, ◌&&◌, List, [], ◌∷◌, ◌++◌}
+use Rattle.std.specs.Prelude.{codes, decimal, nat_lt, ◌==◌, if◌then◌else◌}
 use Rattle.std.specs.Str.{is_utf8}
 use Rattle.base64.specs.GeneralPurpose.{encode_of}
 use Rattle.base64.specs.Engines.{standard}
@@ -9,23 +9,49 @@ use Rattle.json.specs.Json.{Json, null, boolean, number, string, array, object, 
 use Rattle.json.specs.Json.{no_members, member}
 use Rattle.json.specs.Tree.{json_tokens}
 use Rattle.json.specs.Print.{print}
-use Rattle.shared_core_wire.specs.Schema.{Table, Kind, Row, U64, Boolean, Enumeration, ByteString, Message, Plain}
+use Rattle.shared_core_wire.specs.Schema.{Table, Kind, Row, U32, U64, Boolean, Enumeration, ByteString, Message, Plain}
 use Rattle.shared_core_wire.specs.Schema.{Optional, Repeated, OneOf}
 use Rattle.shared_core_wire.specs.Value.{Part, Parts, Absent, Number, Bytes, Nested, Elements, Member, nil, cons}
 use Rattle.shared_core_wire.specs.Canonical.{number_of, kind_of, rows_of_kind, is_default}
 use Rattle.shared_core_codec.specs.Table.{table as protocol}
-use Rattle.shared_core_json.specs.Fields.{Names, names_of, name_of}
+use Rattle.shared_core_json.specs.Fields.{Names, SchemaNames, names_of, name_of}
+use Rattle.shared_core_json.specs.declared.digits.Digits.{Digits}
+use Rattle.shared_core_json.specs.declared.digits.Digits.TheVariants.{Unsigned, Signed, ZigZag}
+
+-- The digits of a number by two's complement, where `half` is the least one below zero.
+abbrev pub signed_digits : ℕ → ℕ → List ℕ
+signed_digits half n = if nat_lt n half then decimal n else (codes "-" ++ decimal (2 * half - n))
+
+-- The digits of a number by zigzag: an even one is its half, an odd one is below zero.
+abbrev pub zigzag_digits : ℕ → List ℕ
+zigzag_digits n = if n % 2 == 0 then decimal (n / 2) else (codes "-" ++ decimal (suc (n / 2)))
+
+-- The digits of a number, where `half` is the least one below zero by two's complement.
+abbrev pub digits_of : Digits → ℕ → ℕ → List ℕ
+digits_of Unsigned half n = decimal n
+digits_of Signed half n = signed_digits half n
+digits_of ZigZag half n = zigzag_digits n
 
 -- The digits of an enum's number, whose low 32 bits are an i32.
 abbrev pub enum_digits : ℕ → List ℕ
-enum_digits n = if nat_lt n (2 ^ 31) then decimal n else (codes "-" ++ decimal (2 ^ 32 - n))
+enum_digits n = signed_digits (2 ^ 31) n
 
--- A number: 64 bits as a string, a bool as such, an enum by its signed number.
-abbrev pub number_json : Kind → ℕ → Json
-number_json U64 n = string (decimal n)
-number_json Boolean n = boolean (not (n == 0))
-number_json Enumeration n = number (enum_digits n)
-number_json k n = number (decimal n)
+-- A number by how it is written: 64 bits as a string, a bool as such, an enum by its signed number.
+abbrev pub number_json : Digits → Kind → ℕ → Json
+number_json d U32 n = number (digits_of d (2 ^ 31) n)
+number_json d U64 n = string (digits_of d (2 ^ 63) n)
+number_json d Boolean n = boolean (not (n == 0))
+number_json d Enumeration n = number (enum_digits n)
+number_json d k n = number (decimal n)
+
+-- How the values of a field are written: whether bytes may be texts, and the digits of numbers.
+pub record Writing : Type 0 where
+  pub texts : Bool
+  pub digits : Digits
+
+-- How the values of the field of a schema are written that has a number.
+abbrev pub writing : Bool → SchemaNames → ℕ → Writing
+writing texts names n = record { texts = texts; digits = names.digits n }
 
 -- Bytes of any kind: in standard base64 with padding; if texts are wanted, those that are UTF-8 as an object with the
 -- one member `text`.
@@ -53,9 +79,9 @@ abbrev pub member_if : Bool → List ℕ → Json → Members → Members
 member_if present name json others = if present then member name json others else others
 
 -- The names of the fields of a kind's message.
-abbrev pub names_of_kind : Names → Kind → List (ℕ × List ℕ)
+abbrev pub names_of_kind : Names → Kind → SchemaNames
 names_of_kind all_names (Message s) = all_names s
-names_of_kind all_names k = []
+names_of_kind all_names k = record { names = []; digits = λ n. Unsigned }
 
 -- ---- for the schemas of a table, whose fields have these names
 
@@ -63,46 +89,34 @@ module _ (table : Table) (all_names : Names) where
   unfoldable mutual
     -- The JSON of a part: a number, bytes, a message as an object, the elements of a repeated field as an array, the
     -- member of a oneof.
-    pub part_json_in : Bool → Part → Kind → Json
-    part_json_in texts Absent k = null
-    part_json_in texts (Number n) k = number_json k n
-    part_json_in texts (Bytes bytes) k = bytes_json texts k bytes
-    part_json_in texts (Nested ps) k = object
-        (members_json_in texts (names_of_kind all_names k) ps (rows_of_kind table k))
-    part_json_in texts (Elements ps) k = array (items_json_in texts ps k)
-    part_json_in texts (Member n p) k = part_json_in texts p k
+    pub part_json_in : Writing → Part → Kind → Json
+    part_json_in w Absent k = null
+    part_json_in w (Number n) k = number_json w.digits k n
+    part_json_in w (Bytes bytes) k = bytes_json w.texts k bytes
+    part_json_in w (Nested ps) k = object
+        (members_json_in w.texts (names_of_kind all_names k) ps (rows_of_kind table k))
+    part_json_in w (Elements ps) k = array (items_json_in w ps k)
+    part_json_in w (Member n p) k = part_json_in w p k
 
     -- The elements of a repeated field, in order.
-    pub items_json_in : Bool → Parts → Kind → Items
-    items_json_in texts nil k = no_items
-    items_json_in texts (cons p ps) k = item (part_json_in texts p k) (items_json_in texts ps k)
+    pub items_json_in : Writing → Parts → Kind → Items
+    items_json_in w nil k = no_items
+    items_json_in w (cons p ps) k = item (part_json_in w p k) (items_json_in w ps k)
 
     -- The members of a message's object: one for each present row, in the order of the schema, each by the name of its
     -- field.
-    pub members_json_in : Bool → List (ℕ × List ℕ) → Parts → List Row → Members
+    pub members_json_in : Bool → SchemaNames → Parts → List Row → Members
     members_json_in texts names nil rows = no_members
     members_json_in texts names (cons p ps) [] = no_members
     members_json_in texts names (cons p ps) (row ∷ rows) =
-        member_if (is_present row p) (name_of names (number_of row p)) (part_json_in texts p (kind_of row p))
-        (members_json_in texts names ps rows)
+        member_if (is_present row p) (name_of names (number_of row p))
+        (part_json_in (writing texts names (number_of row p)) p (kind_of row p)) (members_json_in texts names ps rows)
 
   -- The JSON of a value of the schema s, with texts or without.
   abbrev pub json_with_in : Bool → ℕ → Parts → Json
   json_with_in texts s v = object (members_json_in texts (all_names s) v (table s))
 
 -- ---- for the schemas of the protocol
-
--- The JSON of a part.
-abbrev pub part_json : Bool → Part → Kind → Json
-part_json = part_json_in protocol names_of
-
--- The elements of a repeated field, in order.
-abbrev pub items_json : Bool → Parts → Kind → Items
-items_json = items_json_in protocol names_of
-
--- The members of a message's object.
-abbrev pub members_json : Bool → List (ℕ × List ℕ) → Parts → List Row → Members
-members_json = members_json_in protocol names_of
 
 -- The JSON of a value of the schema s, with texts or without.
 abbrev pub json_with : Bool → ℕ → Parts → Json

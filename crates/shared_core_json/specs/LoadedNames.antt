@@ -4,6 +4,9 @@ use Rattle.std.specs.Prelude.{codes, decimal}
 use Rattle.std.specs.Option.{option_or, option_map}
 use Rattle.std.specs.String.{string_bytes}
 use Rattle.std.specs.declared.alloc.Global.{Global}
+use Rattle.shared_core_json.specs.Fields.{Names, names_at, value_at}
+use Rattle.shared_core_json.specs.declared.digits.Digits.{Digits}
+use Rattle.shared_core_json.specs.declared.digits.Digits.TheVariants.{Unsigned}
 use Rattle.shared_core_json.specs.declared.loaded_names.LoadedName.{LoadedName}
 use Rattle.shared_core_json.specs.declared.name_error.NameError.{NameError}
 
@@ -19,8 +22,37 @@ names_view names = map name_view names
 abbrev pub all_names_view : List (Vec LoadedName Global) → List (List (ℕ × List ℕ))
 all_names_view all = map (λ names. names_view names.items) all
 
+-- The number of a name of the program, and how the numbers of its field are written.
+abbrev pub digits_view : LoadedName → ℕ × Digits
+digits_view n = (n.number, n.digits)
+
+-- Those of each schema.
+abbrev pub all_digits_view : List (Vec LoadedName Global) → List (List (ℕ × Digits))
+all_digits_view all = map (λ names. map digits_view names.items) all
+
+-- How the numbers of a field are written, by its number; without a sign, if it has no name.
+abbrev pub digits_in : List (ℕ × Digits) → ℕ → Digits
+digits_in digits n = value_at Unsigned digits n
+
+-- What JSON adds to the fields of each schema by these names.
+abbrev pub loaded_names : List (Vec LoadedName Global) → Names
+loaded_names all s = record {
+  names = names_at (all_names_view all) s;
+  digits = digits_in (names_at (all_digits_view all) s);
+}
+
+-- The name that was found; empty if there is none.
+abbrev pub name_found : Option LoadedName → List ℕ
+name_found None = []
+name_found (Some n) = string_bytes n.name
+
+-- How the numbers of the field are written whose name was found.
+abbrev pub digits_found : Option LoadedName → Digits
+digits_found None = Unsigned
+digits_found (Some n) = n.digits
+
 -- The first number that is not greater than the one before it, where `before` comes before the first.
-abbrev pub unsorted_after : ℕ → List (ℕ × List ℕ) → Option ℕ
+abbrev pub unsorted_after : {A : Type 0} → ℕ → List (ℕ × A) → Option ℕ
 unsorted_after before [] = None
 unsorted_after before (name ∷ names) = if nat_lt before name.0 then unsorted_after name.0 names else Some name.0
 

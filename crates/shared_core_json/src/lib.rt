@@ -8,6 +8,7 @@
 #![tactic(auto)]
 
 mod canonical;
+pub mod digits;
 mod error;
 pub mod loaded_names;
 pub mod name_error;
@@ -19,4 +20,4 @@ mod write;
 
 pub use canonical::{json_of, write_canonical};
 pub use error::JsonError;
-pub use write::{write_byte_string, write_payload};
+pub use write::{write_byte_string, write_payload, write_run, write_u32, write_u64};

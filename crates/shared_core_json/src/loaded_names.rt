@@ -1,16 +1,20 @@
 //! Names of fields that are made at run time.
 
-ghost use Rattle.std.specs.Prelude.{◌≡◌, None};
-ghost use Rattle.shared_core_json.specs.Fields.{name_of};
+ghost use Rattle.std.specs.Prelude.{◌≡◌, None, map, option_map};
+ghost use Rattle.shared_core_json.specs.Fields.{name_in};
 ghost use Rattle.shared_core_json.specs.LoadedNames.{all_names_view, names_view, name_error, unsorted_after};
+ghost use Rattle.shared_core_json.specs.LoadedNames.{digits_view, digits_in, name_found, digits_found};
 
+use crate::digits::Digits;
 use crate::name_error::NameError;
 
-/// The number of a field, and its name in JSON.
+/// The number of a field, its name in JSON, and how its numbers are written; of another kind than `U32` and `U64` its
+/// digits are of no use.
 #[derive(Drop)]
 pub struct LoadedName {
     pub number: u32,
     pub name: String,
+    pub digits: Digits,
 }
 
 /// The first name, in the order of schemas, whose number is not greater than the one before it.
@@ -43,13 +47,15 @@ fn first_unsorted(names: &[LoadedName]) -> Option<u32>
     None
 }
 
-/// The name that a number has among names in the order of their numbers; empty if none has it.
-pub(crate) fn find_name(names: &[LoadedName], number: u32) -> &str
+/// What a number has among names in the order of their numbers. Searches by halves.
+pub(crate) fn find_name(names: &[LoadedName], number: u32) -> Option<&LoadedName>
     requires { unsorted_after 0 (names_view names.now) ≡ None }
-    ensures { result.now ≡ name_of (names_view names.now) number }
+    ensures name { name_found (option_map (λ name. name.now) result) ≡ name_in (names_view names.now) number }
+    ensures digits { digits_found (option_map (λ name. name.now) result)
+        ≡ digits_in (map digits_view names.now) number }
 {
     match names.binary_search_by_key(&number, |name| name.number) {
-        Ok(place) => names[place].name.as_str(),
-        Err(_place) => "",
+        Ok(place) => Some(&names[place]),
+        Err(_place) => None,
     }
 }

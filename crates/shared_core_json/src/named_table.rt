@@ -1,9 +1,11 @@
 //! A table of schemas, with names that are made at run time.
 
-ghost use Rattle.std.specs.Prelude.{◌≡◌, ℕ, Some, None, IfOk, MatchResult};
-ghost use Rattle.shared_core_json.specs.Fields.{names_at};
-ghost use Rattle.shared_core_json.specs.LoadedNames.{all_names_view, name_error, unsorted_after};
+ghost use Rattle.std.specs.Prelude.{◌≡◌, ℕ, Some, None, IfOk, MatchResult, option_map};
+ghost use Rattle.shared_core_json.specs.Fields.{name_in, names_at};
+ghost use Rattle.shared_core_json.specs.LoadedNames.{all_digits_view, all_names_view, name_error, unsorted_after};
+ghost use Rattle.shared_core_json.specs.LoadedNames.{digits_found, digits_in, loaded_names, name_found};
 
+use crate::digits::Digits;
 use crate::loaded_names::{LoadedName, find_name, first_error};
 use crate::name_error::NameError;
 use crate::named_schemas::NamedSchemas;
@@ -31,15 +33,19 @@ impl<T: Schemas + Drop> Schemas for NamedTable<T> {
 }
 
 impl<T: Schemas + Drop> NamedSchemas for NamedTable<T> {
-    ghost names = { λ named. names_at (all_names_view named.names.items) };
+    ghost names = { λ named. loaded_names named.names.items };
 
-    /// Searches by halves.
     fn name_of(&self, schema: u32, number: u32) -> &str {
-        let place = schema as usize;
-        if place < self.names.len() {
-            find_name(self.names[place].as_slice(), number)
-        } else {
-            ""
+        match self.find(schema, number) {
+            Some(name) => name.name.as_str(),
+            None => "",
+        }
+    }
+
+    fn digits_of(&self, schema: u32, number: u32) -> Digits {
+        match self.find(schema, number) {
+            Some(name) => name.digits,
+            None => Digits::Unsigned,
         }
     }
 }
@@ -51,7 +57,7 @@ impl<T: Schemas + Drop> NamedTable<T> {
     pub fn new(schemas: T, names: Vec<Vec<LoadedName>>) -> Result<NamedTable<T>, NameError>
         ensures table { IfOk result (λ named. ⟦<NamedTable<T> as Schemas>⟧.table named ≡ T.table schemas) }
         ensures names { IfOk result (λ named. ⟦<NamedTable<T> as NamedSchemas>⟧.names named
-            ≡ names_at (all_names_view names.items)) }
+            ≡ loaded_names names.items) }
         ensures error { MatchResult result (λ _. name_error (all_names_view names.items) ≡ None)
             (λ error. name_error (all_names_view names.items) ≡ Some error) }
     {
@@ -59,5 +65,20 @@ impl<T: Schemas + Drop> NamedTable<T> {
             return Err(error);
         }
         Ok(NamedTable { schemas, names })
+    }
+
+    /// What the field of a schema has that has a number; none if it was given no name.
+    fn find(&self, schema: u32, number: u32) -> Option<&LoadedName>
+        ensures name { name_found (option_map (λ name. name.now) result)
+            ≡ name_in (names_at (all_names_view self.now.names.items) schema) number }
+        ensures digits { digits_found (option_map (λ name. name.now) result)
+            ≡ digits_in (names_at (all_digits_view self.now.names.items) schema) number }
+    {
+        let place = schema as usize;
+        if place < self.names.len() {
+            find_name(self.names[place].as_slice(), number)
+        } else {
+            None
+        }
     }
 }

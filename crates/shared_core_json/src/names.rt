@@ -20,7 +20,7 @@ fn names() -> &'static [&'static [Name]]
 
 /// The names of the fields of the schema at an index of the table; past its end there are none.
 pub fn names_of(schema: u32) -> &'static [Name]
-    ensures { map name_view result.now ≡ names_of schema }
+    ensures { map name_view result.now ≡ (names_of schema).names }
 {
     let names = names();
     let place = schema as usize;

@@ -1,33 +1,40 @@
 //! Writing the fields of a canonical payload as JSON.
 
-ghost use Rattle.std.specs.Prelude.{◌≡◌, ◌<◌, ◌≤◌, ◌∷◌, ◌++◌, [], ℕ, Bool, List, codes, length, true, OnOk};
+ghost use Rattle.std.specs.Prelude.{◌≡◌, ◌<◌, ◌≤◌, ◌∷◌, ◌++◌, ◌^◌, [], codes, length, true, OnOk};
+ghost use Rattle.std.specs.Fmt.{signed_decimal};
 ghost use Rattle.json.specs.Token.{number as digits};
 ghost use Rattle.json.specs.Token as token;
 ghost use Rattle.json.specs.Json.{object, string, member, no_members};
 ghost use Rattle.json.specs.Tree.{json_tokens};
 ghost use Rattle.base64.specs.GeneralPurpose.{encode_of};
 ghost use Rattle.base64.specs.Engines.{standard};
-ghost use Rattle.shared_core_codec.specs.FieldParts.{enum_number};
+ghost use Rattle.shared_core_codec.specs.FieldParts.{enum_number, parts_of};
+ghost use Rattle.shared_core_codec.specs.ProgramRows.{kind_view};
 ghost use Rattle.shared_core_wire.specs.Canonical.{levels, part_levels};
-ghost use Rattle.shared_core_wire.specs.Overlay.{low_numbers, meaning};
-ghost use Rattle.shared_core_wire.specs.Schema.{Table, U32};
-ghost use Rattle.shared_core_wire.specs.Value.{Elements};
+ghost use Rattle.shared_core_wire.specs.Overlay.{meaning};
+ghost use Rattle.shared_core_wire.specs.Schema.{Table};
+ghost use Rattle.shared_core_wire.specs.Value.{Elements, Number};
 ghost use Rattle.shared_core_codec.specs.Canonicity.{is_canonical_payload_in, may_recur};
-ghost use Rattle.shared_core_fields.specs.Runs.{run_numbers};
+ghost use Rattle.shared_core_fields.specs.NumberValues.{number_value};
+ghost use Rattle.shared_core_fields.specs.Runs.{held_numbers};
 ghost use Rattle.shared_core_fields.specs.Views.{IsOf, value_kind, value_part, value_schemas};
-ghost use Rattle.shared_core_json.specs.Fields.{Names, named};
-ghost use Rattle.shared_core_json.specs.Form.{byte_string_json, enum_digits, json_with_in, part_json_in};
+ghost use Rattle.shared_core_json.specs.Fields.{Names, SchemaNames, named};
+ghost use Rattle.shared_core_json.specs.Form.{Writing, byte_string_json, digits_of, enum_digits, json_with_in};
+ghost use Rattle.shared_core_json.specs.Form.{number_json, part_json_in, writing, zigzag_digits};
 ghost use Rattle.shared_core_json.specs.Written.{end_tokens, lead_tokens, open_list_after};
 
+use crate::digits::Digits;
 use crate::named_schemas::NamedSchemas;
 use base64::encoded_len;
 use base64::engine::general_purpose::STANDARD;
 use json::Writer;
+use shared_core_codec::rows::Kind;
 use shared_core_codec::utf8::as_text;
 use shared_core_fields::fields::{CanonicalPayload, Field, FieldValue};
 use shared_core_fields::payload_table::{PayloadTable, Tabled};
 use shared_core_fields::runs::Run;
 use shared_core_wire::records::LEVELS;
+use shared_core_wire::varint::low_32;
 use std::alloc::AllocError;
 
 /// Writes the JSON of what a canonical payload means, by the names of its table. If an allocation fails, some tokens
@@ -56,6 +63,24 @@ pub fn write_payload<T: NamedSchemas + PayloadTable>(
 struct Form<T> {
     schemas: T,
     texts: bool,
+}
+
+/// How the value of a field of a schema is written, which has this number: its digits are found where there are any.
+#[derive(Clone, Copy)]
+struct FieldForm<T> {
+    form: Form<T>,
+    schema: u32,
+    number: u32,
+}
+
+impl<T: NamedSchemas> FieldForm<T> {
+    /// How its numbers are written.
+    #[inline(always)]
+    fn digits(&self) -> Digits
+        ensures { result ≡ (T.names self.now.form.schemas self.now.schema).digits self.now.number }
+    {
+        self.form.schemas.digits_of(self.schema, self.number)
+    }
 }
 
 /// The same of the bytes of a canonical payload.
@@ -105,7 +130,12 @@ fn write_within<T: NamedSchemas + PayloadTable>(
     for field in payload.fields_in() {
         begin_member(&schemas, out, schema, &field, open_list)?;
         open_list = open_list_after(&field);
-        write_value(Form { schemas, texts }, out, base64, field.value, left)?;
+        let form = FieldForm {
+            form: Form { schemas, texts },
+            schema,
+            number: field.number,
+        };
+        write_value(form, out, base64, field.value, left)?;
     }
     end_list(out, open_list)?;
     out.end_object()
@@ -116,14 +146,16 @@ fn is_element<T: Tabled + Copy>(field: &Field<'_, CanonicalPayload<'_, T>>) -> b
     ensures { result ≡ may_recur (value_kind field.now.value, field.now.is_repeated) }
 {
     match field.value {
-        FieldValue::U32(_) | FieldValue::Numbers(_) => false,
-        _ => field.is_repeated,
+        FieldValue::Text(_) | FieldValue::ByteString(_) | FieldValue::Message(_) => {
+            field.is_repeated
+        }
+        _ => false,
     }
 }
 
 /// The number of the field whose list is open after a field, or 0.
 fn open_list_after<T: Tabled + Copy>(field: &Field<'_, CanonicalPayload<'_, T>>) -> u32
-    ensures { (names : List (ℕ × List ℕ)) → result ≡ open_list_after
+    ensures { (names : SchemaNames) → result ≡ open_list_after
         (named names field.now.number (value_kind field.now.value, field.now.is_repeated)) }
 {
     if is_element(field) { field.number } else { 0 }
@@ -168,30 +200,77 @@ fn end_list(out: &mut Writer, open_list: u32) -> Result<(), AllocError>
 #[cycle(message)]
 #[tactic(auto, using(crate::proofs::Values::enum_json))]
 fn write_value<T: NamedSchemas + PayloadTable>(
-    form: Form<T>,
+    form: FieldForm<T>,
     out: &mut Writer,
     base64: &mut Vec<u8>,
     value: FieldValue<'_, CanonicalPayload<'_, T>>,
     left: u32,
 ) -> Result<(), AllocError>
-    requires same { IsOf form.schemas (value_schemas value) }
+    requires same { IsOf form.form.schemas (value_schemas value) }
     requires deep { part_levels (value_part value) ≤ left }
     ensures tokens { OnOk result (out.new.tokens ≡ out.old.tokens
-        ++ json_tokens (part_json_in (T.table_of form.schemas) (T.names form.schemas) form.texts
+        ++ json_tokens (part_json_in (T.table_of form.form.schemas) (T.names form.form.schemas)
+        (writing form.form.texts (T.names form.form.schemas form.schema) form.number)
         (value_part value.entry) (value_kind value.entry))) }
     ensures before { out.new.before ≡ out.old.before }
 {
     match value {
-        FieldValue::U32(number) => out.u64(u64::from(number)),
-        FieldValue::U64(number) => out.quoted_u64(number),
+        FieldValue::U32(number) => write_u32(out, form.digits(), number),
+        FieldValue::U64(number) => write_u64(out, form.digits(), number),
         FieldValue::Boolean(flag) => out.boolean(flag),
         FieldValue::Enumeration(number) => write_enumeration(out, number),
         FieldValue::Text(text) => out.string(text),
-        FieldValue::ByteString(bytes) => write_byte_string(out, base64, form.texts, bytes),
+        FieldValue::ByteString(bytes) => write_byte_string(out, base64, form.form.texts, bytes),
         FieldValue::Message(message) => {
-            write_within(form, out, base64, message.schema, message.bytes, left - 1)
+            write_within(
+                form.form,
+                out,
+                base64,
+                message.schema,
+                message.bytes,
+                left - 1,
+            )
         }
-        FieldValue::Numbers(run) => write_run(out, run),
+        FieldValue::Numbers(run) => write_run(out, form.digits(), run),
+    }
+}
+
+/// The number that a number means by zigzag.
+fn from_zigzag(number: u64) -> i64
+    ensures { signed_decimal result ≡ zigzag_digits number }
+{
+    let half = number / 2;
+    if number % 2 == 0 {
+        half.cast_signed()
+    } else {
+        (u64::MAX - half).cast_signed()
+    }
+}
+
+/// Writes a number of 32 bits.
+#[inline(always)]
+pub fn write_u32(out: &mut Writer, how: Digits, number: u32) -> Result<(), AllocError>
+    ensures tokens { OnOk result (out.new.tokens ≡ out.old.tokens ++ digits (digits_of how (2 ^ 31) number) ∷ []) }
+    ensures before { out.new.before ≡ out.old.before }
+{
+    match how {
+        Digits::Unsigned => out.u64(u64::from(number)),
+        Digits::Signed => out.i64(i64::from(number.cast_signed())),
+        Digits::ZigZag => out.i64(from_zigzag(u64::from(number))),
+    }
+}
+
+/// Writes a number of 64 bits, as a string.
+#[inline(always)]
+pub fn write_u64(out: &mut Writer, how: Digits, number: u64) -> Result<(), AllocError>
+    ensures tokens { OnOk result (out.new.tokens
+        ≡ out.old.tokens ++ token.string (digits_of how (2 ^ 63) number) ∷ []) }
+    ensures before { out.new.before ≡ out.old.before }
+{
+    match how {
+        Digits::Unsigned => out.quoted_u64(number),
+        Digits::Signed => out.quoted_i64(number.cast_signed()),
+        Digits::ZigZag => out.quoted_i64(from_zigzag(number)),
     }
 }
 
@@ -204,16 +283,33 @@ fn write_enumeration(out: &mut Writer, number: i32) -> Result<(), AllocError>
     out.i64(i64::from(number))
 }
 
-/// Writes the numbers of a packed run as an array.
-fn write_run(out: &mut Writer, run: Run<'_>) -> Result<(), AllocError>
-    ensures tokens { OnOk result ((table : Table) (names : Names) (texts : Bool) → out.new.tokens
-        ≡ out.old.tokens ++ json_tokens (part_json_in table names texts
-        (Elements (low_numbers (run_numbers run.entry.bytes.now))) U32)) }
+/// Writes a number that a value of a kind holds.
+fn write_number(out: &mut Writer, how: Digits, kind: Kind, number: u64) -> Result<(), AllocError>
+    requires { number_value (kind_view kind) number ≡ number }
+    ensures tokens { OnOk result (out.new.tokens
+        ≡ out.old.tokens ++ json_tokens (number_json how (kind_view kind) number)) }
+    ensures before { out.new.before ≡ out.old.before }
+{
+    match kind {
+        Kind::U32 => write_u32(out, how, low_32(number)),
+        Kind::U64 => write_u64(out, how, number),
+        Kind::Boolean => out.boolean(number != 0),
+        Kind::Enumeration => write_enumeration(out, low_32(number).cast_signed()),
+        _ => out.u64(number),
+    }
+}
+
+/// Writes the numbers of a packed run as an array. If an allocation fails, some tokens may be written.
+pub fn write_run(out: &mut Writer, how: Digits, run: Run<'_>) -> Result<(), AllocError>
+    ensures tokens { OnOk result ((table : Table) (names : Names) (w : Writing) → w.digits ≡ how → out.new.tokens
+        ≡ out.old.tokens ++ json_tokens (part_json_in table names w
+        (Elements (parts_of Number (held_numbers (kind_view run.entry.kind) run.entry.bytes.now)))
+        (kind_view run.entry.kind))) }
     ensures before { out.new.before ≡ out.old.before }
 {
     out.begin_array()?;
     for number in run.numbers() {
-        out.u64(u64::from(number))?;
+        write_number(out, how, run.kind, number)?;
     }
     out.end_array()
 }

@@ -15,20 +15,23 @@ use Rattle.shared_core_wire.specs.Schema.{includes, member_kind, are_distinct, a
 use Rattle.shared_core_wire.specs.Schema as schema
 use Rattle.shared_core_wire.specs.Value.{Part, Parts, Absent, Number, Bytes, Nested, Elements, Member, nil, cons}
 use Rattle.shared_core_wire.specs.Value.{default_of}
+use Rattle.shared_core_wire.specs.Acceptance.{accepts_number}
 use Rattle.shared_core_wire.specs.Canonical.{kind_of, member_number, written_number, number_bytes, is_default}
-use Rattle.shared_core_wire.specs.Canonical.{packed_values, row_records, part_values, element_values, message_records}
+use Rattle.shared_core_wire.specs.Canonical.{run_values, packed_values, row_records}
+use Rattle.shared_core_wire.specs.Canonical.{part_values, element_values, message_records}
 use Rattle.shared_core_wire.specs.Canonical.{canonical_payload}
 use Rattle.shared_core_wire.proofs.ReadBack.{includes-append, distinct_back, or_split}
 use Rattle.shared_core_wire.proofs.Runs.{and_split}
 use Rattle.shared_core_json_reader.specs.Rows.{NamedField, NamedRow, Plain, Optional, Repeated, OneOf, named_field}
-use Rattle.shared_core_json_reader.specs.Rows.{named_row, named_rows}
-use Rattle.shared_core_json_reader.specs.Scalars.{unsigned_read, boolean_read, enum_read, text_read, bytes_read}
+use Rattle.shared_core_json_reader.specs.Rows.{NumberForm, named_row, named_rows}
+use Rattle.shared_core_json_reader.specs.Scalars.{u32_read, u64_read, boolean_read, enum_read, text_read, bytes_read}
 use Rattle.shared_core_json_reader.specs.Reading.{are_known, given, single_read, field_read, elements_read, list_read}
 use Rattle.shared_core_json_reader.specs.Reading.{or_absent, member_read, oneof_read, row_read, rows_read, members_read}
 use Rattle.shared_core_json_reader.specs.Reading.{object_read, message_read}
 use Rattle.shared_core_wire.specs.WrittenRecords.{number_record, content_record}
 use Rattle.shared_core_json_reader.specs.Appended.{both, single_bytes, field_bytes}
-use Rattle.shared_core_json_reader.specs.Appended.{items_bytes, run_bytes, array_bytes, list_bytes, member_bytes}
+use Rattle.shared_core_json_reader.specs.Appended.{items_bytes, number_read, run_bytes}
+use Rattle.shared_core_json_reader.specs.Appended.{array_bytes, list_bytes, member_bytes}
 use Rattle.shared_core_json_reader.specs.Appended.{held_after, oneof_bytes, given_bytes, row_bytes, rows_bytes}
 use Rattle.shared_core_json_reader.specs.Appended.{members_bytes, object_bytes, message_bytes}
 use Rattle.shared_core_json_reader.proofs.FormatRows.{schemas_of}
@@ -132,25 +135,25 @@ module _ (format : Format) (nested_r : ℕ → Json → Option Parts) (nested_b 
       (length_out false n (canonical_payload format.table s ps) ∙ ap
       (λ (b : Bool). out_of n (cond b [] (Length (canonical_payload format.table s ps) ∷ []))) (sym (no_default plain)))
 
-  single_same : (plain : Bool) (n : ℕ) (k : Kind) (values : List (List ℕ × ℕ)) (j : Json) → single_bytes nested_b plain
-      n k values j ≡ option_map (single_out format plain n k) (single_read nested_r k values j)
+  single_same : (plain : Bool) (n : ℕ) (k : Kind) (form : NumberForm) (j : Json) → single_bytes nested_b plain
+      n k form j ≡ option_map (single_out format plain n k) (single_read nested_r k form j)
   unfolding part_values
-  single_same plain n U32 values j = numbers_same plain n U32 (λ m. m) (unsigned_read 4294967296 j) (λ m. refl)
+  single_same plain n U32 form j = numbers_same plain n U32 (λ m. m) (u32_read form.digits j) (λ m. refl)
       (λ m. refl)
-  single_same plain n U64 values j = numbers_same plain n U64 (λ m. m) (unsigned_read 18446744073709551616 j)
+  single_same plain n U64 form j = numbers_same plain n U64 (λ m. m) (u64_read form.digits j)
       (λ m. refl) (λ m. refl)
-  single_same plain n Boolean values j = numbers_same plain n Boolean (λ m. m) (boolean_read j) (λ m. refl) (λ m. refl)
-  single_same plain n Enumeration values j = numbers_same plain n Enumeration (written_number Enumeration)
-      (enum_read values j) (λ m. refl) enum_zero
-  single_same plain n Text values j = bytes_same plain n Text (text_read j) (λ b. refl)
-  single_same plain n ByteString values j = bytes_same plain n ByteString (bytes_read j) (λ b. refl)
-  single_same plain n (Message s) values j = ap (option_map (content_record false n)) (same s j) ∙ message_same plain n
+  single_same plain n Boolean form j = numbers_same plain n Boolean (λ m. m) (boolean_read j) (λ m. refl) (λ m. refl)
+  single_same plain n Enumeration form j = numbers_same plain n Enumeration (written_number Enumeration)
+      (enum_read form.values j) (λ m. refl) enum_zero
+  single_same plain n Text form j = bytes_same plain n Text (text_read j) (λ b. refl)
+  single_same plain n ByteString form j = bytes_same plain n ByteString (bytes_read j) (λ b. refl)
+  single_same plain n (Message s) form j = ap (option_map (content_record false n)) (same s j) ∙ message_same plain n
       s
       (nested_r s j)
 
   field_same : (plain : Bool) (f : NamedField) (j : Json) → field_bytes nested_b plain f j ≡ option_map
       (single_out format plain f.number f.kind) (field_read nested_r f j)
-  field_same plain f j = single_same plain f.number f.kind f.values j
+  field_same plain f j = single_same plain f.number f.kind f.form j
 
   -- if both lists exist, each does
   both_same : {A B C : Type 0} (F : A → List ℕ) (G : B → List ℕ) (H : C → List ℕ) (c : A → B → C) (a : Option A)
@@ -179,56 +182,6 @@ module _ (format : Format) (nested_r : ℕ → Json → Option Parts) (nested_b 
       (field_read nested_r f j) (elements_read nested_r f js)
       (λ p ps. out_append f.number (part_values format.table p f.kind) (element_values format.table ps f.kind))
 
-  abbrev run_part : Part → List ℕ
-  run_part p = flat_map number_bytes (part_values format.table p U32)
-
-  run_number : (o : Option ℕ) → option_map shortest_varint o ≡ option_map run_part (option_map Number o)
-  unfolding part_values
-  run_number None = refl
-  run_number (Some m) = ap (λ (xs : List ℕ). Some xs) (sym (append-nil (shortest_varint m)))
-
-  run_same : (n : ℕ) (name : List ℕ) (values : List (List ℕ × ℕ)) (js : Items)
-      → run_bytes js ≡ option_map (λ ps. flat_map number_bytes (element_values format.table ps U32))
-      (elements_read nested_r (record { number = n; name = name; kind = U32; values = values }) js)
-  unfolding part_values
-  run_same n name values no_items = refl
-  run_same n name values (item j js) =
-      ap₂ both (run_number (unsigned_read 4294967296 j)) (run_same n name values js)
-      ∙ both_same run_part (λ ps. flat_map number_bytes (element_values format.table ps U32))
-      (λ ps. flat_map number_bytes (element_values format.table ps U32)) cons
-      (option_map Number (unsigned_read 4294967296 j)) (elements_read nested_r
-      (record { number = n; name = name; kind = U32; values = values }) js)
-      (λ p ps. sym (flat_map-append number_bytes (part_values format.table p U32) (element_values format.table ps U32)))
-
-  -- a packed run is there exactly if it has elements
-  run_out : (n : ℕ) (name : List ℕ) (values : List (List ℕ × ℕ)) (js : Items) (ps : Parts) → elements_read nested_r
-      (record { number = n; name = name; kind = U32; values = values }) js ≡ Some ps
-      → content_record true n (flat_map number_bytes (element_values format.table ps U32)) ≡ out_of n
-      (packed_values U32 (element_values format.table ps U32))
-  unfolding part_values
-  run_out n name values no_items ps e = let q : nil ≡ ps = cc in rw (← q) refl
-  run_out n name values (item j js) ps e = by_first (unsigned_read 4294967296 j)
-      (elements_read nested_r (record { number = n; name = name; kind = U32; values = values }) js) e
-    where
-      by_first : (o : Option ℕ) (rest : Option Parts) → option_and_then (λ p. option_map (cons p) rest)
-          (option_map Number o) ≡ Some ps
-          → content_record true n (flat_map number_bytes (element_values format.table ps U32)) ≡ out_of n
-          (packed_values U32 (element_values format.table ps U32))
-      by_first None rest h = absurd cc
-      by_first (Some m) None h = absurd cc
-      by_first (Some m) (Some qs) h =
-          let q : cons (Number m) qs ≡ ps = cc in
-          let run = shortest_varint m ++ flat_map number_bytes (element_values format.table qs U32) in
-          let there : eqb (length run) 0 ≡ false = ne_eqb (length run) 0
-          (λ z. omega (
-            arith,
-            varint_there m,
-            length-append (shortest_varint m)
-                (flat_map number_bytes (element_values format.table qs U32)),
-          )) in
-          rw (← q) (ap (λ (b : Bool). cond b [] (key_bytes n 2 ++ (shortest_varint (length run) ++ run))) there ∙
-          length_out false n run)
-
   map_some : {A : Type 0} (F G : A → List ℕ) (o : Option A) → ((x : A) → o ≡ Some x → F x ≡ G x) → option_map F o ≡
       option_map G o
   map_some F G None e = refl
@@ -239,36 +192,93 @@ module _ (format : Format) (nested_r : ℕ → Json → Option Parts) (nested_b 
   map_map F G None = refl
   map_map F G (Some x) = refl
 
+  abbrev run_part : Kind → Part → List ℕ
+  run_part k p = flat_map number_bytes (part_values format.table p k)
+
+  abbrev run_of : Kind → Parts → List ℕ
+  run_of k ps = flat_map number_bytes (element_values format.table ps k)
+
+  run_varint : (k : Kind) (o : Option ℕ) → option_map (λ m. shortest_varint (written_number k m)) o ≡ option_map
+      (run_part k) (option_map Number o)
+  unfolding part_values
+  run_varint k None = refl
+  run_varint k (Some m) = ap (λ (xs : List ℕ). Some xs) (sym (append-nil (shortest_varint (written_number k m))))
+
+  run_number : (k : Kind) (form : NumberForm) (j : Json) → accepts_number k ≡ true → option_map shortest_varint
+      (number_read k form j) ≡ option_map (run_part k) (single_read nested_r k form j)
+  run_number U32 form j a = run_varint U32 (u32_read form.digits j)
+  run_number U64 form j a = run_varint U64 (u64_read form.digits j)
+  run_number Boolean form j a = run_varint Boolean (boolean_read j)
+  run_number Enumeration form j a = map_map shortest_varint (written_number Enumeration) (enum_read form.values j) ∙
+      run_varint Enumeration (enum_read form.values j)
+  run_number Text form j a = absurd cc
+  run_number ByteString form j a = absurd cc
+  run_number (Message s) form j a = absurd cc
+
+  run_same : (f : NamedField) (js : Items) → accepts_number f.kind ≡ true → run_bytes f js ≡ option_map (run_of f.kind)
+      (elements_read nested_r f js)
+  unfolding part_values
+  run_same f no_items a = refl
+  run_same f (item j js) a =
+      ap₂ both (run_number f.kind f.form j a) (run_same f js a)
+      ∙ both_same (run_part f.kind) (run_of f.kind) (run_of f.kind) cons (field_read nested_r f j)
+      (elements_read nested_r f js)
+      (λ p ps. sym (flat_map-append number_bytes (part_values format.table p f.kind)
+      (element_values format.table ps f.kind)))
+
+  abbrev run_record : ℕ → Kind → Parts → List ℕ
+  run_record n k ps = out_of n (run_values (element_values format.table ps k))
+
+  -- a packed run is there exactly if it has elements
+  first_out : (n : ℕ) (k : Kind) (o : Option ℕ) (rest : Option Parts) (ps : Parts) → option_and_then
+      (λ p. option_map (cons p) rest) (option_map Number o) ≡ Some ps → content_record true n (run_of k ps) ≡ run_record
+      n k ps
+  unfolding part_values
+  first_out n k None rest ps h = absurd cc
+  first_out n k (Some m) None ps h = absurd cc
+  first_out n k (Some m) (Some qs) ps h =
+      let q : cons (Number m) qs ≡ ps = cc in
+      let first = shortest_varint (written_number k m) in
+      let run = first ++ run_of k qs in
+      let there : eqb (length run) 0 ≡ false = ne_eqb (length run) 0
+      (λ z. omega (arith, varint_there (written_number k m), length-append first (run_of k qs))) in
+      rw (← q) (ap (λ (b : Bool). cond b [] (key_bytes n 2 ++ (shortest_varint (length run) ++ run))) there ∙
+      length_out false n run)
+
+  run_out : (n : ℕ) (name : List ℕ) (k : Kind) (form : NumberForm) (js : Items) (ps : Parts) → accepts_number k ≡ true →
+      elements_read nested_r (record { number = n; name = name; kind = k; form = form }) js ≡ Some ps
+      → content_record true n (run_of k ps) ≡ run_record n k ps
+  unfolding part_values
+  run_out n name k form no_items ps a e = let q : nil ≡ ps = cc in rw (← q) refl
+  run_out n name U32 form (item j js) ps a e = first_out n U32 (u32_read form.digits j) _ ps e
+  run_out n name U64 form (item j js) ps a e = first_out n U64 (u64_read form.digits j) _ ps e
+  run_out n name Boolean form (item j js) ps a e = first_out n Boolean (boolean_read j) _ ps e
+  run_out n name Enumeration form (item j js) ps a e = first_out n Enumeration (enum_read form.values j) _ ps e
+  run_out n name Text form (item j js) ps a e = absurd cc
+  run_out n name ByteString form (item j js) ps a e = absurd cc
+  run_out n name (Message s) form (item j js) ps a e = absurd cc
+
   abbrev list_out : ℕ → Kind → Part → List ℕ
   list_out n k p = out_of n (packed_values k (part_values format.table p k))
 
-  array_same : (n : ℕ) (name : List ℕ) (k : Kind) (values : List (List ℕ × ℕ)) (js : Items) → let f : NamedField =
-      record { number = n; name = name; kind = k; values = values } in
-      array_bytes nested_b f k js ≡ option_map (list_out n k) (option_map Elements (elements_read nested_r f js))
+  array_same : (f : NamedField) (js : Items) → array_bytes nested_b f js ≡ option_map (list_out f.number f.kind)
+      (option_map Elements (elements_read nested_r f js))
   unfolding part_values
-  array_same n name U32 values js =
-      let f : NamedField = record { number = n; name = name; kind = U32; values = values } in
-      ap (option_map (content_record true n)) (run_same n name values js) ∙ map_map (content_record true n)
-      (λ ps. flat_map number_bytes (element_values format.table ps U32)) (elements_read nested_r f js)
-      ∙ map_some _ (λ ps. list_out n U32 (Elements ps)) (elements_read nested_r f js) (run_out n name values js) ∙ sym
-      (map_map (list_out n U32) Elements (elements_read nested_r f js))
-  array_same n name U64 values js = let f : NamedField = record { number = n; name = name; kind = U64; values = values }
-      in items_same f js ∙ sym (map_map (list_out n U64) Elements (elements_read nested_r f js))
-  array_same n name Boolean values js = let f : NamedField = record
-      { number = n; name = name; kind = Boolean; values = values } in items_same f js ∙ sym
-      (map_map (list_out n Boolean) Elements (elements_read nested_r f js))
-  array_same n name Enumeration values js = let f : NamedField = record
-      { number = n; name = name; kind = Enumeration; values = values } in items_same f js ∙ sym
-      (map_map (list_out n Enumeration) Elements (elements_read nested_r f js))
-  array_same n name Text values js = let f : NamedField = record
-      { number = n; name = name; kind = Text; values = values } in items_same f js ∙ sym
-      (map_map (list_out n Text) Elements (elements_read nested_r f js))
-  array_same n name ByteString values js = let f : NamedField = record
-      { number = n; name = name; kind = ByteString; values = values } in items_same f js ∙ sym
-      (map_map (list_out n ByteString) Elements (elements_read nested_r f js))
-  array_same n name (Message s) values js = let f : NamedField = record
-      { number = n; name = name; kind = Message s; values = values } in items_same f js ∙ sym
-      (map_map (list_out n (Message s)) Elements (elements_read nested_r f js))
+  array_same f js = by_test (accepts_number f.kind) refl
+    where
+      by_test : (b : Bool) → accepts_number f.kind ≡ b → cond b
+          (option_map (content_record true f.number) (run_bytes f js)) (items_bytes nested_b f js)
+          ≡ option_map (λ p. out_of f.number (cond b (run_values (part_values format.table p f.kind))
+          (part_values format.table p f.kind))) (option_map Elements (elements_read nested_r f js))
+      by_test true a =
+          ap (option_map (content_record true f.number)) (run_same f js a)
+          ∙ map_map (content_record true f.number) (run_of f.kind) (elements_read nested_r f js)
+          ∙ map_some _ (run_record f.number f.kind) (elements_read nested_r f js)
+          (λ ps e. run_out f.number f.name f.kind f.form js ps a e)
+          ∙ sym (map_map (λ p. out_of f.number (run_values (part_values format.table p f.kind))) Elements
+          (elements_read nested_r f js))
+      by_test false a = items_same f js ∙ sym
+          (map_map (λ p. out_of f.number (part_values format.table p f.kind)) Elements (elements_read nested_r f js))
 
   list_same : (f : NamedField) (j : Json) → list_bytes nested_b f j ≡ option_map (list_out f.number f.kind)
       (list_read nested_r f j)
@@ -276,7 +286,7 @@ module _ (format : Format) (nested_r : ℕ → Json → Option Parts) (nested_b 
   list_same f (boolean b) = refl
   list_same f (number s) = refl
   list_same f (string s) = refl
-  list_same f (array js) = array_same f.number f.name f.kind f.values js
+  list_same f (array js) = array_same f js
   list_same f (object ms) = refl
 
   given_same : (read_b : Json → Option (List ℕ)) (read_r : Json → Option Part) (empty : Part) (F : Part → List ℕ)

@@ -65,8 +65,9 @@ pub items_error_end : (nested : ℕ → Json → Option PathError) (f : NamedFie
     (all : Option PathError) → js ≡ no_items → items_error nested f i js ≡ all → all ≡ None
 items_error_end nested f js i all is h = sym h ∙ ap (λ (ks : Items). items_error nested f i ks) is
 
-pub run_error_end : (js : Items) (i : ℕ) (all : Option PathError) → js ≡ no_items → run_error i js ≡ all → all ≡ None
-run_error_end js i all is h = sym h ∙ ap (λ (ks : Items). run_error i ks) is
+pub run_error_end : (f : NamedField) (js : Items) (i : ℕ) (all : Option PathError) → js ≡ no_items → run_error f i js ≡
+    all → all ≡ None
+run_error_end f js i all is h = sym h ∙ ap (λ (ks : Items). run_error f i ks) is
 
 -- an element that has an error
 pub items_error_stop : (nested : ℕ → Json → Option PathError) (f : NamedField) (js rest : Items) (j : Json) (i : ℕ)

@@ -1,10 +1,11 @@
 -- What is read fits its schema, and is not deeper than it may be.
-use Rattle.std.proofs.Common.{◌≡◌, ℕ, zero, suc, ◌-◌, ◌%◌, ◌^◌, ◌<◌, ◌≤◌, List, [], ◌∷◌, map, Bool, true, false, cond}
+use Rattle.std.proofs.Common.{◌≡◌, ℕ, zero, suc, ◌-◌, ◌*◌, ◌^◌, ◌<◌, ◌≤◌, List, [], ◌∷◌, map, Bool, true, false, cond}
 use Rattle.std.proofs.Common.{not, ◌&&◌, ◌||◌, Option, Some, None, option_map, option_and_then, refl, sym, ap, subst}
 use Rattle.std.proofs.Common.{◌∙◌, arith, eqb, ltb, leb}
 use Rattle.std.specs.Option.{option_or}
 use Rattle.std.specs.Str.{is_utf8, bytes_eq}
-use Rattle.std.proofs.lemmas.Bool.{ltb-true}
+use Rattle.std.proofs.Math.Nat.{pos_of_ne-zero}
+use Rattle.std.proofs.lemmas.Bool.{ltb-true, leb-true, eqb-false}
 use Rattle.std.proofs.lemmas.Str.{is_utf8-from_IsUtf8, IsUtf8-nil}
 use Rattle.json.specs.Json.{Json, null, boolean, number, string, array, object, Items, no_items, item, Members}
 use Rattle.json.specs.Find.{as_str}
@@ -16,9 +17,13 @@ use Rattle.shared_core_wire.specs.Canonical.{kind_of, part_levels, levels}
 use Rattle.shared_core_wire.specs.Fitting.{is_single, has_shape, NumberFits, PartFits, ElementsFit, Fits}
 use Rattle.shared_core_wire.proofs.Runs.{and_split, and_join}
 use Rattle.shared_core_json.proofs.PlainScalars.{is_scalar, plain_scalars}
+use Rattle.shared_core_json.specs.declared.digits.Digits.{Digits}
+use Rattle.shared_core_json.specs.declared.digits.Digits.TheVariants.{Unsigned, Signed, ZigZag}
 use Rattle.shared_core_json_reader.specs.Rows.{NamedField, NamedRow, Plain, Optional, Repeated, OneOf, named_field}
-use Rattle.shared_core_json_reader.specs.Rows.{named_row, named_rows}
-use Rattle.shared_core_json_reader.specs.Scalars.{Whole, whole_read, unsigned_below, signed_bits, unsigned_read}
+use Rattle.shared_core_json_reader.specs.Rows.{NumberForm, named_row, named_rows}
+use Rattle.shared_core_json_reader.specs.Scalars.{Whole, whole_read, unsigned_below, signed_bits, zigzag_bits}
+use Rattle.shared_core_json_reader.specs.Scalars.{bits_read}
+use Rattle.shared_core_json_reader.specs.Scalars.{u32_read, u64_read}
 use Rattle.shared_core_json_reader.specs.Scalars.{boolean_read, value_named, enum_read, utf8_text, text_read}
 use Rattle.shared_core_json_reader.specs.Scalars.{bytes_read}
 use Rattle.shared_core_json_reader.specs.Reading.{are_known, given, single_read, field_read, elements_read, list_read}
@@ -47,27 +52,53 @@ some_if false o y e = absurd cc
 
 -- ---- numbers
 
-unsigned_fits : (limit : ℕ) (j : Json) (m : ℕ) → unsigned_read limit j ≡ Some m → m < limit
-unsigned_fits limit j m e =
-    let w = some_then (unsigned_below limit) (whole_read j) m e in
-    let t = some_if ((not w.0.negative || eqb w.0.magnitude 0) && ltb w.0.magnitude limit) (Some w.0.magnitude) m w.2 in
-    let q : w.0.magnitude ≡ m = let s : Some w.0.magnitude ≡ Some m = t.1 in cc in
-    omega (arith, ltb-true w.0.magnitude limit (and_split _ _ t.0).1, q)
+unsigned_fits : (limit : ℕ) (w : Whole) (m : ℕ) → unsigned_below limit w ≡ Some m → m < limit
+unsigned_fits limit w m e =
+    let t = some_if ((not w.negative || eqb w.magnitude 0) && ltb w.magnitude limit) (Some w.magnitude) m e in
+    let q : w.magnitude ≡ m = let s : Some w.magnitude ≡ Some m = t.1 in cc in
+    omega (arith, ltb-true w.magnitude limit (and_split _ _ t.0).1, q)
 
-signed_fits : (w : Whole) (m : ℕ) → signed_bits w ≡ Some m → m < 2 ^ 32
-signed_fits w m e = by_sign w.negative e
+signed_fits : (half : ℕ) (w : Whole) (m : ℕ) → 0 < half → signed_bits half w ≡ Some m → m < 2 * half
+signed_fits half w m l e = by_sign w.negative e
   where
-    by_sign : (b : Bool) → cond b (cond (leb w.magnitude (2 ^ 31)) (Some ((2 ^ 32 - w.magnitude) % 2 ^ 32)) None)
-        (cond (ltb w.magnitude (2 ^ 31)) (Some w.magnitude) None) ≡ Some m → m < 2 ^ 32
+    by_zero : (b : Bool) → eqb w.magnitude 0 ≡ b → cond b 0 (2 * half - w.magnitude) < 2 * half
+    by_zero true z = omega arith
+    by_zero false z = omega (arith, pos_of_ne-zero (eqb-false w.magnitude 0 z))
+
+    by_sign : (b : Bool) → cond b (cond (leb w.magnitude half) (Some (cond (eqb w.magnitude 0) 0
+        (2 * half - w.magnitude))) None) (cond (ltb w.magnitude half) (Some w.magnitude) None) ≡ Some m → m < 2 * half
     by_sign true h =
-        let t = some_if (leb w.magnitude (2 ^ 31)) (Some ((2 ^ 32 - w.magnitude) % 2 ^ 32)) m h in
-        let q : (2 ^ 32 - w.magnitude) % 2 ^ 32 ≡ m = let s : Some ((2 ^ 32 - w.magnitude) % 2 ^ 32) ≡ Some m = t.1 in
-        cc in
-        omega (arith, q)
+        let bits = cond (eqb w.magnitude 0) 0 (2 * half - w.magnitude) in
+        let t = some_if (leb w.magnitude half) (Some bits) m h in
+        let q : bits ≡ m = let s : Some bits ≡ Some m = t.1 in cc in
+        subst (λ (n : ℕ). n < 2 * half) q (by_zero (eqb w.magnitude 0) refl)
     by_sign false h =
-        let t = some_if (ltb w.magnitude (2 ^ 31)) (Some w.magnitude) m h in
+        let t = some_if (ltb w.magnitude half) (Some w.magnitude) m h in
         let q : w.magnitude ≡ m = let s : Some w.magnitude ≡ Some m = t.1 in cc in
-        omega (arith, ltb-true w.magnitude (2 ^ 31) t.0, q)
+        omega (arith, ltb-true w.magnitude half t.0, q)
+
+zigzag_fits : (half : ℕ) (w : Whole) (m : ℕ) → 0 < half → zigzag_bits half w ≡ Some m → m < 2 * half
+zigzag_fits half w m l e = by_sign w.negative e
+  where
+    by_sign : (b : Bool) → cond b (cond (leb w.magnitude half) (Some (2 * w.magnitude - 1)) None)
+        (cond (ltb w.magnitude half) (Some (2 * w.magnitude)) None) ≡ Some m → m < 2 * half
+    by_sign true h =
+        let t = some_if (leb w.magnitude half) (Some (2 * w.magnitude - 1)) m h in
+        let q : 2 * w.magnitude - 1 ≡ m = let s : Some (2 * w.magnitude - 1) ≡ Some m = t.1 in cc in
+        omega (arith, leb-true w.magnitude half t.0, q)
+    by_sign false h =
+        let t = some_if (ltb w.magnitude half) (Some (2 * w.magnitude)) m h in
+        let q : 2 * w.magnitude ≡ m = let s : Some (2 * w.magnitude) ≡ Some m = t.1 in cc in
+        omega (arith, ltb-true w.magnitude half t.0, q)
+
+-- a number that is written in either way has as many bits
+bits_fit : (d : Digits) (half : ℕ) (j : Json) (m : ℕ) → 0 < half → bits_read d half j ≡ Some m → m < 2 * half
+bits_fit Unsigned half j m l e =
+    let w = some_then (unsigned_below (2 * half)) (whole_read j) m e in unsigned_fits (2 * half) w.0 m w.2
+bits_fit Signed half j m l e =
+    let w = some_then (signed_bits half) (whole_read j) m e in signed_fits half w.0 m l w.2
+bits_fit ZigZag half j m l e =
+    let w = some_then (zigzag_bits half) (whole_read j) m e in zigzag_fits half w.0 m l w.2
 
 boolean_fits : (j : Json) (m : ℕ) → boolean_read j ≡ Some m → m < 2
 boolean_fits null m e = absurd cc
@@ -93,19 +124,20 @@ enum_fits : (values : List (List ℕ × ℕ)) (j : Json) (m : ℕ) → are_low v
 enum_fits values j m low e = by_name (option_and_then (value_named values) (as_str j)) refl e
   where
     by_name : (o : Option ℕ) → option_and_then (value_named values) (as_str j) ≡ o → option_or o
-        (option_and_then signed_bits (whole_read j)) ≡ Some m → m < 2 ^ 32
-    by_name None q h = let w = some_then signed_bits (whole_read j) m h in signed_fits w.0 m w.2
+        (option_and_then (signed_bits (2 ^ 31)) (whole_read j)) ≡ Some m → m < 2 ^ 32
+    by_name None q h =
+        let w = some_then (signed_bits (2 ^ 31)) (whole_read j) m h in signed_fits (2 ^ 31) w.0 m (omega arith) w.2
     by_name (Some x) q h = let y : x ≡ m = cc in let w = some_then (value_named values) (as_str j) x q in omega
         (arith, named_fits values w.0 x low w.2, y)
 
 abbrev pub FieldsLow : List NamedField → Type 0
 FieldsLow [] = Unit {0}
-FieldsLow (f ∷ fs) = (are_low f.values ≡ true) × FieldsLow fs
+FieldsLow (f ∷ fs) = (are_low f.form.values ≡ true) × FieldsLow fs
 
 abbrev pub RowLow : NamedRow → Type 0
-RowLow (Plain f) = (is_scalar f.kind ≡ true) × (are_low f.values ≡ true)
-RowLow (Optional f) = are_low f.values ≡ true
-RowLow (Repeated f) = are_low f.values ≡ true
+RowLow (Plain f) = (is_scalar f.kind ≡ true) × (are_low f.form.values ≡ true)
+RowLow (Optional f) = are_low f.form.values ≡ true
+RowLow (Repeated f) = are_low f.form.values ≡ true
 RowLow (OneOf fs) = FieldsLow fs
 
 abbrev pub RowsLow : List NamedRow → Type 0
@@ -124,18 +156,18 @@ module _ (format : Format) (nested : ℕ → Json → Option Parts) (bound : ℕ
   unfolding PartFits part_levels
   number_single k p m e h = subst (λ (q : Part). Single q k) e (record { single = refl; fits = h; low = omega arith })
 
-  single_fits : (k : Kind) (values : List (List ℕ × ℕ)) (j : Json) (p : Part) → are_low values ≡ true → single_read
-      nested k values j ≡ Some p → Single p k
+  single_fits : (k : Kind) (form : NumberForm) (j : Json) (p : Part) → are_low form.values ≡ true → single_read
+      nested k form j ≡ Some p → Single p k
   unfolding PartFits part_levels
-  single_fits U32 values j p low e = let x = some_map Number (unsigned_read 4294967296 j) p e in number_single U32 p x.0
-      x.2 (unsigned_fits 4294967296 j x.0 x.1)
-  single_fits U64 values j p low e = let x = some_map Number (unsigned_read 18446744073709551616 j) p e in number_single
-      U64 p x.0 x.2 (unsigned_fits 18446744073709551616 j x.0 x.1)
-  single_fits Boolean values j p low e = let x = some_map Number (boolean_read j) p e in number_single Boolean p x.0 x.2
+  single_fits U32 form j p low e = let x = some_map Number (u32_read form.digits j) p e in number_single U32 p x.0
+      x.2 (bits_fit form.digits (2 ^ 31) j x.0 (omega arith) x.1)
+  single_fits U64 form j p low e = let x = some_map Number (u64_read form.digits j) p e in number_single
+      U64 p x.0 x.2 (bits_fit form.digits (2 ^ 63) j x.0 (omega arith) x.1)
+  single_fits Boolean form j p low e = let x = some_map Number (boolean_read j) p e in number_single Boolean p x.0 x.2
       (boolean_fits j x.0 x.1)
-  single_fits Enumeration values j p low e = let x = some_map Number (enum_read values j) p e in number_single
-      Enumeration p x.0 x.2 (enum_fits values j x.0 low x.1)
-  single_fits Text values j p low e =
+  single_fits Enumeration form j p low e = let x = some_map Number (enum_read form.values j) p e in number_single
+      Enumeration p x.0 x.2 (enum_fits form.values j x.0 low x.1)
+  single_fits Text form j p low e =
       let x = some_map Bytes (text_read j) p e in
       let y = some_then utf8_text (as_str j) x.0 x.1 in
       let t = some_if (is_utf8 y.0) (Some y.0) x.0 y.2 in
@@ -146,9 +178,9 @@ module _ (format : Format) (nested : ℕ → Json → Option Parts) (bound : ℕ
             t.0;
         low = omega arith;
       })
-  single_fits ByteString values j p low e = let x = some_map Bytes (bytes_read j) p e in subst
+  single_fits ByteString form j p low e = let x = some_map Bytes (bytes_read j) p e in subst
       (λ (r : Part). Single r ByteString) x.2 (record { single = refl; fits = tt; low = omega arith })
-  single_fits (Message s) values j p low e =
+  single_fits (Message s) form j p low e =
       let x = some_map Nested (nested s j) p e in
       let f = fit s j x.0 x.1 in
       subst (λ (r : Part). Single r (Message s)) x.2 (record { single = refl; fits = f.0; low = f.1 })
@@ -160,7 +192,8 @@ module _ (format : Format) (nested : ℕ → Json → Option Parts) (bound : ℕ
     fits : PartFits format.table p (kind_of (plain_row row) p)
     low : part_levels p ≤ bound
 
-  elements_fit : (f : NamedField) (js : Items) (ps : Parts) → are_low f.values ≡ true → elements_read nested f js ≡ Some
+  elements_fit : (f : NamedField) (js : Items) (ps : Parts) → are_low f.form.values ≡ true
+      → elements_read nested f js ≡ Some
       ps → ElementsFit format.table ps f.kind × (levels ps ≤ bound)
   unfolding PartFits part_levels
   elements_fit f no_items ps low e = let q : nil ≡ ps = cc in subst
@@ -168,12 +201,13 @@ module _ (format : Format) (nested : ℕ → Json → Option Parts) (bound : ℕ
   elements_fit f (item j js) ps low e =
       let x = some_then (λ p. option_map (cons p) (elements_read nested f js)) (field_read nested f j) ps e in
       let y = some_map (cons x.0) (elements_read nested f js) ps x.2 in
-      let one = single_fits f.kind f.values j x.0 low x.1 in
+      let one = single_fits f.kind f.form j x.0 low x.1 in
       let more = elements_fit f js y.0 low y.1 in
       subst (λ (qs : Parts). ElementsFit format.table qs f.kind × (levels qs ≤ bound)) y.2
       ((one.single, one.fits, more.0), omega (arith, one.low, more.1))
 
-  list_fits : (f : NamedField) (j : Json) (p : Part) → are_low f.values ≡ true → list_read nested f j ≡ Some p → RowFits
+  list_fits : (f : NamedField) (j : Json) (p : Part) → are_low f.form.values ≡ true → list_read nested f j ≡ Some p
+      → RowFits
       (Repeated f) p
   unfolding PartFits part_levels
   list_fits f null p low e = absurd cc
@@ -252,7 +286,7 @@ module _ (format : Format) (nested : ℕ → Json → Option Parts) (bound : ℕ
           let x = some_then (λ now. oneof_read nested ms now fs) (option_map (Member f.number) (field_read nested f j))
           q h in
           let y = some_map (Member f.number) (field_read nested f j) x.0 x.1 in
-          let one = single_fits f.kind f.values j y.0 low.0 y.1 in
+          let one = single_fits f.kind f.form j y.0 low.0 y.1 in
           let stays = member_stays ms f.number y.0 q fs (ap (λ (now : Part). oneof_read nested ms now fs) y.2 ∙ x.2) in
           subst (HeldFits members) stays (record {
             shape = and_join _ _ k.1 one.single;
@@ -266,11 +300,11 @@ module _ (format : Format) (nested : ℕ → Json → Option Parts) (bound : ℕ
   row_fits ms (Plain f) p low k e =
       given_fits (Plain f) (field_read nested f) (default_of f.kind) (given f ms) p
       (plain_fits f (default_of f.kind) (default_fits f.kind low.0))
-      (λ j q h. plain_fits f q (single_fits f.kind f.values j q low.1 h)) e
+      (λ j q h. plain_fits f q (single_fits f.kind f.form j q low.1 h)) e
   row_fits ms (Optional f) p low k e =
       given_fits (Optional f) (field_read nested f) Absent (given f ms) p
       (record { shape = refl; fits = tt; low = omega arith })
-      (λ j q h. optional_fits f q (single_fits f.kind f.values j q low h)) e
+      (λ j q h. optional_fits f q (single_fits f.kind f.form j q low h)) e
   row_fits ms (Repeated f) p low k e =
       given_fits (Repeated f) (list_read nested f) (Elements nil) (given f ms) p
       (record { shape = refl; fits = tt; low = omega arith }) (λ j q h. list_fits f j q low h) e

@@ -19,13 +19,17 @@ use Rattle.shared_core_wire.specs.Encoding.{shortest_varint, key_bytes, record_b
 use Rattle.shared_core_wire.specs.Schema.{Kind, Row, U32, U64, Boolean, Enumeration, Text, ByteString, Message}
 use Rattle.shared_core_wire.specs.Schema as schema
 use Rattle.shared_core_wire.specs.Value.{Part, Parts, Absent, Number, Bytes, Nested, Elements, Member, nil, cons}
-use Rattle.shared_core_wire.specs.Canonical.{kind_of, number_of, is_default, row_records, part_values, element_values}
+use Rattle.shared_core_wire.specs.Canonical.{kind_of, number_of, is_default, run_values, row_records, part_values}
+use Rattle.shared_core_wire.specs.Canonical.{element_values}
 use Rattle.shared_core_wire.specs.Canonical.{message_records, canonical_payload, part_levels, levels}
+use Rattle.shared_core_wire.specs.Acceptance.{accepts_number}
 use Rattle.shared_core_wire.specs.Fitting.{is_single, has_shape, PartFits, ElementsFit, Fits}
+use Rattle.shared_core_wire.proofs.Numbers.{no_bytes, no_message}
 use Rattle.shared_core_wire.proofs.Runs.{and_split}
-use Rattle.shared_core_json.specs.Fields.{name_of}
+use Rattle.shared_core_json.specs.Fields.{SchemaNames, name_of}
 use Rattle.shared_core_json.specs.Form.{is_present, member_if, number_json, byte_string_json, bytes_json}
-use Rattle.shared_core_json.specs.Form.{part_json_in}
+use Rattle.shared_core_json.specs.Form.{Writing, part_json_in, writing}
+use Rattle.shared_core_json.specs.declared.digits.Digits.{Digits}
 use Rattle.shared_core_json_reader.specs.Laws.{JsonIsReadBack}
 use Rattle.shared_core_json_reader.specs.Reading.{only_value}
 use Rattle.shared_core_json_reader.proofs.Agreeing.{out_of}
@@ -39,14 +43,14 @@ use Rattle.shared_core_json_reader.specs.Rows.{Format, protocol}
 
 -- ---- how deep the JSON of a value is
 
-number_depth : (k : Kind) (n : ℕ) → depth (number_json k n) ≡ 0
-number_depth U32 n = refl
-number_depth U64 n = refl
-number_depth Boolean n = refl
-number_depth Enumeration n = refl
-number_depth Text n = refl
-number_depth ByteString n = refl
-number_depth (Message s) n = refl
+number_depth : (d : Digits) (k : Kind) (n : ℕ) → depth (number_json d k n) ≡ 0
+number_depth d U32 n = refl
+number_depth d U64 n = refl
+number_depth d Boolean n = refl
+number_depth d Enumeration n = refl
+number_depth d Text n = refl
+number_depth d ByteString n = refl
+number_depth d (Message s) n = refl
 
 pub byte_string_depth : (texts : Bool) (b : List ℕ) → depth (byte_string_json texts b) ≤ 1
 byte_string_depth texts b = by_test (texts && is_utf8 b)
@@ -93,9 +97,9 @@ shape_holds (schema.Optional n k) (Member m p) h = absurd cc
 shape_holds (schema.Repeated n k) (Member m p) h = absurd cc
 shape_holds (schema.OneOf members) (Member m p) h = (and_split _ _ h).1
 
-record Low (format : Format) (texts : Bool) (p : Part) (k : Kind) : Type 0 where
-  low : depth (part_json_in format.table format.names texts p k) ≤ 2 * part_levels p + 2
-  lower : is_single p ≡ true → depth (part_json_in format.table format.names texts p k) ≤ 2 * part_levels p + 1
+record Low (format : Format) (w : Writing) (p : Part) (k : Kind) : Type 0 where
+  low : depth (part_json_in format.table format.names w p k) ≤ 2 * part_levels p + 2
+  lower : is_single p ≡ true → depth (part_json_in format.table format.names w p k) ≤ 2 * part_levels p + 1
 
 member_low : (b : Bool) (name : List ℕ) (j : Json) (others : Members) (bound : ℕ) → depth j ≤ bound → members_depth
     others ≤ bound → members_depth (member_if b name j others) ≤ bound
@@ -105,59 +109,60 @@ member_low false name j others bound h g = g
 mutual
   unfolding PartFits part_levels part_json_in
 
-  part_low : (format : Format) (texts : Bool) (p : Part) (k : Kind) → PartFits format.table p k → HoldsSingle p
-      → Low format texts p k
-  part_low format texts Absent k f h = record { low = omega arith; lower = λ e. omega arith }
-  part_low format texts (Number n) k f h = record {
-    low = omega (arith, number_depth k n);
+  part_low : (format : Format) (w : Writing) (p : Part) (k : Kind) → PartFits format.table p k → HoldsSingle p
+      → Low format w p k
+  part_low format w Absent k f h = record { low = omega arith; lower = λ e. omega arith }
+  part_low format w (Number n) k f h = record {
+    low = omega (arith, number_depth w.digits k n);
     lower = λ e. omega
-        (arith, number_depth k n);
+        (arith, number_depth w.digits k n);
   }
-  part_low format texts (Bytes b) k f h = record {
-    low = omega (arith, bytes_depth texts k b);
+  part_low format w (Bytes b) k f h = record {
+    low = omega (arith, bytes_depth w.texts k b);
     lower = λ e. omega
-        (arith, bytes_depth texts k b);
+        (arith, bytes_depth w.texts k b);
   }
-  part_low format texts (Nested ps) (Message t) f h = let m = members_low format texts (format.names t) ps
+  part_low format w (Nested ps) (Message t) f h = let m = members_low format w.texts (format.names t) ps
       (format.table t) f in record
       { low = omega (arith, m); lower = λ e. omega (arith, m) }
-  part_low format texts (Nested ps) U32 f h = absurd f
-  part_low format texts (Nested ps) U64 f h = absurd f
-  part_low format texts (Nested ps) Boolean f h = absurd f
-  part_low format texts (Nested ps) Enumeration f h = absurd f
-  part_low format texts (Nested ps) Text f h = absurd f
-  part_low format texts (Nested ps) ByteString f h = absurd f
-  part_low format texts (Elements ps) k f h = let m = items_low format texts ps k f in record
+  part_low format w (Nested ps) U32 f h = absurd f
+  part_low format w (Nested ps) U64 f h = absurd f
+  part_low format w (Nested ps) Boolean f h = absurd f
+  part_low format w (Nested ps) Enumeration f h = absurd f
+  part_low format w (Nested ps) Text f h = absurd f
+  part_low format w (Nested ps) ByteString f h = absurd f
+  part_low format w (Elements ps) k f h = let m = items_low format w ps k f in record
       { low = omega (arith, m); lower = λ e. absurd cc }
-  part_low format texts (Member n p) k f h = let m = part_low format texts p k f (single_holds p h) in record
+  part_low format w (Member n p) k f h = let m = part_low format w p k f (single_holds p h) in record
       { low = m.low; lower = λ e. absurd cc }
 
-  items_low : (format : Format) (texts : Bool) (ps : Parts) (k : Kind) → ElementsFit format.table ps k
-      → items_depth (items_json_in format.table format.names texts ps k) ≤ 2
+  items_low : (format : Format) (w : Writing) (ps : Parts) (k : Kind) → ElementsFit format.table ps k
+      → items_depth (items_json_in format.table format.names w ps k) ≤ 2
       * levels ps + 1
-  items_low format texts nil k f = omega arith
-  items_low format texts (cons p ps) k f = let one = (part_low format texts p k f.1 (single_holds p f.0)).lower f.0 in
+  items_low format w nil k f = omega arith
+  items_low format w (cons p ps) k f = let one = (part_low format w p k f.1 (single_holds p f.0)).lower f.0 in
       omega
-      (arith, one, items_low format texts ps k f.2)
+      (arith, one, items_low format w ps k f.2)
 
-  members_low : (format : Format) (texts : Bool) (ns : List (ℕ × List ℕ)) (v : Parts) (rows : List Row)
+  members_low : (format : Format) (texts : Bool) (ns : SchemaNames) (v : Parts) (rows : List Row)
       → Fits format.table v rows →
       members_depth (members_json_in format.table format.names texts ns v rows) ≤ 2 * levels v + 2
   members_low format texts ns nil rows f = omega arith
   members_low format texts ns (cons p ps) [] f = absurd f
   members_low format texts ns (cons p ps) (row ∷ rows) f =
-      let one = (part_low format texts p (kind_of row p) f.1 (shape_holds row p f.0)).low in
+      let one = (part_low format (writing texts ns (number_of row p)) p (kind_of row p) f.1
+      (shape_holds row p f.0)).low in
       member_low (is_present row p) (name_of ns (number_of row p))
-      (part_json_in format.table format.names texts p (kind_of row p))
+      (part_json_in format.table format.names (writing texts ns (number_of row p)) p (kind_of row p))
       (members_json_in format.table format.names texts ns ps rows) (2 * max (part_levels p) (levels ps) + 2)
       (omega (arith, one))
       (omega (arith, members_low format texts ns ps rows f.2))
 
 -- ---- the bytes of a value are those of its payload
 
-no_bytes : (b : List ℕ) → length b ≡ 0 → IsBytes b
-no_bytes [] e i = omega arith
-no_bytes (x ∷ b) e i = absurd (omega arith)
+empty_bytes : (b : List ℕ) → length b ≡ 0 → IsBytes b
+empty_bytes [] e i = omega arith
+empty_bytes (x ∷ b) e i = absurd (omega arith)
 
 abbrev WsBytes : List RecordValue → Type 0
 WsBytes [] = Unit {0}
@@ -202,30 +207,31 @@ ws_back (Fixed32 b ∷ us) ws h = ws_back us ws h
 default_bytes : (p : Part) → is_default p ≡ true → PartBytes p
 default_bytes Absent e = absurd cc
 default_bytes (Number n) e = tt
-default_bytes (Bytes b) e = no_bytes b (eqb-true (length b) 0 e)
+default_bytes (Bytes b) e = empty_bytes b (eqb-true (length b) 0 e)
 default_bytes (Nested ps) e = absurd cc
 default_bytes (Elements ps) e = absurd cc
 default_bytes (Member n p) e = absurd cc
 
-number_elements : (format : Format) (ps : Parts) → ElementsFit format.table ps U32 → PartsBytes ps
+number_elements : (format : Format) (k : Kind) (ps : Parts) → accepts_number k ≡ true → ElementsFit format.table ps k →
+    PartsBytes ps
 unfolding PartFits
-number_elements format nil f = tt
-number_elements format (cons (Number n) ps) f = (tt, number_elements format ps f.2)
-number_elements format (cons Absent ps) f = absurd (cc f.0)
-number_elements format (cons (Bytes b) ps) f = absurd f.1
-number_elements format (cons (Nested qs) ps) f = absurd f.1
-number_elements format (cons (Elements qs) ps) f = absurd (cc f.0)
-number_elements format (cons (Member n q) ps) f = absurd (cc f.0)
+number_elements format k nil a f = tt
+number_elements format k (cons (Number n) ps) a f = (tt, number_elements format k ps a f.2)
+number_elements format k (cons Absent ps) a f = absurd (cc f.0)
+number_elements format k (cons (Bytes b) ps) a f = absurd (no_bytes k b a f.1)
+number_elements format k (cons (Nested qs) ps) a f = absurd (no_message format.table k qs a f.1)
+number_elements format k (cons (Elements qs) ps) a f = absurd (cc f.0)
+number_elements format k (cons (Member n q) ps) a f = absurd (cc f.0)
 
-run_bytes : (format : Format) (p : Part) → has_shape (schema.Repeated 0 U32) p ≡ true → PartFits format.table p U32
-    → PartBytes p
+run_bytes : (format : Format) (n : ℕ) (k : Kind) (p : Part) → accepts_number k ≡ true → has_shape (schema.Repeated n k)
+    p ≡ true → PartFits format.table p k → PartBytes p
 unfolding PartFits
-run_bytes format (Elements ps) h f = number_elements format ps f
-run_bytes format Absent h f = absurd cc
-run_bytes format (Number n) h f = absurd cc
-run_bytes format (Bytes b) h f = absurd cc
-run_bytes format (Nested ps) h f = absurd cc
-run_bytes format (Member n p) h f = absurd cc
+run_bytes format n k (Elements ps) a h f = number_elements format k ps a f
+run_bytes format n k Absent a h f = absurd cc
+run_bytes format n k (Number m) a h f = absurd cc
+run_bytes format n k (Bytes b) a h f = absurd cc
+run_bytes format n k (Nested ps) a h f = absurd cc
+run_bytes format n k (Member m p) a h f = absurd cc
 
 plain_bytes : (p : Part) (n : ℕ) (ws : List RecordValue) (b : Bool) → is_default p ≡ b → IsBytes
     (out_of n (cond b [] ws)) → (WsBytes ws → PartBytes p) → PartBytes p
@@ -237,21 +243,11 @@ row_bytes : (format : Format) (row : Row) (p : Part) (ws : List RecordValue) →
     IsBytes (record_list_bytes (row_records row p ws)) → (WsBytes ws → PartBytes p) → PartBytes p
 row_bytes format (schema.Plain n k) p ws i f h hold = plain_bytes p n ws (is_default p) refl h hold
 row_bytes format (schema.Optional n k) p ws i f h hold = hold (ws_bytes n ws h)
-row_bytes format (schema.Repeated n U32) p ws i f h hold = run_bytes format p (shape_again p i) f
+row_bytes format (schema.Repeated n k) p ws i f h hold = by_test (accepts_number k) refl h
   where
-    shape_again : (p : Part) → has_shape (schema.Repeated n U32) p ≡ true → has_shape (schema.Repeated 0 U32) p ≡ true
-    shape_again (Elements ps) g = refl
-    shape_again Absent g = g
-    shape_again (Number m) g = g
-    shape_again (Bytes b) g = g
-    shape_again (Nested ps) g = g
-    shape_again (Member m q) g = g
-row_bytes format (schema.Repeated n U64) p ws i f h hold = hold (ws_bytes n ws h)
-row_bytes format (schema.Repeated n Boolean) p ws i f h hold = hold (ws_bytes n ws h)
-row_bytes format (schema.Repeated n Enumeration) p ws i f h hold = hold (ws_bytes n ws h)
-row_bytes format (schema.Repeated n Text) p ws i f h hold = hold (ws_bytes n ws h)
-row_bytes format (schema.Repeated n ByteString) p ws i f h hold = hold (ws_bytes n ws h)
-row_bytes format (schema.Repeated n (Message s)) p ws i f h hold = hold (ws_bytes n ws h)
+    by_test : (b : Bool) → accepts_number k ≡ b → IsBytes (out_of n (cond b (run_values ws) ws)) → PartBytes p
+    by_test true a g = run_bytes format n k p a i f
+    by_test false a g = hold (ws_bytes n ws g)
 row_bytes format (schema.OneOf members) p ws i f h hold = hold (ws_bytes _ ws h)
 
 mutual

@@ -53,10 +53,11 @@ items_turn nested f js rest j old new all is e h =
     sym (after_both old new (field_bytes nested false f j) (items_bytes nested f rest) e)
     ∙ sym (ap (λ (ks : Items). after old (items_bytes nested f ks)) is) ∙ h
 
-pub run_end : (js : Items) (old : List ℕ) (all : Option (List ℕ)) → js ≡ no_items → after old (run_bytes js) ≡ all → all
+pub run_end : (f : NamedField) (js : Items) (old : List ℕ) (all : Option (List ℕ)) → js ≡ no_items → after old
+    (run_bytes f js) ≡ all → all
     ≡ Some old
-run_end js old all is h =
-    sym h ∙ ap (λ (ks : Items). after old (run_bytes ks)) is ∙ ap (λ (xs : List ℕ). Some xs) (append-nil old)
+run_end f js old all is h =
+    sym h ∙ ap (λ (ks : Items). after old (run_bytes f ks)) is ∙ ap (λ (xs : List ℕ). Some xs) (append-nil old)
 
 -- no items are left where none may be
 pub none_left : (js : Items) → items_count js ≤ 0 → js ≡ no_items

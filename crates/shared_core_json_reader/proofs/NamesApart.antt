@@ -12,7 +12,7 @@ use Rattle.json.specs.Json.{Json, Members, no_members, member}
 use Rattle.shared_core_wire.specs.Schema.{Kind, Row, Boolean, includes, numbers, all_numbers}
 use Rattle.shared_core_wire.specs.Schema as schema
 use Rattle.shared_core_wire.proofs.Runs.{and_split}
-use Rattle.shared_core_json.specs.Fields.{name_of, name_view}
+use Rattle.shared_core_json.specs.Fields.{name_in, name_of, name_view}
 use Rattle.shared_core_json.specs.declared.names.Name.{Name}
 use Rattle.shared_core_json_reader.specs.Rows.{named_field, named_row, named_rows}
 use Rattle.shared_core_json_reader.specs.Reading.{original_name, is_named, names_field, row_names, names_row}
@@ -51,16 +51,16 @@ eqb_turned n m = by_test (eqb n m) refl (eqb m n) refl
 
 -- what is known of the names of a schema
 record NamesAre (format : Format) (s : ℕ) : Type 0 where
-  apart : all_apart (format.names s) ≡ true
-  found : are_found (format.names s) (format.names s) ≡ true
-  listed : list_all (includes (numbers_of (format.names s))) (all_numbers (format.table s)) ≡ true
-  own : list_all (includes (all_numbers (format.table s))) (numbers_of (format.names s)) ≡ true
+  apart : all_apart (format.names s).names ≡ true
+  found : are_found (format.names s).names (format.names s).names ≡ true
+  listed : list_all (includes (numbers_of (format.names s).names)) (all_numbers (format.table s)) ≡ true
+  own : list_all (includes (all_numbers (format.table s))) (numbers_of (format.names s).names) ≡ true
 
 names_are : (format : Format) (law : IsReadable format) (s : ℕ) → NamesAre format s
 names_are format law s =
-    let h = and_split (all_apart (format.names s)) _ (law.names s) in
-    let g = and_split (are_found (format.names s) (format.names s)) _ h.1 in
-    let k = and_split (list_all (includes (numbers_of (format.names s))) (all_numbers (format.table s))) _ g.1 in
+    let h = and_split (all_apart (format.names s).names) _ (law.names s) in
+    let g = and_split (are_found (format.names s).names (format.names s).names) _ h.1 in
+    let k = and_split (list_all (includes (numbers_of (format.names s).names)) (all_numbers (format.table s))) _ g.1 in
     record { apart = h.0; found = g.0; listed = k.0; own = k.1 }
 
 -- a name that is listed with a number, and what is tested of it
@@ -91,15 +91,15 @@ two_apart : (format : Format) (law : IsReadable format) (s n m : ℕ) → includ
     includes (all_numbers (format.table s)) m ≡ true
     → are_apart (n, name_of (format.names s) n) (m, name_of (format.names s) m) ≡ true
 two_apart format law s n m h g =
-    let ns = format.names s in
+    let ns = (format.names s).names in
     let are = names_are format law s in
     let listed : (i : ℕ) → includes (all_numbers (format.table s)) i ≡ true → includes (numbers_of ns) i ≡ true = λ i e.
     one_of_all (includes (numbers_of ns)) (all_numbers (format.table s)) i are.listed e in
-    let x = listed_name (λ x. bytes_eq x.1 (name_of ns x.0)) (λ x. list_all (are_apart x) ns) ns n are.found are.apart
+    let x = listed_name (λ x. bytes_eq x.1 (name_in ns x.0)) (λ x. list_all (are_apart x) ns) ns n are.found are.apart
     (listed n h) in
-    let y = listed_name (λ y. bytes_eq y.1 (name_of ns y.0)) (are_apart x.name) ns m are.found x.second (listed m g) in
-    let named : (i : ℕ) (z : ℕ × List ℕ) → z.0 ≡ i → bytes_eq z.1 (name_of ns z.0) ≡ true → z ≡ (i, name_of ns i) =
-    λ i z e f. ap₂ (λ (a : ℕ) (b : List ℕ). (a, b)) e (equal_bytes z.1 (name_of ns z.0) f ∙ ap (name_of ns) e) in
+    let y = listed_name (λ y. bytes_eq y.1 (name_in ns y.0)) (are_apart x.name) ns m are.found x.second (listed m g) in
+    let named : (i : ℕ) (z : ℕ × List ℕ) → z.0 ≡ i → bytes_eq z.1 (name_in ns z.0) ≡ true → z ≡ (i, name_in ns i) =
+    λ i z e f. ap₂ (λ (a : ℕ) (b : List ℕ). (a, b)) e (equal_bytes z.1 (name_in ns z.0) f ∙ ap (name_in ns) e) in
     ap₂ are_apart (sym (named n x.name x.number x.first)) (sym (named m y.name y.number y.first)) ∙ y.second
 
 pub names_apart : (format : Format) (law : IsReadable format) (s n m : ℕ) → includes (all_numbers (format.table s)) n ≡
@@ -128,7 +128,7 @@ or_right false b e = e
 
 record Finds (form : List ℕ → List ℕ) (ns xs : List (ℕ × List ℕ)) (k : List ℕ) (m : ℕ) : Type 0 where
   listed : includes (numbers_of xs) m ≡ true
-  key : k ≡ form (name_of ns m)
+  key : k ≡ form (name_in ns m)
 
 finds : (form : List ℕ → List ℕ) (ns xs : List (ℕ × List ℕ)) (k : List ℕ) (m : ℕ) → are_found ns xs ≡ true →
     number_by form xs k ≡ Some m → Finds form ns xs k m
@@ -143,27 +143,27 @@ finds form ns (x ∷ xs) k m h e = by_test (λ g. finds form ns xs k m (and_spli
         record {
           listed = ap (λ (b : Bool). b || includes (numbers_of xs) m) (eq-eqb m x.0 (sym same));
           key =
-              equal_bytes k (form x.1) q ∙ ap form (equal_bytes x.1 (name_of ns x.0) (and_split _ _ h).0)
-              ∙ ap (λ (n : ℕ). form (name_of ns n)) same;
+              equal_bytes k (form x.1) q ∙ ap form (equal_bytes x.1 (name_in ns x.0) (and_split _ _ h).0)
+              ∙ ap (λ (n : ℕ). form (name_in ns n)) same;
         }
     by_test later false q g =
         let r = later g in
         record { listed = or_right (eqb m x.0) (includes (numbers_of xs) m) r.listed; key = r.key }
 
 finds_none : (form : List ℕ → List ℕ) (ns xs : List (ℕ × List ℕ)) (k : List ℕ) (n : ℕ) → are_found ns xs ≡ true →
-    number_by form xs k ≡ None → includes (numbers_of xs) n ≡ true → bytes_eq k (form (name_of ns n)) ≡ false
+    number_by form xs k ≡ None → includes (numbers_of xs) n ≡ true → bytes_eq k (form (name_in ns n)) ≡ false
 finds_none form ns [] k n h e g = absurd cc
 finds_none form ns (x ∷ xs) k n h e g = by_test (λ e g. finds_none form ns xs k n (and_split _ _ h).1 e g)
     (bytes_eq k (form x.1)) refl e (eqb n x.0) refl g
   where
     by_test : (number_by form xs k ≡ None → includes (numbers_of xs) n ≡ true → bytes_eq k
-        (form (name_of ns n)) ≡ false) → (b : Bool) → bytes_eq k (form x.1) ≡ b → cond b (Some x.0)
+        (form (name_in ns n)) ≡ false) → (b : Bool) → bytes_eq k (form x.1) ≡ b → cond b (Some x.0)
         (number_by form xs k) ≡ None → (t : Bool) → eqb n x.0 ≡ t → (t || includes (numbers_of xs) n) ≡ true →
-        bytes_eq k (form (name_of ns n)) ≡ false
+        bytes_eq k (form (name_in ns n)) ≡ false
     by_test later true q e t r g = absurd cc
     by_test later false q e true r g =
-        ap (λ (m : ℕ). bytes_eq k (form (name_of ns m))) (eqb-true n x.0 r)
-        ∙ ap (λ (name : List ℕ). bytes_eq k (form name)) (sym (equal_bytes x.1 (name_of ns x.0) (and_split _ _ h).0))
+        ap (λ (m : ℕ). bytes_eq k (form (name_in ns m))) (eqb-true n x.0 r)
+        ∙ ap (λ (name : List ℕ). bytes_eq k (form name)) (sym (equal_bytes x.1 (name_in ns x.0) (and_split _ _ h).0))
         ∙ q
     by_test later false q e false r g = later e g
 
@@ -175,7 +175,7 @@ unfolding number_of
 named_same format law s n kind k h = by_name (number_by as_it_is ns k) refl
   where
     ns : List (ℕ × List ℕ)
-    ns = format.names s
+    ns = (format.names s).names
 
     all : List ℕ
     all = all_numbers (format.table s)
@@ -186,22 +186,22 @@ named_same format law s n kind k h = by_name (number_by as_it_is ns k) refl
     own : (m : ℕ) → includes (numbers_of ns) m ≡ true → includes all m ≡ true
     own m g = one_of_all (includes all) (numbers_of ns) m (names_are format law s).own g
 
-    by_original : (o : Option ℕ) → number_by original_name ns k ≡ o → bytes_eq k (name_of ns n) ≡ false →
-        (bytes_eq k (name_of ns n) || bytes_eq k (original_name (name_of ns n))) ≡ is_place o n
+    by_original : (o : Option ℕ) → number_by original_name ns k ≡ o → bytes_eq k (name_in ns n) ≡ false →
+        (bytes_eq k (name_in ns n) || bytes_eq k (original_name (name_in ns n))) ≡ is_place o n
     by_original (Some m) e q =
         let f = finds original_name ns ns k m (names_are format law s).found e in
-        ap (λ (b : Bool). b || bytes_eq k (original_name (name_of ns n))) q
-        ∙ ap (λ (key : List ℕ). bytes_eq key (original_name (name_of ns n))) f.key
+        ap (λ (b : Bool). b || bytes_eq k (original_name (name_in ns n))) q
+        ∙ ap (λ (key : List ℕ). bytes_eq key (original_name (name_in ns n))) f.key
         ∙ originals_apart format law s n m h (own m f.listed) ∙ eqb_turned n m
     by_original None e q =
-        ap (λ (b : Bool). b || bytes_eq k (original_name (name_of ns n))) q
+        ap (λ (b : Bool). b || bytes_eq k (original_name (name_in ns n))) q
         ∙ finds_none original_name ns ns k n (names_are format law s).found e listed
 
-    by_name : (o : Option ℕ) → number_by as_it_is ns k ≡ o → (bytes_eq k (name_of ns n) || bytes_eq k
-        (original_name (name_of ns n))) ≡ is_place (option_or o (number_by original_name ns k)) n
+    by_name : (o : Option ℕ) → number_by as_it_is ns k ≡ o → (bytes_eq k (name_in ns n) || bytes_eq k
+        (original_name (name_in ns n))) ≡ is_place (option_or o (number_by original_name ns k)) n
     by_name (Some m) e =
         let f = finds as_it_is ns ns k m (names_are format law s).found e in
-        ap (λ (key : List ℕ). bytes_eq key (name_of ns n) || bytes_eq key (original_name (name_of ns n))) f.key
+        ap (λ (key : List ℕ). bytes_eq key (name_in ns n) || bytes_eq key (original_name (name_in ns n))) f.key
         ∙ names_apart format law s n m h (own m f.listed) ∙ eqb_turned n m
     by_name None e = by_original (number_by original_name ns k) refl
         (finds_none as_it_is ns ns k n (names_are format law s).found e listed)
@@ -217,7 +217,7 @@ values_same format law s n kind (member k j ms) h = ap₂ (λ (b : Bool) (js : L
 
 record At (ns xs : List (ℕ × List ℕ)) (x : ℕ × List ℕ) : Type 0 where
   listed : includes (numbers_of xs) x.0 ≡ true
-  found : bytes_eq x.1 (name_of ns x.0) ≡ true
+  found : bytes_eq x.1 (name_in ns x.0) ≡ true
 
 at_index : (i : ℕ) (ns xs : List (ℕ × List ℕ)) → i < length xs → are_found ns xs ≡ true → At ns xs
     (get_or xs i (0, []))
@@ -234,14 +234,14 @@ at_index (suc i) ns (x ∷ xs) h f =
     }
 
 -- the name at an index finds the number there
-pub named_at : (format : Format) (law : IsReadable format) (s i : ℕ) → i < length (format.names s)
-    → number_of format s (get_or (format.names s) i (0, [])).1 ≡ Some
-    (get_or (format.names s) i (0, [])).0
+pub named_at : (format : Format) (law : IsReadable format) (s i : ℕ) → i < length (format.names s).names
+    → number_of format s (get_or (format.names s).names i (0, [])).1 ≡ Some
+    (get_or (format.names s).names i (0, [])).0
 unfolding number_of
 named_at format law s i within = by_name (number_by as_it_is ns k) refl
   where
     ns : List (ℕ × List ℕ)
-    ns = format.names s
+    ns = (format.names s).names
 
     x : ℕ × List ℕ
     x = get_or ns i (0, [])
@@ -252,8 +252,8 @@ named_at format law s i within = by_name (number_by as_it_is ns k) refl
     here : At ns ns x
     here = at_index i ns ns within (names_are format law s).found
 
-    key : k ≡ name_of ns x.0
-    key = equal_bytes k (name_of ns x.0) here.found
+    key : k ≡ name_in ns x.0
+    key = equal_bytes k (name_in ns x.0) here.found
 
     own : (m : ℕ) → includes (numbers_of ns) m ≡ true → includes (all_numbers (format.table s)) m ≡ true
     own m g = one_of_all (includes (all_numbers (format.table s))) (numbers_of ns) m (names_are format law s).own g
@@ -263,15 +263,15 @@ named_at format law s i within = by_name (number_by as_it_is ns k) refl
         let f = finds as_it_is ns ns k m (names_are format law s).found e in
         let same : eqb m x.0 ≡ true =
         sym (names_apart format law s m x.0 (own m f.listed) (own x.0 here.listed))
-        ∙ ap (λ (name : List ℕ). names_key name (name_of ns x.0)) (sym f.key ∙ key)
-        ∙ ap (λ (b : Bool). b || bytes_eq (name_of ns x.0) (original_name (name_of ns x.0)))
-        (same_bytes (name_of ns x.0)) in
+        ∙ ap (λ (name : List ℕ). names_key name (name_in ns x.0)) (sym f.key ∙ key)
+        ∙ ap (λ (b : Bool). b || bytes_eq (name_in ns x.0) (original_name (name_in ns x.0)))
+        (same_bytes (name_in ns x.0)) in
         ap (λ (n : ℕ). Some n) (eqb-true m x.0 same)
     by_name None e =
-        let none : bytes_eq k (name_of ns x.0) ≡ false =
+        let none : bytes_eq k (name_in ns x.0) ≡ false =
         finds_none as_it_is ns ns k x.0 (names_are format law s).found e here.listed in
-        let yes : bytes_eq k (name_of ns x.0) ≡ true =
-        ap (λ (w : List ℕ). bytes_eq w (name_of ns x.0)) key ∙ same_bytes (name_of ns x.0) in
+        let yes : bytes_eq k (name_in ns x.0) ≡ true =
+        ap (λ (w : List ℕ). bytes_eq w (name_in ns x.0)) key ∙ same_bytes (name_in ns x.0) in
         absurd cc
 
 pub likely_within : (names : List Name) (i : ℕ) → i < length names → i < length (map name_view names)
@@ -289,16 +289,16 @@ name_here (y ∷ ys) (suc i) d h = name_here ys i d (omega (arith, h))
 number_own : (format : Format) (law : IsReadable format) (s m : ℕ) (k : List ℕ) → number_of format s k ≡ Some m
     → includes (all_numbers (format.table s)) m ≡ true
 unfolding number_of
-number_own format law s m k e = by_name (number_by as_it_is (format.names s) k) refl e
+number_own format law s m k e = by_name (number_by as_it_is (format.names s).names k) refl e
   where
-    own : (form : List ℕ → List ℕ) → number_by form (format.names s) k ≡ Some m → includes
+    own : (form : List ℕ → List ℕ) → number_by form (format.names s).names k ≡ Some m → includes
         (all_numbers (format.table s)) m ≡ true
-    own form q = one_of_all (includes (all_numbers (format.table s))) (numbers_of (format.names s)) m
+    own form q = one_of_all (includes (all_numbers (format.table s))) (numbers_of (format.names s).names) m
         (names_are format law s).own
-        (finds form (format.names s) (format.names s) k m (names_are format law s).found q).listed
+        (finds form (format.names s).names (format.names s).names k m (names_are format law s).found q).listed
 
-    by_name : (o : Option ℕ) → number_by as_it_is (format.names s) k ≡ o → option_or o
-        (number_by original_name (format.names s) k) ≡ Some m → includes (all_numbers (format.table s)) m ≡ true
+    by_name : (o : Option ℕ) → number_by as_it_is (format.names s).names k ≡ o → option_or o
+        (number_by original_name (format.names s).names k) ≡ Some m → includes (all_numbers (format.table s)) m ≡ true
     by_name (Some x) q e = own as_it_is (q ∙ e)
     by_name None q e = own original_name e
 

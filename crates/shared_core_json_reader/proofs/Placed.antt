@@ -10,9 +10,9 @@ use Rattle.json.specs.Json.{Items, no_items, item}
 use Rattle.shared_core_wire.specs.Encoding.{shortest_varint, key_bytes}
 use Rattle.shared_core_wire.proofs.Shortest.{shortest_small, shortest_large}
 use Rattle.shared_core_wire.specs.WrittenRecords.{content_record}
+use Rattle.shared_core_json_reader.specs.Rows.{NamedField}
 use Rattle.shared_core_json_reader.proofs.Contents.{content_put}
-use Rattle.shared_core_json_reader.specs.Scalars.{unsigned_read}
-use Rattle.shared_core_json_reader.specs.Appended.{both, run_bytes, after}
+use Rattle.shared_core_json_reader.specs.Appended.{both, number_read, run_bytes, after}
 
 -- `begun` has the key, and the bytes that leave room for the length
 pub nested_put : (n place end : ℕ) (old out room begun new all : List ℕ) (o : Option (List ℕ)) → out ≡ old ++ key_bytes
@@ -49,23 +49,26 @@ run_there : (number : Option ℕ) (more : Option (List ℕ)) (bytes : List ℕ) 
 run_there None more bytes h = absurd cc
 run_there (Some m) more bytes h = there (Some (shortest_varint m)) more m refl bytes h
 
-full_run : (js : Items) (bytes : List ℕ) → js ≢ no_items → run_bytes js ≡ Some bytes → nat_eq (length bytes) 0 ≡ false
-full_run no_items bytes h e = absurd (h refl)
-full_run (item j js) bytes h e = run_there (unsigned_read 4294967296 j) (run_bytes js) bytes e
+full_run : (f : NamedField) (js : Items) (bytes : List ℕ) → js ≢ no_items → run_bytes f js ≡ Some bytes → nat_eq
+    (length bytes) 0 ≡ false
+full_run f no_items bytes h e = absurd (h refl)
+full_run f (item j js) bytes h e = run_there (number_read f.kind f.form j) (run_bytes f js) bytes e
 
-written_run : (n : ℕ) (js : Items) (o : Option (List ℕ)) → js ≢ no_items → run_bytes js ≡ o → option_map
-    (content_record true n) o ≡ option_map (content_record false n) o
-written_run n js None h e = refl
-written_run n js (Some bytes) h e = ap (λ (b : Bool). Some (cond b [] (key_bytes n 2 ++ (shortest_varint (length bytes)
-    ++ bytes)))) (full_run js bytes h e)
+written_run : (f : NamedField) (n : ℕ) (js : Items) (o : Option (List ℕ)) → js ≢ no_items → run_bytes f js ≡ o →
+    option_map (content_record true n) o ≡ option_map (content_record false n) o
+written_run f n js None h e = refl
+written_run f n js (Some bytes) h e = ap (λ (b : Bool). Some (cond b [] (key_bytes n 2 ++ (shortest_varint (length
+    bytes)
+    ++ bytes)))) (full_run f js bytes h e)
 
-pub run_put : (n place end : ℕ) (old out room begun new all : List ℕ) (js : Items) → js ≢ no_items → out ≡ old ++
-    key_bytes n 2 → place ≡ length out → begun ≡ out ++ room → end ≡ length begun → after begun (run_bytes js) ≡ Some
+pub run_put : (f : NamedField) (n place end : ℕ) (old out room begun new all : List ℕ) (js : Items) → js ≢ no_items →
+    out ≡ old ++ key_bytes n 2 → place ≡ length out → begun ≡ out ++ room → end ≡ length begun → after begun (run_bytes
+    f js) ≡ Some
     all → new ≡ take place all ++ (shortest_varint (length all - end) ++ drop end all) → after old (option_map
-    (content_record true n) (run_bytes js)) ≡ Some new
-run_put n place end old out room begun new all js h k p b q a e =
-    ap (after old) (written_run n js (run_bytes js) h refl)
-    ∙ nested_put n place end old out room begun new all (run_bytes js) k p b q a e
+    (content_record true n) (run_bytes f js)) ≡ Some new
+run_put f n place end old out room begun new all js h k p b q a e =
+    ap (after old) (written_run f n js (run_bytes f js) h refl)
+    ∙ nested_put n place end old out room begun new all (run_bytes f js) k p b q a e
 
 -- ---- bytes that are appended before their length is known
 

@@ -29,10 +29,10 @@ use Rattle.shared_core_json_reader.proofs.Agreeing.{distinct_front}
 use Rattle.shared_core_json_reader.proofs.NamesApart.{names_apart, same_bytes}
 use Rattle.shared_core_json_reader.proofs.ScalarsBack.{u32_back, u64_back, boolean_back, enum_back, text_back}
 use Rattle.shared_core_json_reader.proofs.ScalarsBack.{byte_string_back, byte_string_there}
-use Rattle.shared_core_json.specs.Form.{items_json_in, members_json_in, json_with_in}
+use Rattle.shared_core_json.specs.Form.{Writing, items_json_in, members_json_in, json_with_in, writing}
 use Rattle.shared_core_json_reader.proofs.FormatRows.{schemas_of}
 use Rattle.shared_core_json_reader.specs.Readable.{IsReadable, names_key}
-use Rattle.shared_core_json_reader.specs.Rows.{Format}
+use Rattle.shared_core_json_reader.specs.Rows.{Format, NumberForm}
 
 -- ---- the members of an object
 
@@ -59,21 +59,25 @@ number_within (schema.OneOf members) (Nested ps) h g = absurd cc
 number_within (schema.OneOf members) (Elements ps) h g = absurd cc
 number_within (schema.OneOf members) (Member n p) h g = (and_split _ _ h).0
 
+-- the JSON of a part of a row of the schema s
+abbrev pub row_json : (format : Format) → Bool → ℕ → Row → Part → Json
+row_json format texts s row p = part_json_in format.table format.names
+    (writing texts (format.names s) (number_of row p)) p (kind_of row p)
+
 -- the value that a part gives the field of a number
-abbrev pub mine : (format : Format) → Bool → ℕ → Row → Part → List Json
-mine format texts n row p = cond (is_present row p)
-    (cond (eqb n (number_of row p)) (part_json_in format.table format.names texts p (kind_of row p) ∷ [])
-    []) []
+abbrev pub mine : (format : Format) → Bool → ℕ → ℕ → Row → Part → List Json
+mine format texts s n row p = cond (is_present row p)
+    (cond (eqb n (number_of row p)) (row_json format texts s row p ∷ []) []) []
 
-abbrev pub all_mine : (format : Format) → Bool → ℕ → Parts → List Row → List Json
-all_mine format texts n nil rows = []
-all_mine format texts n (cons p ps) [] = []
-all_mine format texts n (cons p ps) (row ∷ rows) = mine format texts n row p ++ all_mine format texts n ps rows
+abbrev pub all_mine : (format : Format) → Bool → ℕ → ℕ → Parts → List Row → List Json
+all_mine format texts s n nil rows = []
+all_mine format texts s n (cons p ps) [] = []
+all_mine format texts s n (cons p ps) (row ∷ rows) = mine format texts s n row p ++ all_mine format texts s n ps rows
 
-mine_none : (format : Format) (texts : Bool) (n : ℕ) (row : Row) (p : Part) → has_shape row p ≡ true
+mine_none : (format : Format) (texts : Bool) (s n : ℕ) (row : Row) (p : Part) → has_shape row p ≡ true
     → includes (numbers row) n ≡ false →
-    mine format texts n row p ≡ []
-mine_none format texts n row p h g = by_test (is_present row p) refl
+    mine format texts s n row p ≡ []
+mine_none format texts s n row p h g = by_test (is_present row p) refl
   where
     other : is_present row p ≡ true → eqb n (number_of row p) ≡ false
     other e = ne_eqb n (number_of row p) (λ q. absurd (let k : includes (numbers row) (number_of row p) ≡ true =
@@ -81,23 +85,23 @@ mine_none format texts n row p h g = by_test (is_present row p) refl
         (includes (numbers row)) q in cc))
 
     by_test : (b : Bool) → is_present row p ≡ b → cond b (cond (eqb n (number_of row p))
-        (part_json_in format.table format.names texts p (kind_of row p) ∷ []) []) [] ≡ []
-    by_test true e = ap (λ (c : Bool). cond c (part_json_in format.table format.names texts p (kind_of row p) ∷ []) [])
+        (row_json format texts s row p ∷ []) []) [] ≡ []
+    by_test true e = ap (λ (c : Bool). cond c (row_json format texts s row p ∷ []) [])
         (other e)
     by_test false e = refl
 
-all_mine_none : (format : Format) (texts : Bool) (n : ℕ) (v : Parts) (rows : List Row) → Fits format.table v rows
+all_mine_none : (format : Format) (texts : Bool) (s n : ℕ) (v : Parts) (rows : List Row) → Fits format.table v rows
     → includes (all_numbers rows) n
-    ≡ false → all_mine format texts n v rows ≡ []
+    ≡ false → all_mine format texts s n v rows ≡ []
 unfolding PartFits
-all_mine_none format texts n nil [] f h = refl
-all_mine_none format texts n nil (row ∷ rows) f h = absurd f
-all_mine_none format texts n (cons p ps) [] f h = absurd f
-all_mine_none format texts n (cons p ps) (row ∷ rows) f h =
+all_mine_none format texts s n nil [] f h = refl
+all_mine_none format texts s n nil (row ∷ rows) f h = absurd f
+all_mine_none format texts s n (cons p ps) [] f h = absurd f
+all_mine_none format texts s n (cons p ps) (row ∷ rows) f h =
     let e = or_split (includes (numbers row) n) (includes (all_numbers rows) n)
     (sym (includes-append (numbers row) (all_numbers rows) n) ∙ h) in
-    ap₂ (λ (a b : List Json). a ++ b) (mine_none format texts n row p f.0 e.0)
-    (all_mine_none format texts n ps rows f.2 e.1)
+    ap₂ (λ (a b : List Json). a ++ b) (mine_none format texts s n row p f.0 e.0)
+    (all_mine_none format texts s n ps rows f.2 e.1)
 
 or_true : (b : Bool) → (b || true) ≡ true
 or_true true = refl
@@ -119,7 +123,7 @@ values_are : (format : Format) (law : IsReadable format) (texts : Bool) (s n : �
     (all_numbers (format.table s)) n ≡ true
     → ((m : ℕ) → includes (all_numbers rows) m ≡ true → includes (all_numbers (format.table s)) m ≡ true)
     → values_named (named_field format s n k) (members_json_in format.table format.names texts (format.names s) v rows)
-    ≡ all_mine format texts n v rows
+    ≡ all_mine format texts s n v rows
 unfolding PartFits part_json_in
 values_are format law texts s n k nil [] f h w = refl
 values_are format law texts s n k nil (row ∷ rows) f h w = absurd f
@@ -135,21 +139,22 @@ values_are format law texts s n k (cons p ps) (row ∷ rows) f h w =
     key = name_of (format.names s) (number_of row p)
 
     j : Json
-    j = part_json_in format.table format.names texts p (kind_of row p)
+    j = row_json format texts s row p
 
-    by_name : values_named (named_field format s n k) others ≡ all_mine format texts n ps rows → (b : Bool) → b ≡ eqb n
+    by_name : values_named (named_field format s n k) others ≡ all_mine format texts s n ps rows → (b : Bool) → b
+        ≡ eqb n
         (number_of row p)
         → cond b (j ∷ values_named (named_field format s n k) others) (values_named (named_field format s n k) others)
         ≡ cond
-        (eqb n (number_of row p)) (j ∷ []) [] ++ all_mine format texts n ps rows
+        (eqb n (number_of row p)) (j ∷ []) [] ++ all_mine format texts s n ps rows
     by_name later true e = ap (λ (js : List Json). j ∷ js) later ∙ ap
-        (λ (b : Bool). cond b (j ∷ []) [] ++ all_mine format texts n ps rows) e
-    by_name later false e = later ∙ ap (λ (b : Bool). cond b (j ∷ []) [] ++ all_mine format texts n ps rows) e
+        (λ (b : Bool). cond b (j ∷ []) [] ++ all_mine format texts s n ps rows) e
+    by_name later false e = later ∙ ap (λ (b : Bool). cond b (j ∷ []) [] ++ all_mine format texts s n ps rows) e
 
-    by_test : values_named (named_field format s n k) others ≡ all_mine format texts n ps rows → (b : Bool)
+    by_test : values_named (named_field format s n k) others ≡ all_mine format texts s n ps rows → (b : Bool)
         → is_present row p ≡ b
         → values_named (named_field format s n k) (member_if b key j others) ≡ cond b
-        (cond (eqb n (number_of row p)) (j ∷ []) []) [] ++ all_mine format texts n ps rows
+        (cond (eqb n (number_of row p)) (j ∷ []) []) [] ++ all_mine format texts s n ps rows
     by_test later true e =
         by_name later (is_named (named_field format s n k) key) (names_apart format law s n (number_of row p) h
         (w (number_of row p) (within_row row rows (number_of row p) (number_within row p f.0 e))))
@@ -236,10 +241,14 @@ all_known format texts s all (cons p ps) (row ∷ rows) f w = by_test
 
     by_test : are_known all others ≡ true → (b : Bool) → is_present row p ≡ b → are_known all
         (member_if b (name_of (format.names s) (number_of row p))
-        (part_json_in format.table format.names texts p (kind_of row p)) others) ≡ true
+        (row_json format texts s row p) others) ≡ true
     by_test later true e = ap₂ (λ (a b : Bool). a && b) (w (number_of row p)
         (within_row row rows (number_of row p) (number_within row p f.0 e))) later
     by_test later false e = later
+
+-- how the values of a field are written by how its numbers are read
+abbrev pub written : Bool → NumberForm → Writing
+written texts form = record { texts = texts; digits = form.digits }
 
 -- ---- one level
 
@@ -247,68 +256,72 @@ module _ (format : Format) (texts : Bool) (s : ℕ) (ms : Members) (nested : ℕ
     (back : (t : ℕ) (ps : Parts) → Fits format.table ps (format.table t) → suc (levels ps) ≤ bound → PartsBytes ps
     → nested t
     (json_with_in format.table format.names texts t ps) ≡ Some ps) where
-  record Back (k : Kind) (values : List (List ℕ × ℕ)) (p : Part) : Type 0 where
-    read : single_read nested k values (part_json_in format.table format.names texts p k) ≡ Some p
-    there : present (part_json_in format.table format.names texts p k)
-        ≡ Some (part_json_in format.table format.names texts p k)
+  -- the JSON of a value of the field that has a number
+  abbrev one_json : ℕ → Part → Kind → Json
+  one_json n p k = part_json_in format.table format.names (writing texts (format.names s) n) p k
 
-  number_back : (k : Kind) (values : List (List ℕ × ℕ)) (n : ℕ) → NumberFits k n → Back k values (Number n)
+  record Back (k : Kind) (form : NumberForm) (p : Part) : Type 0 where
+    read : single_read nested k form (part_json_in format.table format.names (written texts form) p k) ≡ Some p
+    there : present (part_json_in format.table format.names (written texts form) p k)
+        ≡ Some (part_json_in format.table format.names (written texts form) p k)
+
+  number_back : (k : Kind) (form : NumberForm) (n : ℕ) → NumberFits k n → Back k form (Number n)
   unfolding part_json_in
-  number_back U32 values n h = record { read = ap (option_map Number) (u32_back n h); there = refl }
-  number_back U64 values n h = record { read = ap (option_map Number) (u64_back n h); there = refl }
-  number_back Boolean values n h = record { read = ap (option_map Number) (boolean_back n h); there = refl }
-  number_back Enumeration values n h = record { read = ap (option_map Number) (enum_back values n h); there = refl }
-  number_back Text values n h = absurd h
-  number_back ByteString values n h = absurd h
-  number_back (Message t) values n h = absurd h
+  number_back U32 form n h = record { read = ap (option_map Number) (u32_back form.digits n h); there = refl }
+  number_back U64 form n h = record { read = ap (option_map Number) (u64_back form.digits n h); there = refl }
+  number_back Boolean form n h = record { read = ap (option_map Number) (boolean_back n h); there = refl }
+  number_back Enumeration form n h = record { read = ap (option_map Number) (enum_back form.values n h); there = refl }
+  number_back Text form n h = absurd h
+  number_back ByteString form n h = absurd h
+  number_back (Message t) form n h = absurd h
 
-  content_back : (k : Kind) (values : List (List ℕ × ℕ)) (b : List ℕ) → BytesFit k b → IsBytes b → Back k values
+  content_back : (k : Kind) (form : NumberForm) (b : List ℕ) → BytesFit k b → IsBytes b → Back k form
       (Bytes b)
   unfolding part_json_in
-  content_back Text values b h g = record { read = ap (option_map Bytes) (text_back b h); there = refl }
-  content_back ByteString values b h g = record {
+  content_back Text form b h g = record { read = ap (option_map Bytes) (text_back b h); there = refl }
+  content_back ByteString form b h g = record {
     read = ap (option_map Bytes) (byte_string_back texts b g);
     there =
         byte_string_there texts b;
   }
-  content_back U32 values b h g = absurd h
-  content_back U64 values b h g = absurd h
-  content_back Boolean values b h g = absurd h
-  content_back Enumeration values b h g = absurd h
-  content_back (Message t) values b h g = absurd h
+  content_back U32 form b h g = absurd h
+  content_back U64 form b h g = absurd h
+  content_back Boolean form b h g = absurd h
+  content_back Enumeration form b h g = absurd h
+  content_back (Message t) form b h g = absurd h
 
-  nested_back : (k : Kind) (values : List (List ℕ × ℕ)) (ps : Parts) → PartFits format.table (Nested ps) k
+  nested_back : (k : Kind) (form : NumberForm) (ps : Parts) → PartFits format.table (Nested ps) k
       → suc (levels ps) ≤
-      bound → PartsBytes ps → Back k values (Nested ps)
+      bound → PartsBytes ps → Back k form (Nested ps)
   unfolding PartFits part_json_in
-  nested_back (Message t) values ps h l g = record { read = ap (option_map Nested) (back t ps h l g); there = refl }
-  nested_back U32 values ps h l g = absurd h
-  nested_back U64 values ps h l g = absurd h
-  nested_back Boolean values ps h l g = absurd h
-  nested_back Enumeration values ps h l g = absurd h
-  nested_back Text values ps h l g = absurd h
-  nested_back ByteString values ps h l g = absurd h
+  nested_back (Message t) form ps h l g = record { read = ap (option_map Nested) (back t ps h l g); there = refl }
+  nested_back U32 form ps h l g = absurd h
+  nested_back U64 form ps h l g = absurd h
+  nested_back Boolean form ps h l g = absurd h
+  nested_back Enumeration form ps h l g = absurd h
+  nested_back Text form ps h l g = absurd h
+  nested_back ByteString form ps h l g = absurd h
 
-  single_back : (k : Kind) (values : List (List ℕ × ℕ)) (p : Part) → is_single p ≡ true → PartFits format.table p k →
-      part_levels p ≤ bound → PartBytes p → Back k values p
+  single_back : (k : Kind) (form : NumberForm) (p : Part) → is_single p ≡ true → PartFits format.table p k →
+      part_levels p ≤ bound → PartBytes p → Back k form p
   unfolding PartFits part_levels
-  single_back k values (Number n) i h l g = number_back k values n h
-  single_back k values (Bytes b) i h l g = content_back k values b h g
-  single_back k values (Nested ps) i h l g = nested_back k values ps h l g
-  single_back k values Absent i h l g = absurd cc
-  single_back k values (Elements ps) i h l g = absurd cc
-  single_back k values (Member n p) i h l g = absurd cc
+  single_back k form (Number n) i h l g = number_back k form n h
+  single_back k form (Bytes b) i h l g = content_back k form b h g
+  single_back k form (Nested ps) i h l g = nested_back k form ps h l g
+  single_back k form Absent i h l g = absurd cc
+  single_back k form (Elements ps) i h l g = absurd cc
+  single_back k form (Member n p) i h l g = absurd cc
 
   elements_back : (f : NamedField) (ps : Parts) → ElementsFit format.table ps f.kind → levels ps ≤ bound → PartsBytes ps
       →
-      elements_read nested f (items_json_in format.table format.names texts ps f.kind) ≡ Some ps
+      elements_read nested f (items_json_in format.table format.names (written texts f.form) ps f.kind) ≡ Some ps
   unfolding PartFits part_levels part_json_in
   elements_back f nil h l g = refl
   elements_back f (cons p ps) h l g =
-      let one = single_back f.kind f.values p h.0 h.1 (omega arith) g.0 in
+      let one = single_back f.kind f.form p h.0 h.1 (omega arith) g.0 in
       let more = elements_back f ps h.2 (omega arith) g.1 in
       ap (option_and_then (λ q. option_map (cons q)
-      (elements_read nested f (items_json_in format.table format.names texts ps f.kind)))) one.read ∙
+      (elements_read nested f (items_json_in format.table format.names (written texts f.form) ps f.kind)))) one.read ∙
       ap (option_map (cons p)) more
 
   -- ---- rows
@@ -368,21 +381,22 @@ module _ (format : Format) (texts : Bool) (s : ℕ) (ms : Members) (nested : ℕ
   plain_present n k (Member m p) i = absurd cc
 
   plain_back : (f : NamedField) (p : Part) → is_single p ≡ true → PartFits format.table p f.kind
-      → Back f.kind f.values p →
-      given f ms ≡ given_one (not (is_default p)) (part_json_in format.table format.names texts p f.kind)
+      → Back f.kind f.form p →
+      given f ms ≡ given_one (not (is_default p)) (part_json_in format.table format.names
+      (written texts f.form) p f.kind)
       → row_read nested ms (Plain f) ≡ Some p
   plain_back f p i h b e = ap (option_and_then (or_absent (default_of f.kind) (field_read nested f))) e ∙ by_test
       (is_default p) refl
     where
       by_test : (d : Bool) → is_default p ≡ d → option_and_then (or_absent (default_of f.kind) (field_read nested f))
-          (given_one (not d) (part_json_in format.table format.names texts p f.kind)) ≡ Some p
+          (given_one (not d) (part_json_in format.table format.names (written texts f.form) p f.kind)) ≡ Some p
       by_test true q = ap (λ (x : Part). Some x) (default_back f.kind p i h q)
       by_test false q = b.read
 
   optional_back : (f : NamedField) (p : Part) → has_shape (schema.Optional f.number f.kind) p ≡ true →
-      (is_single p ≡ true → Back f.kind f.values p)
+      (is_single p ≡ true → Back f.kind f.form p)
       → given f ms ≡ given_one (is_present (schema.Optional f.number f.kind) p)
-      (part_json_in format.table format.names texts p f.kind) → row_read
+      (part_json_in format.table format.names (written texts f.form) p f.kind) → row_read
       nested ms (Optional f) ≡ Some p
   optional_back f Absent h b e = ap (option_and_then (or_absent Absent (field_read nested f))) e
   optional_back f (Number m) h b e = ap (option_and_then (or_absent Absent (field_read nested f))) e ∙ (b refl).read
@@ -392,9 +406,10 @@ module _ (format : Format) (texts : Bool) (s : ℕ) (ms : Members) (nested : ℕ
   optional_back f (Member m p) h b e = absurd cc
 
   list_back : (f : NamedField) (ps : Parts)
-      → elements_read nested f (items_json_in format.table format.names texts ps f.kind) ≡ Some ps
+      → elements_read nested f (items_json_in format.table format.names (written texts f.form) ps f.kind) ≡ Some ps
       → given f ms ≡ given_one (is_present (schema.Repeated f.number f.kind) (Elements ps))
-      (part_json_in format.table format.names texts (Elements ps) f.kind) → row_read nested ms (Repeated f)
+      (part_json_in format.table format.names (written texts f.form) (Elements ps) f.kind)
+      → row_read nested ms (Repeated f)
       ≡ Some (Elements ps)
   unfolding part_json_in
   list_back f nil b e = ap (option_and_then (or_absent (Elements nil) (list_read nested f))) e
@@ -431,10 +446,9 @@ module _ (format : Format) (texts : Bool) (s : ℕ) (ms : Members) (nested : ℕ
 
   oneof_back : (q : ℕ) (p : Part) (x : Kind) (members : List (ℕ × Kind)) → are_distinct (map (λ m. m.0) members) ≡ true
       → includes (map (λ m. m.0) members) q ≡ true → member_kind members q ≡ x
-      → ((values : List (List ℕ × ℕ)) → Back x values p)
+      → ((form : NumberForm) → Back x form p)
       → ((n : ℕ) (k : Kind) → includes (map (λ m. m.0) members) n ≡ true → values_named (named_field format s n k) ms
-      ≡ cond
-      (eqb n q) (part_json_in format.table format.names texts p x ∷ []) [])
+      ≡ cond (eqb n q) (one_json q p x ∷ []) [])
       → oneof_read nested ms Absent (map (λ m. named_field format s m.0 m.1) members) ≡ Some (Member q p)
   oneof_back q p x [] d h y b e = absurd cc
   oneof_back q p x (m ∷ members) d h y b e =
@@ -462,7 +476,7 @@ module _ (format : Format) (texts : Bool) (s : ℕ) (ms : Members) (nested : ℕ
       by_test : (includes (map (λ o. o.0) members) q ≡ true → member_kind members q ≡ x
           → ((n : ℕ) (k : Kind) → includes (map (λ o. o.0) members) n ≡ true
           → values_named (named_field format s n k) ms ≡
-          cond (eqb n q) (part_json_in format.table format.names texts p x ∷ []) [])
+          cond (eqb n q) (one_json q p x ∷ []) [])
           → oneof_read nested ms Absent fields ≡ Some (Member q p))
           → (t : Bool) → eqb q m.0 ≡ t → (t || includes (map (λ o. o.0) members) q) ≡ true → cond t m.1
           (member_kind members q) ≡ x
@@ -470,23 +484,23 @@ module _ (format : Format) (texts : Bool) (s : ℕ) (ms : Members) (nested : ℕ
       by_test later true z h y =
           let same : q ≡ m.0 = eqb-true q m.0 z in
           let given_here = e m.0 m.1 (first_within m members)
-          ∙ ap (λ (b : Bool). cond b (part_json_in format.table format.names texts p x ∷ []) [])
-          (eq-eqb m.0 q (sym same)) in
-          let read : field_read nested f (part_json_in format.table format.names texts p x) ≡ Some p = ap
-          (λ (k : Kind). single_read nested k f.values (part_json_in format.table format.names texts p x)) y
-          ∙ (b f.values).read in
+          ∙ ap (λ (b : Bool). cond b (one_json q p x ∷ []) []) (eq-eqb m.0 q (sym same))
+          ∙ ap (λ (n : ℕ). one_json n p x ∷ []) same in
+          let read : field_read nested f (one_json m.0 p x) ≡ Some p = ap
+          (λ (k : Kind). single_read nested k f.form (one_json m.0 p x)) y
+          ∙ (b f.form).read in
           ap step given_here
           ∙ ap (λ (o : Option Json). option_and_then (λ o. option_and_then (λ now. oneof_read nested ms now fields)
-          (or_absent Absent (member_read nested Absent f) o)) (Some o)) (b f.values).there
+          (or_absent Absent (member_read nested Absent f) o)) (Some o)) (b f.form).there
           ∙ ap (λ (o : Option Part). option_and_then (λ now. oneof_read nested ms now fields)
           (option_map (Member m.0) o)) read
           ∙ oneof_stays (Member m.0 p) members (λ n k g. e n k (later_within m members n g) ∙ ap
-          (λ (b : Bool). cond b (part_json_in format.table format.names texts p x ∷ []) [])
+          (λ (b : Bool). cond b (one_json q p x ∷ []) [])
           (ne_eqb n q (λ w. eqb-false n m.0 (other n g) (w ∙ same))))
           ∙ ap (λ (n : ℕ). Some (Member n p)) (sym same)
       by_test later false z h y =
           let none = e m.0 m.1 (first_within m members)
-          ∙ ap (λ (b : Bool). cond b (part_json_in format.table format.names texts p x ∷ []) [])
+          ∙ ap (λ (b : Bool). cond b (one_json q p x ∷ []) [])
           (ne_eqb m.0 q (λ w. eqb-false q m.0 z (sym w))) in
           ap step none ∙ later h y (λ n k g. e n k (later_within m members n g))
 
@@ -496,39 +510,39 @@ module _ (format : Format) (texts : Bool) (s : ℕ) (ms : Members) (nested : ℕ
       → part_levels p ≤ bound
       → PartBytes p → are_distinct (numbers row) ≡ true
       → ((n : ℕ) (k : Kind) → includes (numbers row) n ≡ true → values_named (named_field format s n k) ms
-      ≡ mine format texts n row
+      ≡ mine format texts s n row
       p) → row_read nested ms (named_row format s row) ≡ Some p
   unfolding PartFits part_levels part_json_in
   row_back (schema.Plain n k) p i h l g d e =
       let f = named_field format s n k in
-      let b = single_back k f.values p i h l g in
-      let shown = ap (λ (c : Bool). cond c (part_json_in format.table format.names texts p k ∷ []) [])
+      let b = single_back k f.form p i h l g in
+      let shown = ap (λ (c : Bool). cond c (one_json n p k ∷ []) [])
       (plain_present n k p i) in
       plain_back f p i h b (only_one (values_named f ms) (not (is_default p))
-      (part_json_in format.table format.names texts p k)
+      (one_json n p k)
       (e n k (own_number n) ∙ own_mine n (is_present (schema.Plain n k) p)
-      (part_json_in format.table format.names texts p k) ∙ shown) b.there)
+      (one_json n p k) ∙ shown) b.there)
   row_back (schema.Optional n k) Absent i h l g d e =
       let f = named_field format s n k in
       optional_back f Absent refl (λ j. absurd cc) (ap the_only (e n k (own_number n)))
   row_back (schema.Optional n k) (Number m) i h l g d e =
       let f = named_field format s n k in
-      let b = single_back k f.values (Number m) refl h l g in
+      let b = single_back k f.form (Number m) refl h l g in
       optional_back f (Number m) refl (λ j. b) (only_one (values_named f ms) true
-      (part_json_in format.table format.names texts (Number m) k)
-      (e n k (own_number n) ∙ own_mine n true (part_json_in format.table format.names texts (Number m) k)) b.there)
+      (one_json n (Number m) k)
+      (e n k (own_number n) ∙ own_mine n true (one_json n (Number m) k)) b.there)
   row_back (schema.Optional n k) (Bytes c) i h l g d e =
       let f = named_field format s n k in
-      let b = single_back k f.values (Bytes c) refl h l g in
+      let b = single_back k f.form (Bytes c) refl h l g in
       optional_back f (Bytes c) refl (λ j. b) (only_one (values_named f ms) true
-      (part_json_in format.table format.names texts (Bytes c) k)
-      (e n k (own_number n) ∙ own_mine n true (part_json_in format.table format.names texts (Bytes c) k)) b.there)
+      (one_json n (Bytes c) k)
+      (e n k (own_number n) ∙ own_mine n true (one_json n (Bytes c) k)) b.there)
   row_back (schema.Optional n k) (Nested ps) i h l g d e =
       let f = named_field format s n k in
-      let b = single_back k f.values (Nested ps) refl h l g in
+      let b = single_back k f.form (Nested ps) refl h l g in
       optional_back f (Nested ps) refl (λ j. b)
-      (only_one (values_named f ms) true (part_json_in format.table format.names texts (Nested ps) k)
-      (e n k (own_number n) ∙ own_mine n true (part_json_in format.table format.names texts (Nested ps) k)) b.there)
+      (only_one (values_named f ms) true (one_json n (Nested ps) k)
+      (e n k (own_number n) ∙ own_mine n true (one_json n (Nested ps) k)) b.there)
   row_back (schema.Optional n k) (Elements ps) i h l g d e = absurd cc
   row_back (schema.Optional n k) (Member m p) i h l g d e = absurd cc
   row_back (schema.Repeated n k) (Elements nil) i h l g d e =
@@ -537,8 +551,8 @@ module _ (format : Format) (texts : Bool) (s : ℕ) (ms : Members) (nested : ℕ
   row_back (schema.Repeated n k) (Elements (cons p ps)) i h l g d e =
       let f = named_field format s n k in
       list_back f (cons p ps) (elements_back f (cons p ps) h l g)
-      (only_one (values_named f ms) true (part_json_in format.table format.names texts (Elements (cons p ps)) k)
-      (e n k (own_number n) ∙ own_mine n true (part_json_in format.table format.names texts (Elements (cons p ps)) k))
+      (only_one (values_named f ms) true (one_json n (Elements (cons p ps)) k)
+      (e n k (own_number n) ∙ own_mine n true (one_json n (Elements (cons p ps)) k))
       refl)
   row_back (schema.Repeated n k) Absent i h l g d e = absurd cc
   row_back (schema.Repeated n k) (Number m) i h l g d e = absurd cc
@@ -549,7 +563,7 @@ module _ (format : Format) (texts : Bool) (s : ℕ) (ms : Members) (nested : ℕ
   row_back (schema.OneOf members) (Member q p) i h l g d e =
       let a = and_split _ _ i in
       oneof_back q p (member_kind members q) members d a.0 refl
-      (λ values. single_back (member_kind members q) values p a.1 h l g) e
+      (λ form. single_back (member_kind members q) form p a.1 h l g) e
   row_back (schema.OneOf members) (Number m) i h l g d e = absurd cc
   row_back (schema.OneOf members) (Bytes c) i h l g d e = absurd cc
   row_back (schema.OneOf members) (Nested ps) i h l g d e = absurd cc
@@ -559,19 +573,19 @@ module _ (format : Format) (texts : Bool) (s : ℕ) (ms : Members) (nested : ℕ
       (all_numbers rows) ≡ true
       → ((n : ℕ) (k : Kind) → includes (all_numbers rows) n ≡ true → values_named (named_field format s n k) ms
       ≡ all_mine format
-      texts n v rows) → rows_read nested ms (map (named_row format s) rows) ≡ Some v
+      texts s n v rows) → rows_read nested ms (map (named_row format s) rows) ≡ Some v
   unfolding PartFits part_levels
   rows_back [] nil f l g d e = refl
   rows_back [] (cons p ps) f l g d e = absurd f
   rows_back (row ∷ rows) nil f l g d e = absurd f
   rows_back (row ∷ rows) (cons p ps) f l g d e =
       let one = row_back row p f.0 f.1 (omega arith) g.0 (distinct_front (numbers row) (all_numbers rows) d)
-      (λ n k h. e n k (within_row row rows n h) ∙ ap (λ (js : List Json). mine format texts n row p ++ js)
-      (all_mine_none format texts n ps rows f.2 (distinct_other (numbers row) (all_numbers rows) n d h)) ∙ append-nil
-      (mine format texts n row p)) in
+      (λ n k h. e n k (within_row row rows n h) ∙ ap (λ (js : List Json). mine format texts s n row p ++ js)
+      (all_mine_none format texts s n ps rows f.2 (distinct_other (numbers row) (all_numbers rows) n d h)) ∙ append-nil
+      (mine format texts s n row p)) in
       let more = rows_back rows ps f.2 (omega arith) g.1 (distinct_back (numbers row) (all_numbers rows) d)
-      (λ n k h. e n k (within_rest row rows n h) ∙ ap (λ (js : List Json). js ++ all_mine format texts n ps rows)
-      (mine_none format texts n row p f.0 (not_before (numbers row) (all_numbers rows) n d h))) in
+      (λ n k h. e n k (within_rest row rows n h) ∙ ap (λ (js : List Json). js ++ all_mine format texts s n ps rows)
+      (mine_none format texts s n row p f.0 (not_before (numbers row) (all_numbers rows) n d h))) in
       ap (option_and_then (λ q. option_map (cons q) (rows_read nested ms (map (named_row format s) rows)))) one ∙ ap
       (option_map (cons p)) more
 

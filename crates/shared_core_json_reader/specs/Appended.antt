@@ -4,13 +4,14 @@ use Rattle.std.specs.Prelude.{if◌then◌else◌, Option, Some, None, option_ma
 use Rattle.json.specs.Json.{Json, null, boolean, number, string, array, object, Items, no_items, item, Members}
 use Rattle.shared_core_wire.specs.Schema.{Kind, U32, U64, Boolean, Enumeration, Text, ByteString, Message}
 use Rattle.shared_core_wire.specs.Encoding.{shortest_varint}
+use Rattle.shared_core_wire.specs.Acceptance.{accepts_number}
 use Rattle.shared_core_wire.specs.Canonical.{written_number}
 use Rattle.shared_core_wire.specs.WrittenRecords.{number_record, content_record}
 use Rattle.shared_core_json_reader.specs.declared.error.Reason.{Reason}
 use Rattle.shared_core_json_reader.specs.declared.error.Reason.TheVariants.{OutOfMemory}
 use Rattle.shared_core_json_reader.specs.Rows.{NamedField, NamedRow, Plain, Optional, Repeated, OneOf, named_rows}
-use Rattle.shared_core_json_reader.specs.Rows.{Format}
-use Rattle.shared_core_json_reader.specs.Scalars.{unsigned_read, boolean_read, enum_read, text_read, bytes_read}
+use Rattle.shared_core_json_reader.specs.Rows.{Format, NumberForm}
+use Rattle.shared_core_json_reader.specs.Scalars.{u32_read, u64_read, boolean_read, enum_read, text_read, bytes_read}
 use Rattle.shared_core_json_reader.specs.Reading.{are_known, given, or_absent}
 
 -- A list and after it another one, if both lists exist.
@@ -18,39 +19,44 @@ abbrev pub both : Option (List ℕ) → Option (List ℕ) → Option (List ℕ)
 both a b = option_and_then (λ xs. option_map (λ ys. xs ++ ys) b) a
 
 -- The record of a single value; a default is left out in a plain field.
-abbrev pub single_bytes : (ℕ → Json → Option (List ℕ)) → Bool → ℕ → Kind → List (List ℕ × ℕ) → Json → Option (List ℕ)
-single_bytes nested plain n U32 values j = option_map (number_record plain n) (unsigned_read 4294967296 j)
-single_bytes nested plain n U64 values j = option_map (number_record plain n) (unsigned_read 18446744073709551616 j)
-single_bytes nested plain n Boolean values j = option_map (number_record plain n) (boolean_read j)
-single_bytes nested plain n Enumeration values j = option_map
-    (λ m. number_record plain n (written_number Enumeration m)) (enum_read values j)
-single_bytes nested plain n Text values j = option_map (content_record plain n) (text_read j)
-single_bytes nested plain n ByteString values j = option_map (content_record plain n) (bytes_read j)
-single_bytes nested plain n (Message s) values j = option_map (content_record false n) (nested s j)
+abbrev pub single_bytes : (ℕ → Json → Option (List ℕ)) → Bool → ℕ → Kind → NumberForm → Json → Option (List ℕ)
+single_bytes nested plain n U32 form j = option_map (number_record plain n) (u32_read form.digits j)
+single_bytes nested plain n U64 form j = option_map (number_record plain n) (u64_read form.digits j)
+single_bytes nested plain n Boolean form j = option_map (number_record plain n) (boolean_read j)
+single_bytes nested plain n Enumeration form j = option_map
+    (λ m. number_record plain n (written_number Enumeration m)) (enum_read form.values j)
+single_bytes nested plain n Text form j = option_map (content_record plain n) (text_read j)
+single_bytes nested plain n ByteString form j = option_map (content_record plain n) (bytes_read j)
+single_bytes nested plain n (Message s) form j = option_map (content_record false n) (nested s j)
 
 -- The record of a value of a field.
 abbrev pub field_bytes : (ℕ → Json → Option (List ℕ)) → Bool → NamedField → Json → Option (List ℕ)
-field_bytes nested plain f j = single_bytes nested plain f.number f.kind f.values j
+field_bytes nested plain f j = single_bytes nested plain f.number f.kind f.form j
 
 -- The records of the elements of an array.
 abbrev pub items_bytes : (ℕ → Json → Option (List ℕ)) → NamedField → Items → Option (List ℕ)
 items_bytes nested f no_items = Some []
 items_bytes nested f (item j js) = both (field_bytes nested false f j) (items_bytes nested f js)
 
--- The varints of the elements of an array.
-abbrev pub run_bytes : Items → Option (List ℕ)
-run_bytes no_items = Some []
-run_bytes (item j js) = both (option_map shortest_varint (unsigned_read 4294967296 j)) (run_bytes js)
+-- The number that is written for a value of a kind of numbers.
+abbrev pub number_read : Kind → NumberForm → Json → Option ℕ
+number_read U32 form j = u32_read form.digits j
+number_read U64 form j = u64_read form.digits j
+number_read Boolean form j = boolean_read j
+number_read Enumeration form j = option_map (written_number Enumeration) (enum_read form.values j)
+number_read Text form j = None
+number_read ByteString form j = None
+number_read (Message s) form j = None
 
--- The records of an array: numbers of 32 bits are packed into one.
-abbrev pub array_bytes : (ℕ → Json → Option (List ℕ)) → NamedField → Kind → Items → Option (List ℕ)
-array_bytes nested f U32 js = option_map (content_record true f.number) (run_bytes js)
-array_bytes nested f U64 js = items_bytes nested f js
-array_bytes nested f Boolean js = items_bytes nested f js
-array_bytes nested f Enumeration js = items_bytes nested f js
-array_bytes nested f Text js = items_bytes nested f js
-array_bytes nested f ByteString js = items_bytes nested f js
-array_bytes nested f (Message s) js = items_bytes nested f js
+-- The varints of the elements of an array of a field of numbers.
+abbrev pub run_bytes : NamedField → Items → Option (List ℕ)
+run_bytes f no_items = Some []
+run_bytes f (item j js) = both (option_map shortest_varint (number_read f.kind f.form j)) (run_bytes f js)
+
+-- The records of an array: numbers are packed into one.
+abbrev pub array_bytes : (ℕ → Json → Option (List ℕ)) → NamedField → Items → Option (List ℕ)
+array_bytes nested f js = if accepts_number f.kind then option_map (content_record true f.number) (run_bytes f js) else
+    items_bytes nested f js
 
 -- The records of a repeated field.
 abbrev pub list_bytes : (ℕ → Json → Option (List ℕ)) → NamedField → Json → Option (List ℕ)
@@ -58,7 +64,7 @@ list_bytes nested f null = None
 list_bytes nested f (boolean b) = None
 list_bytes nested f (number s) = None
 list_bytes nested f (string s) = None
-list_bytes nested f (array js) = array_bytes nested f f.kind js
+list_bytes nested f (array js) = array_bytes nested f js
 list_bytes nested f (object ms) = None
 
 -- The record of a oneof's member, if none is held.

@@ -11,6 +11,7 @@ use Rattle.json.specs.Find.{as_str}
 use Rattle.json.specs.Json.{Json, null, boolean, number, string, array, object, Items, no_items, item, Members}
 use Rattle.json.specs.Json.{no_members, member}
 use Rattle.shared_core_wire.specs.Schema.{Kind, U32, U64, Boolean, Enumeration, Text, ByteString, Message}
+use Rattle.shared_core_wire.specs.Acceptance.{accepts_number}
 use Rattle.shared_core_json_reader.specs.declared.error.Reason.{Reason}
 use Rattle.shared_core_json_reader.specs.declared.error.Reason.TheVariants.{NotJson, UnknownMember, RepeatedMember}
 use Rattle.shared_core_json_reader.specs.declared.error.Reason.TheVariants.{SeveralMembers, WrongKind, UnknownName}
@@ -19,10 +20,11 @@ use Rattle.shared_core_json_reader.specs.declared.error.JsonReadError.{JsonReadE
 use Rattle.shared_core_json_reader.specs.declared.payload.Step as program
 use Rattle.shared_core_json_reader.specs.declared.payload.Step.TheVariants as variants
 use Rattle.shared_core_json_reader.specs.Rows.{NamedField, NamedRow, Plain, Optional, Repeated, OneOf, named_rows}
-use Rattle.shared_core_json_reader.specs.Rows.{Format, protocol}
-use Rattle.shared_core_json_reader.specs.Scalars.{ends_there, number_text, unsigned_read, boolean_read, enum_read}
+use Rattle.shared_core_json_reader.specs.Rows.{Format, NumberForm, protocol}
+use Rattle.shared_core_json_reader.specs.Scalars.{ends_there, number_text, u32_read, u64_read, boolean_read, enum_read}
 use Rattle.shared_core_json_reader.specs.Scalars.{text_read, bytes_read}
 use Rattle.shared_core_json_reader.specs.Reading.{names_row, given}
+use Rattle.shared_core_json_reader.specs.Appended.{number_read}
 
 -- A step of the path to a value: a member by its name, or an element by its index.
 pub data Step : Type 0 where
@@ -74,18 +76,18 @@ unread None reason = Some (reason, [])
 unread (Some a) reason = None
 
 -- The error of a single value of a kind, where nested has that of a nested message.
-abbrev pub single_error : (ℕ → Json → Option PathError) → Kind → List (List ℕ × ℕ) → Json → Option PathError
-single_error nested U32 values j = unread (unsigned_read 4294967296 j) (number_reason j)
-single_error nested U64 values j = unread (unsigned_read 18446744073709551616 j) (number_reason j)
-single_error nested Boolean values j = unread (boolean_read j) WrongKind
-single_error nested Enumeration values j = unread (enum_read values j) (enum_reason j)
-single_error nested Text values j = unread (text_read j) WrongKind
-single_error nested ByteString values j = unread (bytes_read j) (bytes_reason j)
-single_error nested (Message s) values j = nested s j
+abbrev pub single_error : (ℕ → Json → Option PathError) → Kind → NumberForm → Json → Option PathError
+single_error nested U32 form j = unread (u32_read form.digits j) (number_reason j)
+single_error nested U64 form j = unread (u64_read form.digits j) (number_reason j)
+single_error nested Boolean form j = unread (boolean_read j) WrongKind
+single_error nested Enumeration form j = unread (enum_read form.values j) (enum_reason j)
+single_error nested Text form j = unread (text_read j) WrongKind
+single_error nested ByteString form j = unread (bytes_read j) (bytes_reason j)
+single_error nested (Message s) form j = nested s j
 
 -- The error of a value of a field.
 abbrev pub field_error : (ℕ → Json → Option PathError) → NamedField → Json → Option PathError
-field_error nested f j = single_error nested f.kind f.values j
+field_error nested f j = single_error nested f.kind f.form j
 
 -- ---- rows
 
@@ -95,21 +97,25 @@ items_error nested f i no_items = None
 items_error nested f i (item j js) = option_or (within (Element i) (field_error nested f j))
     (items_error nested f (i + 1) js)
 
--- The error of the elements of an array of numbers of 32 bits from an index on.
-abbrev pub run_error : ℕ → Items → Option PathError
-run_error i no_items = None
-run_error i (item j js) = option_or (within (Element i) (unread (unsigned_read 4294967296 j) (number_reason j)))
-    (run_error (i + 1) js)
+-- Why a value of a kind of numbers is rejected.
+abbrev pub kind_reason : Kind → Json → Reason
+kind_reason U32 j = number_reason j
+kind_reason U64 j = number_reason j
+kind_reason Boolean j = WrongKind
+kind_reason Enumeration j = enum_reason j
+kind_reason Text j = WrongKind
+kind_reason ByteString j = WrongKind
+kind_reason (Message s) j = WrongKind
+
+-- The error of the elements of an array of a field of numbers from an index on.
+abbrev pub run_error : NamedField → ℕ → Items → Option PathError
+run_error f i no_items = None
+run_error f i (item j js) = option_or
+    (within (Element i) (unread (number_read f.kind f.form j) (kind_reason f.kind j))) (run_error f (i + 1) js)
 
 -- The error of an array.
-abbrev pub array_error : (ℕ → Json → Option PathError) → NamedField → Kind → Items → Option PathError
-array_error nested f U32 js = run_error 0 js
-array_error nested f U64 js = items_error nested f 0 js
-array_error nested f Boolean js = items_error nested f 0 js
-array_error nested f Enumeration js = items_error nested f 0 js
-array_error nested f Text js = items_error nested f 0 js
-array_error nested f ByteString js = items_error nested f 0 js
-array_error nested f (Message s) js = items_error nested f 0 js
+abbrev pub array_error : (ℕ → Json → Option PathError) → NamedField → Items → Option PathError
+array_error nested f js = if accepts_number f.kind then run_error f 0 js else items_error nested f 0 js
 
 -- The error of a repeated field.
 abbrev pub list_error : (ℕ → Json → Option PathError) → NamedField → Json → Option PathError
@@ -117,7 +123,7 @@ list_error nested f null = Some (WrongKind, [])
 list_error nested f (boolean b) = Some (WrongKind, [])
 list_error nested f (number s) = Some (WrongKind, [])
 list_error nested f (string s) = Some (WrongKind, [])
-list_error nested f (array js) = array_error nested f f.kind js
+list_error nested f (array js) = array_error nested f js
 list_error nested f (object ms) = Some (WrongKind, [])
 
 -- The error of what an object gives a field: it is there twice, or its value has one.

@@ -2,15 +2,15 @@
 use Rattle.std.specs.Prelude.{◌≡◌, ℕ, List, Some, None, Result, Ok, Err}
 use Rattle.shared_core_wire.specs.Schema.{Row, table_of}
 use Rattle.shared_core_codec.specs.TableErrors.{table_error}
-use Rattle.shared_core_json.specs.Fields.{names_at}
+use Rattle.shared_core_json.specs.Fields.{Names}
 use Rattle.shared_core_json_reader.specs.declared.readable_error.ReadableError.{ReadableError}
 use Rattle.shared_core_json_reader.specs.declared.readable_error.ReadableError.TheVariants as error
 use Rattle.shared_core_json_reader.specs.Rows.{Format, EnumValues}
 use Rattle.shared_core_json_reader.specs.Readable.{unreadable_from}
 
 -- The format of these schemas with these names of their fields and of the values of their enums.
-abbrev pub loaded_format : List (List Row) → List (List (ℕ × List ℕ)) → EnumValues → Format
-loaded_format schemas names values = record { table = table_of schemas; names = names_at names; values = values }
+abbrev pub loaded_format : List (List Row) → Names → EnumValues → Format
+loaded_format schemas names values = record { table = table_of schemas; names = names; values = values }
 
 -- A table comes only if JSON can be read by the schemas with these names. Errors are the first schema whose names are
 -- wrong, and the first field that no table may have.

@@ -22,7 +22,7 @@ as_it_is name = name
 
 -- The number of the field of the schema s of which a key is a name: the one in lower camel case, or the original one.
 unfoldable pub number_of : Format → ℕ → List ℕ → Option ℕ
-number_of d s k = option_or (number_by as_it_is (d.names s) k) (number_by original_name (d.names s) k)
+number_of d s k = option_or (number_by as_it_is (d.names s).names k) (number_by original_name (d.names s).names k)
 
 -- Each of these names finds the number that it is listed with.
 abbrev pub AreLikely : Format → ℕ → List (ℕ × List ℕ) → Type 0

@@ -7,7 +7,7 @@ use Rattle.shared_core_wire.specs.Schema.{Row, Table, includes, all_numbers, tab
 use Rattle.shared_core_codec.specs.Table.{schemas}
 use Rattle.shared_core_codec.specs.Tables.{IsTable, protocol_is_table}
 use Rattle.shared_core_json.specs.Names.{names}
-use Rattle.shared_core_json.specs.Fields.{Names, names_at, name_of}
+use Rattle.shared_core_json.specs.Fields.{Names, names_at, name_in}
 use Rattle.shared_core_json_reader.specs.EnumValues.{EnumField, enum_fields}
 use Rattle.shared_core_json_reader.specs.Rows.{Format, protocol, values_in}
 use Rattle.shared_core_json_reader.specs.Reading.{original_name}
@@ -33,7 +33,7 @@ all_apart ns = list_all (λ x. list_all (are_apart x) ns) ns
 
 -- Whether each of some names is what its number finds.
 abbrev pub are_found : List (ℕ × List ℕ) → List (ℕ × List ℕ) → Bool
-are_found ns xs = list_all (λ x. bytes_eq x.1 (name_of ns x.0)) xs
+are_found ns xs = list_all (λ x. bytes_eq x.1 (name_in ns x.0)) xs
 
 -- The numbers of some names.
 abbrev pub numbers_of : List (ℕ × List ℕ) → List ℕ
@@ -64,10 +64,14 @@ unreadable_from s (ns ∷ nss) (rows ∷ lists) = if are_names ns (all_numbers r
 
 -- The names of each schema of a table are those of its fields, and apart.
 abbrev pub AreNamed : Table → Names → Type 0
-AreNamed table all_names = (s : ℕ) → are_names (all_names s) (all_numbers (table s)) ≡ true
+AreNamed table all_names = (s : ℕ) → are_names (all_names s).names (all_numbers (table s)) ≡ true
+
+-- The same of these names of schemas.
+abbrev pub AreNamedBy : Table → List (List (ℕ × List ℕ)) → Type 0
+AreNamedBy table names = (s : ℕ) → are_names (names_at names s) (all_numbers (table s)) ≡ true
 
 pub none_unreadable : (i : ℕ) (nss : List (List (ℕ × List ℕ))) (lists : List (List Row)) → unreadable_from i nss lists ≡
-    None → AreNamed (table_of lists) (names_at nss)
+    None → AreNamedBy (table_of lists) nss
 none_unreadable i [] [] h s = refl
 none_unreadable i (ns ∷ nss) [] h s = absurd cc
 none_unreadable i [] (rows ∷ lists) h s = absurd cc
@@ -76,8 +80,8 @@ none_unreadable i (ns ∷ nss) (rows ∷ lists) h s = by_test (are_names ns (all
   where
     by_test : (b : Bool) → are_names ns (all_numbers rows) ≡ b
         → (if b then unreadable_from (suc i) nss lists else Some i) ≡ None
-        → (unreadable_from (suc i) nss lists ≡ None → AreNamed (table_of lists) (names_at nss))
-        → AreNamed (table_of (rows ∷ lists)) (names_at (ns ∷ nss))
+        → (unreadable_from (suc i) nss lists ≡ None → AreNamedBy (table_of lists) nss)
+        → AreNamedBy (table_of (rows ∷ lists)) (ns ∷ nss)
     by_test false e g later t = absurd cc
     by_test true e g later zero = e
     by_test true e g later (suc t) = later g t

@@ -15,8 +15,8 @@ use Rattle.shared_core_wire.specs.Canonical.{canonical_payload}
 use Rattle.shared_core_wire.specs.Overlay.{meaning}
 use Rattle.shared_core_codec.specs.Tables.{IsAcceptedIn}
 use Rattle.shared_core_json_reader.specs.Rows.{NamedField, NamedRow, Plain, Optional, Repeated, OneOf, named_rows}
-use Rattle.shared_core_json_reader.specs.Rows.{Format, protocol}
-use Rattle.shared_core_json_reader.specs.Scalars.{unsigned_read, boolean_read, enum_read, text_read, bytes_read}
+use Rattle.shared_core_json_reader.specs.Rows.{Format, NumberForm, protocol}
+use Rattle.shared_core_json_reader.specs.Scalars.{u32_read, u64_read, boolean_read, enum_read, text_read, bytes_read}
 
 -- ---- members
 
@@ -73,18 +73,18 @@ given f ms = the_only (values_named f ms)
 -- ---- values, where nested reads a nested message
 
 -- A single value of a kind.
-abbrev pub single_read : (ℕ → Json → Option Parts) → Kind → List (List ℕ × ℕ) → Json → Option Part
-single_read nested U32 values j = option_map Number (unsigned_read 4294967296 j)
-single_read nested U64 values j = option_map Number (unsigned_read 18446744073709551616 j)
-single_read nested Boolean values j = option_map Number (boolean_read j)
-single_read nested Enumeration values j = option_map Number (enum_read values j)
-single_read nested Text values j = option_map Bytes (text_read j)
-single_read nested ByteString values j = option_map Bytes (bytes_read j)
-single_read nested (Message s) values j = option_map Nested (nested s j)
+abbrev pub single_read : (ℕ → Json → Option Parts) → Kind → NumberForm → Json → Option Part
+single_read nested U32 form j = option_map Number (u32_read form.digits j)
+single_read nested U64 form j = option_map Number (u64_read form.digits j)
+single_read nested Boolean form j = option_map Number (boolean_read j)
+single_read nested Enumeration form j = option_map Number (enum_read form.values j)
+single_read nested Text form j = option_map Bytes (text_read j)
+single_read nested ByteString form j = option_map Bytes (bytes_read j)
+single_read nested (Message s) form j = option_map Nested (nested s j)
 
 -- A value of a field.
 abbrev pub field_read : (ℕ → Json → Option Parts) → NamedField → Json → Option Part
-field_read nested f j = single_read nested f.kind f.values j
+field_read nested f j = single_read nested f.kind f.form j
 
 -- The elements of a repeated field.
 abbrev pub elements_read : (ℕ → Json → Option Parts) → NamedField → Items → Option Parts

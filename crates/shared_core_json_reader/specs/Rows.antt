@@ -5,16 +5,22 @@ use Rattle.shared_core_codec.specs.Table.{table as protocol_table}
 use Rattle.shared_core_codec.specs.ProgramRows as codec
 use Rattle.shared_core_codec.specs.declared.rows.Field as codec_field
 use Rattle.shared_core_json.specs.Fields.{Names, names_of, name_of}
+use Rattle.shared_core_json.specs.declared.digits.Digits.{Digits}
 use Rattle.shared_core_json_reader.specs.EnumValues.{EnumField, enum_fields}
 use Rattle.shared_core_json_reader.specs.declared.rows.EnumField as program
 use Rattle.shared_core_json_reader.specs.declared.rows.EnumValue.{EnumValue}
 
--- A field: its number, its name in lower camel case, its kind, and the names of its enum's values.
+-- How the numbers of a field are read: the names of its enum's values, and how its numbers are written.
+pub record NumberForm : Type 0 where
+  pub values : List (List ℕ × ℕ)
+  pub digits : Digits
+
+-- A field: its number, its name in lower camel case, its kind, and how its numbers are read.
 pub record NamedField : Type 0 where
   pub number : ℕ
   pub name : List ℕ
   pub kind : schema.Kind
-  pub values : List (List ℕ × ℕ)
+  pub form : NumberForm
 
 -- A row of a schema, with the names of its fields.
 pub data NamedRow : Type 0 where
@@ -37,7 +43,7 @@ enum_values s n = values_in enum_fields s n
 abbrev pub EnumValues : Type 0
 EnumValues = ℕ → ℕ → List (List ℕ × ℕ)
 
--- What JSON is read by: a table of schemas, the names of their fields, and those of the values of their enums.
+-- What JSON is read by: a table of schemas, what JSON adds to their fields, and the names of the values of their enums.
 pub record Format : Type 0 where
   pub table : schema.Table
   pub names : Names
@@ -47,9 +53,13 @@ pub record Format : Type 0 where
 abbrev pub protocol : Format
 protocol = record { table = protocol_table; names = names_of; values = enum_values }
 
+-- How the numbers of the field of the schema s are read that has a number.
+abbrev pub form_of : Format → ℕ → ℕ → NumberForm
+form_of d s n = record { values = d.values s n; digits = (d.names s).digits n }
+
 -- The field of the schema s that has a number and a kind.
 abbrev pub named_field : Format → ℕ → ℕ → schema.Kind → NamedField
-named_field d s n k = record { number = n; name = name_of (d.names s) n; kind = k; values = d.values s n }
+named_field d s n k = record { number = n; name = name_of (d.names s) n; kind = k; form = form_of d s n }
 
 -- A row of the schema s, with names.
 abbrev pub named_row : Format → ℕ → schema.Row → NamedRow

@@ -1,5 +1,5 @@
 -- Which numbers, texts and bytes a JSON value means.
-use Rattle.std.specs.Prelude.{ℕ, ◌-◌, ◌%◌, ◌^◌, Bool, true, false, not, ◌&&◌, ◌||◌, List, [], ◌∷◌, ◌++◌, codes, drop}
+use Rattle.std.specs.Prelude.{ℕ, ◌-◌, ◌*◌, ◌^◌, Bool, true, false, not, ◌&&◌, ◌||◌, List, [], ◌∷◌, ◌++◌, codes, drop}
 use Rattle.std.specs.Prelude.{◌==◌, nat_lt, nat_le, if◌then◌else◌, Option, Some, None, option_map, option_and_then}
 use Rattle.std.specs.Option.{option_or}
 use Rattle.std.specs.Result.{result_ok}
@@ -11,6 +11,8 @@ use Rattle.base64.specs.Engines.{standard_pad_indifferent, url_safe_pad_indiffer
 use Rattle.json.specs.Word.{head, after_minus, after_number}
 use Rattle.json.specs.Json.{Json, null, boolean, number, string, array, object, Members, no_members, member}
 use Rattle.json.specs.Find.{as_str}
+use Rattle.shared_core_json.specs.declared.digits.Digits.{Digits}
+use Rattle.shared_core_json.specs.declared.digits.Digits.TheVariants.{Unsigned, Signed, ZigZag}
 
 -- ---- numbers
 
@@ -55,12 +57,37 @@ abbrev pub unsigned_below : ℕ → Whole → Option ℕ
 unsigned_below limit w = if (not w.negative || (w.magnitude == 0)) && nat_lt w.magnitude limit then Some w.magnitude
     else None
 
--- A number of 32 bits with a sign, as its low 32 bits.
-abbrev pub signed_bits : Whole → Option ℕ
-signed_bits w =
+-- A number with a sign by two's complement, where `half` is the size of the least number; -0 is 0.
+abbrev pub signed_bits : ℕ → Whole → Option ℕ
+signed_bits half w =
     if w.negative
-    then (if nat_le w.magnitude (2 ^ 31) then Some ((2 ^ 32 - w.magnitude) % 2 ^ 32) else None)
-    else (if nat_lt w.magnitude (2 ^ 31) then Some w.magnitude else None)
+    then (if nat_le w.magnitude half then Some (if w.magnitude == 0 then 0 else (2 * half - w.magnitude)) else None)
+    else (if nat_lt w.magnitude half then Some w.magnitude else None)
+
+-- A number with a sign by zigzag: twice as much, and one less if it is below zero; -0 is 0.
+abbrev pub zigzag_bits : ℕ → Whole → Option ℕ
+zigzag_bits half w =
+    if w.negative
+    then (if nat_le w.magnitude half then Some (2 * w.magnitude - 1) else None)
+    else (if nat_lt w.magnitude half then Some (2 * w.magnitude) else None)
+
+-- What is written for a number, where `half` is the size of the least number by two's complement.
+abbrev pub bits_of : Digits → ℕ → Whole → Option ℕ
+bits_of Unsigned half = unsigned_below (2 * half)
+bits_of Signed half = signed_bits half
+bits_of ZigZag half = zigzag_bits half
+
+-- What is written for the number that a value is.
+abbrev pub bits_read : Digits → ℕ → Json → Option ℕ
+bits_read d half j = option_and_then (bits_of d half) (whole_read j)
+
+-- The same of 32 bits.
+abbrev pub u32_read : Digits → Json → Option ℕ
+u32_read d j = bits_read d (2 ^ 31) j
+
+-- The same of 64 bits.
+abbrev pub u64_read : Digits → Json → Option ℕ
+u64_read d j = bits_read d (2 ^ 63) j
 
 -- A number below a limit.
 abbrev pub unsigned_read : ℕ → Json → Option ℕ
@@ -85,7 +112,7 @@ value_named (v ∷ vs) s = if bytes_eq s v.0 then Some v.1 else value_named vs s
 -- A value of an enum, as its low 32 bits: by its name, or by its number.
 abbrev pub enum_read : List (List ℕ × ℕ) → Json → Option ℕ
 enum_read values j = option_or (option_and_then (value_named values) (as_str j))
-    (option_and_then signed_bits (whole_read j))
+    (option_and_then (signed_bits (2 ^ 31)) (whole_read j))
 
 -- ---- texts and bytes
 

@@ -1,9 +1,10 @@
 //! A table of schemas by which JSON is read, made at run time.
 
-ghost use Rattle.std.specs.Prelude.{◌≡◌, ℕ, IfOk, true};
+ghost use Rattle.std.specs.Prelude.{◌≡◌, ℕ, IfOk, map, true};
 ghost use Rattle.shared_core_codec.specs.LoadedRows.{schemas_view};
 ghost use Rattle.shared_core_json.specs.Fields.{names_at};
-ghost use Rattle.shared_core_json.specs.LoadedNames.{names_view, all_names_view};
+ghost use Rattle.shared_core_json.specs.LoadedNames.{all_digits_view, all_names_view, digits_in, digits_view};
+ghost use Rattle.shared_core_json.specs.LoadedNames.{loaded_names, names_view};
 ghost use Rattle.shared_core_json_reader.specs.Loaded.{loaded_format, ReturnsTable};
 ghost use Rattle.shared_core_json_reader.specs.LoadedEnums.{enum_values};
 ghost use Rattle.shared_core_json_reader.specs.Places.{as_it_is, number_by};
@@ -18,6 +19,7 @@ use crate::readable_error::ReadableError;
 use shared_core_codec::any_table::Schemas;
 use shared_core_codec::loaded_rows::LoadedRow;
 use shared_core_codec::loaded_table::LoadedSchemas;
+use shared_core_json::digits::Digits;
 use shared_core_json::loaded_names::LoadedName;
 use shared_core_json::names::Name;
 use std::alloc::Global;
@@ -28,14 +30,15 @@ pub struct ReadableTable<T: Schemas> {
     schemas: T,
     names: Vec<Vec<LoadedName>>,
     enums: LoadedEnums,
-    ghost named: { AreNamed (T.table schemas) (names_at (all_names_view names.items)) },
+    ghost named: { AreNamed (T.table schemas) (loaded_names names.items) },
     ghost low: { (s n : ℕ) → are_low (enum_values enums s n) ≡ true },
 }
 
 impl<T: Schemas> ReadableTable<T> {
     /// The names of the fields of a schema; past the last one there are none.
     fn names_of(&self, schema: u32) -> &[LoadedName]
-        ensures { names_view result.now ≡ names_at (all_names_view self.now.names.items) schema }
+        ensures names { names_view result.now ≡ names_at (all_names_view self.now.names.items) schema }
+        ensures digits { map digits_view result.now ≡ names_at (all_digits_view self.now.names.items) schema }
     {
         let place = schema as usize;
         if place < self.names.len() {
@@ -51,7 +54,7 @@ impl<T: Schemas> ReadableSchemas for ReadableTable<T> {
 
     ghost format = { λ t. record {
       table = T.table t.schemas;
-      names = names_at (all_names_view t.names.items);
+      names = loaded_names t.names.items;
       values = enum_values t.enums;
     } };
 
@@ -62,6 +65,10 @@ impl<T: Schemas> ReadableSchemas for ReadableTable<T> {
 
     fn name_of(&self, schema: u32, number: u32) -> &str {
         name_in(self.names_of(schema), number)
+    }
+
+    fn digits_of(&self, schema: u32, number: u32) -> Digits {
+        digits_in(self.names_of(schema), number)
     }
 
     #[tactic(auto, unfolding(crate::specs::Places::number_of))]
@@ -82,6 +89,18 @@ impl<T: Schemas> ReadableSchemas for ReadableTable<T> {
     }
 
     ghost readable = { λ t. record { names = t.named; rows = T.valid t.schemas; low = t.low } };
+}
+
+/// How the numbers of the field are written of the first of some names that has a number; without a sign, if none has.
+fn digits_in(names: &[LoadedName], number: u32) -> Digits
+    ensures { result ≡ digits_in (map digits_view names.now) number }
+{
+    for name in names {
+        if name.number == number {
+            return name.digits;
+        }
+    }
+    Digits::Unsigned
 }
 
 /// The number of the first of some names that is a key.
@@ -120,7 +139,7 @@ pub fn readable_table(
     enums: LoadedEnums,
 ) -> Result<ReadableTable<LoadedSchemas>, ReadableError>
     ensures format { IfOk result (λ table. ⟦<ReadableTable<LoadedSchemas> as ReadableSchemas>⟧.format table
-        ≡ loaded_format (schemas_view schemas.items) (all_names_view names.items) (enum_values enums)) }
+        ≡ loaded_format (schemas_view schemas.items) (loaded_names names.items) (enum_values enums)) }
     ensures error { ReturnsTable (schemas_view schemas.items) (all_names_view names.items) result }
 {
     let found = match first_unreadable(alloc, names.as_slice(), schemas.as_slice()) {

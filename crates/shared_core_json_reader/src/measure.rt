@@ -14,7 +14,7 @@ use crate::lengths::{content_len, number_len};
 use crate::members::{PLACES, Places, find_places, likely};
 use crate::object::{Object, SingleField};
 use crate::readable::{ReadableSchemas, TableSchema};
-use crate::scalars::{extended, marked_text, read_boolean, read_enumeration, read_u32, read_u64};
+use crate::scalars::{marked_text, read_number};
 use json_table::{Items, Members, Node, Place, Shape};
 use shared_core_codec::any_table::{RowShape, SchemaRow};
 use shared_core_codec::rows::{Field, Kind};
@@ -192,8 +192,8 @@ fn measure_given<'a, T: ReadableSchemas>(
     let Shape::Array(mut items) = value.shape() else {
         return measure_value(lengths, object, single, &value);
     };
-    if let Kind::U32 = field.kind {
-        return Ok(content_len(true, field.number, run_len(&mut items)));
+    if field.kind.is_number() {
+        return Ok(content_len(true, field.number, run_len(object, field, &mut items)));
     }
     let element = SingleField {
         field,
@@ -235,30 +235,10 @@ fn single_len<'a, T: ReadableSchemas>(
     match field.kind {
         Kind::Text => content_len(plain, field.number, text_len(value)),
         Kind::ByteString => content_len(plain, field.number, bytes_len(value)),
-        _ => match read_number(object, field, value) {
-            Some(number) => number_len(plain, field.number, number),
-            None => 0,
+        _ => match read_number(object.schemas, object.places.schema, field, value) {
+            Ok(number) => number_len(plain, field.number, number),
+            Err(_) => 0,
         },
-    }
-}
-
-/// The number that is written for a value.
-fn read_number<'a, T: ReadableSchemas>(
-    object: &Object<'_, 'a, T>,
-    field: &Field,
-    value: &Node<'_, 'a>,
-) -> Option<u64> {
-    match field.kind {
-        Kind::U32 => Some(u64::from(read_u32(value).ok()?)),
-        Kind::U64 => read_u64(value).ok(),
-        Kind::Boolean => read_boolean(value).ok(),
-        Kind::Enumeration => Some(extended(read_enumeration(
-            object.schemas,
-            object.places.schema,
-            field.number,
-            value,
-        ).ok()?)),
-        _ => None,
     }
 }
 
@@ -282,11 +262,15 @@ fn bytes_len<'t, 'a>(value: &Node<'t, 'a>) -> u64 {
 }
 
 /// The length of the varints of the numbers of an array.
-fn run_len<'t, 'a>(items: &mut Items<'t, 'a>) -> u64 {
+fn run_len<'a, T: ReadableSchemas>(
+    object: &Object<'_, 'a, T>,
+    field: &Field,
+    items: &mut Items<'_, 'a>,
+) -> u64 {
     let mut length: u64 = 0;
     while let Some(item) = items.next() {
-        if let Ok(number) = read_u32(&item) {
-            length = length.saturating_add(varint_len(u64::from(number)));
+        if let Ok(number) = read_number(object.schemas, object.places.schema, field, &item) {
+            length = length.saturating_add(varint_len(number));
         }
     }
     length

@@ -6,7 +6,7 @@ ghost use Rattle.std.specs.String.{string_bytes};
 ghost use Rattle.shared_core_wire.specs.Schema.{numbers, all_numbers, includes};
 ghost use Rattle.shared_core_codec.specs.LoadedRows.{row_view, rows_view, schemas_view};
 ghost use Rattle.shared_core_codec.specs.ProgramRows.{field_view};
-ghost use Rattle.shared_core_json.specs.Fields.{name_of};
+ghost use Rattle.shared_core_json.specs.Fields.{name_in};
 ghost use Rattle.shared_core_json.specs.LoadedNames.{name_view, names_view, all_names_view};
 ghost use Rattle.shared_core_json_reader.specs.Reading.{original_byte, original_name};
 ghost use Rattle.shared_core_json_reader.specs.Readable.{all_apart, are_apart, are_found, are_names, numbers_of};
@@ -140,7 +140,7 @@ fn are_found(names: &[LoadedName]) -> bool
 
 /// The name that a number has among some names; empty if none has it.
 pub(crate) fn name_in(names: &[LoadedName], number: u32) -> &str
-    ensures { result.now ≡ name_of (names_view names.now) number }
+    ensures { result.now ≡ name_in (names_view names.now) number }
 {
     for name in names {
         if name.number == number {

@@ -28,7 +28,9 @@ use crate::members::{PLACES, Places, find_places, given, is_absent, lacks};
 use crate::object::{Object, SingleField};
 use crate::readable::{ReadableSchemas, TableSchema};
 use crate::rows::rows_of;
-use crate::scalars::{extended, read_boolean, read_enumeration, read_text, read_u32, read_u64};
+use crate::scalars::{
+    extended, read_bits_32, read_bits_64, read_boolean, read_enumeration, read_number, read_text,
+};
 use crate::short::{append_content, append_number, append_prefix, put_length};
 use json_table::{Items, Members, Node, Place, Shape};
 use shared_core_canonical::append::append_varint;
@@ -397,8 +399,8 @@ fn append_array<'a, T: ReadableSchemas>(
     let Shape::Array(mut items) = value.shape() else {
         return Err(Reason::WrongKind);
     };
-    if let Kind::U32 = field.kind {
-        return append_run(walk, field.number, &mut items);
+    if field.kind.is_number() {
+        return append_run(walk, object, field, &mut items);
     }
     append_items(walk, object, field, &mut items)
 }
@@ -435,37 +437,54 @@ fn append_items<'a, T: ReadableSchemas>(
 }
 
 /// Appends the numbers of an array, packed into one record.
-fn append_run<'a>(walk: &mut Walk<'a>, number: u32, items: &mut Items<'_, 'a>) -> Result<(), Reason>
+fn append_run<'a, T: ReadableSchemas>(
+    walk: &mut Walk<'a>,
+    object: &Object<'_, 'a, T>,
+    field: &Field,
+    items: &mut Items<'_, 'a>,
+) -> Result<(), Reason>
     requires trail { walk.old.trail.items ≡ [] }
-    ensures appended { Appends result (option_map (content_record true number) (run_bytes items.old))
+    ensures appended { Appends result (option_map (content_record true field.now.number)
+        (run_bytes (in_schema (T.format object.now.schemas.now) object.now.places.schema field.now) items.old))
         walk.old.out.items walk.new.out.items }
-    ensures error { HasError result (run_error 0 items.old) walk.new.trail.items }
+    ensures error { HasError result
+        (run_error (in_schema (T.format object.now.schemas.now) object.now.places.schema field.now) 0 items.old)
+        walk.new.trail.items }
 {
     if items.is_empty() {
         return Ok(());
     }
-    let place = append_prefix(&mut walk.out, number, 0)?;
+    let place = append_prefix(&mut walk.out, field.number, 0)?;
     let end = walk.out.len();
-    append_numbers(walk, items)?;
+    append_numbers(walk, object, field, items)?;
     put_length(&mut walk.out, place, end)?;
     Ok(())
 }
 
 /// Appends the varints of the numbers of an array.
-fn append_numbers<'a>(walk: &mut Walk<'a>, items: &mut Items<'_, 'a>) -> Result<(), Reason>
+fn append_numbers<'a, T: ReadableSchemas>(
+    walk: &mut Walk<'a>,
+    object: &Object<'_, 'a, T>,
+    field: &Field,
+    items: &mut Items<'_, 'a>,
+) -> Result<(), Reason>
     requires trail { walk.old.trail.items ≡ [] }
-    ensures appended { Appends result (run_bytes items.old) walk.old.out.items walk.new.out.items }
-    ensures error { HasError result (run_error 0 items.old) walk.new.trail.items }
+    ensures appended { Appends result
+        (run_bytes (in_schema (T.format object.now.schemas.now) object.now.places.schema field.now) items.old)
+        walk.old.out.items walk.new.out.items }
+    ensures error { HasError result
+        (run_error (in_schema (T.format object.now.schemas.now) object.now.places.schema field.now) 0 items.old)
+        walk.new.trail.items }
 {
     for index in 0..items.upper_bound() {
         let Some(item) = items.next() else {
             return Ok(());
         };
-        let number = match read_u32(&item) {
+        let number = match read_number(object.schemas, object.places.schema, field, &item) {
             Ok(number) => number,
             Err(reason) => return Err(walk.note(Step::Element(index), reason)),
         };
-        append_varint(&mut walk.out, u64::from(number))?;
+        append_varint(&mut walk.out, number)?;
     }
     Ok(())
 }
@@ -490,13 +509,20 @@ fn append_value<'a, T: ReadableSchemas>(
 {
     let SingleField { field, plain } = single;
     match field.kind {
-        Kind::U32 => append_number(
-            &mut walk.out,
-            plain,
-            field.number,
-            u64::from(read_u32(value)?),
-        )?,
-        Kind::U64 => append_number(&mut walk.out, plain, field.number, read_u64(value)?)?,
+        Kind::U32 => {
+            let how = object.schemas.digits_of(object.places.schema, field.number);
+            let bits = u64::from(read_bits_32(how, value)?);
+            append_number(&mut walk.out, plain, field.number, bits)?;
+        }
+        Kind::U64 => {
+            let how = object.schemas.digits_of(object.places.schema, field.number);
+            append_number(
+                &mut walk.out,
+                plain,
+                field.number,
+                read_bits_64(how, value)?,
+            )?;
+        }
         Kind::Boolean => append_number(&mut walk.out, plain, field.number, read_boolean(value)?)?,
         Kind::Enumeration => {
             let bits = read_enumeration(object.schemas, object.places.schema, field.number, value)?;

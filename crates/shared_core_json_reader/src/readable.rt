@@ -12,6 +12,7 @@ use crate::rows::values_of;
 use crate::{members, scalars};
 use shared_core_codec::any_table::{ProtocolSchemas, SchemaRow};
 use shared_core_codec::rows::{self, Row};
+use shared_core_json::digits::Digits;
 use shared_core_json::names::{self, Name, names_of};
 
 /// A schema of a table, by its index.
@@ -36,6 +37,10 @@ pub trait ReadableSchemas {
     /// The name of the field of a schema that has a number; empty if none has it.
     fn name_of(&self, schema: u32, number: u32) -> &str
         ensures { result.now ≡ name_of ((format self.now).names schema) number };
+
+    /// How the numbers of the field of a schema are written that has a number.
+    fn digits_of(&self, schema: u32, number: u32) -> Digits
+        ensures { result ≡ ((format self.now).names schema).digits number };
 
     /// The number of the field of a schema of which a key is a name.
     fn number_of(&self, schema: u32, key: &str) -> Option<u32>
@@ -68,6 +73,11 @@ impl ReadableSchemas for ProtocolSchemas {
     #[inline(always)]
     fn name_of(&self, schema: u32, number: u32) -> &str {
         names::name_of(schema, number)
+    }
+
+    #[inline(always)]
+    fn digits_of(&self, _schema: u32, _number: u32) -> Digits {
+        Digits::Unsigned
     }
 
     #[inline(always)]

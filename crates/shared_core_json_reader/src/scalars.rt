@@ -1,16 +1,21 @@
 //! The numbers, texts and bytes that single JSON values mean.
 
-ghost use Rattle.std.specs.Prelude.{◌≡◌, ◌<◌, ◌^◌, Some, None, map, option_map, option_and_then, decimal};
-ghost use Rattle.std.specs.Prelude.{IfSome, IfErr, MatchResult};
+ghost use Rattle.std.specs.Prelude.{◌≡◌, ◌<◌, ◌≤◌, ◌-◌, ◌*◌, ◌^◌, Some, None, map, option_map, decimal};
+ghost use Rattle.std.specs.Prelude.{option_and_then};
+ghost use Rattle.std.specs.Prelude.{IfOk, IfSome, IfErr, MatchResult};
 ghost use Rattle.json.specs.Word.{after_minus};
-ghost use Rattle.shared_core_json_reader.specs.Rows.{value_view};
+ghost use Rattle.shared_core_codec.specs.ProgramRows.{kind_view};
+ghost use Rattle.shared_core_json_reader.specs.Rows.{value_view, form_of};
+ghost use Rattle.shared_core_json_reader.specs.Appended.{number_read};
 ghost use Rattle.shared_core_wire.specs.Schema.{Enumeration};
 ghost use Rattle.shared_core_wire.specs.Canonical.{written_number};
 ghost use Rattle.shared_core_json_reader.specs.Scalars.{number_text, whole_of_text, whole_read};
-ghost use Rattle.shared_core_json_reader.specs.Scalars.{unsigned_read, boolean_read, signed_bits};
+ghost use Rattle.shared_core_json_reader.specs.Scalars.{boolean_read, signed_bits, u32_read, u64_read, unsigned_read};
+ghost use Rattle.shared_core_json_reader.specs.Scalars.{zigzag_bits};
+ghost use Rattle.shared_core_json.specs.declared.digits.Digits.TheVariants.{ZigZag};
 ghost use Rattle.shared_core_json_reader.specs.Scalars.{value_named, enum_read, text_read};
 ghost use Rattle.shared_core_json_reader.specs.Scalars.{only_text, marked_text};
-ghost use Rattle.shared_core_json_reader.specs.FirstError.{number_text_reason, number_reason, enum_reason};
+ghost use Rattle.shared_core_json_reader.specs.FirstError.{number_text_reason, number_reason, enum_reason, kind_reason};
 ghost use Rattle.shared_core_json_reader.specs.Views.{whole_view};
 
 use crate::error::Reason;
@@ -19,7 +24,8 @@ use crate::rows::EnumValue;
 use fast_float::Numeral;
 use json::is_number;
 use json_table::{Members, Node, Shape};
-use shared_core_wire::varint::low_32;
+use shared_core_codec::rows::{Field, Kind};
+use shared_core_json::digits::Digits;
 
 /// A whole number, by whether it has a minus and by its magnitude.
 #[derive(Clone, Copy)]
@@ -152,32 +158,105 @@ pub fn read_boolean(value: &Node<'_, '_>) -> Result<u64, Reason>
     }
 }
 
-/// The low 32 bits of a number of 32 bits with a sign.
-fn signed_bits(whole: Whole) -> Result<u32, Reason>
-    ensures value { MatchResult result (λ bits. signed_bits (whole_view whole) ≡ Some bits)
-        (λ _. signed_bits (whole_view whole) ≡ None) }
+/// The least number below zero by two's complement of 32 bits.
+const HALF_32: u64 = 2_147_483_648;
+
+/// The least number below zero by two's complement of 64 bits.
+const HALF_64: u64 = 9_223_372_036_854_775_808;
+
+/// A number with a sign by two's complement, where `half` is the size of the least number.
+fn signed_bits(half: u64, whole: Whole) -> Result<u64, Reason>
+    requires { half ≤ 2 ^ 63 }
+    ensures value { MatchResult result (λ bits. signed_bits half (whole_view whole) ≡ Some bits)
+        (λ _. signed_bits half (whole_view whole) ≡ None) }
+    ensures below { IfOk result (λ bits. bits ≤ 2 * half - 1) }
     ensures reason { IfErr result (λ reason. reason ≡ Reason.OutOfRange) }
 {
     if whole.negative {
-        if whole.magnitude > 2_147_483_648 {
+        if whole.magnitude > half {
             return Err(Reason::OutOfRange);
         }
-        return Ok(low_32(4_294_967_296 - whole.magnitude));
+        if whole.magnitude == 0 {
+            return Ok(0);
+        }
+        return Ok((half - whole.magnitude) + half);
     }
-    if whole.magnitude >= 2_147_483_648 {
+    if whole.magnitude >= half {
         return Err(Reason::OutOfRange);
     }
-    Ok(whole.magnitude as u32)
+    Ok(whole.magnitude)
+}
+
+/// A number with a sign by zigzag, where `half` is the size of the least number by two's complement.
+fn zigzag_bits(half: u64, whole: Whole) -> Result<u64, Reason>
+    requires { half ≤ 2 ^ 63 }
+    ensures value { MatchResult result (λ bits. zigzag_bits half (whole_view whole) ≡ Some bits)
+        (λ _. zigzag_bits half (whole_view whole) ≡ None) }
+    ensures below { IfOk result (λ bits. bits ≤ 2 * half - 1) }
+    ensures reason { IfErr result (λ reason. reason ≡ Reason.OutOfRange) }
+{
+    if whole.negative {
+        if whole.magnitude > half {
+            return Err(Reason::OutOfRange);
+        }
+        if whole.magnitude == 0 {
+            return Ok(0);
+        }
+        return Ok(whole.magnitude + (whole.magnitude - 1));
+    }
+    if whole.magnitude >= half {
+        return Err(Reason::OutOfRange);
+    }
+    Ok(2 * whole.magnitude)
 }
 
 /// The number of 32 bits with a sign that a value is, as its low 32 bits.
 fn read_signed(value: &Node<'_, '_>) -> Result<u32, Reason>
     ensures value { MatchResult result
-        (λ bits. option_and_then signed_bits (whole_read value.now) ≡ Some bits)
-        (λ _. option_and_then signed_bits (whole_read value.now) ≡ None) }
+        (λ bits. option_and_then (signed_bits (2 ^ 31)) (whole_read value.now) ≡ Some bits)
+        (λ _. option_and_then (signed_bits (2 ^ 31)) (whole_read value.now) ≡ None) }
     ensures reason { IfErr result (λ reason. number_reason value.now ≡ reason) }
 {
-    signed_bits(read_whole(value)?)
+    let bits = signed_bits(HALF_32, read_whole(value)?)?;
+    Ok(bits as u32)
+}
+
+/// The number of 32 bits that a value is by zigzag.
+fn read_zigzag(value: &Node<'_, '_>) -> Result<u32, Reason>
+    ensures value { MatchResult result (λ bits. u32_read ZigZag value.now ≡ Some bits)
+        (λ _. u32_read ZigZag value.now ≡ None) }
+    ensures reason { IfErr result (λ reason. number_reason value.now ≡ reason) }
+{
+    let bits = zigzag_bits(HALF_32, read_whole(value)?)?;
+    Ok(bits as u32)
+}
+
+/// What is written for the number of 32 bits that a value is.
+#[inline(always)]
+pub fn read_bits_32(how: Digits, value: &Node<'_, '_>) -> Result<u32, Reason>
+    ensures value { MatchResult result (λ bits. u32_read how value.now ≡ Some bits)
+        (λ _. u32_read how value.now ≡ None) }
+    ensures reason { IfErr result (λ reason. number_reason value.now ≡ reason) }
+{
+    match how {
+        Digits::Unsigned => read_u32(value),
+        Digits::Signed => read_signed(value),
+        Digits::ZigZag => read_zigzag(value),
+    }
+}
+
+/// What is written for the number of 64 bits that a value is.
+#[inline(always)]
+pub fn read_bits_64(how: Digits, value: &Node<'_, '_>) -> Result<u64, Reason>
+    ensures value { MatchResult result (λ bits. u64_read how value.now ≡ Some bits)
+        (λ _. u64_read how value.now ≡ None) }
+    ensures reason { IfErr result (λ reason. number_reason value.now ≡ reason) }
+{
+    match how {
+        Digits::Unsigned => read_u64(value),
+        Digits::Signed => signed_bits(HALF_64, read_whole(value)?),
+        Digits::ZigZag => zigzag_bits(HALF_64, read_whole(value)?),
+    }
 }
 
 /// The number of the value of an enum that has a name.
@@ -225,6 +304,35 @@ pub fn extended(bits: u32) -> u64
         u64::from(bits)
     } else {
         u64::from(bits) + 18_446_744_069_414_584_320
+    }
+}
+
+/// The number that is written for a value of a field of numbers.
+pub fn read_number<T: ReadableSchemas>(
+    schemas: &T,
+    schema: u32,
+    field: &Field,
+    value: &Node<'_, '_>,
+) -> Result<u64, Reason>
+    ensures value { MatchResult result
+        (λ number. number_read (kind_view field.now.kind) (form_of (T.format schemas.now) schema field.now.number)
+        value.now ≡ Some number)
+        (λ _. number_read (kind_view field.now.kind) (form_of (T.format schemas.now) schema field.now.number)
+        value.now ≡ None) }
+    ensures reason { IfErr result (λ reason. kind_reason (kind_view field.now.kind) value.now ≡ reason) }
+{
+    match field.kind {
+        Kind::U32 => {
+            let bits = read_bits_32(schemas.digits_of(schema, field.number), value)?;
+            Ok(u64::from(bits))
+        }
+        Kind::U64 => read_bits_64(schemas.digits_of(schema, field.number), value),
+        Kind::Boolean => read_boolean(value),
+        Kind::Enumeration => {
+            let bits = read_enumeration(schemas, schema, field.number, value)?;
+            Ok(extended(bits))
+        }
+        _ => Err(Reason::WrongKind),
     }
 }
 

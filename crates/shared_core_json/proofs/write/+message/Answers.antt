@@ -1,7 +1,6 @@
-use Rattle.std.proofs.Common.{◌≡◌, ℕ, List, ◌++◌, ◌∷◌, [], true, refl, ap, sym, ◌∙◌, arith, rules, subst, map}
-use Rattle.std.specs.Prelude.{decimal}
+use Rattle.std.proofs.Common.{◌≡◌, ◌^◌, List, ◌++◌, ◌∷◌, [], true, refl, ap, sym, ◌∙◌, arith, rules, subst, map}
 use Rattle.std.proofs.lemmas.Result.{on_ok_weaker}
-use Rattle.json.specs.Token.{number}
+use Rattle.json.specs.Token.{number, string}
 use Rattle.json.specs.Tree.{json_tokens}
 use Rattle.shared_core_wire.specs.Overlay.{meaning}
 use Rattle.shared_core_wire.specs.Canonical.{levels}
@@ -14,7 +13,8 @@ use Rattle.shared_core_fields.specs.Fields.{FieldPart}
 use Rattle.shared_core_fields.specs.Views.{EachIsOf, field_part, fields_left, given_left, placed_of}
 use Rattle.shared_core_fields.specs.Views.{unplaced}
 use Rattle.shared_core_fields.specs.declared.fields.FieldValue.TheVariants as v
-use Rattle.shared_core_json.specs.Form.{part_json_in}
+use Rattle.shared_core_json.specs.Form.{digits_of, part_json_in, writing}
+use Rattle.shared_core_json.specs.declared.digits.Digits.{Digits}
 use Rattle.shared_core_json.specs.Written.{fields_tokens}
 use Rattle.shared_core_json.proofs.Members.{AllLow, low_message, turn, whole}
 use Rattle.shared_core_json.proofs.Values.{shown, flag_shown, deeper, same_table}
@@ -29,49 +29,68 @@ write_value-overflow_sub-left g t c = omega (
 pub write_value-returns-in-U32-clause-tokens : goal.write_value-returns-in-U32-clause-tokens
 unfolding part_json_in
 write_value-returns-in-U32-clause-tokens g t c =
-    shown (g.T.Tabled.table_of c.args.form.schemas) (g.T.NamedSchemas.names c.args.form.schemas) c.u64.result _ _ _
-    c.args.form.texts _ (v.U32 c.in-U32.number) c.in-U32.is c.u64.ensures.ok
-    (ap (λ (n : ℕ). number (decimal n) ∷ []) c.from.ensures)
+    let names = g.T.NamedSchemas.names c.args.form.form.schemas in
+    shown (g.T.Tabled.table_of c.args.form.form.schemas) names c.write_u32.result _ _ _
+    (writing c.args.form.form.texts (names c.args.form.schema) c.args.form.number) _ (v.U32 c.in-U32.number) c.in-U32.is
+    c.write_u32.ensures.tokens (ap (λ (how : Digits). number (digits_of how (2 ^ 31) c.in-U32.number) ∷ [])
+    c.digits.ensures)
 
 pub write_value-returns-in-U64-clause-tokens : goal.write_value-returns-in-U64-clause-tokens
 unfolding part_json_in
 write_value-returns-in-U64-clause-tokens g t c =
-    shown (g.T.Tabled.table_of c.args.form.schemas) (g.T.NamedSchemas.names c.args.form.schemas) c.quoted_u64.result _ _
-    _
-    c.args.form.texts _ (v.U64 c.in-U64.number) c.in-U64.is c.quoted_u64.ensures.ok refl
+    let names = g.T.NamedSchemas.names c.args.form.form.schemas in
+    shown (g.T.Tabled.table_of c.args.form.form.schemas) names c.write_u64.result _ _ _
+    (writing c.args.form.form.texts (names c.args.form.schema) c.args.form.number) _ (v.U64 c.in-U64.number) c.in-U64.is
+    c.write_u64.ensures.tokens (ap (λ (how : Digits). string (digits_of how (2 ^ 63) c.in-U64.number) ∷ [])
+    c.digits-in-U64.ensures)
 
 pub write_value-returns-in-Boolean-clause-tokens : goal.write_value-returns-in-Boolean-clause-tokens
 write_value-returns-in-Boolean-clause-tokens g t c =
-    let table = g.T.Tabled.table_of c.args.form.schemas in
-    let names = g.T.NamedSchemas.names c.args.form.schemas in
-    shown table names c.boolean.result _ _ _ c.args.form.texts _ (v.Boolean c.in-Boolean.flag) c.in-Boolean.is
-    c.boolean.ensures.ok (flag_shown table names c.args.form.texts c.in-Boolean.flag)
+    let table = g.T.Tabled.table_of c.args.form.form.schemas in
+    let names = g.T.NamedSchemas.names c.args.form.form.schemas in
+    let w = writing c.args.form.form.texts (names c.args.form.schema) c.args.form.number in
+    shown table names c.boolean.result _ _ _ w _ (v.Boolean c.in-Boolean.flag) c.in-Boolean.is
+    c.boolean.ensures.ok (flag_shown table names w c.in-Boolean.flag)
 
 pub write_value-returns-in-Text-clause-tokens : goal.write_value-returns-in-Text-clause-tokens
 unfolding part_json_in
 write_value-returns-in-Text-clause-tokens g t c =
-    shown (g.T.Tabled.table_of c.args.form.schemas) (g.T.NamedSchemas.names c.args.form.schemas) c.string.result _ _ _
-    c.args.form.texts _ (v.Text c.in-Text.text) c.in-Text.is c.string.ensures.ok refl
+    let names = g.T.NamedSchemas.names c.args.form.form.schemas in
+    shown (g.T.Tabled.table_of c.args.form.form.schemas) names c.string.result _ _ _
+    (writing c.args.form.form.texts (names c.args.form.schema) c.args.form.number) _ (v.Text c.in-Text.text)
+    c.in-Text.is
+    c.string.ensures.ok refl
 
 pub write_value-returns-in-ByteString-clause-tokens : goal.write_value-returns-in-ByteString-clause-tokens
 unfolding part_json_in
 write_value-returns-in-ByteString-clause-tokens g t c =
-    shown (g.T.Tabled.table_of c.args.form.schemas) (g.T.NamedSchemas.names c.args.form.schemas)
-    c.write_byte_string.result _ _ _ c.args.form.texts _ (v.ByteString c.in-ByteString.bytes) c.in-ByteString.is
-    c.write_byte_string.ensures.tokens refl
+    let names = g.T.NamedSchemas.names c.args.form.form.schemas in
+    shown (g.T.Tabled.table_of c.args.form.form.schemas) names c.write_byte_string.result _ _ _
+    (writing c.args.form.form.texts (names c.args.form.schema) c.args.form.number) _
+    (v.ByteString c.in-ByteString.bytes) c.in-ByteString.is c.write_byte_string.ensures.tokens refl
 
 pub write_value-returns-in-Message-clause-tokens : goal.write_value-returns-in-Message-clause-tokens
 unfolding part_json_in
 write_value-returns-in-Message-clause-tokens g t c =
-    let mine = c.args.form.schemas in
+    let mine = c.args.form.form.schemas in
     let table = g.T.Tabled.table_of mine in
     let names = g.T.NamedSchemas.names mine in
+    let w = writing c.args.form.form.texts (names c.args.form.schema) c.args.form.number in
     let m = c.in-Message.message in
     let same = same_table mine _ m c.in-Message.is c.requires.same in
-    shown table names c.write_within.result _ _ _ c.args.form.texts _ (v.Message m) c.in-Message.is
-    c.write_within.ensures.tokens
-    (ap (λ x. json_tokens (part_json_in table names c.args.form.texts
+    shown table names c.write_within.result _ _ _ w _ (v.Message m) c.in-Message.is c.write_within.ensures.tokens
+    (ap (λ x. json_tokens (part_json_in table names w
     (Nested (meaning (g.T.Tabled.table_of x) 100 m.schema m.bytes.now)) (Message m.schema))) (sym same))
+
+pub write_value-returns-in-Numbers-clause-tokens : goal.write_value-returns-in-Numbers-clause-tokens
+write_value-returns-in-Numbers-clause-tokens g t c =
+    let table = g.T.Tabled.table_of c.args.form.form.schemas in
+    let names = g.T.NamedSchemas.names c.args.form.form.schemas in
+    let w = writing c.args.form.form.texts (names c.args.form.schema) c.args.form.number in
+    shown table names c.write_run.result _ _ _ w _ (v.Numbers c.in-Numbers.run') c.in-Numbers.is
+    (on_ok_weaker c.write_run.result (λ f. f table names w (sym c.digits-in-Numbers.ensures))
+    c.write_run.ensures.tokens)
+    refl
 
 pub write_within-loop-field-init : goal.write_within-loop-field-init
 write_within-loop-field-init g t c =
@@ -135,7 +154,7 @@ write_within-returns-clause-tokens g t c =
 pub write_value-write_within-requires : goal.write_value-write_within-requires
 write_value-write_within-requires g t c =
     let m = c.in-Message.message in
-    let mine = c.args.form.schemas in
+    let mine = c.args.form.form.schemas in
     let same = same_table mine _ m c.in-Message.is c.requires.same in
     let deep = deeper _ m c.args.left c.in-Message.is c.requires.deep in
     let canonical = subst (λ x. is_canonical_payload_in (g.T.Tabled.table_of x) 100 m.schema m.bytes.now ≡ true) same

@@ -1,8 +1,7 @@
 use Rattle.std.proofs.Common.{◌≡◌, ◌∙◌, None, ap₂, subst, sym}
 use Rattle.shared_core_codec.specs.LoadedRows.{schemas_view}
-use Rattle.shared_core_json.specs.Fields.{names_at}
 use Rattle.shared_core_json.specs.LoadedNames.{all_names_view}
-use Rattle.shared_core_json_reader.specs.Readable.{AreNamed, none_unreadable, unreadable_from}
+use Rattle.shared_core_json_reader.specs.Readable.{AreNamedBy, none_unreadable, unreadable_from}
 use Rattle.shared_core_json_reader.proofs.EnumLists.{enums_low}
 use Rattle.shared_core_json_reader.proofs.loaded_table.readable_table.Goals as goal
 
@@ -13,7 +12,7 @@ invariant_of-result c =
     ap₂ (λ ns ss. unreadable_from 0 (all_names_view ns) (schemas_view ss)) (sym c.as_slice.ensures.value)
     (sym c.as_slice-2.ensures.value) ∙ sym c.in-Ok.ensures ∙ c.in_default.is in
     record {
-      named = subst (λ table. AreNamed table (names_at names)) (sym c.in-Ok-new.ensures.table)
+      named = subst (λ table. AreNamedBy table names) (sym c.in-Ok-new.ensures.table)
           (none_unreadable 0 names (schemas_view c.args.schemas.items) none);
       low = enums_low c.args.enums;
     }
