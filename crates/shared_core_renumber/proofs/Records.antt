@@ -1,7 +1,7 @@
 -- A payload at other field numbers encodes the records of the payload, with their other numbers.
-use Rattle.std.proofs.Common.{◌≡◌, ℕ, List, [], ◌∷◌, ◌++◌, Bool, true, false, cond, eqb, Option, Some, None, refl}
+use Rattle.std.proofs.Common.{◌≡◌, ℕ, List, [], ◌∷◌, ◌++◌, Bool, true, false, cond, eqb, Some, refl}
 use Rattle.std.proofs.Common.{sym, ap}
-use Rattle.std.proofs.Common.{◌∙◌, flat_map}
+use Rattle.std.proofs.Common.{◌∙◌, flat_map, length}
 use Rattle.std.specs.List.{list_all}
 use Rattle.std.proofs.lemmas.List.{append-nil}
 use Rattle.std.proofs.lemmas.List.Concat.{flat_map-append}
@@ -14,11 +14,11 @@ use Rattle.shared_core_wire.proofs.RecordLists.{records_append, records_empty, r
 use Rattle.shared_core_wire.proofs.Runs.{and_split}
 use Rattle.shared_core_canonical.specs.Rows.{records_read}
 use Rattle.shared_core_renumber.specs.declared.entries.Renumbering.{Renumbering}
-use Rattle.shared_core_renumber.specs.Entries.{from_schema, find_in}
-use Rattle.shared_core_renumber.specs.Written.{NestedBytes, nested_bytes, payload_bytes, value_bytes, found_bytes}
-use Rattle.shared_core_renumber.specs.Written.{group_bytes, first_bytes, entries_bytes}
-use Rattle.shared_core_renumber.specs.Records.{value_records, found_records, group_records, first_records}
-use Rattle.shared_core_renumber.specs.Records.{entries_records, moved_records, is_writable, is_writable_value}
+use Rattle.shared_core_renumber.specs.Entries.{from_schema}
+use Rattle.shared_core_renumber.specs.Written.{FoundRecord, NestedBytes, nested_bytes, payload_bytes, records_found}
+use Rattle.shared_core_renumber.specs.Written.{value_bytes, group_bytes, first_bytes, entries_bytes}
+use Rattle.shared_core_renumber.specs.Records.{value_records, group_records, first_records}
+use Rattle.shared_core_renumber.specs.Records.{entries_records, moved_records, is_writable}
 
 -- ---- what is written are the bytes of the records
 
@@ -36,39 +36,39 @@ module _ (inner : NestedBytes) where
   value_is e (Group b) = refl
   value_is e (Fixed32 b) = refl
 
-  found_is : (o : Option Renumbering) (w : RecordValue) → found_bytes inner o w ≡ record_list_bytes
-      (found_records inner o w)
-  found_is None w = refl
-  found_is (Some e) w = value_is e w
-
-  group_is : (s g : ℕ) (es : List Renumbering) (rs : List FieldRecord) → flat_map (group_bytes inner s g es) rs ≡
-      record_list_bytes (flat_map (group_records inner s g es) rs)
-  group_is s g es [] = refl
-  group_is s g es (r ∷ rs) = joined (group_records inner s g es r) (flat_map (group_records inner s g es) rs)
-      (group_bytes inner s g es r) (flat_map (group_bytes inner s g es) rs) (found_is (find_in s g r.number es) r.value)
-      (group_is s g es rs)
-
-  first_is : (s before : ℕ) (e : Renumbering) (es : List Renumbering) (rs : List FieldRecord) → first_bytes inner s
-      before e es rs ≡ record_list_bytes (first_records inner s before e es rs)
-  first_is s before e es rs = by_test (eqb e.group before)
+  group_is : (place : ℕ) (fs : List FoundRecord) → flat_map (group_bytes inner place) fs ≡ record_list_bytes
+      (flat_map (group_records inner place) fs)
+  group_is place [] = refl
+  group_is place (f ∷ fs) = joined (group_records inner place f) (flat_map (group_records inner place) fs)
+      (group_bytes inner place f) (flat_map (group_bytes inner place) fs) (by_test (eqb f.place place))
+      (group_is place fs)
     where
-      by_test : (b : Bool) → cond b [] (flat_map (group_bytes inner s e.group (e ∷ es)) rs) ≡ record_list_bytes
-          (cond b [] (flat_map (group_records inner s e.group (e ∷ es)) rs))
+      by_test : (b : Bool) → cond b (value_bytes inner f.entry f.value) [] ≡ record_list_bytes
+          (cond b (value_records inner f.entry f.value) [])
+      by_test true = value_is f.entry f.value
+      by_test false = refl
+
+  first_is : (before : ℕ) (e : Renumbering) (es : List Renumbering) (fs : List FoundRecord) → first_bytes inner before e
+      es fs ≡ record_list_bytes (first_records inner before e es fs)
+  first_is before e es fs = by_test (eqb e.group before)
+    where
+      by_test : (b : Bool) → cond b [] (flat_map (group_bytes inner (length (e ∷ es))) fs) ≡ record_list_bytes
+          (cond b [] (flat_map (group_records inner (length (e ∷ es))) fs))
       by_test true = refl
-      by_test false = group_is s e.group (e ∷ es) rs
+      by_test false = group_is (length (e ∷ es)) fs
 
-  entries_are : (s before : ℕ) (es : List Renumbering) (rs : List FieldRecord) → entries_bytes inner s before es rs ≡
-      record_list_bytes (entries_records inner s before es rs)
-  entries_are s before [] rs = refl
-  entries_are s before (e ∷ es) rs = by_test (entries_are s e.group es rs) (eqb e.schema s)
+  entries_are : (s before : ℕ) (es : List Renumbering) (fs : List FoundRecord) → entries_bytes inner s before es fs ≡
+      record_list_bytes (entries_records inner s before es fs)
+  entries_are s before [] fs = refl
+  entries_are s before (e ∷ es) fs = by_test (entries_are s e.group es fs) (eqb e.schema s)
     where
-      by_test : (entries_bytes inner s e.group es rs ≡ record_list_bytes (entries_records inner s e.group es rs))
-          → (b : Bool) → cond b (first_bytes inner s before e es rs ++ entries_bytes inner s e.group es rs) [] ≡
+      by_test : (entries_bytes inner s e.group es fs ≡ record_list_bytes (entries_records inner s e.group es fs))
+          → (b : Bool) → cond b (first_bytes inner before e es fs ++ entries_bytes inner s e.group es fs) [] ≡
           record_list_bytes
-          (cond b (first_records inner s before e es rs ++ entries_records inner s e.group es rs) [])
+          (cond b (first_records inner before e es fs ++ entries_records inner s e.group es fs) [])
       by_test later true =
-          joined (first_records inner s before e es rs) (entries_records inner s e.group es rs) _ _
-          (first_is s before e es rs) later
+          joined (first_records inner before e es fs) (entries_records inner s e.group es fs) _ _
+          (first_is before e es fs) later
       by_test later false = refl
 
 -- ---- bytes of records are read as these
@@ -97,5 +97,6 @@ pub has_the_records : (es : List Renumbering) (left s : ℕ) (payload : List ℕ
     (moved_records es left s payload)
 has_the_records es left s payload h =
     let rs = moved_records es left s payload in
-    let same = entries_are (nested_bytes es left) s 0 (from_schema s es) (records_read left payload) in
+    let own = from_schema s es in
+    let same = entries_are (nested_bytes es left) s 0 own (records_found s own (records_read left payload)) in
     records_reads left (payload_bytes es left s payload) rs (ap (record_list left) same ∙ listed left rs h)

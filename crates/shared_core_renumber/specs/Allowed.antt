@@ -1,10 +1,11 @@
 -- Which payloads can be written at other field numbers.
-use Rattle.std.specs.Prelude.{ℕ, zero, suc, ◌-◌, Bool, true, false, ◌&&◌, List, [], ◌∷◌, nat_eq, if◌then◌else◌}
+use Rattle.std.specs.Prelude.{ℕ, zero, suc, ◌-◌, Bool, true, false, List, Option, Some, None, nat_eq, if◌then◌else◌}
 use Rattle.shared_core_wire.specs.Grammar.{RecordValue, Varint, Length, FieldRecord}
 use Rattle.shared_core_wire.specs.ReadRecords.{read_records}
 use Rattle.shared_core_codec.specs.Checking.{all_read}
 use Rattle.shared_core_renumber.specs.declared.entries.Renumbering.{Renumbering}
-use Rattle.shared_core_renumber.specs.Entries.{from_schema}
+use Rattle.shared_core_renumber.specs.declared.entries.Placed.{Placed}
+use Rattle.shared_core_renumber.specs.Entries.{find_in, from_schema}
 
 -- Whether the bytes of a message within, of the schema with this number, can be written.
 abbrev pub NestedTest : Type 0
@@ -17,15 +18,15 @@ value_allows inner e (Varint v) = nat_eq e.nested 0
 value_allows inner e (Length b) = if nat_eq e.nested 0 then true else inner (e.nested - 1) b
 value_allows inner e w = false
 
--- Whether an entry allows a record: it is of another number, or the entry allows its value.
-abbrev pub entry_allows : NestedTest → Renumbering → FieldRecord → Bool
-entry_allows inner e r = if nat_eq e.number r.number then value_allows inner e r.value else true
+-- The same of an entry that was found or not.
+abbrev pub found_allows : NestedTest → Option Placed → RecordValue → Bool
+found_allows inner None w = true
+found_allows inner (Some p) w = value_allows inner p.entry w
 
--- Whether the entries of a schema, which are at the front, allow a record.
+-- Whether the entries of a schema, which are at the front, allow a record: they have no entry of its number, or the
+-- first one allows its value.
 abbrev pub record_allows : NestedTest → ℕ → List Renumbering → FieldRecord → Bool
-record_allows inner s [] r = true
-record_allows inner s (e ∷ es) r = if nat_eq e.schema s then
-    (if entry_allows inner e r then record_allows inner s es r else false) else true
+record_allows inner s es r = found_allows inner (find_in s r.number es) r.value
 
 -- Whether the bytes of a message within can be written, where the record that holds them allows `left` levels of
 -- nesting.

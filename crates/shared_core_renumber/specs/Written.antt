@@ -1,12 +1,45 @@
 -- What is written of a payload at other field numbers.
-use Rattle.std.specs.Prelude.{ℕ, zero, suc, ◌-◌, ◌%◌, ◌^◌, false, List, [], ◌∷◌, ◌++◌, Option, Some, None, nat_eq}
-use Rattle.std.specs.Prelude.{flat_map}
-use Rattle.std.specs.Prelude.{if◌then◌else◌}
+use Rattle.std.specs.Prelude.{ℕ, zero, suc, ◌-◌, ◌%◌, ◌^◌, Bool, false, List, [], ◌∷◌, ◌++◌, length, map, flat_map}
+use Rattle.std.specs.Prelude.{Option, Some, None, nat_eq, if◌then◌else◌}
 use Rattle.shared_core_wire.specs.Grammar.{RecordValue, Varint, Length, FieldRecord}
+use Rattle.shared_core_wire.specs.View.{value_of}
 use Rattle.shared_core_wire.specs.WrittenRecords.{number_record, content_record}
 use Rattle.shared_core_canonical.specs.Rows.{records_read}
 use Rattle.shared_core_renumber.specs.declared.entries.Renumbering.{Renumbering}
-use Rattle.shared_core_renumber.specs.Entries.{from_schema, find_in}
+use Rattle.shared_core_renumber.specs.declared.found.Found.{Found}
+use Rattle.shared_core_renumber.specs.declared.entries.Placed.{Placed}
+use Rattle.shared_core_renumber.specs.Entries.{find_in, from_schema}
+use Rattle.shared_core_renumber.specs.Allowed.{NestedTest, value_allows}
+
+-- ---- the records that a table has
+
+-- A record of a field that a table has: the value, the field's entry, and the place of that.
+pub record FoundRecord : Type 0 where
+  pub place : ℕ
+  pub entry : Renumbering
+  pub value : RecordValue
+
+-- The record of a value, by the entry that was found or not.
+abbrev pub found_record : Option Placed → RecordValue → List FoundRecord
+found_record None w = []
+found_record (Some p) w = record { place = p.place; entry = p.entry; value = w } ∷ []
+
+-- Those among some records, by the entries of a schema, which are at the front.
+abbrev pub records_found : ℕ → List Renumbering → List FieldRecord → List FoundRecord
+records_found s es rs = flat_map (λ r. found_record (find_in s r.number es) r.value) rs
+
+-- A record of a field that a table has, as the program has it.
+abbrev pub found_view : Found → FoundRecord
+found_view f = record { place = f.place; entry = f.entry; value = value_of f.value }
+
+abbrev pub found_views : List Found → List FoundRecord
+found_views fs = map found_view fs
+
+-- Whether its entry allows its value.
+abbrev pub is_allowed : NestedTest → FoundRecord → Bool
+is_allowed inner f = value_allows inner f.entry f.value
+
+-- ---- what is written of them
 
 -- What is written of a message within, by its schema and its bytes.
 abbrev pub NestedBytes : Type 0
@@ -19,34 +52,32 @@ value_bytes inner e (Length b) = content_record false (e.renumbered % 2 ^ 32)
     (if nat_eq e.nested 0 then b else (inner (e.nested - 1) b))
 value_bytes inner e w = []
 
--- The same of an entry that was found or not.
-abbrev pub found_bytes : NestedBytes → Option Renumbering → RecordValue → List ℕ
-found_bytes inner None w = []
-found_bytes inner (Some e) w = value_bytes inner e w
-
--- What is written of a record by a group of entries, which are at the front.
-abbrev pub group_bytes : NestedBytes → ℕ → ℕ → List Renumbering → FieldRecord → List ℕ
-group_bytes inner s g es r = found_bytes inner (find_in s g r.number es) r.value
+-- What is written of a record of a field that the table has, among those of the group at a place.
+abbrev pub group_bytes : NestedBytes → ℕ → FoundRecord → List ℕ
+group_bytes inner place f = if nat_eq f.place place then value_bytes inner f.entry f.value else []
 
 -- What is written of records by the first of some entries, which is of a schema, after an entry of a group: all of its
 -- group, unless that is the same one.
-abbrev pub first_bytes : NestedBytes → ℕ → ℕ → Renumbering → List Renumbering → List FieldRecord → List ℕ
-first_bytes inner s before e es rs = if nat_eq e.group before then [] else
-    (flat_map (group_bytes inner s e.group (e ∷ es)) rs)
+abbrev pub first_bytes : NestedBytes → ℕ → Renumbering → List Renumbering → List FoundRecord → List ℕ
+first_bytes inner before e es fs = if nat_eq e.group before then [] else
+    (flat_map (group_bytes inner (length (e ∷ es))) fs)
 
 -- What is written of records by the entries of a schema, which are at the front, after an entry of a group: group by
 -- group.
-abbrev pub entries_bytes : NestedBytes → ℕ → ℕ → List Renumbering → List FieldRecord → List ℕ
-entries_bytes inner s before [] rs = []
-entries_bytes inner s before (e ∷ es) rs = if nat_eq e.schema s then
-    (first_bytes inner s before e es rs ++ entries_bytes inner s e.group es rs) else []
+abbrev pub entries_bytes : NestedBytes → ℕ → ℕ → List Renumbering → List FoundRecord → List ℕ
+entries_bytes inner s before [] fs = []
+entries_bytes inner s before (e ∷ es) fs = if nat_eq e.schema s then
+    (first_bytes inner before e es fs ++ entries_bytes inner s e.group es fs) else []
+
+-- What is written of records by the entries of a schema, which are at the front.
+abbrev pub records_bytes : NestedBytes → ℕ → List Renumbering → List FieldRecord → List ℕ
+records_bytes inner s es rs = entries_bytes inner s 0 es (records_found s es rs)
 
 -- What is written of a message within, where the record that holds it allows `left` levels of nesting.
 unfoldable pub nested_bytes : List Renumbering → ℕ → NestedBytes
 nested_bytes es zero s bytes = []
-nested_bytes es (suc left) s bytes = entries_bytes (nested_bytes es left) s 0 (from_schema s es)
-    (records_read left bytes)
+nested_bytes es (suc left) s bytes = records_bytes (nested_bytes es left) s (from_schema s es) (records_read left bytes)
 
 -- What is written of a payload whose records allow `left` levels of nesting.
 abbrev pub payload_bytes : List Renumbering → ℕ → ℕ → List ℕ → List ℕ
-payload_bytes es left s bytes = entries_bytes (nested_bytes es left) s 0 (from_schema s es) (records_read left bytes)
+payload_bytes es left s bytes = records_bytes (nested_bytes es left) s (from_schema s es) (records_read left bytes)

@@ -3,10 +3,9 @@
 ghost use Rattle.std.specs.Prelude.{◌≡◌};
 ghost use Rattle.shared_core_wire.specs.View.{value_of};
 ghost use Rattle.shared_core_codec.specs.Checking.{field_record_of};
-ghost use Rattle.shared_core_renumber.specs.Allowed.{entry_allows, nested_allows, payload_allows, record_allows};
-ghost use Rattle.shared_core_renumber.specs.Allowed.{value_allows};
+ghost use Rattle.shared_core_renumber.specs.Allowed.{nested_allows, payload_allows, record_allows, value_allows};
 
-use crate::entries::{Renumbering, from_schema};
+use crate::entries::{Renumbering, find_in, from_schema};
 use shared_core_wire::record::WireValue;
 use shared_core_wire::records::{Record, Records};
 
@@ -46,33 +45,10 @@ fn allows_record(
     ensures { result ≡ record_allows (nested_allows entries.now source.now.left) source.now.schema own.now
         (field_record_of found.now) }
 {
-    let mut rest = own;
-    while let Some((entry, after)) = rest.split_first() {
-        if entry.schema != source.schema {
-            return true;
-        }
-        if !allows_entry(entries, entry, source, found) {
-            return false;
-        }
-        rest = after;
+    match find_in(own, source.schema, found.number) {
+        Some(placed) => allows_value(entries, &placed.entry, source, found.value),
+        None => true,
     }
-    true
-}
-
-/// Whether an entry allows a record: it is of another number, or the entry allows its value.
-#[cycle(payload)]
-fn allows_entry(
-    entries: &[Renumbering],
-    entry: &Renumbering,
-    source: &Level<'_>,
-    found: &Record<'_>,
-) -> bool
-    ensures { result ≡ entry_allows (nested_allows entries.now source.now.left) entry.now (field_record_of found.now) }
-{
-    if entry.number != u64::from(found.number) {
-        return true;
-    }
-    allows_value(entries, entry, source, found.value)
 }
 
 /// Whether an entry allows a value: a number if it is of no message, and bytes.

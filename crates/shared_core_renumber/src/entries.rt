@@ -4,7 +4,8 @@ ghost use Rattle.std.specs.Prelude.{◌≡◌};
 ghost use Rattle.shared_core_renumber.specs.Entries.{find_in, from_schema};
 
 /// A field of a message: its number in the payload that is read, and the one in the payload that is written. The
-/// entries of a schema stand together in a table, in the order in which their fields are written.
+/// entries of a schema stand together in a table, in the order in which their fields are written. Of several entries of
+/// a number in a schema the first one counts.
 #[derive(Clone, Copy)]
 #[repr(C)]
 pub struct Renumbering {
@@ -20,12 +21,11 @@ pub struct Renumbering {
     pub nested: u64,
 }
 
-/// The entries that are written together, which are at the front of some.
+/// An entry with its place: how many entries stand from the first one of its group on.
 #[derive(Clone, Copy)]
-pub struct Group<'a> {
-    pub entries: &'a [Renumbering],
-    pub schema: u64,
-    pub group: u64,
+pub struct Placed {
+    pub place: usize,
+    pub entry: Renumbering,
 }
 
 /// The entries from the first one of a schema on.
@@ -42,18 +42,27 @@ pub fn from_schema(entries: &[Renumbering], schema: u64) -> &[Renumbering]
     rest
 }
 
-/// The first entry of a group that has a number in what is read.
-pub fn find_in(group: &Group<'_>, number: u32) -> Option<Renumbering>
-    ensures { result ≡ find_in group.now.schema group.now.group number group.now.entries.now }
+/// The first entry that has a number in what is read, among those of a schema, which are at the front.
+pub fn find_in(own: &[Renumbering], schema: u64, number: u32) -> Option<Placed>
+    ensures { result ≡ find_in schema number own.now }
 {
-    let mut rest = group.entries;
+    let mut rest = own;
+    let mut before = 0;
+    let mut place = 0;
     while let Some((entry, after)) = rest.split_first() {
-        if entry.schema != group.schema || entry.group != group.group {
+        if entry.schema != schema {
             return None;
         }
-        if entry.number == u64::from(number) {
-            return Some(*entry);
+        if entry.group != before {
+            place = rest.len();
         }
+        if entry.number == u64::from(number) {
+            return Some(Placed {
+                place,
+                entry: *entry,
+            });
+        }
+        before = entry.group;
         rest = after;
     }
     None

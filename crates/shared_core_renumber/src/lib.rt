@@ -5,6 +5,7 @@
 mod check;
 mod entries;
 pub mod error;
+mod found;
 pub mod laws;
 pub mod payload;
 mod source;

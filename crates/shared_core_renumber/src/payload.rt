@@ -9,7 +9,7 @@ use crate::check::{Level, allows_payload};
 use crate::entries::Renumbering;
 use crate::error::RenumberError;
 use crate::source::Source;
-use crate::write::message;
+use crate::write::append_message;
 use shared_core_wire::records::LEVELS;
 use std::alloc::Global;
 
@@ -35,8 +35,8 @@ pub fn is_renumberable(entries: &[Renumbering], schema: u64, payload: &[u8]) -> 
 ///
 /// `Malformed` if and only if the payload or a message within that the table has is not made of records, or a record is
 /// of another form than its field, or more than one hundred levels deep, before anything is allocated; `TooLong` if the
-/// result has more than 4,294,967,295 bytes; `OutOfMemory` if an allocation fails. Any table is safe. Makes a pass over
-/// the records of a message for each group of its schema, and copies what is nested at each level.
+/// result has more than 4,294,967,295 bytes; `OutOfMemory` if an allocation fails. Any table is safe: each record is
+/// compared with each entry three times at most. What is nested is copied once for each level whose length changes.
 pub fn renumbered(
     alloc: Global,
     entries: &[Renumbering],
@@ -59,7 +59,8 @@ pub fn renumbered(
         schema,
         left: LEVELS,
     };
-    let out = message(entries, &source)?;
+    let mut out = Vec::with_capacity(alloc, payload.len())?;
+    append_message(entries, &source, &mut out)?;
     if out.len() > LIMIT {
         return Err(RenumberError::TooLong);
     }

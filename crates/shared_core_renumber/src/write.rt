@@ -1,53 +1,60 @@
-//! Writing a payload at other field numbers: each group of entries takes a pass over the records, and what is written
-//! of them is appended. Messages within are written by the same functions.
+//! Writing a payload at other field numbers: one pass over the records finds those of the table, which are then
+//! appended group by group. Messages within are appended by the same functions.
 
-ghost use Rattle.std.specs.Prelude.{◌≡◌, ◌++◌, true, IfOk, OnOk, flat_map};
+ghost use Rattle.std.specs.Prelude.{◌≡◌, ◌≤◌, ◌++◌, true, false, IfOk, OnOk, drop, flat_map, length};
+ghost use Rattle.std.specs.List.{list_all};
 ghost use Rattle.shared_core_wire.specs.View.{value_of};
-ghost use Rattle.shared_core_canonical.specs.Rows.{records_read, AllPass};
-ghost use Rattle.shared_core_renumber.specs.Allowed.{nested_allows, payload_allows, record_allows, value_allows};
-ghost use Rattle.shared_core_renumber.specs.Written.{group_bytes, nested_bytes, payload_bytes, value_bytes};
+ghost use Rattle.shared_core_wire.specs.WrittenRecords.{content_record};
+ghost use Rattle.shared_core_renumber.specs.Allowed.{nested_allows, payload_allows, value_allows};
+ghost use Rattle.shared_core_renumber.specs.Written.{found_views, group_bytes, is_allowed, nested_bytes, payload_bytes};
+ghost use Rattle.shared_core_renumber.specs.Written.{value_bytes};
 
-use crate::entries::{Group, Renumbering, find_in, from_schema};
+use crate::entries::{Renumbering, from_schema};
+use crate::found::{Found, find_records};
 use crate::source::Source;
-use shared_core_canonical::append::{append_content, append_number};
+use shared_core_canonical::append::{append_content, append_key, append_number, append_varint};
+use shared_core_codec::size::LENGTH;
 use shared_core_wire::record::WireValue;
-use shared_core_wire::records::Records;
 use shared_core_wire::varint::low_32;
 use std::alloc::AllocError;
 
-/// A message at its other field numbers.
+/// Appends a message at its other field numbers.
 #[cycle(message)]
-pub fn message(entries: &[Renumbering], source: &Source<'_>) -> Result<Vec<u8>, AllocError>
+pub fn append_message(
+    entries: &[Renumbering],
+    source: &Source<'_>,
+    out: &mut Vec<u8>,
+) -> Result<(), AllocError>
     requires { payload_allows entries.now source.now.left source.now.schema source.now.bytes.now ≡ true }
-    ensures { IfOk result (λ out. out.items
-        ≡ payload_bytes entries.now source.now.left source.now.schema source.now.bytes.now) }
+    ensures { OnOk result (out.new.items ≡ out.old.items
+        ++ payload_bytes entries.now source.now.left source.now.schema source.now.bytes.now) }
 {
-    let mut out = Vec::new(source.alloc);
-    let mut rest = from_schema(entries, source.schema);
+    let own = from_schema(entries, source.schema);
+    let found = find_records(own, source)?;
+    let mut rest = own;
     let mut before = 0;
     while let Some((entry, after)) = rest.split_first() {
         if entry.schema != source.schema {
-            return Ok(out);
+            return Ok(());
         }
         if entry.group != before {
             let group = Group {
-                entries: rest,
-                schema: source.schema,
-                group: entry.group,
+                place: rest.len(),
+                found: found.as_slice(),
             };
-            append_group(entries, &group, source, &mut out)?;
+            append_group(entries, &group, source, out)?;
         }
         before = entry.group;
         rest = after;
     }
-    Ok(out)
+    Ok(())
 }
 
-/// A record of a field that a table has.
+/// The records of the fields of a table, and the place of a group of these.
 #[derive(Clone, Copy)]
-struct Found<'a> {
-    entry: Renumbering,
-    value: WireValue<'a>,
+struct Group<'a> {
+    place: usize,
+    found: &'a [Found<'a>],
 }
 
 /// Appends the records of the fields of a group, in their order.
@@ -58,24 +65,16 @@ fn append_group(
     source: &Source<'_>,
     out: &mut Vec<u8>,
 ) -> Result<(), AllocError>
-    requires { AllPass (record_allows (nested_allows entries.now source.now.left) group.now.schema
-        group.now.entries.now) source.now.left source.now.bytes.now }
+    requires { list_all (is_allowed (nested_allows entries.now source.now.left)) (found_views group.now.found.now)
+        ≡ true }
     ensures { OnOk result (out.new.items ≡ out.old.items
-        ++ flat_map (group_bytes (nested_bytes entries.now source.now.left) group.now.schema group.now.group
-        group.now.entries.now) (records_read source.now.left source.now.bytes.now)) }
+        ++ flat_map (group_bytes (nested_bytes entries.now source.now.left) group.now.place)
+        (found_views group.now.found.now)) }
 {
-    for item in Records::within(source.bytes, source.left) {
-        let Ok(record) = item else {
-            continue;
-        };
-        let Some(entry) = find_in(group, record.number) else {
-            continue;
-        };
-        let found = Found {
-            entry,
-            value: record.value,
-        };
-        append_found(entries, &found, source, out)?;
+    for found in group.found {
+        if found.place == group.place {
+            append_found(entries, found, source, out)?;
+        }
     }
     Ok(())
 }
@@ -100,33 +99,80 @@ fn append_found(
             if found.entry.nested == 0 {
                 return append_content(out, false, number, bytes);
             }
-            let inner = nested(entries, found.entry.nested - 1, source, bytes)?;
-            append_content(out, false, number, inner.as_slice())
+            let inner = Inner {
+                number,
+                schema: found.entry.nested - 1,
+                bytes,
+            };
+            append_inner(entries, &inner, source, out)
         }
         _ => Ok(()),
     }
 }
 
-/// The bytes of a message within the source, at its other field numbers.
-#[cycle(message)]
-fn nested(
-    entries: &[Renumbering],
+/// The bytes of a message within, by its schema, and the number of what is written of it.
+#[derive(Clone, Copy)]
+struct Inner<'a> {
+    number: u32,
     schema: u64,
+    bytes: &'a [u8],
+}
+
+/// Appends the record of a message within, at its other field numbers. Its length is written as it was, and once more
+/// if the message then has another one.
+#[cycle(message)]
+fn append_inner(
+    entries: &[Renumbering],
+    inner: &Inner<'_>,
     source: &Source<'_>,
-    bytes: &[u8],
-) -> Result<Vec<u8>, AllocError>
-    requires { nested_allows entries.now source.now.left schema bytes.now ≡ true }
-    ensures { IfOk result (λ out. out.items ≡ nested_bytes entries.now source.now.left schema bytes.now) }
+    out: &mut Vec<u8>,
+) -> Result<(), AllocError>
+    requires { nested_allows entries.now source.now.left inner.now.schema inner.now.bytes.now ≡ true }
+    ensures { OnOk result (out.new.items ≡ out.old.items ++ content_record false inner.now.number
+        (nested_bytes entries.now source.now.left inner.now.schema inner.now.bytes.now)) }
+{
+    let start = out.len();
+    append_key(out, inner.number, LENGTH)?;
+    append_varint(out, inner.bytes.len() as u64)?;
+    let front = out.len();
+    append_nested(entries, inner, source, out)?;
+    if out.len() - front == inner.bytes.len() {
+        return Ok(());
+    }
+    let content = copy_from(out, front, source)?;
+    out.truncate(start);
+    append_content(out, false, inner.number, content.as_slice())
+}
+
+/// A copy of the bytes of a buffer from a place on.
+fn copy_from(out: &Vec<u8>, front: usize, source: &Source<'_>) -> Result<Vec<u8>, AllocError>
+    requires { front ≤ length out.now.items }
+    ensures { IfOk result (λ copy. copy.items ≡ drop front out.now.items) }
+{
+    Vec::from_slice(source.alloc, &out.as_slice()[front..])
+}
+
+/// Appends the bytes of a message within the source, at its other field numbers.
+#[cycle(message)]
+fn append_nested(
+    entries: &[Renumbering],
+    inner: &Inner<'_>,
+    source: &Source<'_>,
+    out: &mut Vec<u8>,
+) -> Result<(), AllocError>
+    requires { nested_allows entries.now source.now.left inner.now.schema inner.now.bytes.now ≡ true }
+    ensures { OnOk result (out.new.items ≡ out.old.items
+        ++ nested_bytes entries.now source.now.left inner.now.schema inner.now.bytes.now) }
 {
     if source.left == 0 {
         // no message may be nested here, so none is allowed
-        return Ok(Vec::new(source.alloc));
+        return Ok(());
     }
     let inner = Source {
         alloc: source.alloc,
-        bytes,
-        schema,
+        bytes: inner.bytes,
+        schema: inner.schema,
         left: source.left - 1,
     };
-    message(entries, &inner)
+    append_message(entries, &inner, out)
 }

@@ -1,4 +1,4 @@
-use Rattle.std.proofs.Common.{◌≡◌, ◌-◌, ◌∙◌, sym, arith}
+use Rattle.std.proofs.Common.{◌-◌, ◌∙◌, sym, arith}
 use Rattle.shared_core_renumber.proofs.Steps.{allows_none, allows_below}
 use Rattle.shared_core_renumber.proofs.check.+payload.Goals as goal
 
