@@ -21,6 +21,7 @@ use Rattle.shared_core_wire.specs.Value.{Parts}
 use Rattle.shared_core_wire.specs.Canonical.{canonical_payload}
 use Rattle.shared_core_wire.specs.Overlay.{meaning}
 use Rattle.shared_core_json.specs.Form.{byte_string_json, members_json_in, json_with_in}
+use Rattle.shared_core_json.specs.declared.digits.Digits.TheVariants.{Unsigned}
 use Rattle.shared_core_json_reader.specs.declared.error.Reason.TheVariants.{OutOfRange}
 use Rattle.shared_core_json_reader.specs.Scalars.{bytes_read}
 use Rattle.shared_core_json_reader.specs.FirstError.{number_reason, bytes_reason, value_error_in}
@@ -55,7 +56,7 @@ bytes_there name b payload read = ap (λ (o : Option (List ℕ)). ok_or o (fault
 code_back : (n : ℕ) → n < 65536 → code_read (number (decimal n)) ≡ Ok n
 code_back n h =
     ap (λ (o : Option ℕ). then_read code_below (ok_or o (fault_at (codes "code")
-    (Wrong (number_reason (number (decimal n))))))) (u32_back n (omega arith))
+    (Wrong (number_reason (number (decimal n))))))) (u32_back Unsigned n (omega arith))
     ∙ ap (λ (b : Bool). cond b (Ok n) (Err (fault_at (codes "code") (Wrong OutOfRange)))) (lt-ltb n 65536 h)
 
 typed_back : (n : ℕ) (ty : MessageType) → n < 65536 → type_of n ≡ Some ty → code_said (Some (string (debug_name_of ty)))

@@ -1,12 +1,13 @@
 -- What the members of a line say.
 use Rattle.std.proofs.Common.{◌≡◌, ℕ, List, [], ◌++◌, decimal, arith, length, Bool, true, not, Option, Some}
 use Rattle.std.proofs.Common.{None, option_map, Result, Ok, refl, ap, ap₂, ◌∙◌}
-use Rattle.std.specs.Prelude.{codes, ok_or}
+use Rattle.std.specs.Prelude.{codes, ok_or, option_and_then}
 use Rattle.std.specs.Option.{is_none}
 use Rattle.json.specs.Json.{Json, boolean, number, string, object, Members, member, no_members}
 use Rattle.json_table.specs.Places.{present}
 use Rattle.shared_core_json_reader.specs.FirstError.{number_reason}
-use Rattle.shared_core_json_reader.proofs.ScalarsBack.{number_back}
+use Rattle.shared_core_json_reader.specs.Scalars.{unsigned_below}
+use Rattle.shared_core_json_reader.proofs.ScalarsBack.{decimal_whole}
 use Rattle.dump_lines.specs.Lines.{ack_members}
 use Rattle.make_lines.specs.declared.error.LineReason.TheVariants.{Json as Wrong}
 use Rattle.make_lines.specs.Errors.{LineFault, at}
@@ -311,4 +312,4 @@ left_fault len = at (codes "rest") (Wrong (number_reason (number len)))
 pub no_rest_is : (by : Making) (at : List ℕ) → line_said by (rest_line at (decimal 0) None) ≡ Ok []
 unfolding line_said rest_said shape_fault
 no_rest_is by at = ap (λ (o : Option ℕ). then_read none_left (ok_or o (left_fault (decimal 0))))
-    (number_back 18446744073709551616 0 (omega arith) (omega arith))
+    (ap (option_and_then (unsigned_below 18446744073709551616)) (decimal_whole 0 (omega arith)))

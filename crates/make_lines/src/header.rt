@@ -76,28 +76,6 @@ fn agrees_in_flag(coded: Coded, flag: bool, word: u64) -> bool
     !coded.has_flag() || word / FLAG % 2 == bit
 }
 
-/// What a line says of the header of its item, except for the length.
-#[derive(Clone, Copy, Drop)]
-pub struct Head {
-    pub version: Version,
-    pub coded: Coded,
-    pub flag: bool,
-}
-
-/// Checks that the word of a header has this code and this flag.
-fn check_word(head: &Head, word: u64) -> Result<(), Fault>
-    ensures { MatchResult result (λ _. word_fault head.now.coded.code head.now.flag word ≡ None)
-        (λ fault. (line : Json) → word_fault head.now.coded.code head.now.flag word ≡ Some (said_of line fault)) }
-{
-    if word / CODE_UNIT != u64::from(head.coded.code) {
-        return Err(Fault::at(HEADER, LineReason::OtherCode));
-    }
-    if !agrees_in_flag(head.coded, head.flag, word) {
-        return Err(Fault::at(HEADER, LineReason::OtherFlag));
-    }
-    Ok(())
-}
-
 /// Appends a given header without a payload. Where unknown types are skipped with their payloads, it has no length.
 fn append_alone(version: Version, word: u64, header: &[u8], out: &mut Vec<u8>) -> Result<(), Fault>
     ensures { AppendsAnywhere result (alone_given version word header.now) out.old.items out.new.items }
@@ -120,52 +98,6 @@ fn append_sized(size: usize, header: &[u8], out: &mut Vec<u8>) -> Result<(), Fau
     append(&size.to_be_bytes(), out)
 }
 
-/// Appends the header by eight given bytes: all of them if there is no payload. Otherwise it appends the first four,
-/// which are the code and the flags, and the length of the payload.
-fn append_given(
-    head: &Head,
-    size: usize,
-    alone: bool,
-    header: &[u8],
-    out: &mut Vec<u8>,
-) -> Result<(), Fault>
-    ensures { AppendsAnywhere result
-        (header_given head.now.version head.now.coded.code head.now.flag size alone header.now)
-        out.old.items out.new.items }
-{
-    let Ok(bytes) = <[u8; 8]>::try_from(header) else {
-        return Err(Fault::at(HEADER, LineReason::HeaderLength));
-    };
-    let word = u64::from_be_bytes(bytes);
-    check_word(head, word)?;
-    if alone {
-        append_alone(head.version, word, header, out)
-    } else {
-        append_sized(size, header, out)
-    }
-}
-
-/// Appends a header, of a payload of this size.
-fn append_header(
-    alloc: Global,
-    head: &Head,
-    size: usize,
-    line: &Line<'_, '_>,
-    out: &mut Vec<u8>,
-) -> Result<(), Fault>
-    ensures { AppendsOf line.now result (line_header head.now.version head.now.coded.code head.now.flag size line.now)
-        out.old.items out.new.items }
-{
-    if let Some(header) = line.given(HEADER) {
-        let header = bytes_of(alloc, &header, HEADER)?;
-        return append_given(head, size, is_alone(line), header.as_slice(), out);
-    }
-    let Ok(size) = u32::try_from(size) else {
-        return Err(Fault::at(LINE, LineReason::TooLong));
-    };
-    append(&word(head.coded.code, head.flag, size).to_be_bytes(), out)
-}
-
 /// Appends bytes.
 pub fn append(bytes: &[u8], out: &mut Vec<u8>) -> Result<(), Fault>
     ensures ok { OnOk result (out.new.items ≡ out.old.items ++ bytes.now) }
@@ -177,19 +109,91 @@ pub fn append(bytes: &[u8], out: &mut Vec<u8>) -> Result<(), Fault>
     }
 }
 
-/// Appends a header and its payload.
-pub fn append_framed(
-    alloc: Global,
-    head: &Head,
-    payload: &[u8],
-    line: &Line<'_, '_>,
-    out: &mut Vec<u8>,
-) -> Result<(), Fault>
-    ensures { AppendsOf line.now result (framed head.now.version head.now.coded.code head.now.flag line.now payload.now)
-        out.old.items out.new.items }
-{
-    append_header(alloc, head, payload.len(), line, out)?;
-    append(payload, out)
+/// What a line says of the header of its item, except for the length.
+#[derive(Clone, Copy, Drop)]
+pub struct Head {
+    pub version: Version,
+    pub coded: Coded,
+    pub flag: bool,
+}
+
+impl Head {
+    /// Checks that the word of a header has this code and this flag.
+    fn check_word(&self, word: u64) -> Result<(), Fault>
+        ensures { MatchResult result (λ _. word_fault self.now.coded.code self.now.flag word ≡ None)
+            (λ fault. (line : Json) → word_fault self.now.coded.code self.now.flag word ≡ Some (said_of line fault)) }
+    {
+        if word / CODE_UNIT != u64::from(self.coded.code) {
+            return Err(Fault::at(HEADER, LineReason::OtherCode));
+        }
+        if !agrees_in_flag(self.coded, self.flag, word) {
+            return Err(Fault::at(HEADER, LineReason::OtherFlag));
+        }
+        Ok(())
+    }
+
+    /// Appends the header by eight given bytes: all of them if there is no payload. Otherwise it appends the first
+    /// four, which are the code and the flags, and the length of the payload.
+    fn append_given(
+        &self,
+        size: usize,
+        alone: bool,
+        header: &[u8],
+        out: &mut Vec<u8>,
+    ) -> Result<(), Fault>
+        ensures { AppendsAnywhere result
+            (header_given self.now.version self.now.coded.code self.now.flag size alone header.now)
+            out.old.items out.new.items }
+    {
+        let Ok(bytes) = <[u8; 8]>::try_from(header) else {
+            return Err(Fault::at(HEADER, LineReason::HeaderLength));
+        };
+        let word = u64::from_be_bytes(bytes);
+        self.check_word(word)?;
+        if alone {
+            append_alone(self.version, word, header, out)
+        } else {
+            append_sized(size, header, out)
+        }
+    }
+
+    /// Appends a header, of a payload of this size.
+    fn append_header(
+        &self,
+        alloc: Global,
+        size: usize,
+        line: &Line<'_, '_>,
+        out: &mut Vec<u8>,
+    ) -> Result<(), Fault>
+        ensures { AppendsOf line.now result
+            (line_header self.now.version self.now.coded.code self.now.flag size line.now)
+            out.old.items out.new.items }
+    {
+        if let Some(header) = line.given(HEADER) {
+            let header = bytes_of(alloc, &header, HEADER)?;
+            return self.append_given(size, is_alone(line), header.as_slice(), out);
+        }
+        let Ok(size) = u32::try_from(size) else {
+            return Err(Fault::at(LINE, LineReason::TooLong));
+        };
+        append(&word(self.coded.code, self.flag, size).to_be_bytes(), out)
+    }
+
+    /// Appends a header and its payload.
+    pub fn append_framed(
+        &self,
+        alloc: Global,
+        payload: &[u8],
+        line: &Line<'_, '_>,
+        out: &mut Vec<u8>,
+    ) -> Result<(), Fault>
+        ensures { AppendsOf line.now result
+            (framed self.now.version self.now.coded.code self.now.flag line.now payload.now)
+            out.old.items out.new.items }
+    {
+        self.append_header(alloc, payload.len(), line, out)?;
+        append(payload, out)
+    }
 }
 
 /// What a line says of the header of its item.

@@ -7,6 +7,7 @@ mod header;
 pub mod laws;
 mod line;
 mod line_table;
+mod maker;
 mod members;
 mod payload;
 mod reject;
@@ -15,4 +16,4 @@ mod text;
 
 pub use crate::error::{LineError, LineReason, MakeError};
 pub use crate::line_table::{LineTable, OtherLines};
-pub use crate::stream::make;
+pub use crate::maker::Maker;

@@ -7,39 +7,20 @@ ghost use Rattle.make_lines.specs.Members.{pairs_fault, shape_fault};
 ghost use Rattle.make_lines.specs.Appending.{RejectsAnywhere, Appends, AppendsOf, AppendsItem, AppendsLine};
 
 use crate::error::{LineError, LineReason};
-use crate::header::{append, append_framed, head_of};
+use crate::header::{append, head_of};
 use crate::line_table::LineTable;
+use crate::maker::Maker;
 use crate::members::{
     ACK, BYTES, CODE, HEADER, Line, MESSAGE, PAYLOAD, PLACES, REQUESTED_ACK, REST, TYPE, UNKNOWN,
     find_places, first_fault,
 };
-use crate::payload::{bytes_of, bytes_place, payload_of};
+use crate::payload::{bytes_of, bytes_place};
 use crate::reject::{Fault, ItemFault, item_error, out_of_memory, reject, reject_text};
 use crate::text::is_blank;
 use json::Scratch;
 use json_table::{Node, Place, Shape};
-use shared_core_base::version::Version;
 use shared_core_json_reader::{Reason, read_u64, short_table, table_of_text};
 use std::alloc::Global;
-
-/// Appends the bytes of an item. Its payload is in a buffer before.
-#[tactic(auto, unfolding(crate::specs::Lines::item_said))]
-fn append_item<M: LineTable>(
-    alloc: Global,
-    version: Version,
-    messages: &M,
-    line: &Line<'_, '_>,
-    payload: &mut Vec<u8>,
-    out: &mut Vec<u8>,
-) -> Result<(), ItemFault>
-    ensures { AppendsItem (M.messages messages.now).format line.now result
-        (item_said (making (M.messages messages.now) version) line.now) out.old.items out.new.items }
-{
-    let head = head_of(alloc, version, line)?;
-    payload_of(alloc, version, messages, head.coded, line, payload)?;
-    append_framed(alloc, &head, payload.as_slice(), line, out)?;
-    Ok(())
-}
 
 /// Whether a line has none of the members that say what an item is.
 fn says_no_item(line: &Line<'_, '_>) -> bool
@@ -85,57 +66,6 @@ fn append_rest(
     append(bytes.as_slice(), out)
 }
 
-/// Appends the bytes of a line that has no other members than a line may have.
-#[tactic(auto, unfolding(crate::specs::Lines::line_said, crate::specs::Members::shape_fault))]
-fn append_members<M: LineTable>(
-    alloc: Global,
-    version: Version,
-    messages: &M,
-    line: &Line<'_, '_>,
-    payload: &mut Vec<u8>,
-    out: &mut Vec<u8>,
-) -> Result<(), ItemFault>
-    requires { shape_fault line.now ≡ pairs_fault line.now }
-    ensures { AppendsItem (M.messages messages.now).format line.now result
-        (line_said (making (M.messages messages.now) version) line.now) out.old.items out.new.items }
-{
-    if let Some(fault) = line.pairs_fault() {
-        return Err(ItemFault::Line(fault));
-    }
-    let Some(rest) = line.given(REST) else {
-        return append_item(alloc, version, messages, line, payload, out);
-    };
-    append_rest(alloc, &rest, line, out)?;
-    Ok(())
-}
-
-/// Appends the bytes that the value of a line means.
-#[tactic(auto, unfolding(crate::specs::Lines::line_said, crate::specs::Members::shape_fault))]
-fn append_said<M: LineTable>(
-    alloc: Global,
-    version: Version,
-    messages: &M,
-    value: &Node<'_, '_>,
-    payload: &mut Vec<u8>,
-    out: &mut Vec<u8>,
-) -> Result<(), LineError>
-    ensures { Appends result (line_said (making (M.messages messages.now) version) value.now) out.old.items
-        out.new.items }
-{
-    let Shape::Object(members) = value.shape() else {
-        return Err(reject(alloc, LineReason::Json(Reason::WrongKind), ""));
-    };
-    let mut places = [Place::Absent; PLACES];
-    if !find_places(&members, &mut places) {
-        return Err(first_fault(alloc, &members));
-    }
-    let line = Line::new(members, &places);
-    match append_members(alloc, version, messages, &line, payload, out) {
-        Ok(()) => Ok(()),
-        Err(fault) => Err(item_error(alloc, messages.table(), &line, fault)),
-    }
-}
-
 /// What is kept from line to line: the buffers for reading JSON, and that of a payload.
 #[derive(Drop)]
 pub struct Buffers {
@@ -153,64 +83,116 @@ impl Buffers {
     }
 }
 
-/// Appends the bytes that a line means that is not blank, which may be long or nested deep.
-#[inline(never)]
-#[tactic(auto, unfolding(crate::specs::Lines::line_made))]
-fn append_long<M: LineTable>(
-    alloc: Global,
-    version: Version,
-    messages: &M,
-    line: &[u8],
-    buffers: &mut Buffers,
-    out: &mut Vec<u8>,
-) -> Result<(), LineError>
-    requires { is_blank line.now ≡ false }
-    ensures { AppendsLine (making (M.messages messages.now) version) line.now result out.old.items out.new.items }
-{
-    let error = match table_of_text(alloc, line, &mut buffers.scratch) {
-        Ok(table) => {
-            return append_said(
-                alloc,
-                version,
-                messages,
-                &table.root(),
-                &mut buffers.payload,
-                out,
-            );
-        }
-        Err(error) => error,
-    };
-    match (error.reason, error.offset) {
-        (Reason::NotJson, Some(offset)) => Err(reject_text(alloc, line, offset)),
-        _ => Err(out_of_memory(alloc)),
+impl<'a, M: LineTable> Maker<'a, M> {
+    /// Appends the bytes of an item. Its payload is in a buffer before.
+    #[tactic(auto, unfolding(crate::specs::Lines::item_said))]
+    fn append_item(
+        &self,
+        line: &Line<'_, '_>,
+        payload: &mut Vec<u8>,
+        out: &mut Vec<u8>,
+    ) -> Result<(), ItemFault>
+        ensures { AppendsItem (M.messages self.now.messages.now).format line.now result
+            (item_said (making (M.messages self.now.messages.now) self.now.version) line.now) out.old.items
+            out.new.items }
+    {
+        let head = head_of(self.alloc, self.version, line)?;
+        self.payload_of(head.coded, line, payload)?;
+        head.append_framed(self.alloc, payload.as_slice(), line, out)?;
+        Ok(())
     }
-}
 
-/// Appends the bytes that a line means, without its newline; none for a blank one. After an error nothing is appended,
-/// unless an allocation failed.
-#[tactic(auto, unfolding(crate::specs::Lines::line_made))]
-pub fn append_line<M: LineTable>(
-    alloc: Global,
-    version: Version,
-    messages: &M,
-    line: &[u8],
-    buffers: &mut Buffers,
-    out: &mut Vec<u8>,
-) -> Result<(), LineError>
-    ensures { AppendsLine (making (M.messages messages.now) version) line.now result out.old.items out.new.items }
-{
-    if is_blank(line) {
-        return Ok(());
+    /// Appends the bytes of a line that has no other members than a line may have.
+    #[tactic(auto, unfolding(crate::specs::Lines::line_said, crate::specs::Members::shape_fault))]
+    fn append_members(
+        &self,
+        line: &Line<'_, '_>,
+        payload: &mut Vec<u8>,
+        out: &mut Vec<u8>,
+    ) -> Result<(), ItemFault>
+        requires { shape_fault line.now ≡ pairs_fault line.now }
+        ensures { AppendsItem (M.messages self.now.messages.now).format line.now result
+            (line_said (making (M.messages self.now.messages.now) self.now.version) line.now) out.old.items
+            out.new.items }
+    {
+        if let Some(fault) = line.pairs_fault() {
+            return Err(ItemFault::Line(fault));
+        }
+        let Some(rest) = line.given(REST) else {
+            return self.append_item(line, payload, out);
+        };
+        append_rest(self.alloc, &rest, line, out)?;
+        Ok(())
     }
-    if let Some(table) = short_table(alloc, line, &mut buffers.scratch) {
-        return append_said(
-            alloc,
-            version,
-            messages,
-            &table.root(),
-            &mut buffers.payload,
-            out,
-        );
+
+    /// Appends the bytes that the value of a line means.
+    #[tactic(auto, unfolding(crate::specs::Lines::line_said, crate::specs::Members::shape_fault))]
+    fn append_said(
+        &self,
+        value: &Node<'_, '_>,
+        payload: &mut Vec<u8>,
+        out: &mut Vec<u8>,
+    ) -> Result<(), LineError>
+        ensures { Appends result (line_said (making (M.messages self.now.messages.now) self.now.version) value.now)
+            out.old.items out.new.items }
+    {
+        let Shape::Object(members) = value.shape() else {
+            return Err(reject(self.alloc, LineReason::Json(Reason::WrongKind), ""));
+        };
+        let mut places = [Place::Absent; PLACES];
+        if !find_places(&members, &mut places) {
+            return Err(first_fault(self.alloc, &members));
+        }
+        let line = Line::new(members, &places);
+        match self.append_members(&line, payload, out) {
+            Ok(()) => Ok(()),
+            Err(fault) => Err(item_error(self.alloc, self.messages.table(), &line, fault)),
+        }
     }
-    append_long(alloc, version, messages, line, buffers, out)
+
+    /// Appends the bytes that a line means that is not blank, which may be long or nested deep.
+    #[inline(never)]
+    #[tactic(auto, unfolding(crate::specs::Lines::line_made))]
+    fn append_long(
+        &self,
+        line: &[u8],
+        buffers: &mut Buffers,
+        out: &mut Vec<u8>,
+    ) -> Result<(), LineError>
+        requires { is_blank line.now ≡ false }
+        ensures { AppendsLine (making (M.messages self.now.messages.now) self.now.version) line.now result
+            out.old.items out.new.items }
+    {
+        let error = match table_of_text(self.alloc, line, &mut buffers.scratch) {
+            Ok(table) => {
+                return self.append_said(&table.root(), &mut buffers.payload, out);
+            }
+            Err(error) => error,
+        };
+        match (error.reason, error.offset) {
+            (Reason::NotJson, Some(offset)) => Err(reject_text(self.alloc, line, offset)),
+            _ => Err(out_of_memory(self.alloc)),
+        }
+    }
+
+    /// Appends the bytes that a line means, without its newline; none for a blank one. After an error nothing is
+    /// appended, unless an allocation failed.
+    #[tactic(auto, unfolding(crate::specs::Lines::line_made))]
+    pub(crate) fn append_line(
+        &self,
+        line: &[u8],
+        buffers: &mut Buffers,
+        out: &mut Vec<u8>,
+    ) -> Result<(), LineError>
+        ensures { AppendsLine (making (M.messages self.now.messages.now) self.now.version) line.now result
+            out.old.items out.new.items }
+    {
+        if is_blank(line) {
+            return Ok(());
+        }
+        if let Some(table) = short_table(self.alloc, line, &mut buffers.scratch) {
+            return self.append_said(&table.root(), &mut buffers.payload, out);
+        }
+        self.append_long(line, buffers, out)
+    }
 }

@@ -190,16 +190,17 @@ pub fn reject_text(alloc: Global, line: &[u8], offset: usize) -> LineError
 #[cold]
 fn message_error<T: ReadableSchemas>(
     alloc: Global,
-    schemas: &T,
-    schema: u32,
+    of: TableSchema<'_, T>,
     line: &Line<'_, '_>,
     reason: Reason,
 ) -> LineError
     requires { reason ≢ Reason.OutOfMemory
-        → (path : List ℕ) × (message_error (T.format schemas.now) schema line.now ≡ Some (reason, path)) }
+        → (path : List ℕ) × (message_error (T.format of.schemas.now) of.schema line.now
+        ≡ Some (reason, path)) }
     ensures reason { result.reason ≢ lack → result.reason ≡ variant.Json reason }
     ensures fault { result.reason ≢ lack
-        → (path : List ℕ) × (message_error (T.format schemas.now) schema line.now ≡ Some (reason, path))
+        → (path : List ℕ) × (message_error (T.format of.entry.schemas.now) of.entry.schema line.now
+        ≡ Some (reason, path))
         × (fault_of result ≡ fault_inside (codes "message") reason path) }
 {
     if reason == Reason::OutOfMemory {
@@ -208,7 +209,7 @@ fn message_error<T: ReadableSchemas>(
     let Some(message) = line.given(MESSAGE) else {
         unreachable!();
     };
-    match payload_of_node_in(alloc, TableSchema { schemas, schema }, &message) {
+    match payload_of_node_in(alloc, of, &message) {
         Ok(_) => unreachable!(),
         Err(error) => reject_inside(alloc, &error, "message"),
     }
@@ -228,6 +229,8 @@ pub fn item_error<T: ReadableSchemas>(
 {
     match fault {
         ItemFault::Line(fault) => error_of(alloc, line, fault),
-        ItemFault::Message(schema, reason) => message_error(alloc, schemas, schema, line, reason),
+        ItemFault::Message(schema, reason) => {
+            message_error(alloc, TableSchema { schemas, schema }, line, reason)
+        }
     }
 }

@@ -9,14 +9,14 @@ ghost use Rattle.make_lines.specs.Made.{has_newline, IsMade};
 ghost use Rattle.make_lines.specs.Steps.{IsTaken, IsStep, IsFinished, LineIsTaken};
 
 use crate::error::{LineError, LineReason, MakeError};
-use crate::line::{Buffers, append_line};
+use crate::line::Buffers;
 use crate::line_table::LineTable;
+use crate::maker::Maker;
 use crate::reject::out_of_memory;
 use memchr::memchr;
-use shared_core_base::version::Version;
 use shared_core_io::read_some;
 use shared_core_json_reader::Reason;
-use std::alloc::{AllocError, Global};
+use std::alloc::AllocError;
 use std::io::{Read, Write};
 use stream_lines::output::write_whole;
 
@@ -53,168 +53,149 @@ fn whole_line<'a>(pending: &'a mut Vec<u8>, end: &'a [u8]) -> Result<&'a [u8], A
     Ok(pending.as_slice())
 }
 
-/// Appends what the line means that the pending bytes and then these are.
-#[inline(always)]
-fn append_ended<M: LineTable>(
-    alloc: Global,
-    version: Version,
-    messages: &M,
-    end: &[u8],
-    buffers: &mut Buffers,
-    lines: &mut Lines,
-) -> Result<(), LineError>
-    ensures made { AppendsLine (making (M.messages messages.now) version) (lines.old.pending.items ++ end.now) result
-        lines.old.made.items lines.new.made.items }
-    ensures taken { lines.new.taken ≡ lines.old.taken }
-{
-    match whole_line(&mut lines.pending, end) {
-        Ok(line) => append_line(alloc, version, messages, line, buffers, &mut lines.made),
-        Err(_) => Err(out_of_memory(alloc)),
-    }
-}
-
-/// Takes the pending bytes, and then these, as a line.
-#[inline(always)]
-fn take_line<M: LineTable>(
-    alloc: Global,
-    version: Version,
-    messages: &M,
-    end: &[u8],
-    buffers: &mut Buffers,
-    lines: &mut Lines,
-) -> Result<Option<Rejected>, AllocError>
-    ensures { LineIsTaken (line_made (making (M.messages messages.now) version))
-        (IsRejected (making (M.messages messages.now) version)) end.now result lines.old lines.new }
-{
-    let number = lines.taken.saturating_add(1);
-    match append_ended(alloc, version, messages, end, buffers, lines) {
-        Ok(()) => {
-            lines.taken = number;
-            lines.pending.clear();
-            Ok(None)
+impl<'a, M: LineTable> Maker<'a, M> {
+    /// Appends what the line means that the pending bytes and then these are.
+    #[inline(always)]
+    fn append_ended(
+        &self,
+        end: &[u8],
+        buffers: &mut Buffers,
+        lines: &mut Lines,
+    ) -> Result<(), LineError>
+        ensures made { AppendsLine (making (M.messages self.now.messages.now) self.now.version)
+            (lines.old.pending.items ++ end.now) result lines.old.made.items lines.new.made.items }
+        ensures taken { lines.new.taken ≡ lines.old.taken }
+    {
+        match whole_line(&mut lines.pending, end) {
+            Ok(line) => self.append_line(line, buffers, &mut lines.made),
+            Err(_) => Err(out_of_memory(self.alloc)),
         }
-        Err(error) if error.reason == LineReason::Json(Reason::OutOfMemory) => Err(AllocError),
-        Err(error) => Ok(Some(Rejected { number, error })),
     }
-}
 
-/// Takes the lines that a chunk ends, up to a rejected one.
-fn take_chunk<M: LineTable>(
-    alloc: Global,
-    version: Version,
-    messages: &M,
-    chunk: &[u8],
-    buffers: &mut Buffers,
-    lines: &mut Lines,
-) -> Result<Option<Rejected>, AllocError>
-    requires { has_newline lines.old.pending.items ≡ false }
-    ensures { IsTaken (line_made (making (M.messages messages.now) version))
-        (IsRejected (making (M.messages messages.now) version)) (lines.old.pending.items ++ chunk.now) result
-        lines.old lines.new }
-{
-    let mut rest = chunk;
-    while let Some(at) = memchr(b'\n', rest) {
-        if let Some(rejected) = take_line(alloc, version, messages, &rest[..at], buffers, lines)? {
-            return Ok(Some(rejected));
+    /// Takes the pending bytes, and then these, as a line.
+    #[inline(always)]
+    fn take_line(
+        &self,
+        end: &[u8],
+        buffers: &mut Buffers,
+        lines: &mut Lines,
+    ) -> Result<Option<Rejected>, AllocError>
+        ensures { LineIsTaken (line_made (making (M.messages self.now.messages.now) self.now.version))
+            (IsRejected (making (M.messages self.now.messages.now) self.now.version)) end.now result
+            lines.old lines.new }
+    {
+        let number = lines.taken.saturating_add(1);
+        match self.append_ended(end, buffers, lines) {
+            Ok(()) => {
+                lines.taken = number;
+                lines.pending.clear();
+                Ok(None)
+            }
+            Err(error) if error.reason == LineReason::Json(Reason::OutOfMemory) => Err(AllocError),
+            Err(error) => Ok(Some(Rejected { number, error })),
         }
-        rest = &rest[at + 1..];
     }
-    lines.pending.extend_from_slice(rest)?;
-    Ok(None)
-}
 
-/// Takes the lines that a chunk ends, and writes what they mean.
-fn step<M: LineTable, W: Write>(
-    alloc: Global,
-    version: Version,
-    messages: &M,
-    chunk: &[u8],
-    buffers: &mut Buffers,
-    lines: &mut Lines,
-    output: &mut W,
-) -> Result<(), MakeError>
-    requires written { lines.old.made.items ≡ [] }
-    requires unended { has_newline lines.old.pending.items ≡ false }
-    ensures { (written : List ℕ)
-        × Appends (W.contents output.old) (W.contents output.new) written
-        × IsStep (line_made (making (M.messages messages.now) version))
-        (IsRejected (making (M.messages messages.now) version)) (lines.old.pending.items ++ chunk.now) result written
-        lines.old lines.new }
-{
-    let rejected = take_chunk(alloc, version, messages, chunk, buffers, lines)?;
-    write_whole(output, lines.made.as_slice())?;
-    lines.made.clear();
-    match rejected {
-        Some(rejected) => Err(MakeError::Line(rejected.number, rejected.error)),
-        None => Ok(()),
+    /// Takes the lines that a chunk ends, up to a rejected one.
+    fn take_chunk(
+        &self,
+        chunk: &[u8],
+        buffers: &mut Buffers,
+        lines: &mut Lines,
+    ) -> Result<Option<Rejected>, AllocError>
+        requires { has_newline lines.old.pending.items ≡ false }
+        ensures { IsTaken (line_made (making (M.messages self.now.messages.now) self.now.version))
+            (IsRejected (making (M.messages self.now.messages.now) self.now.version))
+            (lines.old.pending.items ++ chunk.now) result lines.old lines.new }
+    {
+        let mut rest = chunk;
+        while let Some(at) = memchr(b'\n', rest) {
+            if let Some(rejected) = self.take_line(&rest[..at], buffers, lines)? {
+                return Ok(Some(rejected));
+            }
+            rest = &rest[at + 1..];
+        }
+        lines.pending.extend_from_slice(rest)?;
+        Ok(None)
     }
-}
 
-/// Takes the pending bytes as the last line, and writes what it means.
-fn finish<M: LineTable, W: Write>(
-    alloc: Global,
-    version: Version,
-    messages: &M,
-    buffers: &mut Buffers,
-    lines: &mut Lines,
-    output: &mut W,
-) -> Result<(), MakeError>
-    requires { lines.old.made.items ≡ [] }
-    ensures { (written : List ℕ)
-        × Appends (W.contents output.old) (W.contents output.new) written
-        × IsFinished (line_made (making (M.messages messages.now) version))
-        (IsRejected (making (M.messages messages.now) version)) result written lines.old }
-{
-    if let Some(rejected) = take_line(alloc, version, messages, &[], buffers, lines)? {
-        return Err(MakeError::Line(rejected.number, rejected.error));
+    /// Takes the lines that a chunk ends, and writes what they mean.
+    fn step<W: Write>(
+        &self,
+        chunk: &[u8],
+        buffers: &mut Buffers,
+        lines: &mut Lines,
+        output: &mut W,
+    ) -> Result<(), MakeError>
+        requires written { lines.old.made.items ≡ [] }
+        requires unended { has_newline lines.old.pending.items ≡ false }
+        ensures { (written : List ℕ)
+            × Appends (W.contents output.old) (W.contents output.new) written
+            × IsStep (line_made (making (M.messages self.now.messages.now) self.now.version))
+            (IsRejected (making (M.messages self.now.messages.now) self.now.version))
+            (lines.old.pending.items ++ chunk.now) result written lines.old lines.new }
+    {
+        let rejected = self.take_chunk(chunk, buffers, lines)?;
+        write_whole(output, lines.made.as_slice())?;
+        lines.made.clear();
+        match rejected {
+            Some(rejected) => Err(MakeError::Line(rejected.number, rejected.error)),
+            None => Ok(()),
+        }
     }
-    write_whole(output, lines.made.as_slice())?;
-    Ok(())
-}
 
-/// Writes the bytes that lines of JSON mean: each line means an item, or the bytes after the last item. Messages are
-/// read by a table.
-///
-/// It reads at most 65,536 bytes at a time, and writes what the lines mean that a chunk ends before it reads the next.
-/// The last line may lack its newline. `Ok` comes only if the reader has no byte left, and then all is written. After
-/// `Input` what all lines mean that were read is written; after `Output` a prefix of what the first lines mean; after
-/// `OutOfMemory` what the first lines mean; after `Line` what the lines before the rejected one mean.
-pub fn make<M: LineTable, R: Read, W: Write>(
-    alloc: Global,
-    version: Version,
-    messages: &M,
-    input: &mut R,
-    output: &mut W,
-) -> Result<(), MakeError>
-    ensures { (read : List ℕ) × (written : List ℕ)
-        × Consumes (R.remaining input.old) (R.remaining input.new) read
-        × Appends (W.contents output.old) (W.contents output.new) written
-        × IsMade (making (M.messages messages.now) version) result read written (R.remaining input.new) }
-{
-    let mut lines = Lines {
-        pending: Vec::new(alloc),
-        taken: 0,
-        made: Vec::new(alloc),
-    };
-    let mut buffer = Vec::from_elem(alloc, 0u8, CHUNK)?;
-    let buffer = buffer.as_mut_slice();
-    let mut buffers = Buffers::new(alloc);
-    for _ in 0..u64::MAX {
-        let Ok(count) = read_some(input, buffer) else {
-            return Err(MakeError::Input);
+    /// Takes the pending bytes as the last line, and writes what it means.
+    fn finish<W: Write>(
+        &self,
+        buffers: &mut Buffers,
+        lines: &mut Lines,
+        output: &mut W,
+    ) -> Result<(), MakeError>
+        requires { lines.old.made.items ≡ [] }
+        ensures { (written : List ℕ)
+            × Appends (W.contents output.old) (W.contents output.new) written
+            × IsFinished (line_made (making (M.messages self.now.messages.now) self.now.version))
+            (IsRejected (making (M.messages self.now.messages.now) self.now.version)) result written lines.old }
+    {
+        if let Some(rejected) = self.take_line(&[], buffers, lines)? {
+            return Err(MakeError::Line(rejected.number, rejected.error));
+        }
+        write_whole(output, lines.made.as_slice())?;
+        Ok(())
+    }
+
+    /// Writes the bytes that lines of JSON mean: each line means an item, or the bytes after the last item. Messages
+    /// are read by a table.
+    ///
+    /// It reads at most 65,536 bytes at a time, and writes what the lines mean that a chunk ends before it reads the
+    /// next. The last line may lack its newline. `Ok` comes only if the reader has no byte left, and then all is
+    /// written. After `Input` what all lines mean that were read is written; after `Output` a prefix of what the first
+    /// lines mean; after `OutOfMemory` what the first lines mean; after `Line` what the lines before the rejected one
+    /// mean.
+    pub fn make<R: Read, W: Write>(&self, input: &mut R, output: &mut W) -> Result<(), MakeError>
+        ensures { (read : List ℕ) × (written : List ℕ)
+            × Consumes (R.remaining input.old) (R.remaining input.new) read
+            × Appends (W.contents output.old) (W.contents output.new) written
+            × IsMade (making (M.messages self.now.messages.now) self.now.version) result read written
+            (R.remaining input.new) }
+    {
+        let mut lines = Lines {
+            pending: Vec::new(self.alloc),
+            taken: 0,
+            made: Vec::new(self.alloc),
         };
-        if count == 0 {
-            return finish(alloc, version, messages, &mut buffers, &mut lines, output);
+        let mut buffer = Vec::from_elem(self.alloc, 0u8, CHUNK)?;
+        let buffer = buffer.as_mut_slice();
+        let mut buffers = Buffers::new(self.alloc);
+        for _ in 0..u64::MAX {
+            let Ok(count) = read_some(input, buffer) else {
+                return Err(MakeError::Input);
+            };
+            if count == 0 {
+                return self.finish(&mut buffers, &mut lines, output);
+            }
+            self.step(&buffer[..count], &mut buffers, &mut lines, output)?;
         }
-        step(
-            alloc,
-            version,
-            messages,
-            &buffer[..count],
-            &mut buffers,
-            &mut lines,
-            output,
-        )?;
+        Err(MakeError::Input)
     }
-    Err(MakeError::Input)
 }

@@ -6,7 +6,7 @@ use Rattle.make_lines.specs.Making.{making}
 use Rattle.make_lines.specs.Made.{counted, has_newline, BeginWith}
 use Rattle.make_lines.proofs.Taking.{none_yet, then_lines, line_found, rest_after, none_found, newline_append}
 use Rattle.make_lines.proofs.Taking.{made_join, made_one, counted_suc}
-use Rattle.make_lines.proofs.stream.take_chunk.Goals as goal
+use Rattle.make_lines.proofs.maker.Maker.take_chunk.Goals as goal
 
 pub loop-at-init : goal.loop-at-init
 loop-at-init g c =
@@ -51,6 +51,7 @@ returns-in-Some-2 g c =
 
 pub loop-at-preserved : goal.loop-at-preserved
 loop-at-preserved g c =
+    let made_of = line_made (making (g.M.LineTable.messages c.args.self.now.messages.now) c.args.self.now.version) in
     let (unended, ls, more, begins, meant, made_is, count, short) = c.loop-at.invariant in
     let (none, here) = c.in-Some.ensures in
     let pending = c.loop-at.lines.pending.items in
@@ -64,9 +65,9 @@ loop-at-preserved g c =
       subst (BeginWith _ (ls ++ line ∷ [])) (rest_after c.take_line.new.lines.pending.items rest at empty)
           (then_lines _ (pending ++ rest) (drop (suc at) rest) ls (line ∷ []) begins
           (line_found pending rest line at unended none here refl)),
-      made_join (line_made (making (g.M.LineTable.messages c.args.messages.now) c.args.version)) ls (line ∷ []) more
+      made_join made_of ls (line ∷ []) more
           bytes meant
-          (made_one (line_made (making (g.M.LineTable.messages c.args.messages.now) c.args.version)) line bytes means),
+          (made_one made_of line bytes means),
       wrote ∙ ap (λ (xs : List ℕ). xs ++ bytes) made_is ∙ append_assoc c.args.lines.now.made.items more bytes,
       number ∙ ap (λ (n : ℕ). counted (suc n)) count ∙ counted_suc (c.args.lines.now.taken + length ls) ∙ ap counted
           (omega (arith, length-append ls (line ∷ []))),

@@ -3,12 +3,12 @@ use Rattle.make_lines.specs.Appending.{AppendsOf}
 use Rattle.make_lines.specs.Errors.{LineFault}
 use Rattle.make_lines.specs.Lines.{bytes_said, line_header, header_given}
 use Rattle.make_lines.specs.Members.{given}
-use Rattle.make_lines.proofs.header.append_header.Goals as goal
+use Rattle.make_lines.proofs.header.Head.append_header.Goals as goal
 
 pub returns-in-Some : goal.returns-in-Some
 returns-in-Some c =
     let line = c.args.line.now in
-    let head = c.args.head.now in
+    let head = c.args.self.now in
     let bytes = c.in_ok-header.header.items in
     let is : given (codes "header") line ≡ Some c.in-Some.header = sym c.given.ensures ∙ c.in-Some.is in
     let read : bytes_said (codes "header") c.in-Some.header ≡ Ok bytes = c.in_ok-header.ensures in

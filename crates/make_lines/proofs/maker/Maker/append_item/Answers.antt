@@ -4,20 +4,21 @@ use Rattle.make_lines.specs.Appending.{said_of}
 use Rattle.make_lines.specs.Lines.{item_said, framed, line_code, line_flag, line_payload, then_read}
 use Rattle.make_lines.specs.Making.{making}
 use Rattle.make_lines.proofs.Heads.{no_head}
-use Rattle.make_lines.proofs.line.append_item.Goals as goal
+use Rattle.make_lines.proofs.maker.Maker.append_item.Goals as goal
 
 pub returns-in_err-head : goal.returns-in_err-head
 unfolding item_said
 returns-in_err-head g c =
     let from = err_from_is_err_and c.from_residual.result c.from_residual.ensures.1 in
-    let version = c.args.version in
+    let version = c.args.self.now.version in
+    let by = making (g.M.LineTable.messages c.args.self.now.messages.now) version in
     let line = c.args.line.now in
     rw (from.1, from.2) (λ some. (
       (
         said_of line c.in_err-head.field-0.0,
         no_head (line_code line) (λ code. line_flag code line)
             (λ code flag. then_read (framed version code flag line)
-            (line_payload (making (g.M.LineTable.messages c.args.messages.now) c.args.version) code line)) _
+            (line_payload by code line)) _
             (c.in_err-head.ensures.err some),
         refl,
       ),

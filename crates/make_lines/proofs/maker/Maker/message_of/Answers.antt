@@ -5,11 +5,11 @@ use Rattle.shared_core_json_reader.specs.FirstError.{value_error_in}
 use Rattle.make_lines.specs.declared.error.LineReason.TheVariants as variant
 use Rattle.make_lines.specs.Making.{making}
 use Rattle.make_lines.proofs.ItemFaults.{message_rejected}
-use Rattle.make_lines.proofs.payload.message_of.Goals as goal
+use Rattle.make_lines.proofs.maker.Maker.message_of.Goals as goal
 
 pub returns-in-Err : goal.returns-in-Err
 returns-in-Err g c some =
-    let by = making (g.M.LineTable.messages c.args.messages.now) c.args.version in
+    let by = making (g.M.LineTable.messages c.args.self.now.messages.now) c.args.self.now.version in
     let other = λ (e : c.in-Err.reason ≡ Reason.OutOfMemory). some (ap variant.Json e) in
     let first = c.in-Err.ensures.error other in
     let s = c.in-Some.schema in
