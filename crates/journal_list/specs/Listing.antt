@@ -1,5 +1,5 @@
 -- The result of a listing, and what is written for it.
-use Rattle.std.specs.Prelude.{◌≡◌, ℕ, List, codes, Result, Ok, Err, Option}
+use Rattle.std.specs.Prelude.{◌≡◌, ℕ, List, [], codes, Result, Ok, Err, Option}
 use Rattle.list_lines.specs.Listing as lines
 use Rattle.shared_core_base.specs.declared.version.Version.{Version}
 use Rattle.shared_core_stream.specs.Errors.{message_too_long_text}
@@ -22,7 +22,7 @@ IsPrintedAs (Err (MessageTooLong message)) printed = printed ≡ Err (print_erro
 abbrev pub IsListed : Version → ℕ → Result (Unit {0}) ListError → List ℕ → List ℕ → Option (List ℕ) → Type 0
 IsListed version limit result read written left =
     (printed : Result Report PrintError) × IsPrintedAs result printed
-    × lines.IsListed version limit printed read written left
+    × lines.IsListed [] version limit printed read written left
 
 -- The text of an error.
 abbrev pub error_text : ListError → List ℕ

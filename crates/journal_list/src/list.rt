@@ -57,6 +57,7 @@ pub fn list_at<R: Read, W: Write>(
         version,
         limit,
         chunk_size,
+        names: &[],
     };
     match list_lines::list(alloc, &options, input, output) {
         Ok(_) => Ok(()),

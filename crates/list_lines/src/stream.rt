@@ -4,10 +4,11 @@ ghost use Rattle.std.specs.Prelude.{◌≡◌, ◌≤◌, ◌++◌, ℕ, List, N
 ghost use Rattle.std.specs.Io.KnownBytes.{Appends, Consumes};
 ghost use Rattle.std.specs.String.{string_bytes};
 ghost use Rattle.shared_core_base.specs.Version.{version_number};
-ghost use Rattle.list_lines.specs.Listing.{ack_text, line_of, IsListed};
+ghost use Rattle.list_lines.specs.Listing.{ack_text, code_text, line_of, IsListed};
 ghost use Rattle.list_lines.specs.Listing as text;
 
-use crate::options::Options;
+use crate::names::{name_at, other_name};
+use crate::options::{Options, OtherName};
 use shared_core_stream::encoding::{Decoder, Item};
 use std::alloc::{AllocError, Global};
 use std::io::{Read, Write};
@@ -20,7 +21,7 @@ use stream_lines::{LinePrinter, PrintError, Report, Trouble, print_lines};
 /// item.
 pub fn list<R: Read, W: Write>(
     alloc: Global,
-    options: &Options,
+    options: &Options<'_>,
     input: &mut R,
     output: &mut W,
 ) -> Result<Report, PrintError>
@@ -30,13 +31,17 @@ pub fn list<R: Read, W: Write>(
     ensures { (read : List ℕ) × (written : List ℕ)
         × Consumes (R.remaining input.old) (R.remaining input.new) read
         × Appends (W.contents output.old) (W.contents output.new) written
-        × IsListed options.now.version options.now.limit result read written (R.remaining input.new) }
+        × IsListed options.now.names.now options.now.version options.now.limit result read written
+        (R.remaining input.new) }
 {
+    let listing = Listing {
+        names: options.names,
+    };
     print_lines(
         alloc,
         options.version,
         options.limit,
-        &Listing,
+        &listing,
         input,
         output,
         options.chunk_size,
@@ -44,13 +49,16 @@ pub fn list<R: Read, W: Write>(
 }
 
 /// The printer of the lines of a listing.
-struct Listing;
+#[derive(Clone, Copy)]
+struct Listing<'a> {
+    names: &'a [OtherName<'a>],
+}
 
-impl LinePrinter for Listing {
+impl<'a> LinePrinter for Listing<'a> {
     /// The text of a line, which is reused.
     type Scratch = String;
 
-    ghost item_line = { λ listing at word. text.line_of };
+    ghost item_line = { λ listing at word. text.line_of listing.names.now };
 
     ghost rest_line = { λ listing at rest. text.rest_line (length rest) };
 
@@ -77,7 +85,7 @@ impl LinePrinter for Listing {
         lines: &mut Vec<u8>,
     ) -> Result<(), PrintError> {
         line.clear();
-        write_item(line, item)?;
+        write_item(line, self.names, item)?;
         lines.extend_from_slice(line.as_bytes())?;
         Ok(())
     }
@@ -97,21 +105,40 @@ impl LinePrinter for Listing {
 }
 
 /// Appends an item's line.
-fn write_item(text: &mut String, item: Item) -> Result<(), AllocError>
-    ensures { OnOk result (string_bytes text.new ≡ string_bytes text.old ++ line_of item) }
+fn write_item(text: &mut String, names: &[OtherName<'_>], item: Item) -> Result<(), AllocError>
+    ensures { OnOk result (string_bytes text.new ≡ string_bytes text.old ++ line_of names.now item) }
 {
     match item {
         Item::Message(message) => {
-            let name = message.ty().debug_name();
             let length = message.payload().len();
             let mark = ack_mark(message.header().requested_ack());
+            if let Some(name) = other_name(names, message.ty()) {
+                return writeln!(text, "{name} {length}{mark}");
+            }
+            let name = message.ty().debug_name();
             writeln!(text, "{name} {length}{mark}")
         }
-        Item::Unknown(code) => writeln!(text, "unknown 0x{code:x}"),
+        Item::Unknown(code) => {
+            text.push_str("unknown ")?;
+            push_code(text, names, code)?;
+            text.push_str("\n")
+        }
         Item::Skipped(code, payload) => {
             let length = payload.len();
-            writeln!(text, "skipped 0x{code:x} {length}")
+            text.push_str("skipped ")?;
+            push_code(text, names, code)?;
+            writeln!(text, " {length}")
         }
+    }
+}
+
+/// Appends the name that is given for a code, or else the code.
+fn push_code(text: &mut String, names: &[OtherName<'_>], code: u16) -> Result<(), AllocError>
+    ensures { OnOk result (string_bytes text.new ≡ string_bytes text.old ++ code_text names.now code) }
+{
+    match name_at(names, code) {
+        Some(name) => text.push_str(name),
+        None => write!(text, "0x{code:x}"),
     }
 }
 

@@ -12,6 +12,7 @@ mod numbering;
 mod pairs;
 mod renames;
 mod rows;
+mod said_types;
 mod write;
 
 pub use error::SchemaError;
@@ -19,4 +20,5 @@ pub use message_names::MESSAGE_NAMES;
 pub use numbering::{Direction, numbering_of};
 pub use pairs::{last_name, schemas_of};
 pub use renames::{Rename, RenameFault};
+pub use said_types::{OtherType, other_types};
 pub use write::write_schema;

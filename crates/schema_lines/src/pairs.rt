@@ -79,6 +79,11 @@ impl Pairs {
         self.own.get(schema as usize).copied().flatten()
     }
 
+    /// These of all schemas.
+    pub(crate) fn all_own(&self) -> &[Option<usize>] {
+        self.own.as_slice()
+    }
+
     /// The index of the set's message that payloads of a schema are read by.
     pub(crate) fn read_by(&self, schema: u32) -> Option<usize> {
         self.read.get(schema as usize).copied().flatten()

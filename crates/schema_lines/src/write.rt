@@ -103,6 +103,5 @@ fn append_field(
     match passed.why {
         NoForm::Kind => writeln!(text, ": {kind}"),
         NoForm::Map => writeln!(text, ": map"),
-        NoForm::PackedList => writeln!(text, ": repeated {kind}"),
     }
 }
