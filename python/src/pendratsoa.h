@@ -776,8 +776,8 @@ int64_t journal_numbering_text(const uint8_t *set, size_t set_length, const uint
 /*
  * Writes a payload of a schema at the other numbers of a table: the fields that the table has, in its order; their
  * messages likewise. A canonical payload becomes one that is canonical at the other numbers, unless only one of both
- * packs a list, or has a field in a oneof. Returns its length in bytes. Any table is safe; with one that
- * journal_numbering did not write, the time may double with each level of nesting.
+ * packs a list, or has a field in a oneof. Returns its length in bytes. Any table is safe: of several entries of a
+ * number in a schema the first one counts, and the time is at most that of the entries for each record.
  *
  * Errors, in order of precedence: JOURNAL_MALFORMED, JOURNAL_TOO_LONG; JOURNAL_OUT_OF_MEMORY may replace each after
  * JOURNAL_MALFORMED.

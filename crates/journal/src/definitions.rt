@@ -30,28 +30,6 @@ const MAX_MESSAGE: Argument = Argument {
 const PROTOCOL: Argument = Argument {
     name: "protocol",
     form: Form::Option("VERSION"),
-    help: "The version of the protocol of the stream; auto is\nthe newest that a file fits\n[default: 8] [possible values: 5, 6, 7, 8, 9, auto]",
-    values: Values::Among(&["5", "6", "7", "8", "9", "auto"]),
-    default: Some("8"),
-    is_repeated: false,
-    is_required: false,
-    may_begin_with_hyphen: false,
-};
-
-const FILE: Argument = Argument {
-    name: "file",
-    form: Form::Operand("FILE"),
-    help: "The stream: a file, or - for the standard input [default: -]",
-    values: Values::Any,
-    default: Some("-"),
-    is_repeated: false,
-    is_required: false,
-    may_begin_with_hyphen: false,
-};
-
-const PROTOCOL_OF_DUMP: Argument = Argument {
-    name: "protocol",
-    form: Form::Option("VERSION"),
     help: "The version of the protocol of the stream; auto is\nthe newest that a file fits\n[default: 8] [possible values: 5, 6, 7, 8, 9,\nauto]",
     values: Values::Among(&["5", "6", "7", "8", "9", "auto"]),
     default: Some("8"),
@@ -67,6 +45,17 @@ const RENAME: Argument = Argument {
     values: Values::Any,
     default: None,
     is_repeated: true,
+    is_required: false,
+    may_begin_with_hyphen: false,
+};
+
+const FILE: Argument = Argument {
+    name: "file",
+    form: Form::Operand("FILE"),
+    help: "The stream: a file, or - for the standard input [default: -]",
+    values: Values::Any,
+    default: Some("-"),
+    is_repeated: false,
     is_required: false,
     may_begin_with_hyphen: false,
 };
@@ -87,6 +76,17 @@ const PROTOCOL_OF_MAKE: Argument = Argument {
     form: Form::Option("VERSION"),
     help: "The version of the protocol of the stream\n[default: 8] [possible values: 5, 6, 7, 8, 9]",
     values: Values::Versions,
+    default: Some("8"),
+    is_repeated: false,
+    is_required: false,
+    may_begin_with_hyphen: false,
+};
+
+const PROTOCOL_OF_CUT: Argument = Argument {
+    name: "protocol",
+    form: Form::Option("VERSION"),
+    help: "The version of the protocol of the stream; auto is\nthe newest that a file fits\n[default: 8] [possible values: 5, 6, 7, 8, 9, auto]",
+    values: Values::Among(&["5", "6", "7", "8", "9", "auto"]),
     default: Some("8"),
     is_repeated: false,
     is_required: false,
@@ -128,7 +128,23 @@ pub static LIST: Definition = Definition {
     version: VERSION,
     about: "Lists a stream, one line per item.",
     after_help: "Examples:\n  journal list FILE | sort | uniq -c | sort -rn\n  journal list --max-message 1MB FILE",
-    arguments: &[INPUT, MAX_MESSAGE, PROTOCOL, FILE],
+    arguments: &[
+        INPUT,
+        MAX_MESSAGE,
+        PROTOCOL,
+        RENAME,
+        Argument {
+            name: "schema",
+            form: Form::Option("FILE"),
+            help: "Names types that the protocol lacks by this\ndescriptor set, which protoc -o writes; the\ndefault is $PENDRATSOA_SCHEMA",
+            values: Values::Any,
+            default: None,
+            is_repeated: false,
+            is_required: false,
+            may_begin_with_hyphen: false,
+        },
+        FILE,
+    ],
 };
 
 /// The definition of `journal dump`.
@@ -159,7 +175,7 @@ pub static DUMP: Definition = Definition {
             is_required: false,
             may_begin_with_hyphen: false,
         },
-        PROTOCOL_OF_DUMP,
+        PROTOCOL,
         RENAME,
         SCHEMA_OF_DUMP,
         Argument {
@@ -427,7 +443,7 @@ pub static SHOW: Definition = Definition {
         },
         INPUT,
         MAX_MESSAGE,
-        PROTOCOL_OF_DUMP,
+        PROTOCOL,
         RENAME,
         SCHEMA_OF_DUMP,
         FILE,
@@ -452,7 +468,7 @@ pub static CUT: Definition = Definition {
         },
         INPUT,
         MAX_MESSAGE,
-        PROTOCOL,
+        PROTOCOL_OF_CUT,
         Argument {
             name: "to",
             form: Form::Option("N"),
@@ -516,7 +532,7 @@ pub static REDACT: Definition = Definition {
         },
         INPUT,
         MAX_MESSAGE,
-        PROTOCOL,
+        PROTOCOL_OF_CUT,
         FILE,
     ],
 };
@@ -551,7 +567,7 @@ pub static GET: Definition = Definition {
     arguments: &[
         INPUT,
         MAX_MESSAGE,
-        PROTOCOL_OF_DUMP,
+        PROTOCOL,
         RENAME,
         SCHEMA_OF_DUMP,
         Argument {
@@ -605,7 +621,7 @@ pub static EXPLAIN: Definition = Definition {
         },
         INPUT,
         MAX_MESSAGE,
-        PROTOCOL,
+        PROTOCOL_OF_CUT,
         Argument {
             name: "raw",
             form: Form::Flag,

@@ -8,15 +8,18 @@ use command_line::{Input, fail};
 use descriptor_set::{DescriptorError, DescriptorSet, MOST_BYTES, named_table_of, read_set};
 use dump_lines::OtherTable;
 use schema_lines::{
-    Direction, MESSAGE_NAMES, Rename, RenameFault, SchemaError, last_name, numbering_of, schemas_of,
+    Direction, MESSAGE_NAMES, Rename, RenameFault, SchemaError, last_name, numbering_of,
+    other_types, schemas_of,
 };
 use shared_core_codec::loaded_table::LoadedSchemas;
+use shared_core_fields::payload_table::TableRef;
 use shared_core_json::named_table::NamedTable;
 use shared_core_renumber::Renumbering;
 use std::alloc::{AllocError, Global};
 use std::env::{self, VarError};
 use std::io::{self, Read};
 use std::process::ExitCode;
+use terminal_text::{Escapes, push_escaped};
 
 /// The status if a set is not there, or is none.
 const NO_SET: u8 = 2;
@@ -117,6 +120,9 @@ fn path_of(call: &Call<'_>, option: Option<&str>) -> Result<Option<String>, VarE
     }
 }
 
+/// The table of a descriptor set, by reference.
+pub type TheirTable<'a> = TableRef<'a, NamedTable<LoadedSchemas>>;
+
 /// The table of a descriptor set, and which of its messages are those of the protocol.
 #[derive(Drop)]
 pub struct OtherMessages {
@@ -134,6 +140,14 @@ impl OtherMessages {
     }
 }
 
+/// What a set says of streams: how their payloads are read at the protocol's numbers, and by the set itself.
+#[derive(Drop)]
+pub struct Description {
+    /// The fields that both have, from the numbers of the set to those of the protocol.
+    pub numbering: Vec<Renumbering>,
+    pub messages: OtherMessages,
+}
+
 /// Reads the set of a file, and finds the messages of the protocol in it. If there is a fault, reports it, and the
 /// error is the status.
 pub fn read_messages(
@@ -141,16 +155,9 @@ pub fn read_messages(
     path: &str,
     renames: &[Rename<'_>],
 ) -> Result<OtherMessages, ExitCode> {
-    let alloc = call.rt.alloc();
     let set = read_descriptors(call, path)?;
-    let table = match named_table_of(alloc, &set) {
-        Ok(table) => table,
-        Err(error) => return Err(fail_descriptors(call, path, error)),
-    };
-    match schemas_of(alloc, &set, renames) {
-        Ok(schemas) => Ok(OtherMessages { table, schemas }),
-        Err(error) => Err(fail_schema(call, &set, renames, error)),
-    }
+    let made = messages_of(call.rt.alloc(), &set, renames);
+    made_of(call, path, (&set, renames), made)
 }
 
 /// Reads the set of a file, and makes the table by which payloads are written again from its numbers to the protocol's,
@@ -162,10 +169,96 @@ pub fn read_numbering(
     direction: Direction,
 ) -> Result<Vec<Renumbering>, ExitCode> {
     let set = read_descriptors(call, path)?;
-    match numbering_of(call.rt.alloc(), &set, renames, direction) {
-        Ok(entries) => Ok(entries),
+    let made = numbering_of(call.rt.alloc(), &set, renames, direction);
+    made_of(call, path, (&set, renames), made)
+}
+
+/// Reads the set of a file, and what it says of streams. If there is a fault, reports it, and the error is the status.
+pub fn read_description(
+    call: &Call<'_>,
+    path: &str,
+    renames: &[Rename<'_>],
+) -> Result<Description, ExitCode> {
+    let set = read_descriptors(call, path)?;
+    let made = description_of(call.rt.alloc(), &set, renames);
+    made_of(call, path, (&set, renames), made)
+}
+
+/// The name of a type that only a set has.
+#[derive(Drop)]
+pub struct TypeName {
+    pub code: u16,
+    pub name: String,
+}
+
+/// Reads the set of a file, and finds the names of the types that only the set has. If there is a fault, reports it,
+/// and the error is the status.
+pub fn read_type_names(
+    call: &Call<'_>,
+    path: &str,
+    renames: &[Rename<'_>],
+) -> Result<Vec<TypeName>, ExitCode> {
+    let set = read_descriptors(call, path)?;
+    let made = type_names_of(call.rt.alloc(), &set, renames);
+    made_of(call, path, (&set, renames), made)
+}
+
+/// The last names of the messages of the types that only a set has, escaped as for a terminal.
+fn type_names_of(
+    alloc: Global,
+    set: &DescriptorSet,
+    renames: &[Rename<'_>],
+) -> Result<Vec<TypeName>, SchemaError> {
+    let types = other_types(alloc, set, renames)?;
+    let mut names = Vec::new(alloc);
+    for found in &types {
+        if let Some(message) = set.messages.get(found.message) {
+            let mut name = String::new(alloc);
+            push_escaped(&mut name, Escapes::Text, last_name(message.name.as_str()))?;
+            names.push(TypeName {
+                code: found.code,
+                name,
+            })?;
+        }
+    }
+    Ok(names)
+}
+
+/// The table of a set, and which of its messages are those of the protocol.
+fn messages_of(
+    alloc: Global,
+    set: &DescriptorSet,
+    renames: &[Rename<'_>],
+) -> Result<OtherMessages, SchemaError> {
+    Ok(OtherMessages {
+        table: named_table_of(alloc, set)?,
+        schemas: schemas_of(alloc, set, renames)?,
+    })
+}
+
+/// What a set says of streams.
+fn description_of(
+    alloc: Global,
+    set: &DescriptorSet,
+    renames: &[Rename<'_>],
+) -> Result<Description, SchemaError> {
+    Ok(Description {
+        numbering: numbering_of(alloc, set, renames, Direction::Reading)?,
+        messages: messages_of(alloc, set, renames)?,
+    })
+}
+
+/// What was made of the set of a file with some renames. If it was not, reports why, and the error is the status.
+fn made_of<T: Drop>(
+    call: &Call<'_>,
+    path: &str,
+    given: (&DescriptorSet, &[Rename<'_>]),
+    made: Result<T, SchemaError>,
+) -> Result<T, ExitCode> {
+    match made {
+        Ok(made) => Ok(made),
         Err(SchemaError::Descriptor(error)) => Err(fail_descriptors(call, path, error)),
-        Err(error) => Err(fail_schema(call, &set, renames, error)),
+        Err(error) => Err(fail_schema(call, given.0, given.1, error)),
     }
 }
 

@@ -5,24 +5,33 @@ ghost use Rattle.shared_core_base.specs.Version.{version_number};
 
 mod arguments;
 mod inputs;
+mod their_lines;
+mod theirs;
 
 use crate::beginning::{Beginning, Begun};
 use crate::call::Call;
+use crate::descriptors::Description;
 use crate::diff::arguments::{Arguments, ValuesChoice, parse_arguments};
-use crate::diff::inputs::{Inputs, closed_side, open_both};
+use crate::diff::inputs::{Inputs, closed_side, open_both, open_both_by};
+use crate::diff::their_lines::{Shown, their_json, their_text};
+use crate::diff::theirs::{TheirDifference, Unread, their_difference};
 use crate::fitting::{Asked, version_of};
-use crate::renumbered::numbering_for;
+use crate::renumbered::description_for;
 use command_line::{Decoding, Pipe, Progress, has_color};
 use diff_lines::{
     DiffError, DiffOptions, Findings, Form, Look, Names, Trouble, diff, empty_note, no_item_note,
     rest_note, unknown_note,
 };
-use replay_bench::{ComparisonOptions, Ignored, Journals, ReaderError, Side};
+use replay_bench::{
+    BenchError, Comparison, ComparisonOptions, Ignored, Journals, ReaderError, Side, Verdict,
+    survey_sources,
+};
 use shared_core::encoding::ItemReader;
 use shared_core_base::version::Version;
-use shared_core_renumber::Renumbering;
-use std::io::IsTerminal;
+use std::alloc::AllocError;
+use std::io::{Cursor, IsTerminal};
 use std::process::ExitCode;
+use stream_lines::output::{OutputFailed, write_whole};
 use terminal_text::{Escapes, Escaping};
 
 /// How both inputs begin.
@@ -91,6 +100,17 @@ fn is_short(parsed: &Arguments<'_>, is_terminal: bool) -> bool {
     }
 }
 
+/// What is compared.
+fn comparison_of(parsed: &Arguments<'_>) -> ComparisonOptions {
+    ComparisonOptions {
+        ignored: Ignored {
+            payloads: parsed.ignore_payloads,
+            ids: parsed.ignore_ids,
+        },
+        is_strict: parsed.is_strict,
+    }
+}
+
 /// What is compared, and what is written of it, to a terminal or not. A terminal shows the names of the journals too.
 fn options_of<'a>(call: &Call<'_>, parsed: &Arguments<'a>, is_terminal: bool) -> DiffOptions<'a> {
     let look = Look {
@@ -103,13 +123,7 @@ fn options_of<'a>(call: &Call<'_>, parsed: &Arguments<'a>, is_terminal: bool) ->
         replayed: parsed.replayed,
     };
     DiffOptions {
-        comparison: ComparisonOptions {
-            ignored: Ignored {
-                payloads: parsed.ignore_payloads,
-                ids: parsed.ignore_ids,
-            },
-            is_strict: parsed.is_strict,
-        },
+        comparison: comparison_of(parsed),
         form: if parsed.is_json {
             Form::Json
         } else {
@@ -195,8 +209,8 @@ pub fn run(call: &Call<'_>) -> ExitCode {
         return call.fail(ReaderError::Read(side), call.failure);
     }
     let standard = standard_input(&parsed);
-    let numbering = match numbering_for(call, &parsed.schema, standard, parsed.is_auto) {
-        Ok(numbering) => numbering,
+    let description = match description_for(call, &parsed.schema, standard, parsed.is_auto) {
+        Ok(description) => description,
         Err(status) => return status,
     };
     let asked = Asked {
@@ -209,11 +223,14 @@ pub fn run(call: &Call<'_>) -> ExitCode {
         Ok(version) => version,
         Err(status) => return status,
     };
-    run_by(
-        call,
-        &parsed,
-        numbering.as_ref().map(|entries| entries.as_slice()),
-    )
+    let Some(description) = description else {
+        return run_plain(call, &parsed);
+    };
+    // a dump has names, and no numbers
+    if parsed.is_dump {
+        return run_plain(call, &parsed);
+    }
+    run_by_set(call, &parsed, &description)
 }
 
 /// The path of the journal that comes from the standard input, or else of the recorded one.
@@ -224,12 +241,128 @@ fn standard_input<'a>(parsed: &Arguments<'a>) -> &'a str {
     parsed.recorded
 }
 
-/// Opens both journals, whose payloads are read by a table if there is one, compares them, and returns the status.
-fn run_by(call: &Call<'_>, parsed: &Arguments<'_>, numbering: Option<&[Renumbering]>) -> ExitCode
+/// Opens both journals, compares them, and returns the status.
+fn run_plain(call: &Call<'_>, parsed: &Arguments<'_>) -> ExitCode
     requires { 5 ≤ version_number parsed.now.version }
 {
-    match open_both(call, parsed, numbering) {
+    match open_both(call, parsed) {
         Ok(inputs) => run_parsed(call, parsed, inputs),
         Err(status) => status,
     }
+}
+
+/// Opens both journals by a set, compares them, also by the fields that only the set has, and returns the status.
+fn run_by_set(call: &Call<'_>, parsed: &Arguments<'_>, description: &Description) -> ExitCode
+    requires { 5 ≤ version_number parsed.now.version }
+{
+    let entries = description.numbering.as_slice();
+    let (inputs, given) = match open_both_by(call, parsed, entries) {
+        Ok(opened) => opened,
+        Err(status) => return status,
+    };
+    match their_difference(call.rt.alloc(), parsed.version, description, &given) {
+        Ok(None) => run_parsed(call, parsed, inputs),
+        Ok(Some(difference)) => match compared_beyond(call, parsed, &inputs, difference.index) {
+            Some(found) => end_different(call, parsed, &difference, &found),
+            None => run_parsed(call, parsed, inputs),
+        },
+        Err(Unread::Malformed(side, index)) => {
+            if compared_beyond(call, parsed, &inputs, index).is_none() {
+                return run_parsed(call, parsed, inputs);
+            }
+            let error = ReaderError::Bench(BenchError::Malformed { side, index });
+            call.fail(error, call.failure)
+        }
+        Err(Unread::TooLong) => call.fail("a canonical payload is too long", call.failure),
+        Err(Unread::OutOfMemory) => call.fail("out of memory", call.failure),
+    }
+}
+
+/// What is found of two renumbered journals, if the commands at this index are the same at the protocol's numbers, and
+/// nothing is wrong that the options say is an error.
+fn compared_beyond(
+    call: &Call<'_>,
+    parsed: &Arguments<'_>,
+    inputs: &Inputs,
+    index: u64,
+) -> Option<Comparison>
+    requires { 5 ≤ version_number parsed.now.version }
+{
+    let alloc = call.rt.alloc();
+    let version = parsed.version;
+    let journals = Journals {
+        version,
+        recorded: ItemReader::new(alloc, version, Cursor::new(inputs.recorded.bytes())),
+        replayed: ItemReader::new(alloc, version, Cursor::new(inputs.replayed.bytes())),
+    };
+    let Ok(found) = survey_sources(alloc, journals, comparison_of(parsed)) else {
+        return None;
+    };
+    let is_faulty = found.recorded.trouble().is_some() || found.replayed.trouble().is_some();
+    if parsed.is_strict && is_faulty || same_count(&found.verdict) <= index {
+        return None;
+    }
+    Some(found)
+}
+
+/// How many commands are the same at the beginning of both journals.
+fn same_count(verdict: &Verdict) -> u64 {
+    match verdict {
+        Verdict::Same(count) | Verdict::RecordedEnded(count) | Verdict::ReplayedEnded(count) => {
+            *count
+        }
+        Verdict::TypeMismatch { index, .. } | Verdict::HeaderMismatch { index, .. } => *index,
+    }
+}
+
+/// Prints the first difference, which is in fields that only the set has, and returns the status.
+fn end_different(
+    call: &Call<'_>,
+    parsed: &Arguments<'_>,
+    difference: &TheirDifference,
+    found: &Comparison,
+) -> ExitCode {
+    let is_terminal = call.rt.stdout().is_terminal();
+    let text = match text_of(call, parsed, difference, is_terminal) {
+        Ok(text) => text,
+        Err(error) => return call.fail(error, call.failure),
+    };
+    let mut output = Pipe::new(Escaping::new(
+        call.rt.alloc(),
+        call.rt.stdout(),
+        Escapes::Json,
+        is_terminal && parsed.is_json,
+    ));
+    match write_whole(&mut output, text.as_slice()) {
+        Ok(()) => {}
+        // the reader has closed the output, so nothing is reported
+        Err(OutputFailed) if output.is_broken() => return ExitCode::from(call.failure),
+        Err(OutputFailed) => return call.fail(DiffError::Output, call.failure),
+    }
+    let findings = Findings {
+        is_same: false,
+        recorded: found.recorded,
+        replayed: found.replayed,
+    };
+    tell(call, &findings);
+    ExitCode::from(1)
+}
+
+/// What is printed of a difference, to a terminal or not.
+fn text_of(
+    call: &Call<'_>,
+    parsed: &Arguments<'_>,
+    difference: &TheirDifference,
+    is_terminal: bool,
+) -> Result<Vec<u8>, AllocError> {
+    let alloc = call.rt.alloc();
+    if parsed.is_json {
+        return their_json(alloc, difference);
+    }
+    let shown = Shown {
+        alloc,
+        is_escaped: is_terminal,
+        is_colored: has_color(call.rt, parsed.color),
+    };
+    their_text(shown, difference)
 }

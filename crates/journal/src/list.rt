@@ -6,13 +6,15 @@ ghost use Rattle.shared_core_base.specs.Version.{version_number};
 use crate::beginning::{Beginning, Begun};
 use crate::call::Call;
 use crate::definitions;
+use crate::descriptors::{SchemaArguments, TypeName, read_type_names, schema_arguments};
 use crate::fitting::{Asked, version_of};
+use crate::renumbered::set_path;
 use clap::Error;
 use command_line::{
     Decoding, Input, Pipe, Progress, encoding_of, input_size, is_auto, max_message_of, protocol_of,
 };
 use encoded_input::Encoding;
-use list_lines::{Options, list};
+use list_lines::{Options, OtherName, list};
 use shared_core_base::version::Version;
 use std::alloc::Global;
 use std::process::ExitCode;
@@ -34,6 +36,8 @@ struct Arguments<'a> {
     limit: u32,
     /// How the file is written, if it is text.
     encoding: Option<Encoding>,
+    /// Which set names types that the protocol does not have.
+    schema: SchemaArguments<'a>,
 }
 
 /// Parses the arguments. The error is an invalid argument, or a request for the help or the version.
@@ -47,12 +51,14 @@ fn parse_arguments<'a>(
     let mut command = definitions::LIST.command(alloc, name)?.no_binary_name(true);
     let matches = command.try_get_matches_from_mut(words)?;
     let limit = max_message_of(&mut command, &matches)?;
+    let schema = schema_arguments(alloc, &mut command, &matches)?;
     Ok(Arguments {
         path: matches.get_str("file").unwrap_or("-"),
         version: protocol_of(&matches),
         is_auto: is_auto(&matches),
         limit,
         encoding: encoding_of(&matches),
+        schema,
     })
 }
 
@@ -64,14 +70,46 @@ fn end(call: &Call<'_>, version: Version, beginning: &Beginning, found: &Report)
     ExitCode::SUCCESS
 }
 
+/// The names of the types that only the set has which the options or the variable name. If there is none for a reason,
+/// reports it, and the error is the status.
+fn names_for(call: &Call<'_>, parsed: &Arguments<'_>) -> Result<Vec<TypeName>, ExitCode> {
+    match set_path(call, &parsed.schema, parsed.path, parsed.is_auto)? {
+        Some(path) => read_type_names(call, path.as_str(), parsed.schema.renames.as_slice()),
+        None => Ok(Vec::new(call.rt.alloc())),
+    }
+}
+
+/// Lists the input with the names of some types, and returns the status.
+fn run_named(call: &Call<'_>, parsed: &Arguments<'_>, found: &[TypeName], input: Input) -> ExitCode
+    requires { 5 ≤ version_number parsed.now.version }
+{
+    let mut names = Vec::new(call.rt.alloc());
+    for one in found {
+        let named = OtherName {
+            code: one.code,
+            name: one.name.as_str(),
+        };
+        if names.push(named).is_err() {
+            return call.fail("out of memory", call.failure);
+        }
+    }
+    run_parsed(call, parsed, names.as_slice(), input)
+}
+
 /// Lists the input, and returns the status.
-fn run_parsed(call: &Call<'_>, parsed: &Arguments<'_>, input: Input) -> ExitCode
+fn run_parsed(
+    call: &Call<'_>,
+    parsed: &Arguments<'_>,
+    names: &[OtherName<'_>],
+    input: Input,
+) -> ExitCode
     requires { 5 ≤ version_number parsed.now.version }
 {
     let options = Options {
         version: parsed.version,
         limit: parsed.limit,
         chunk_size: CHUNK,
+        names,
     };
     let progress = Progress::beside_output(call.rt, call.name, input_size(&input));
     let beginning = Beginning::new();
@@ -96,6 +134,10 @@ pub fn run(call: &Call<'_>) -> ExitCode {
         Ok(parsed) => parsed,
         Err(error) => return call.report(&error),
     };
+    let names = match names_for(call, &parsed) {
+        Ok(names) => names,
+        Err(status) => return status,
+    };
     let asked = Asked {
         version: parsed.version,
         is_auto: parsed.is_auto,
@@ -107,7 +149,7 @@ pub fn run(call: &Call<'_>) -> ExitCode {
         Err(status) => return status,
     };
     match call.open(parsed.path) {
-        Ok(input) => run_parsed(call, &parsed, input),
+        Ok(input) => run_named(call, &parsed, names.as_slice(), input),
         Err(error) => call.fail(error, 2),
     }
 }

@@ -8,7 +8,7 @@ use crate::descriptors::{
 use clap::Error;
 use command_line::{Input, Pipe, Progress, Watched, fail, input_size, protocol_of};
 use descriptor_set::readable_table_of;
-use make_lines::{LineTable, MakeError, OtherLines, make};
+use make_lines::{LineTable, MakeError, Maker, OtherLines};
 use schema_lines::schemas_of;
 use shared_core_base::version::Version;
 use shared_core_codec::any_table::ProtocolSchemas;
@@ -76,13 +76,12 @@ fn run_parsed<M: LineTable>(
     let progress = Progress::beside_output(rt, call.name, input_size(&input));
     let mut input = Watched::new(input, &progress);
     let mut output = Pipe::new(rt.stdout());
-    let made = make(
-        rt.alloc(),
-        parsed.version,
+    let maker = Maker {
+        alloc: rt.alloc(),
+        version: parsed.version,
         messages,
-        &mut input,
-        &mut output,
-    );
+    };
+    let made = maker.make(&mut input, &mut output);
     progress.clear();
     end(call, parsed.path, made, &output)
 }

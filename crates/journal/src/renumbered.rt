@@ -1,11 +1,13 @@
 //! Streams whose payloads have the field numbers of a descriptor set: such a stream is written again in memory with the
 //! protocol's own, and then read as any other.
 
-ghost use Rattle.std.specs.Prelude.{◌≤◌};
+ghost use Rattle.std.specs.Prelude.{◌≡◌, ◌≤◌};
 ghost use Rattle.shared_core_base.specs.Version.{version_number};
 
 use crate::call::Call;
-use crate::descriptors::{SchemaArguments, read_numbering, schema_path};
+use crate::descriptors::{
+    Description, SchemaArguments, read_description, read_numbering, schema_path,
+};
 use crate::fitting::{Misfit, NOT_BY_A_SET};
 use crate::parts::File;
 use command_line::{Decoding, Input, Progress, fail, input_size};
@@ -13,9 +15,8 @@ use either::Either;
 use encoded_input::Encoding;
 use schema_lines::Direction;
 use shared_core_renumber::Renumbering;
-use std::io::Cursor;
+use std::io::{self, Cursor, Read};
 use std::process::ExitCode;
-use stream_lines::Report;
 use stream_renumbering::{Options, renumber};
 
 /// The status if a stream cannot be opened, or no set can be taken.
@@ -47,6 +48,14 @@ impl Opened {
         }
     }
 
+    /// The bytes of a stream that was made; none of another one.
+    pub fn bytes(&self) -> &[u8] {
+        match &self.source {
+            Either::Left(_) => &[],
+            Either::Right(stream) => stream.get_ref().as_slice(),
+        }
+    }
+
     /// Its size in bytes, if it has one.
     pub fn size(&self) -> Option<u64> {
         match &self.source {
@@ -54,6 +63,21 @@ impl Opened {
             Either::Right(stream) => u64::try_from(stream.get_ref().len()).ok(),
         }
     }
+}
+
+/// The path of the set by which an input is read, as `schema_path` has it, if the version is given.
+/// If there is none for a reason, reports it, and the error is the status.
+pub fn set_path(
+    call: &Call<'_>,
+    schema: &SchemaArguments<'_>,
+    input: &str,
+    is_auto: bool,
+) -> Result<Option<String>, ExitCode> {
+    let path = schema_path(call, schema, input)?;
+    if path.is_some() && is_auto {
+        return Err(call.fail(NOT_BY_A_SET, UNOPENED));
+    }
+    Ok(path)
 }
 
 /// The table by which the payloads of an input are read: that of the set which the options or the variable name, or
@@ -64,15 +88,26 @@ pub fn numbering_for(
     input: &str,
     is_auto: bool,
 ) -> Result<Option<Vec<Renumbering>>, ExitCode> {
-    let Some(path) = schema_path(call, schema, input)? else {
+    let Some(path) = set_path(call, schema, input, is_auto)? else {
         return Ok(None);
     };
-    if is_auto {
-        return Err(call.fail(NOT_BY_A_SET, UNOPENED));
-    }
     let renames = schema.renames.as_slice();
     let entries = read_numbering(call, path.as_str(), renames, Direction::Reading)?;
     Ok(Some(entries))
+}
+
+/// What that set says of streams, as `numbering_for` finds it.
+pub fn description_for(
+    call: &Call<'_>,
+    schema: &SchemaArguments<'_>,
+    input: &str,
+    is_auto: bool,
+) -> Result<Option<Description>, ExitCode> {
+    let Some(path) = set_path(call, schema, input, is_auto)? else {
+        return Ok(None);
+    };
+    let description = read_description(call, path.as_str(), schema.renames.as_slice())?;
+    Ok(Some(description))
 }
 
 /// Opens a stream, whose payloads are read by a table if there is one. Then it is read whole, and the limit is on the
@@ -85,37 +120,49 @@ pub fn open_numbered(
 ) -> Result<Opened, ExitCode>
     requires { 5 ≤ version_number file.now.version }
 {
-    let input = match call.open(file.path) {
-        Ok(input) => input,
-        Err(error) => return Err(call.fail(error, UNOPENED)),
-    };
     let Some(entries) = numbering else {
         return Ok(Opened {
-            source: Either::Left(input),
+            source: Either::Left(open_input(call, file)?),
             encoding: file.encoding,
             limit: file.limit,
             end: None,
         });
     };
-    let (stream, found) = renumbered(call, file, entries, input)?;
-    if found.trouble.is_some() {
-        let path = file.path;
-        return Err(call.fail(Misfit { path, found }, call.failure));
-    }
-    // the limit is on what is in the file
-    let mut opened = Opened::made(stream, u32::MAX);
-    opened.end = Some(found.end);
-    Ok(opened)
+    let (stream, _) = renumbered(call, file, entries, None)?;
+    Ok(stream)
 }
 
-/// The stream of an input at the other numbers of a table, and what was found of the input. The error is the status,
-/// after what is wrong was reported.
+/// Opens a stream as `open_numbered` does by a table. Returns it, and as it is in the file.
+pub fn open_both_ways(
+    call: &Call<'_>,
+    file: &File<'_>,
+    entries: &[Renumbering],
+) -> Result<(Opened, Vec<u8>), ExitCode>
+    requires { 5 ≤ version_number file.now.version }
+{
+    let kept = Some(Vec::new(call.rt.alloc()));
+    match renumbered(call, file, entries, kept)? {
+        (stream, Some(kept)) => Ok((stream, kept)),
+        (_, None) => Err(call.fail("out of memory", call.failure)),
+    }
+}
+
+/// Opens an input. If it cannot be opened, reports why, and the error is the status.
+fn open_input(call: &Call<'_>, file: &File<'_>) -> Result<Input, ExitCode> {
+    match call.open(file.path) {
+        Ok(input) => Ok(input),
+        Err(error) => Err(call.fail(error, UNOPENED)),
+    }
+}
+
+/// The stream of a file at the other numbers of a table, and with what was kept what was read of it. The error is the
+/// status, after what is wrong was reported.
 fn renumbered(
     call: &Call<'_>,
     file: &File<'_>,
     entries: &[Renumbering],
-    input: Input,
-) -> Result<(Vec<u8>, Report), ExitCode>
+    kept: Option<Vec<u8>>,
+) -> Result<(Opened, Option<Vec<u8>>), ExitCode>
     requires { 5 ≤ version_number file.now.version }
 {
     let options = Options {
@@ -123,23 +170,67 @@ fn renumbered(
         limit: file.limit,
         entries,
     };
+    let input = open_input(call, file)?;
     let progress = Progress::beside_output(call.rt, call.name, input_size(&input));
-    let mut input = Decoding::new(input, file.path, file.encoding, &progress);
+    let mut input = Keeping {
+        reader: Decoding::new(input, file.path, file.encoding, &progress),
+        kept,
+    };
     let mut stream = Vec::new(call.rt.alloc());
     let written = renumber(call.rt.alloc(), &options, &mut input, &mut stream);
     progress.clear();
+    let path = file.path;
     match written {
-        Ok(found) => Ok((stream, found)),
+        Ok(found) if found.trouble.is_some() => {
+            Err(call.fail(Misfit { path, found }, call.failure))
+        }
+        Ok(found) => {
+            // the limit is on what is in the file
+            let mut opened = Opened::made(stream, u32::MAX);
+            opened.end = Some(found.end);
+            Ok((opened, input.kept))
+        }
         // it was reported what is wrong with the input
         Err(_) if progress.has_reported() => Err(ExitCode::from(call.failure)),
-        Err(error) => {
-            let path = file.path;
-            Err(fail(
-                call.rt,
-                call.name,
-                format_args!("{path}: {error}"),
-                call.failure,
-            ))
+        Err(error) => Err(fail(
+            call.rt,
+            call.name,
+            format_args!("{path}: {error}"),
+            call.failure,
+        )),
+    }
+}
+
+/// A reader that keeps what is read of another one, if that is wanted and there is memory for it.
+#[derive(Drop)]
+struct Keeping<R> {
+    reader: R,
+    kept: Option<Vec<u8>>,
+}
+
+impl<R> Keeping<R> {
+    /// Keeps bytes that were read.
+    fn keep(&mut self, bytes: &[u8])
+        ensures { self.new.reader ≡ self.old.reader }
+    {
+        let is_kept = match &mut self.kept {
+            Some(kept) => kept.extend_from_slice(bytes).is_ok(),
+            None => true,
+        };
+        if !is_kept {
+            self.kept = None;
         }
+    }
+}
+
+impl<R: Read> Read for Keeping<R> {
+    ghost remaining = { λ keeping. R.remaining keeping.reader };
+
+    fn read(&mut self, buf: &mut [u8]) -> io::Result<usize> {
+        let read = self.reader.read(buf);
+        if let Ok(count) = &read {
+            self.keep(buf.get(..*count).unwrap_or(&[]));
+        }
+        read
     }
 }

@@ -28,7 +28,9 @@ _journal_command_list() {
         --input) mapfile -t COMPREPLY < <(compgen -W 'hex base64' -- "$word") ;;
         --max-message) mapfile -t COMPREPLY < <(compgen -W '' -- "$word") ;;
         --protocol) mapfile -t COMPREPLY < <(compgen -W '5 6 7 8 9 auto' -- "$word") ;;
-        *) [[ $word != -* ]] || mapfile -t COMPREPLY < <(compgen -W '--input --max-message --protocol --help --version' -- "$word") ;;
+        --rename) mapfile -t COMPREPLY < <(compgen -W '' -- "$word") ;;
+        --schema) mapfile -t COMPREPLY < <(compgen -W '' -- "$word") ;;
+        *) [[ $word != -* ]] || mapfile -t COMPREPLY < <(compgen -W '--input --max-message --protocol --rename --schema --help --version' -- "$word") ;;
     esac
 }
 _journal_dump() {

@@ -5,10 +5,11 @@ ghost use Rattle.shared_core_base.specs.Version.{version_number};
 
 use crate::call::Call;
 use crate::diff::arguments::Arguments;
+use crate::diff::theirs::Given;
 use crate::parts::File;
-use crate::renumbered::{Opened, open_numbered};
+use crate::renumbered::{Opened, open_both_ways, open_numbered};
 use command_line::{fail, is_stdin_open};
-use make_lines::{MakeError, make};
+use make_lines::{MakeError, Maker};
 use replay_bench::Side;
 use shared_core_codec::any_table::ProtocolSchemas;
 use shared_core_renumber::Renumbering;
@@ -53,13 +54,12 @@ fn open_dump(call: &Call<'_>, file: &File<'_>) -> Result<Opened, ExitCode> {
         Err(error) => return Err(call.fail(error, UNOPENED)),
     };
     let mut stream = Vec::new(alloc);
-    match make(
+    let maker = Maker {
         alloc,
-        file.version,
-        &ProtocolSchemas,
-        &mut input,
-        &mut stream,
-    ) {
+        version: file.version,
+        messages: &ProtocolSchemas,
+    };
+    match maker.make(&mut input, &mut stream) {
         Ok(()) => Ok(Opened::made(stream, file.limit)),
         Err(MakeError::Line(number, error)) => Err(fail(
             call.rt,
@@ -76,39 +76,62 @@ fn open_dump(call: &Call<'_>, file: &File<'_>) -> Result<Opened, ExitCode> {
     }
 }
 
-/// Opens the journal of a path. The error is the status, after what is wrong was reported.
-fn open_one(
-    call: &Call<'_>,
-    parsed: &Arguments<'_>,
-    numbering: Option<&[Renumbering]>,
-    path: &str,
-) -> Result<Opened, ExitCode>
+/// The file of a journal's path.
+fn file_of<'p>(parsed: &Arguments<'_>, path: &'p str) -> File<'p>
     requires { 5 ≤ version_number parsed.now.version }
+    ensures { 5 ≤ version_number result.version }
 {
-    let file = File {
+    File {
         path,
         version: parsed.version,
         limit: parsed.limit,
         encoding: parsed.encoding,
-    };
-    if parsed.is_dump {
-        // it has names, and no numbers
-        return open_dump(call, &file);
     }
-    open_numbered(call, &file, numbering)
 }
 
-/// Opens both journals, whose payloads are read by a table if there is one. The error is the status, after what is
-/// wrong was reported.
-pub fn open_both(
-    call: &Call<'_>,
-    parsed: &Arguments<'_>,
-    numbering: Option<&[Renumbering]>,
-) -> Result<Inputs, ExitCode>
+/// Opens the journal of a path. The error is the status, after what is wrong was reported.
+fn open_one(call: &Call<'_>, parsed: &Arguments<'_>, path: &str) -> Result<Opened, ExitCode>
+    requires { 5 ≤ version_number parsed.now.version }
+{
+    let file = file_of(parsed, path);
+    if parsed.is_dump {
+        return open_dump(call, &file);
+    }
+    open_numbered(call, &file, None)
+}
+
+/// Opens both journals. The error is the status, after what is wrong was reported.
+pub fn open_both(call: &Call<'_>, parsed: &Arguments<'_>) -> Result<Inputs, ExitCode>
     requires { 5 ≤ version_number parsed.now.version }
 {
     Ok(Inputs {
-        recorded: open_one(call, parsed, numbering, parsed.recorded)?,
-        replayed: open_one(call, parsed, numbering, parsed.replayed)?,
+        recorded: open_one(call, parsed, parsed.recorded)?,
+        replayed: open_one(call, parsed, parsed.replayed)?,
     })
+}
+
+/// Opens both journals by a table, also as they are given. The error is the status, after what is wrong was reported.
+pub fn open_both_by(
+    call: &Call<'_>,
+    parsed: &Arguments<'_>,
+    entries: &[Renumbering],
+) -> Result<(Inputs, Given), ExitCode>
+    requires { 5 ≤ version_number parsed.now.version }
+{
+    let (recorded, recorded_given) = open_both_ways(
+        call,
+        &file_of(parsed, parsed.recorded),
+        entries,
+    )?;
+    let (replayed, replayed_given) = open_both_ways(
+        call,
+        &file_of(parsed, parsed.replayed),
+        entries,
+    )?;
+    let inputs = Inputs { recorded, replayed };
+    let given = Given {
+        recorded: recorded_given,
+        replayed: replayed_given,
+    };
+    Ok((inputs, given))
 }
