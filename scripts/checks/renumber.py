@@ -223,7 +223,7 @@ def shown(check: checks.Check, program: Program, made: pathlib.Path) -> None:
 
 
 def compared(check: checks.Check, program: Program, made: pathlib.Path) -> None:
-    """What only the set has is passed over in a comparison, and a dump has names whatever the set."""
+    """A difference is one by the protocol, or else in what only the set has; a dump has names whatever the set."""
     # a time, and why, which the protocol does not have; the key of another command
     for name, code, payload in (
         ("one", 0x040C, b"\x40\5\xfa\1\1a"),
@@ -232,7 +232,8 @@ def compared(check: checks.Check, program: Program, made: pathlib.Path) -> None:
         ("replayed", 0x0402, b"\x1a\1l"),
     ):
         (check.work / name).write_bytes(schema.frame_of(code, payload))
-    program.ends(f"diff --schema {made} {check.work}/one {check.work}/two", "same, 1 command\n")
+    said = 'command 0: SleepCommand differs in what the protocol has no field for:\n   reason: "a" != "bc"\n'
+    program.ends(f"diff --schema {made} {check.work}/one {check.work}/two", said, status=1)
     differs = program.run(f"diff --json --schema {made} {check.work}/recorded {check.work}/replayed")
     fields = json.loads(differs.out).get("fields") if differs.out else None
     wanted = [{"name": "key", "recorded": "'k'", "replayed": "'l'"}]

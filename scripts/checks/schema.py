@@ -26,7 +26,12 @@ ADOPT = checks.ROOT / "tests" / "adopt"
 PROTO = checks.ROOT / "proto"
 
 # The names of these files' messages begin with it.
-PACKAGES = {"other": "another.runtime.v1", "awkward": "acme.durable.wire.v2", "journal": "pendratsoa.journal"}
+PACKAGES = {
+    "other": "another.runtime.v1", "awkward": "acme.durable.wire.v2", "journal": "pendratsoa.journal",
+}
+
+# How a file begins.
+HEAD = 'syntax = "proto3";\npackage a;\n'
 
 # Texts of messages, which the file and the protocol's own describe by the same names.
 SHARED = (
@@ -49,6 +54,7 @@ OTHERS = (
     ("other", 0x0401, "OutputCommandMessage", 'success { content: "x" }', {"success": {"content": "eA=="}}),
     ("other", 0x040C, "SleepCommandMessage", 'reason: "r"', {"reason": "r"}),
     ("awkward", 0x0402, "GetLazyStateCommand", 'key: "k" fresh: false', {"key": "k", "fresh": False}),
+    ("awkward", 0x0402, "GetLazyStateCommand", "flags: [true, false, true]", {"flags": [True, False, True]}),
     ("awkward", 0x0400, "InputCommandMessage", 'value { body: "b" content_type: "t" } nothing { }',
      {"value": {"body": "Yg==", "contentType": "t"}, "nothing": {}}),
     ("awkward", 0, "StartMessage", 'retry_count_since_last_stored_entry: -1 state_map { key: "k" }',
@@ -58,12 +64,13 @@ OTHERS = (
 # Texts whose joined payloads are one that is not canonical, and what is printed of it.
 JOINED = (
     # a field that has no form is passed over as an unknown number is
-    ("awkward", 0, "StartMessage", ("random_seed: 1",), {}),
+    ("awkward", 0, "StartMessage", ("known_entries: 1",), {}),
     ("other", 0, "StartMessage", ('id: "i" random_seed: 1',), {"id": "aQ=="}),
     # each number of a list that is not packed is a record
     ("awkward", 1, "SuspensionMessage", ("awaiting_on { waiting_completions: 1 }",),
      {"awaitingOn": {"waitingCompletions": [1]}}),
     # lists are joined and messages are merged; of all else the last one counts, and of a oneof the last member
+    ("awkward", 0x0402, "GetLazyStateCommand", ("flags: [false, true]", "flags: true"), {"flags": [False, True, True]}),
     ("awkward", 1, "SuspensionMessage",
      ("awaiting_on { waiting_completions: [1, 2] }", 'awaiting_on { waiting_completions: 3 waiting_signals: 4 }'),
      {"awaitingOn": {"waitingCompletions": [1, 2, 3], "waitingSignals": [4]}}),
@@ -91,6 +98,25 @@ ENUMS = (
      "awaiting_on { combinator_type: ALL nested_futures { combinator_type: ANY } }"),
 )
 
+# A message of each kind of number with a sign, single, optional, in a oneof and in a list; and lists of other kinds.
+SIGNED = f"""{HEAD}message SleepCommandMessage {{
+  int64 i = 1;
+  sint32 s = 2;
+  sint64 t = 3;
+  optional int64 oi = 4;
+  optional sint32 os = 5;
+  optional sint64 ot = 6;
+  oneof one {{ int64 mi = 7; sint32 ms = 8; sint64 mt = 9; }}
+  repeated sint32 ls = 11;
+  repeated int64 li = 12;
+  repeated sint64 lt = 13;
+  SleepCommandMessage within = 14;
+  repeated bool lb = 15;
+  repeated int32 le = 16;
+}}
+"""
+EDGES = {"i": (-2**63, 2**63 - 1), "s": (-2**31, 2**31 - 1), "t": (-2**63, 2**63 - 1)}
+
 # Values of enums that are rejected, with what is said of them.
 NO_ENUMS = (
     ("other", "ErrorMessage", '{"behavior":"never"}', "behavior: neither a name of its enum nor a number"),
@@ -106,9 +132,53 @@ NO_ENUMS = (
 )
 
 # A file, and one that imports it.
-HEAD = 'syntax = "proto3";\npackage a;\n'
 MISSING = "part.proto", f"{HEAD}message Part {{ bytes content = 1; }}\n"
 IMPORTING = "whole.proto", f'{HEAD}import "part.proto";\nmessage Whole {{ Part part = 1; }}\n'
+
+# What is said of commands that differ in fields which only a set has.
+ONLY_THERE = "differs in what the protocol has no field for:"
+
+# Fields that are added to messages, and the messages of some codes.
+ADDED = (
+    ("CallCommandMessage", """  optional uint32 priority = 1000;
+  repeated string tags = 1001;
+  Trace trace = 1002;
+  bytes extra = 1003;
+"""),
+    ("Header", "  string origin = 1000;\n"),
+)
+TRACE = "\nmessage Trace {\n  uint64 id = 1;\n  Header header = 2;\n}\n"
+CALLED = {0x040D: "CallCommandMessage", 0x0404: "ClearStateCommandMessage"}
+
+# Texts of two calls, and the lines of the fields in which they differ; none if they are the same.
+TOLD = (
+    ("priority: 1", "priority: 1", ""),
+    ("priority: 1 name: 'n'", "name: 'n' priority: 1", ""),
+    ("priority: 1", "priority: 2", "   priority: 1 != 2\n"),
+    ("priority: 0", "", "   priority: 0 != none\n"),
+    ("tags: 'a' tags: 'b'", "tags: 'a'", '   tags[1]: "b" != none\n'),
+    ("extra: 'a' tags: 'x'", "extra: 'b' tags: 'y'", '   extra: "YQ==" != "Yg=="\n   tags[0]: "x" != "y"\n'),
+    ("headers { key: 'k' }", "headers { key: 'k' }", ""),
+    ("headers { } headers { origin: '1' }", "headers { } headers { }", '   headers[1].origin: "1" != none\n'),
+    ("headers { key: 'k' }", "headers { key: 'k' origin: 'o' }", '   headers[0].origin: none != "o"\n'),
+    ("trace { id: 1 }", "trace { id: 2 }", '   trace.id: "1" != "2"\n'),
+    ("trace { }", "", "   trace: {} != none\n"),
+    ("trace { header { key: 'a' } }", "trace { header { key: 'b' } }", '   trace.header.key: "a" != "b"\n'),
+)
+
+# Types that the protocol lacks; two say one code, and one has a name of the protocol.
+TYPES = f"""{HEAD}
+// Type: 0xFC01
+message OwnEntry {{ bytes key = 1; }}
+// Type: 0x0020
+message Transfer {{ string name = 1; }}
+// Type: 0x0020
+message Unused {{ string name = 1; }}
+// Type: 0x0021
+message SleepCommandMessage {{ string name = 1; }}
+// Type: 0x0402
+message Fetch {{ bytes key = 3; }}
+"""
 
 # Parts of comments that say codes: before the word, the word, what is before a number, and what is after one.
 COMMENTS = (
@@ -164,7 +234,8 @@ def set_of(folder: pathlib.Path, name: str, *words: str) -> bytes:
 
 def payload_of(folder: pathlib.Path, name: str, message: str, text: str) -> bytes:
     """The payload that protoc makes of the text of a message that a file has."""
-    words = ["protoc", f"--proto_path={folder}", f"--encode={PACKAGES[name]}.{message}", f"{name}.proto"]
+    paths = f"--proto_path={folder}", f"--proto_path={PROTO}"
+    words = ["protoc", *paths, f"--encode={PACKAGES[name]}.{message}", f"{name}.proto"]
     return subprocess.run(words, input=text.encode(), check=True, stdout=subprocess.PIPE).stdout
 
 
@@ -352,11 +423,103 @@ def compared(check: checks.Check, program: Program) -> None:
     (check.work / "lacking").write_bytes(frame_of(0x0411, b"\x1a\1s"))
     (check.work / "also").write_bytes(frame_of(0x0411, b"\x1a\1t"))
     words = f"--schema {check.work}/other.set --rename TransferCommandMessage=RunCommand"
-    # the protocol has no such field
-    program.ends(f"diff {words} {check.work}/lacking {check.work}/also", "same, 1 command\n")
+    said = f'command 0: RunCommand {ONLY_THERE}\n   source: "s" != "t"\n'
+    program.ends(f"diff {words} {check.work}/lacking {check.work}/also", said, status=1)
     for word, files in (("diff", f"{check.work}/cut {check.work}/cut"), ("dump", f"{check.work}/cut")):
         said = f"journal {word}: --protocol auto reads payloads by the protocol's own description, and not by a "
         program.ends(f"{word} --schema {made} --protocol auto {files}", "", f"{said}descriptor set\n", 2)
+
+
+def listed(check: checks.Check, program: Program) -> None:
+    """Types that the protocol lacks are listed by the names of a set whose comments say their codes."""
+    folder = check.work / "listed"
+    folder.mkdir()
+    (folder / "types.proto").write_text(TYPES)
+    (folder / "set").write_bytes(set_of(folder, "types.proto", "--include_source_info"))
+    stream = b"".join(frame_of(code, b"ab") for code in (0x0402, 0xFC01, 0xFC02, 0x0020, 0x0021))
+    plain = "GetLazyStateCommand 2\nCustomEntry(64513) 2\nCustomEntry(64514) 2\n"
+    named = "GetLazyStateCommand 2\nOwnEntry 2\nCustomEntry(64514) 2\n"
+    end = "skipped {} 2\nskipped 0x21 2\nrest 0\n"
+    for words, out in (
+        ("", f"{plain}{end.format('0x20')}"), (f"--schema {folder}/set", f"{named}{end.format('Transfer')}"),
+    ):
+        program.ends(f"list --protocol 9 {words}", out, given=stream)
+    header = b"\0\x20" + bytes(6)
+    program.ends(f"list --schema {folder}/set", "unknown Transfer\nrest 0\n", given=header)
+    env = {**os.environ, "PENDRATSOA_SCHEMA": f"{folder}/set"}
+    program.ends("list", "unknown Transfer\nrest 0\n", given=header, env=env)
+    renamed = f"list --schema {folder}/set --rename Transfer=RunCommand"
+    program.ends(renamed, "unknown Unused\nrest 0\n", given=header)
+    said = "journal list: --rename Own=RunCommand: there is no message Own there; did you mean OwnEntry?\n"
+    program.ends(f"list --schema {folder}/set --rename Own=RunCommand", "", said, 2, given=header)
+
+
+def with_fields() -> str:
+    """The renumbered description with fields that the protocol lacks, and without the message of a sleep."""
+    text = re.sub(r"(?m)^message SleepCommandMessage \{\n(?:  .*\n|\n)*\}\n", "", renumbered())
+    for name, fields in ADDED:
+        text = text.replace(f"message {name} {{\n", f"message {name} {{\n{fields}", 1)
+    return text + TRACE
+
+
+def told_apart(check: checks.Check, program: Program) -> None:
+    """Fields that only a set has are compared, and named."""
+    folder = check.work / "added"
+    folder.mkdir()
+    (folder / "journal.proto").write_text(with_fields())
+    (folder / "set").write_bytes(set_of(folder, "journal.proto", f"--proto_path={PROTO}", "--include_imports"))
+
+    def written(name: str, *commands: tuple[int, str] | bytes) -> pathlib.Path:
+        stream = b"".join(
+            command if isinstance(command, bytes)
+            else frame_of(command[0], payload_of(folder, "journal", CALLED[command[0]], command[1]))
+            for command in commands
+        )
+        (folder / name).write_bytes(stream)
+        return folder / name
+
+    words = f"--schema {folder}/set"
+    for recorded, replayed, fields in TOLD:
+        files = written("recorded", (0x040D, recorded)), written("replayed", (0x040D, replayed))
+        said = f"command 0: CallCommand {ONLY_THERE}\n{fields}" if fields else "same, 1 command\n"
+        for more in ("", "--ignore-payloads --ignore-ids --strict", *(["--all"] if fields else [])):
+            status = 1 if fields else 0
+            program.ends(f"diff {more} {words} {files[0]} {files[1]}", said, status=status, what=replayed)
+    first = 0x0404, 'key: "k" name: "n"'
+    files = written("recorded", first, (0x040D, "priority: 1")), written("replayed", first, (0x040D, ""))
+    text = f"CallCommand {ONLY_THERE}\n   priority: 1 != none"
+    place = {"index": 1, "recordedAt": files[1].stat().st_size - 8, "replayedAt": files[1].stat().st_size - 8}
+    line = {"verdict": "schemaMismatch", **place, "text": text, "fields": [{"name": "priority", "recorded": "1"}]}
+    said = json.dumps(line, separators=(",", ":"))
+    for more in ("--json", "--json --all"):
+        program.ends(f"diff {more} {words} {files[0]} {files[1]}", f"{said}\n", status=1)
+    values = "\x1b[31m1\x1b[0m != \x1b[32mnone\x1b[0m"
+    colored = f"\x1b[1mcommand 1\x1b[0m: CallCommand {ONLY_THERE}\n   priority: {values}\n"
+    program.ends(f"diff --color always {words} {files[0]} {files[1]}", colored, status=1)
+    # the first difference is the one that is said
+    other = 0x0404, 'key: "l"'
+    before = written("before", (0x040D, "priority: 2"), other), written("after", (0x040D, ""), first)
+    said = f"command 0: CallCommand {ONLY_THERE}\n   priority: 2 != none\n"
+    program.ends(f"diff {words} {before[0]} {before[1]}", said, status=1)
+    both = written("before", other, (0x040D, "priority: 2")), written("after", first, (0x040D, ""))
+    same = (0x040D, 'handler_name: "a" priority: 1'), (0x040D, 'handler_name: "b"')
+    for one, two in (both, (written("one", same[0]), written("two", same[1]))):
+        found = program.run(f"diff {words} {one} {two}")
+        check.case("a difference that both have is said before one that only the set has",
+                   found.status == 1 and b"Found a mismatch" in found.out and b"priority" not in found.out, found)
+    ended = program.run(f"diff {words} {written('short', first)} {files[0]}")
+    check.same("a journal that ends", ended.out, b"recorded ends at command 1\n")
+    # what the set has no message for is compared whole, and what is malformed by it is an error
+    lacking = written("lacking", b"\x04\x0c\0\0\0\0\0\2\x08\1"), written("also", b"\x04\x0c\0\0\0\0\0\2\x08\2")
+    said = f'command 0: SleepCommand {ONLY_THERE}\n   bytes: "CAE=" != "CAI="\n'
+    program.ends(f"diff {words} {lacking[0]} {lacking[1]}", said, status=1)
+    malformed = written("malformed", first, frame_of(0x040D, b"\xc2\x3e\1a"))
+    said = "journal diff: the {} command 1 is malformed\n"
+    program.ends(f"diff {words} {malformed} {malformed}", "", said.format("recorded"), 2)
+    program.ends(f"diff {words} {files[0]} {malformed}", "", said.format("replayed"), 2)
+    # a command of a type that the protocol lacks is none
+    custom = written("custom", b"\xfc\x01\0\0\0\0\0\1a"), written("other_custom", b"\xfc\x01\0\0\0\0\0\1b")
+    program.ends(f"diff {words} {custom[0]} {custom[1]}", "same, 0 commands\n")
 
 
 def by_variable(check: checks.Check, program: Program) -> None:
@@ -445,6 +608,66 @@ def enums_by_name(check: checks.Check, program: Program) -> None:
         check.case(f"{text} of {name}.proto, by protobuf's parser", read.out.decode() == f"{wanted}\n", read)
 
 
+def signed_messages(r: random.Random) -> list[dict[str, object]]:
+    """Messages in JSON of all fields of `SIGNED`: the least and the greatest number of each, those around 0, and
+    others of any length."""
+    def number(kind: str) -> int:
+        least, most = EDGES[kind]
+        bits = r.randrange(1, 64)
+        return r.choice((least, most, 0, 1, -1, max(least, min(most, r.getrandbits(bits) - 2 ** (bits - 1)))))
+
+    messages: list[dict[str, object]] = [{}]
+    for name in ("i", "s", "t", "oi", "os", "ot", "mi", "ms", "mt"):
+        kind = name[-1]
+        for value in (*EDGES[kind], 0, 1, -1):
+            messages.append({name: value if kind == "s" else str(value)})
+    for _ in range(60):
+        message = {name: number(name[-1]) for name in ("i", "s", "t", "oi", "os", "ot") if r.random() < 0.6}
+        message[r.choice(("mi", "ms", "mt"))] = number("s")
+        for name, kind in (("ls", "s"), ("li", "i"), ("lt", "t"), ("le", "s")):
+            message[name] = [number(kind) for _ in range(r.randrange(4))]
+        message["lb"] = [r.random() < 0.5 for _ in range(r.randrange(4))]
+        message["within"] = {"t": number("t"), "ls": [number("s")]}
+        messages.append(message)
+    return messages
+
+
+def signed_numbers(check: checks.Check, program: Program) -> None:
+    """Numbers with a sign: protobuf reads the same payload of JSON, and prints the same of it."""
+    (check.work / "signed.proto").write_text(SIGNED)
+    (check.work / "signed.set").write_bytes(set_of(check.work, "signed.proto"))
+    table = program.run(f"schema {check.work}/signed.set").out
+    check.case("no field of numbers with a sign is passed over", b"passed over" not in table, table)
+    for text, said in (
+        ('{"i":"9223372036854775808"}', "i: out of range"), ('{"i":-9223372036854775809}', "i: out of range"),
+        ('{"s":2147483648}', "s: out of range"), ('{"os":-2147483649}', "os: out of range"),
+        ('{"mt":"9223372036854775808"}', "mt: out of range"), ('{"t":"-9223372036854775809"}', "t: out of range"),
+        ('{"ls":[0,-2147483649]}', "ls[1]: out of range"), ('{"i":"-"}', "i: wrong kind of value"),
+    ):
+        line = f'{{"type":"SleepCommand","message":{text}}}\n'.encode()
+        said = f"journal make: -:1: message.{said}\n"
+        program.ends(f"make --schema {check.work}/signed.set", "", said, 1, given=line, what=text)
+    judge = checks.python_with_protobuf()
+    if not judge:
+        check.left_out("protobuf's own JSON of numbers with a sign", "there is no protobuf for python3")
+        return
+    of = [judge, "-B", "scripts/checks/parsed_json.py", "--print", check.work / "signed.set", "a.SleepCommandMessage"]
+    messages = signed_messages(random.Random(3))
+    lines = "".join(f"{json.dumps(message)}\n" for message in messages)
+    theirs = checks.run(of, lines.encode(), cwd=checks.ROOT).out.decode().splitlines()
+    check.case("protobuf reads all of them", len(theirs) == len(messages), theirs)
+    for message, line in zip(messages, theirs):
+        payload, _, printed = line.partition(" ")
+        made = program.run(
+            f"make --schema {check.work}/signed.set",
+            f'{{"type":"SleepCommand","message":{json.dumps(message)}}}\n'.encode(),
+        )
+        frame = frame_of(0x040C, bytes.fromhex(payload))
+        check.case(f"{message} made", made == checks.Run(0, frame, b""), (made, frame))
+        shown = shown_by(program, f"--schema {check.work}/signed.set", 0x040C, bytes.fromhex(payload))
+        check.case(f"{message} dumped", shown == {"message": json.loads(printed)}, (shown, printed))
+
+
 def not_dumped(check: checks.Check, program: Program) -> None:
     """A payload that is malformed by a set's message, and files that are not sets."""
     malformed = frame_of(0x0401, b"\x0a\1"), f"--schema {check.work}/other.set"
@@ -503,12 +726,15 @@ def main(check: checks.Check) -> None:
     schema.ends("schema", "", "journal schema: -: f: m: malformed\n", 2, given=wrong, what="no UTF-8")
     dumped(check, schema)
     enums_by_name(check, schema)
+    signed_numbers(check, schema)
     not_dumped(check, schema)
     not_made(check, schema)
     comments(check, schema)
     coded(check, schema)
     by_variable(check, schema)
     compared(check, schema)
+    told_apart(check, schema)
+    listed(check, schema)
     random_payloads(check, schema)
 
 
