@@ -1,22 +1,18 @@
 -- What follows for the records of a row from what is accepted.
 use Rattle.std.proofs.Common.{◌≡◌, ℕ, List, [], ◌∷◌, ◌++◌, Bool, true, false, cond, ◌||◌, eqb, Option, Some, None}
-use Rattle.std.proofs.Common.{Result, Ok, Err, refl, sym, ap, subst, ◌∙◌}
+use Rattle.std.proofs.Common.{refl, sym, ap, subst, ◌∙◌}
 use Rattle.std.proofs.lemmas.Bool.{eqb-true}
 use Rattle.std.specs.List.{list_all}
-use Rattle.shared_core_wire.specs.declared.error.WireError.{WireError}
 use Rattle.shared_core_wire.specs.Grammar.{RecordValue, Varint, Fixed64, Length, Group, Fixed32, FieldRecord, content}
-use Rattle.shared_core_wire.specs.ReadRecords.{PlacedRecord}
 use Rattle.shared_core_wire.specs.Schema.{Kind, Row, Message, Plain}
 use Rattle.shared_core_wire.specs.Schema.{Optional, Repeated, OneOf, numbers, includes, member_kind}
 use Rattle.shared_core_wire.specs.Acceptance.{NestedAcceptance, accepts_number, accepts_numbers, accepts_value}
 use Rattle.shared_core_wire.specs.Acceptance.{accepts_element, row_allows, accepts_record}
 use Rattle.shared_core_wire.proofs.Runs.{and_split}
-use Rattle.shared_core_codec.specs.Checking.{all_read}
 use Rattle.shared_core_codec.specs.ProgramRows.{member_numbered, field_in_row}
 use Rattle.shared_core_canonical.specs.Rows.{is_run_value, run_allows, message_allows, LastValue, joined_for}
 use Rattle.shared_core_canonical.specs.Rows.{last_found}
-use Rattle.shared_core_canonical.specs.Rows.{last_over, records_of}
-use Rattle.shared_core_canonical.proofs.Readings.{passed}
+use Rattle.shared_core_canonical.specs.Rows.{last_over}
 
 abbrev pub is_repeated : Row → Bool
 is_repeated (Plain n k) = false
@@ -169,12 +165,10 @@ module _ (nested : NestedAcceptance)
     joined = λ s i. joined_good row l r f s g e i (row_message nested row r f s i e h);
   }
 
-  pub last_good : (row : Row) (l : Option LastValue) (items : List (Result PlacedRecord WireError)) → AreGood nested row
-      l → all_read (λ r. row_allows nested r row) items ≡ true → AreGood nested row
-      (last_over row l (records_of items))
+  pub last_good : (row : Row) (l : Option LastValue) (rs : List FieldRecord) → AreGood nested row l → list_all
+      (λ r. row_allows nested r row) rs ≡ true → AreGood nested row (last_over row l rs)
   last_good row l [] g h = g
-  last_good row l (Ok r ∷ items) g h =
-      let e = passed (λ r. row_allows nested r row) r (Ok r ∷ items) items refl h in
-      last_good row (last_found l r.field_record (field_in_row row r.field_record.number)) items
-      (one_good row l r.field_record (field_in_row row r.field_record.number) refl g e.0) e.1
-  last_good row l (Err x ∷ items) g h = absurd cc
+  last_good row l (r ∷ rs) g h =
+      let e = and_split (row_allows nested r row) (list_all (λ r. row_allows nested r row) rs) h in
+      last_good row (last_found l r (field_in_row row r.number)) rs
+      (one_good row l r (field_in_row row r.number) refl g e.0) e.1

@@ -1,5 +1,7 @@
 pub mod Varints
 pub mod Readings
+pub mod ByPlace
+pub mod RowsFound
 pub mod Runs
 pub mod Allowed
 pub mod Lasts

@@ -7,10 +7,8 @@ use Rattle.std.specs.declared.alloc.Global.{Global}
 use Rattle.std.specs.List.{list_all}
 use Rattle.std.proofs.lemmas.Bool.{eqb-true}
 use Rattle.std.proofs.lemmas.List.Concat.{flat_map-append}
-use Rattle.shared_core_wire.specs.declared.error.WireError.{WireError}
 use Rattle.shared_core_wire.specs.Encoding.{record_bytes, record_list_bytes}
 use Rattle.shared_core_wire.specs.Grammar.{FieldRecord}
-use Rattle.shared_core_wire.specs.ReadRecords.{PlacedRecord, read_records}
 use Rattle.shared_core_wire.specs.Schema.{Kind, Row, Table, U32, U64, Boolean, Enumeration, Text, ByteString, Message}
 use Rattle.shared_core_wire.specs.Schema.{Plain, Optional, Repeated, OneOf, member_kind}
 use Rattle.shared_core_wire.specs.Value.{Part, Absent, Elements, nil, empty_part, empty_value}
@@ -26,21 +24,17 @@ use Rattle.shared_core_wire.specs.Canonical.{element_values}
 use Rattle.shared_core_wire.specs.Canonical.{message_records, canonical_payload}
 use Rattle.shared_core_wire.proofs.Merging.{accepts_payload-append, repeated_over_is}
 use Rattle.shared_core_wire.proofs.Runs.{last_run_whole}
-use Rattle.shared_core_codec.specs.Checking.{all_read}
 use Rattle.shared_core_codec.proofs.Checked.{all_checked}
-use Rattle.shared_core_canonical.specs.Rows.{records_of, records_read, nested_bytes, single_record}
+use Rattle.shared_core_canonical.specs.Rows.{records_read, nested_bytes, single_record}
 use Rattle.shared_core_canonical.specs.Rows.{row_record}
-use Rattle.shared_core_canonical.specs.Rows.{rows_record, repeated_record, last_over, LastValue, AllPass, run_allows}
+use Rattle.shared_core_canonical.specs.Rows.{rows_record, repeated_record, last_over, LastValue, run_allows}
 use Rattle.shared_core_canonical.specs.Rows.{message_allows}
-use Rattle.shared_core_canonical.proofs.Readings.{all_pass, passed, weaker}
+use Rattle.shared_core_canonical.proofs.Readings.{AllPass, all_pass, weaker}
 use Rattle.shared_core_canonical.proofs.Allowed.{AreGood, member_found, last_good, first_allowed}
 use Rattle.shared_core_canonical.proofs.Allowed.{later_allowed, run_allowed, message_allowed}
 use Rattle.shared_core_canonical.proofs.Lasts.{IsLast, AreLast, last_of_own, run_ends, own_numbered}
 use Rattle.shared_core_canonical.proofs.RowsWritten.{bytes_of, IsRunOf, optional_written, plain_written, plain_held}
 use Rattle.shared_core_canonical.proofs.Lists.{scalars_are, messages_are, run_is}
-
-abbrev Items : Type 0
-Items = List (Result PlacedRecord WireError)
 
 -- ---- rows that are not repeated
 
@@ -197,95 +191,89 @@ module _ (table : Table) (left : ℕ) where
       true → accepts_message table left s (a ++ b) ≡ true
   message_joins s a b g h = joined_below table left s a b g h
 
-  listing : (test : FieldRecord → Bool) (items : Items) → all_read test items ≡ true → list_all test (records_of items)
-      ≡ true
-  listing test [] h = refl
-  listing test (Ok r ∷ items) h =
-      let e = passed test r (Ok r ∷ items) items refl h in
-      rw e.0 (listing test items e.1)
-  listing test (Err x ∷ items) h = absurd cc
-
-  rows_are : (rows : List Row) (items : Items) → all_read (accepts_record (accepts_message table left) rows) items ≡
-      true → rows_record (nested_bytes table left) rows (records_of items) ≡ record_list_bytes (message_records table
-      (rows_over
-      table (message_overlay table left) rows (empty_value rows) (records_of items)) rows)
+  rows_are : (rows : List Row) (rs : List FieldRecord) → list_all (accepts_record (accepts_message table left) rows)
+      rs ≡ true → rows_record (nested_bytes table left) rows rs ≡ record_list_bytes (message_records table (rows_over
+      table (message_overlay table left) rows (empty_value rows) rs) rows)
   unfolding part_values AreGood
-  rows_are [] items h = refl
-  rows_are (row ∷ rows) items h =
+  rows_are [] rs h = refl
+  rows_are (row ∷ rows) rs h =
       let accepts = accepts_message table left in
-      let allowed : all_read (λ r. row_allows accepts r row) items ≡ true =
+      let allowed : list_all (λ r. row_allows accepts r row) rs ≡ true =
       weaker (accepts_record accepts (row ∷ rows)) (λ r. row_allows accepts r row) (first_allowed accepts row rows)
-      items h
+      rs h
       in
-      let later : all_read (accepts_record accepts rows) items ≡ true = weaker (accepts_record accepts (row ∷ rows))
-      (accepts_record accepts rows) (later_allowed accepts row rows) items h in
-      let rs = records_of items in
+      let later : list_all (accepts_record accepts rows) rs ≡ true = weaker (accepts_record accepts (row ∷ rows))
+      (accepts_record accepts rows) (later_allowed accepts row rows) rs h in
       let p = row_over table (message_overlay table left) row (empty_part row) (own_records row rs) in
       let ps = rows_over table (message_overlay table left) rows (empty_value rows) rs in
       ap (λ (xs : List ℕ). xs ++ rows_record (nested_bytes table left) rows rs)
-      (row_is row rs (listing (λ r. row_allows accepts r row) items allowed)
-      (last_good accepts message_joins row None items tt allowed))
+      (row_is row rs allowed (last_good accepts message_joins row None rs tt allowed))
       ∙ ap (λ (xs : List ℕ). record_list_bytes (row_records row p (part_values table p (kind_of row p))) ++ xs)
-      (rows_are rows items later)
+      (rows_are rows rs later)
       ∙ sym (flat_map-append record_bytes (row_records row p (part_values table p (kind_of row p)))
       (message_records table ps rows))
 
-pub canonical_is : (table : Table) (left s : ℕ) (bytes : List ℕ) → AllPass
-    (accepts_record (accepts_message table left) (table s)) left bytes → rows_record (nested_bytes table left) (table s)
-    (records_read left bytes) ≡ canonical_payload table s (meaning table left s bytes)
+payload_passes : (table : Table) (left s : ℕ) (bytes : List ℕ) → accepts_payload table left s bytes ≡ true → AllPass
+    (accepts_record (accepts_message table left) (table s)) left bytes
+payload_passes table left s bytes h = all_checked table left s bytes ∙ h
+
+pub records_pass : (table : Table) (left s : ℕ) (bytes : List ℕ) → accepts_payload table left s bytes ≡ true → list_all
+    (accepts_record (accepts_message table left) (table s)) (records_read left bytes) ≡ true
+records_pass table left s bytes h =
+    let all = all_pass (accepts_record (accepts_message table left) (table s)) left bytes
+    (payload_passes table left s bytes h) in
+    ap (list_all (accepts_record (accepts_message table left) (table s))) all.read ∙ all.pass
+
+pub canonical_is : (table : Table) (left s : ℕ) (bytes : List ℕ) → accepts_payload table left s bytes ≡ true
+    → rows_record (nested_bytes table left) (table s) (records_read left bytes) ≡ canonical_payload table s
+    (meaning table left s bytes)
 canonical_is table left s bytes h =
-    let all = all_pass (accepts_record (accepts_message table left) (table s)) left bytes h in
+    let all = all_pass (accepts_record (accepts_message table left) (table s)) left bytes
+    (payload_passes table left s bytes h) in
     let listed : payload_records left bytes ≡ all.records = ap or_empty all.list in
-    rows_are table left (table s) (read_records left bytes) h
+    rows_are table left (table s) (records_read left bytes) (records_pass table left s bytes h)
     ∙ ap (λ (rs : List FieldRecord). record_list_bytes (message_records table (rows_over table
     (message_overlay table left) (table s) (empty_value (table s)) rs) (table s))) (all.read ∙ sym listed)
 
 -- ---- what the calls require
 
-pub runs_pass : (table : Table) (left n : ℕ) (k : Kind) (bytes : List ℕ) → accepts_number k ≡ true → AllPass
-    (λ r. row_allows (accepts_message table left) r (Repeated n k)) left bytes → AllPass (run_allows n) left bytes
-runs_pass table left n k bytes a h = weaker (λ r. row_allows (accepts_message table left) r (Repeated n k))
-    (run_allows n) (run_allowed (accepts_message table left) n k a) (read_records left bytes) h
+pub runs_pass : (table : Table) (left n : ℕ) (k : Kind) (rs : List FieldRecord) → accepts_number k ≡ true → list_all
+    (λ r. row_allows (accepts_message table left) r (Repeated n k)) rs ≡ true → list_all (run_allows n) rs ≡ true
+runs_pass table left n k rs a h = weaker (λ r. row_allows (accepts_message table left) r (Repeated n k)) (run_allows n)
+    (run_allowed (accepts_message table left) n k a) rs h
 
-pub messages_pass : (table : Table) (left n s : ℕ) (k : Kind) (bytes : List ℕ) → k ≡ Message s → AllPass
-    (λ r. row_allows (accepts_message table left) r (Repeated n k)) left bytes → AllPass
-    (message_allows (accepts_message table left) n s) left bytes
-messages_pass table left n s k bytes e h = weaker
+pub messages_pass : (table : Table) (left n s : ℕ) (k : Kind) (rs : List FieldRecord) → k ≡ Message s → list_all
+    (λ r. row_allows (accepts_message table left) r (Repeated n k)) rs ≡ true → list_all
+    (message_allows (accepts_message table left) n s) rs ≡ true
+messages_pass table left n s k rs e h = weaker
     (λ r. row_allows (accepts_message table left) r (Repeated n (Message s)))
-    (message_allows (accepts_message table left) n s) (message_allowed (accepts_message table left) n s)
-    (read_records left bytes)
-    (subst (λ (x : Kind). AllPass (λ r. row_allows (accepts_message table left) r (Repeated n x)) left bytes) e h)
+    (message_allows (accepts_message table left) n s) (message_allowed (accepts_message table left) n s) rs
+    (subst (λ (x : Kind). list_all (λ r. row_allows (accepts_message table left) r (Repeated n x)) rs ≡ true) e h)
 
-pub first_pass : (table : Table) (left : ℕ) (row : Row) (rows all : List Row) (bytes : List ℕ) → all ≡ row ∷ rows
-    → AllPass (accepts_record (accepts_message table left) all) left bytes → AllPass
-    (λ r. row_allows (accepts_message table left) r row) left bytes
-first_pass table left row rows all bytes e h = weaker (accepts_record (accepts_message table left) (row ∷ rows))
-    (λ r. row_allows (accepts_message table left) r row) (first_allowed (accepts_message table left) row rows)
-    (read_records left bytes)
-    (subst (λ (rs : List Row). AllPass (accepts_record (accepts_message table left) rs) left bytes) e h)
+pub first_pass : (table : Table) (left : ℕ) (row : Row) (rows all : List Row) (rs : List FieldRecord) → all ≡ row ∷ rows
+    → list_all (accepts_record (accepts_message table left) all) rs ≡ true → list_all
+    (λ r. row_allows (accepts_message table left) r row) rs ≡ true
+first_pass table left row rows all rs e h = weaker (accepts_record (accepts_message table left) (row ∷ rows))
+    (λ r. row_allows (accepts_message table left) r row) (first_allowed (accepts_message table left) row rows) rs
+    (subst (λ (rows : List Row). list_all (accepts_record (accepts_message table left) rows) rs ≡ true) e h)
 
-pub later_pass : (table : Table) (left : ℕ) (row : Row) (rows all : List Row) (bytes : List ℕ) → all ≡ row ∷ rows
-    → AllPass (accepts_record (accepts_message table left) all) left bytes → AllPass
-    (accepts_record (accepts_message table left) rows) left bytes
-later_pass table left row rows all bytes e h = weaker (accepts_record (accepts_message table left) (row ∷ rows))
-    (accepts_record (accepts_message table left) rows) (later_allowed (accepts_message table left) row rows)
-    (read_records left bytes)
-    (subst (λ (rs : List Row). AllPass (accepts_record (accepts_message table left) rs) left bytes) e h)
+pub later_pass : (table : Table) (left : ℕ) (row : Row) (rows all : List Row) (rs : List FieldRecord) → all ≡ row ∷ rows
+    → list_all (accepts_record (accepts_message table left) all) rs ≡ true → list_all
+    (accepts_record (accepts_message table left) rows) rs ≡ true
+later_pass table left row rows all rs e h = weaker (accepts_record (accepts_message table left) (row ∷ rows))
+    (accepts_record (accepts_message table left) rows) (later_allowed (accepts_message table left) row rows) rs
+    (subst (λ (rows : List Row). list_all (accepts_record (accepts_message table left) rows) rs ≡ true) e h)
 
 -- the joined contents of the last record of a message field are accepted
-pub joined_accepted : (table : Table) (left s : ℕ) (row : Row) (bytes : List ℕ) (l : LastValue) → AllPass
-    (λ r. row_allows (accepts_message table left) r row) left bytes → Some l ≡ last_over row None
-    (records_read left bytes) → l.kind ≡ Message s → accepts_message table left s l.joined ≡ true
+pub joined_accepted : (table : Table) (left s : ℕ) (row : Row) (rs : List FieldRecord) (l : LastValue) → list_all
+    (λ r. row_allows (accepts_message table left) r row) rs ≡ true → Some l ≡ last_over row None rs → l.kind ≡ Message s
+    → accepts_message table left s l.joined ≡ true
 unfolding AreGood
-joined_accepted table left s row bytes l h e k =
+joined_accepted table left s row rs l h e k =
     let good : AreGood (accepts_message table left) row (Some l) = subst
     (λ (o : Option LastValue). AreGood (accepts_message table left) row o) (sym e)
-    (last_good (accepts_message table left) (message_joins table left) row None (read_records left bytes) tt h) in
+    (last_good (accepts_message table left) (message_joins table left) row None rs tt h) in
     good.joined s k
-
-pub payload_passes : (table : Table) (left s : ℕ) (bytes : List ℕ) → accepts_payload table left s bytes ≡ true → AllPass
-    (accepts_record (accepts_message table left) (table s)) left bytes
-payload_passes table left s bytes h = all_checked table left s bytes ∙ h
 
 pub nested_below : (table : Table) (below left s : ℕ) (bytes : List ℕ) → below + 1 ≡ left → nested_bytes table left s
     bytes ≡ canonical_payload table s (meaning table below s bytes)

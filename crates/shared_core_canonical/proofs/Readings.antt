@@ -1,6 +1,6 @@
 -- Going over the records of a payload.
-use Rattle.std.proofs.Common.{◌≡◌, ℕ, List, [], ◌∷◌, ◌++◌, map, flat_map, Bool, true, false, cond, Option, Some, None}
-use Rattle.std.proofs.Common.{Result, Ok, Err, refl, sym, ap, ◌∙◌, append_assoc, append-nil}
+use Rattle.std.proofs.Common.{◌≡◌, ℕ, List, [], ◌∷◌, map, Bool, true, false, cond, Option, Some, None}
+use Rattle.std.proofs.Common.{Result, Ok, Err, refl, sym, ap, ◌∙◌}
 use Rattle.std.specs.List.{list_all}
 use Rattle.shared_core_wire.specs.declared.error.WireError.{WireError}
 use Rattle.shared_core_wire.specs.Grammar.{FieldRecord}
@@ -9,32 +9,15 @@ use Rattle.shared_core_wire.specs.ReadRecords.{PlacedRecord, read_records, witho
 use Rattle.shared_core_wire.specs.Acceptance.{some_passes}
 use Rattle.shared_core_wire.proofs.ReadRecords.{read_complete}
 use Rattle.shared_core_wire.proofs.RecordLists.{records_reads}
+use Rattle.shared_core_wire.proofs.Runs.{and_split}
 use Rattle.shared_core_codec.specs.Checking.{all_read}
 use Rattle.shared_core_codec.proofs.Checked.{read_past}
-use Rattle.shared_core_canonical.specs.Rows.{records_of, records_read, AllPass}
+use Rattle.shared_core_canonical.specs.Rows.{records_of, records_read}
 
 abbrev Items : Type 0
 Items = List (Result PlacedRecord WireError)
 
 -- ---- one record
-
--- what is written of the next record, and of those after it
-pub one_more : (f : FieldRecord → List ℕ) (out new all : List ℕ) (r : PlacedRecord) (items later : Items) → items ≡ Ok r
-    ∷ later → new ≡ out ++ f r.field_record → out ++ flat_map f (records_of items) ≡ all → new ++ flat_map f
-    (records_of later) ≡ all
-one_more f out new all r items later e n h =
-    ap (λ (xs : List ℕ). xs ++ flat_map f (records_of later)) n
-    ∙ append_assoc out (f r.field_record) (flat_map f (records_of later))
-    ∙ sym (ap (λ (is : Items). out ++ flat_map f (records_of is)) e) ∙ h
-
-pub no_more : (f : FieldRecord → List ℕ) (out all : List ℕ) (e : WireError) (items later : Items) → items ≡ Err e ∷
-    later → out ++ flat_map f (records_of items) ≡ all → out ++ flat_map f (records_of later) ≡ all
-no_more f out all x items later e h = sym (ap (λ (is : Items). out ++ flat_map f (records_of is)) e) ∙ h
-
-pub at_end : (f : FieldRecord → List ℕ) (out all : List ℕ) (items : Items) → items ≡ [] → out ++ flat_map f
-    (records_of items) ≡ all → out ≡ all
-at_end f out all items e h =
-    sym (append-nil out) ∙ sym (ap (λ (is : Items). out ++ flat_map f (records_of is)) e) ∙ h
 
 pub passed : (test : FieldRecord → Bool) (r : PlacedRecord) (items later : Items) → items ≡ Ok r ∷ later → all_read test
     items ≡ true → (test r.field_record ≡ true) × (all_read test later ≡ true)
@@ -51,12 +34,16 @@ failed test x items later e h = let g : false ≡ true = sym (ap (all_read test)
 
 -- ---- all records
 
-pub weaker : (test other : FieldRecord → Bool) → ((r : FieldRecord) → test r ≡ true → other r ≡ true) → (items : Items)
-    → all_read test items ≡ true → all_read other items ≡ true
+-- Each record that was read passes the test, and no bytes are left.
+abbrev pub AllPass : (FieldRecord → Bool) → ℕ → List ℕ → Type 0
+AllPass test left bytes = all_read test (read_records left bytes) ≡ true
+
+pub weaker : (test other : FieldRecord → Bool) → ((r : FieldRecord) → test r ≡ true → other r ≡ true)
+    → (rs : List FieldRecord) → list_all test rs ≡ true → list_all other rs ≡ true
 weaker test other w [] h = refl
-weaker test other w (Ok r ∷ items) h =
-    let e = passed test r (Ok r ∷ items) items refl h in rw (w r.field_record e.0) (weaker test other w items e.1)
-weaker test other w (Err e ∷ items) h = absurd cc
+weaker test other w (r ∷ rs) h =
+    let e = and_split (test r) (list_all test rs) h in
+    rw (w r e.0) (weaker test other w rs e.1)
 
 listed : (items : Items) (rs : List FieldRecord) → map without_place items ≡ map Ok rs → records_of items ≡ rs
 listed [] [] e = refl

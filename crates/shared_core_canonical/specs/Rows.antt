@@ -1,5 +1,5 @@
 -- What is written for the records of a row, as the program reads them.
-use Rattle.std.specs.Prelude.{◌≡◌, ℕ, ◌%◌, ◌^◌, Bool, true, false, List, [], ◌∷◌, ◌++◌, nat_eq, ◌==◌, flat_map}
+use Rattle.std.specs.Prelude.{ℕ, ◌%◌, ◌^◌, Bool, true, false, List, [], ◌∷◌, ◌++◌, nat_eq, ◌==◌, flat_map}
 use Rattle.std.specs.Prelude.{if◌then◌else◌, Option, Some, None, is_some, Result, Ok, Err}
 use Rattle.shared_core_wire.specs.Grammar.{RecordValue, Varint, Length, FieldRecord, content}
 use Rattle.shared_core_wire.specs.Reader.{packed_numbers}
@@ -13,7 +13,6 @@ use Rattle.shared_core_wire.specs.Overlay.{message_overlay}
 use Rattle.shared_core_wire.specs.Canonical.{canonical_payload, written_number}
 use Rattle.shared_core_wire.specs.WrittenRecords.{number_record, content_record}
 use Rattle.shared_core_wire.specs.declared.error.WireError.{WireError}
-use Rattle.shared_core_codec.specs.Checking.{all_read}
 use Rattle.shared_core_codec.specs.ProgramRows.{field_in_row}
 
 -- The records among the items that reading a payload gives.
@@ -158,7 +157,3 @@ run_allows n r = if nat_eq r.number n then is_run_value r.value else true
 -- Whether a record may be of a repeated message: it has another number, or its content is accepted for the schema.
 abbrev pub message_allows : NestedAcceptance → ℕ → ℕ → FieldRecord → Bool
 message_allows nested n s r = if nat_eq r.number n then nested s (content r.value) else true
-
--- Each record that was read passes the test, and no bytes are left.
-abbrev pub AllPass : (FieldRecord → Bool) → ℕ → List ℕ → Type 0
-AllPass test left bytes = all_read test (read_records left bytes) ≡ true

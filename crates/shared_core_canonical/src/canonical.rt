@@ -1,15 +1,18 @@
-//! The canonical payloads of messages, row by row: each row takes a pass over the records, and what is written of them
-//! is appended. Those of nested messages are made by the same functions.
+//! The canonical payloads of messages, row by row: the records are read once and put in the order of the rows, and what
+//! is written of the records of each row is appended. Those of nested messages are made by the same functions.
 
-ghost use Rattle.std.specs.Prelude.{◌≡◌, ◌++◌, true, None, IfOk, OnOk, flat_map};
-ghost use Rattle.shared_core_wire.specs.Acceptance.{accepts_payload, accepts_message, row_allows};
+ghost use Rattle.std.specs.Prelude.{◌≡◌, ◌++◌, ℕ, true, None, IfOk, OnOk, flat_map, map};
+ghost use Rattle.std.specs.List.{list_all};
+ghost use Rattle.shared_core_wire.specs.Acceptance.{accepts_payload, accepts_message, accepts_record, row_allows};
 ghost use Rattle.shared_core_wire.specs.Canonical.{canonical_payload};
 ghost use Rattle.shared_core_wire.specs.Overlay.{meaning};
 ghost use Rattle.shared_core_wire.specs.Schema.{Repeated};
 ghost use Rattle.shared_core_codec.specs.Canonicity.{is_plain};
 ghost use Rattle.shared_core_codec.specs.ProgramRows.{field_view, kind_view};
-ghost use Rattle.shared_core_canonical.specs.Rows.{records_read, nested_bytes, row_record, repeated_record};
-ghost use Rattle.shared_core_canonical.specs.Rows.{message_element, message_allows, AllPass};
+ghost use Rattle.shared_core_canonical.specs.Found.{found_records, found_views, places_record, records_at};
+ghost use Rattle.shared_core_canonical.specs.Places.{rise_from};
+ghost use Rattle.shared_core_canonical.specs.Rows.{nested_bytes, row_record, repeated_record};
+ghost use Rattle.shared_core_canonical.specs.Rows.{message_element, message_allows};
 ghost use Rattle.shared_core_canonical.specs.Rows.{single_record, last_over};
 ghost use Rattle.shared_core_canonical.specs.Singles.{whole};
 ghost use Rattle.shared_core_wire.specs.Grammar.{content};
@@ -17,11 +20,11 @@ ghost use Rattle.shared_core_wire.specs.View.{value_of};
 
 use crate::append::append_content;
 use crate::elements::{append_elements, append_run};
+use crate::found::sorted_records;
 use crate::single::{Single, append_scalar, content_of, read_last};
-use crate::source::Source;
+use crate::source::{FoundRecords, Source};
 use shared_core_codec::any_table::{RowShape, SchemaRow, Schemas};
 use shared_core_codec::rows::{Field, Kind};
-use shared_core_wire::records::Records;
 use std::alloc::AllocError;
 
 /// The canonical payload of what a message means.
@@ -35,13 +38,42 @@ pub fn message<T: Schemas>(
     ensures { IfOk result (λ out. out.items ≡ canonical_payload (T.table schemas.now) schema
         (meaning (T.table schemas.now) source.now.left schema source.now.bytes.now)) }
 {
+    let rows = schemas.rows_of(schema);
+    let found = sorted_records(rows, source)?;
     let mut out = Vec::new(source.alloc);
-    let mut rest = schemas.rows_of(schema);
+    let all = FoundRecords {
+        alloc: source.alloc,
+        records: found.as_slice(),
+        left: source.left,
+    };
+    append_rows(schemas, rows, &all, &mut out)?;
+    Ok(out)
+}
+
+/// Appends what is written of records, which are in the order of their rows.
+#[cycle(message)]
+fn append_rows<T: Schemas>(
+    schemas: &T,
+    rows: &[T::Row],
+    source: &FoundRecords<'_>,
+    out: &mut Vec<u8>,
+) -> Result<(), AllocError>
+    requires rising { rise_from 0 source.now.records.now ≡ true }
+    requires allowed { (place : ℕ) → list_all (accepts_record (accepts_message (T.table schemas.now) source.now.left)
+        (map T.Row.view rows.now)) (records_at place (found_views source.now.records.now)) ≡ true }
+    ensures { OnOk result (out.new.items ≡ out.old.items
+        ++ places_record (nested_bytes (T.table schemas.now) source.now.left) (map T.Row.view rows.now) 0
+        (found_views source.now.records.now)) }
+{
+    let mut rest = rows;
+    let mut start = 0;
     while let Some((row, after)) = rest.split_first() {
-        append_row(schemas, row, source, &mut out)?;
+        let own = source.of_row(start, rows.len() - rest.len());
+        append_row(schemas, row, &own, out)?;
+        start += own.records.len();
         rest = after;
     }
-    Ok(out)
+    Ok(())
 }
 
 /// Appends what is written of the records of a row.
@@ -49,15 +81,18 @@ pub fn message<T: Schemas>(
 fn append_row<T: Schemas>(
     schemas: &T,
     row: &T::Row,
-    source: &Source<'_>,
+    source: &FoundRecords<'_>,
     out: &mut Vec<u8>,
 ) -> Result<(), AllocError>
-    requires { AllPass (λ r. row_allows (accepts_message (T.table schemas.now) source.now.left) r
-        (T.Row.view row.now)) source.now.left source.now.bytes.now }
+    requires { list_all (λ r. row_allows (accepts_message (T.table schemas.now) source.now.left) r
+        (T.Row.view row.now)) (found_records source.now.records.now) ≡ true }
     ensures { OnOk result (out.new.items ≡ out.old.items
         ++ row_record (nested_bytes (T.table schemas.now) source.now.left) (T.Row.view row.now)
-        (records_read source.now.left source.now.bytes.now)) }
+        (found_records source.now.records.now)) }
 {
+    if source.records.is_empty() {
+        return Ok(());
+    }
     if let RowShape::Repeated(field) = row.shape() {
         return append_repeated(schemas, *field, source, out);
     }
@@ -69,14 +104,14 @@ fn append_row<T: Schemas>(
 fn append_single<T: Schemas>(
     schemas: &T,
     row: &T::Row,
-    source: &Source<'_>,
+    source: &FoundRecords<'_>,
     out: &mut Vec<u8>,
 ) -> Result<(), AllocError>
-    requires { AllPass (λ r. row_allows (accepts_message (T.table schemas.now) source.now.left) r
-        (T.Row.view row.now)) source.now.left source.now.bytes.now }
+    requires { list_all (λ r. row_allows (accepts_message (T.table schemas.now) source.now.left) r
+        (T.Row.view row.now)) (found_records source.now.records.now) ≡ true }
     ensures { OnOk result (out.new.items ≡ out.old.items
         ++ single_record (nested_bytes (T.table schemas.now) source.now.left) (is_plain (T.Row.view row.now))
-        (last_over (T.Row.view row.now) None (records_read source.now.left source.now.bytes.now))) }
+        (last_over (T.Row.view row.now) None (found_records source.now.records.now))) }
 {
     let mut joined = Vec::new(source.alloc);
     let Some(last) = read_last(row, source, &mut joined)? else {
@@ -95,14 +130,14 @@ fn append_single<T: Schemas>(
 fn append_repeated<T: Schemas>(
     schemas: &T,
     field: Field,
-    source: &Source<'_>,
+    source: &FoundRecords<'_>,
     out: &mut Vec<u8>,
 ) -> Result<(), AllocError>
-    requires { AllPass (λ r. row_allows (accepts_message (T.table schemas.now) source.now.left) r
-        (Repeated field.number (kind_view field.kind))) source.now.left source.now.bytes.now }
+    requires { list_all (λ r. row_allows (accepts_message (T.table schemas.now) source.now.left) r
+        (Repeated field.number (kind_view field.kind))) (found_records source.now.records.now) ≡ true }
     ensures { OnOk result (out.new.items ≡ out.old.items
         ++ repeated_record (nested_bytes (T.table schemas.now) source.now.left) field.number (kind_view field.kind)
-        (records_read source.now.left source.now.bytes.now)) }
+        (found_records source.now.records.now)) }
 {
     if field.kind.is_number() {
         return append_run(field, source, out);
@@ -131,23 +166,21 @@ struct Messages {
 fn append_messages<T: Schemas>(
     schemas: &T,
     field: Messages,
-    source: &Source<'_>,
+    source: &FoundRecords<'_>,
     out: &mut Vec<u8>,
 ) -> Result<(), AllocError>
-    requires { AllPass (message_allows (accepts_message (T.table schemas.now) source.now.left) field.number
-        field.schema) source.now.left source.now.bytes.now }
+    requires { list_all (message_allows (accepts_message (T.table schemas.now) source.now.left) field.number
+        field.schema) (found_records source.now.records.now) ≡ true }
     ensures { OnOk result (out.new.items ≡ out.old.items
         ++ flat_map (message_element (nested_bytes (T.table schemas.now) source.now.left) field.number field.schema)
-        (records_read source.now.left source.now.bytes.now)) }
+        (found_records source.now.records.now)) }
 {
-    for item in Records::within(source.bytes, source.left) {
-        let Ok(found) = item else {
-            continue;
-        };
-        if found.number != field.number {
+    for found in source.records {
+        let record = found.value;
+        if record.number != field.number {
             continue;
         }
-        let inner = nested(schemas, field.schema, source, content_of(found.value))?;
+        let inner = nested(schemas, field.schema, source, content_of(record.value))?;
         append_content(out, false, field.number, inner.as_slice())?;
     }
     Ok(())
@@ -158,7 +191,7 @@ fn append_messages<T: Schemas>(
 fn nested<T: Schemas>(
     schemas: &T,
     schema: u32,
-    source: &Source<'_>,
+    source: &FoundRecords<'_>,
     bytes: &[u8],
 ) -> Result<Vec<u8>, AllocError>
     requires { accepts_message (T.table schemas.now) source.now.left schema bytes.now ≡ true }

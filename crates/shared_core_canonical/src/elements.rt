@@ -1,36 +1,34 @@
 //! Repeated fields whose elements are not messages: what is written of their records.
 
 ghost use Rattle.std.specs.Prelude.{◌≡◌, ◌++◌, OnOk, flat_map, is_some, true};
+ghost use Rattle.std.specs.List.{list_all};
 ghost use Rattle.shared_core_wire.specs.Reader.{packed_numbers};
 ghost use Rattle.shared_core_wire.specs.WrittenRecords.{content_record};
 ghost use Rattle.shared_core_codec.specs.ProgramRows.{kind_view};
 ghost use Rattle.shared_core_codec.specs.Checking.{field_record_of};
-ghost use Rattle.shared_core_canonical.specs.Rows.{records_read, scalar_element, found_varints, run_record};
-ghost use Rattle.shared_core_canonical.specs.Rows.{run_allows, AllPass};
+ghost use Rattle.shared_core_canonical.specs.Found.{found_records};
+ghost use Rattle.shared_core_canonical.specs.Rows.{scalar_element, found_varints, run_record, run_allows};
 
 use crate::append::{append_content, append_varint};
 use crate::single::{append_scalar, rewritten_number};
-use crate::source::Source;
+use crate::source::FoundRecords;
 use shared_core_codec::rows::{Field, Kind};
 use shared_core_wire::record::WireValue;
-use shared_core_wire::records::{Record, Records};
+use shared_core_wire::records::Record;
 use shared_core_wire::varint::read_varint;
 use std::alloc::AllocError;
 
 /// Appends the records of a field whose elements are written one by one.
 pub fn append_elements(
     field: Field,
-    source: &Source<'_>,
+    source: &FoundRecords<'_>,
     out: &mut Vec<u8>,
 ) -> Result<(), AllocError>
     ensures { OnOk result (out.new.items ≡ out.old.items ++ flat_map
-        (scalar_element field.number (kind_view field.kind)) (records_read source.now.left source.now.bytes.now)) }
+        (scalar_element field.number (kind_view field.kind)) (found_records source.now.records.now)) }
 {
-    for item in Records::within(source.bytes, source.left) {
-        let Ok(found) = item else {
-            continue;
-        };
-        append_element(field, &found, out)?;
+    for found in source.records {
+        append_element(field, &found.value, out)?;
     }
     Ok(())
 }
@@ -47,18 +45,19 @@ fn append_element(field: Field, found: &Record<'_>, out: &mut Vec<u8>) -> Result
 }
 
 /// Appends the record of a field whose elements are packed, unless there are none.
-pub fn append_run(field: Field, source: &Source<'_>, out: &mut Vec<u8>) -> Result<(), AllocError>
-    requires { AllPass (run_allows field.number) source.now.left source.now.bytes.now }
+pub fn append_run(
+    field: Field,
+    source: &FoundRecords<'_>,
+    out: &mut Vec<u8>,
+) -> Result<(), AllocError>
+    requires { list_all (run_allows field.number) (found_records source.now.records.now) ≡ true }
     ensures { OnOk result (out.new.items ≡ out.old.items ++ content_record true field.number
         (flat_map (run_record field.number (kind_view field.kind))
-        (records_read source.now.left source.now.bytes.now))) }
+        (found_records source.now.records.now))) }
 {
     let mut run = Vec::new(source.alloc);
-    for item in Records::within(source.bytes, source.left) {
-        let Ok(found) = item else {
-            continue;
-        };
-        append_run_part(field, &found, &mut run)?;
+    for found in source.records {
+        append_run_part(field, &found.value, &mut run)?;
     }
     append_content(out, true, field.number, run.as_slice())
 }

@@ -5,6 +5,8 @@ pub mod append;
 mod canonical;
 mod elements;
 pub mod error;
+mod found;
 pub mod payload;
+pub mod places;
 mod single;
 mod source;

@@ -19,8 +19,8 @@ const LIMIT: usize = 4_294_967_295;
 
 /// Returns the canonical payload of what a payload means, by the schema at an index of a table. `Malformed` if and only
 /// if the payload is not well-formed for the schema, before anything is allocated; `TooLong` if the canonical payload
-/// has more than 4,294,967,295 bytes; `OutOfMemory` if an allocation fails. Makes a pass over the records of a message
-/// for each row of its schema, and copies what is nested at each level.
+/// has more than 4,294,967,295 bytes; `OutOfMemory` if an allocation fails. Reads the records of a message once, sorts
+/// them if they are not in the order of the rows, and copies what is nested at each level.
 #[tactic(auto, using(crate::proofs::WholePayloads::whole_payload))]
 pub fn canonical_payload_in<T: Schemas>(
     alloc: Global,

@@ -6,16 +6,16 @@ ghost use Rattle.shared_core_wire.specs.View.{value_of};
 ghost use Rattle.shared_core_wire.specs.Canonical.{written_number};
 ghost use Rattle.shared_core_wire.specs.Schema.{Enumeration};
 ghost use Rattle.shared_core_codec.specs.ProgramRows.{kind_view};
-ghost use Rattle.shared_core_canonical.specs.Rows.{records_read, rewritten_number, scalar_record, joined_for};
-ghost use Rattle.shared_core_canonical.specs.Rows.{last_over};
+ghost use Rattle.shared_core_canonical.specs.Found.{found_records};
+ghost use Rattle.shared_core_canonical.specs.Rows.{rewritten_number, scalar_record, joined_for, last_over};
 ghost use Rattle.shared_core_canonical.specs.Singles.{whole, last_view};
 
 use crate::append::{append_content, append_number};
-use crate::source::Source;
+use crate::source::FoundRecords;
 use shared_core_codec::any_table::SchemaRow;
 use shared_core_codec::rows::{Field, Kind, find_in_row};
 use shared_core_wire::record::WireValue;
-use shared_core_wire::records::{Record, Records};
+use shared_core_wire::records::Record;
 use shared_core_wire::varint::low_32;
 use std::alloc::AllocError;
 
@@ -39,28 +39,26 @@ pub fn content_of<'a>(value: WireValue<'a>) -> &'a [u8]
 /// Reads the last record of a row. Joins the contents of the records of its number at the end, if there are several.
 pub fn read_last<'a, R: SchemaRow>(
     row: &R,
-    source: &Source<'a>,
+    source: &FoundRecords<'a>,
     joined: &mut Vec<u8>,
 ) -> Result<Option<Single<'a>>, AllocError>
     requires { joined.old.items ≡ [] }
     ensures { IfOk result (λ last. last_view last joined.new.items
-        ≡ last_over (R.view row.now) None (records_read source.now.left source.now.bytes.now)) }
+        ≡ last_over (R.view row.now) None (found_records source.now.records.now)) }
 {
     let mut last: Option<Single<'a>> = None;
-    for item in Records::within(source.bytes, source.left) {
-        let Ok(found) = item else {
+    for found in source.records {
+        let record = found.value;
+        let Some(field) = find_in_row(row, record.number) else {
             continue;
         };
-        let Some(field) = find_in_row(row, found.number) else {
-            continue;
-        };
-        join(joined, &last, &found)?;
+        join(joined, &last, &record)?;
         last = Some(Single {
             field: Field {
-                number: found.number,
+                number: record.number,
                 kind: field.kind,
             },
-            value: found.value,
+            value: record.value,
         });
     }
     Ok(last)
