@@ -7,10 +7,10 @@ use Rattle.shared_core_wire.specs.Grammar.{RecordValue}
 use Rattle.shared_core_wire.specs.ReadRecords.{PlacedRecord}
 use Rattle.shared_core_wire.specs.declared.error.WireError.{WireError}
 use Rattle.shared_core_codec.specs.Checking.{all_read}
+use Rattle.shared_core_canonical.specs.declared.places.Placed.{Placed}
 use Rattle.shared_core_canonical.specs.Rows.{records_of}
 use Rattle.shared_core_canonical.proofs.Readings.{passed, failed}
 use Rattle.shared_core_renumber.specs.declared.entries.Renumbering.{Renumbering}
-use Rattle.shared_core_renumber.specs.declared.entries.Placed.{Placed}
 use Rattle.shared_core_renumber.specs.Entries.{find_in}
 use Rattle.shared_core_renumber.specs.Allowed.{NestedTest, found_allows, nested_allows, payload_allows, record_allows}
 use Rattle.shared_core_renumber.specs.Written.{FoundRecord, found_record}
@@ -45,7 +45,8 @@ abbrev Items : Type 0
 Items = List (Result PlacedRecord WireError)
 
 -- a record whose entry was found or not, before others that are allowed
-one_allowed : (inner : NestedTest) (o : Option Placed) (w : RecordValue) (fs : List FoundRecord) → found_allows inner o
+one_allowed : (inner : NestedTest) (o : Option (Placed Renumbering)) (w : RecordValue) (fs : List FoundRecord) →
+    found_allows inner o
     w ≡ true → list_all (is_allowed inner) fs ≡ true → list_all (is_allowed inner) (found_record o w ++ fs) ≡ true
 one_allowed inner None w fs h rest = rest
 one_allowed inner (Some p) w fs h rest = rw h rest

@@ -3,8 +3,8 @@ use Rattle.std.specs.Prelude.{ℕ, zero, suc, ◌-◌, Bool, true, false, List, 
 use Rattle.shared_core_wire.specs.Grammar.{RecordValue, Varint, Length, FieldRecord}
 use Rattle.shared_core_wire.specs.ReadRecords.{read_records}
 use Rattle.shared_core_codec.specs.Checking.{all_read}
+use Rattle.shared_core_canonical.specs.declared.places.Placed.{Placed}
 use Rattle.shared_core_renumber.specs.declared.entries.Renumbering.{Renumbering}
-use Rattle.shared_core_renumber.specs.declared.entries.Placed.{Placed}
 use Rattle.shared_core_renumber.specs.Entries.{find_in, from_schema}
 
 -- Whether the bytes of a message within, of the schema with this number, can be written.
@@ -19,9 +19,9 @@ value_allows inner e (Length b) = if nat_eq e.nested 0 then true else inner (e.n
 value_allows inner e w = false
 
 -- The same of an entry that was found or not.
-abbrev pub found_allows : NestedTest → Option Placed → RecordValue → Bool
+abbrev pub found_allows : NestedTest → Option (Placed Renumbering) → RecordValue → Bool
 found_allows inner None w = true
-found_allows inner (Some p) w = value_allows inner p.entry w
+found_allows inner (Some p) w = value_allows inner p.value w
 
 -- Whether the entries of a schema, which are at the front, allow a record: they have no entry of its number, or the
 -- first one allows its value.

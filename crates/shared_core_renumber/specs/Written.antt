@@ -1,13 +1,15 @@
 -- What is written of a payload at other field numbers.
-use Rattle.std.specs.Prelude.{ℕ, zero, suc, ◌-◌, ◌%◌, ◌^◌, Bool, false, List, [], ◌∷◌, ◌++◌, length, map, flat_map}
+use Rattle.std.specs.Prelude.{◌≡◌, ℕ, zero, suc, ◌-◌, ◌%◌, ◌^◌, Bool, true, false, List, [], ◌∷◌, ◌++◌, length, map}
+use Rattle.std.specs.Prelude.{flat_map}
 use Rattle.std.specs.Prelude.{Option, Some, None, nat_eq, if◌then◌else◌}
 use Rattle.shared_core_wire.specs.Grammar.{RecordValue, Varint, Length, FieldRecord}
 use Rattle.shared_core_wire.specs.View.{value_of}
 use Rattle.shared_core_wire.specs.WrittenRecords.{number_record, content_record}
+use Rattle.shared_core_canonical.specs.declared.places.Placed.{Placed}
+use Rattle.shared_core_canonical.specs.Places.{at_place, placed_values, rise_from}
 use Rattle.shared_core_canonical.specs.Rows.{records_read}
 use Rattle.shared_core_renumber.specs.declared.entries.Renumbering.{Renumbering}
 use Rattle.shared_core_renumber.specs.declared.found.Found.{Found}
-use Rattle.shared_core_renumber.specs.declared.entries.Placed.{Placed}
 use Rattle.shared_core_renumber.specs.Entries.{find_in, from_schema}
 use Rattle.shared_core_renumber.specs.Allowed.{NestedTest, value_allows}
 
@@ -20,24 +22,52 @@ pub record FoundRecord : Type 0 where
   pub value : RecordValue
 
 -- The record of a value, by the entry that was found or not.
-abbrev pub found_record : Option Placed → RecordValue → List FoundRecord
+abbrev pub found_record : Option (Placed Renumbering) → RecordValue → List FoundRecord
 found_record None w = []
-found_record (Some p) w = record { place = p.place; entry = p.entry; value = w } ∷ []
+found_record (Some p) w = record { place = p.place; entry = p.value; value = w } ∷ []
 
 -- Those among some records, by the entries of a schema, which are at the front.
 abbrev pub records_found : ℕ → List Renumbering → List FieldRecord → List FoundRecord
 records_found s es rs = flat_map (λ r. found_record (find_in s r.number es) r.value) rs
 
--- A record of a field that a table has, as the program has it.
-abbrev pub found_view : Found → FoundRecord
-found_view f = record { place = f.place; entry = f.entry; value = value_of f.value }
-
-abbrev pub found_views : List Found → List FoundRecord
-found_views fs = map found_view fs
-
 -- Whether its entry allows its value.
 abbrev pub is_allowed : NestedTest → FoundRecord → Bool
 is_allowed inner f = value_allows inner f.entry f.value
+
+-- ---- the same, as the program has them
+
+-- A record without its place: the field's entry, and the value.
+abbrev pub FoundValue : Type 0
+FoundValue = Renumbering × RecordValue
+
+-- The records of the fields of some entries by how many of these stand before the first one of a group.
+abbrev pub ranked : ℕ → List FoundRecord → List (Placed FoundValue)
+ranked count fs = map (λ f. record { place = count - f.place; value = (f.entry, f.value) }) fs
+
+-- A record of the program.
+abbrev pub value_view : Found → FoundValue
+value_view f = (f.entry, value_of f.value)
+
+-- Those of the program, with their places.
+abbrev pub found_views : List (Placed Found) → List (Placed FoundValue)
+found_views ps = map (λ p. record { place = p.place; value = value_view p.value }) ps
+
+-- Those of the program, without their places.
+abbrev pub found_values : List (Placed Found) → List FoundValue
+found_values ps = map (λ p. value_view p.value) ps
+
+-- Those at a place.
+abbrev pub values_at : ℕ → List (Placed FoundValue) → List FoundValue
+values_at place vs = placed_values (at_place place vs)
+
+-- Those of the program by their places.
+pub record AreInOrder (vs : List (Placed FoundValue)) (ps : List (Placed Found)) : Type 0 where
+  pub rising : rise_from 0 ps ≡ true
+  pub same : (place : ℕ) → found_values (at_place place ps) ≡ values_at place vs
+
+-- Whether the entry of a record allows its value.
+abbrev pub allows_found : NestedTest → FoundValue → Bool
+allows_found inner v = value_allows inner v.0 v.1
 
 -- ---- what is written of them
 
@@ -51,6 +81,10 @@ value_bytes inner e (Varint v) = number_record false (e.renumbered % 2 ^ 32) v
 value_bytes inner e (Length b) = content_record false (e.renumbered % 2 ^ 32)
     (if nat_eq e.nested 0 then b else (inner (e.nested - 1) b))
 value_bytes inner e w = []
+
+-- The same of a record that was found.
+abbrev pub found_bytes : NestedBytes → FoundValue → List ℕ
+found_bytes inner v = value_bytes inner v.0 v.1
 
 -- What is written of a record of a field that the table has, among those of the group at a place.
 abbrev pub group_bytes : NestedBytes → ℕ → FoundRecord → List ℕ

@@ -46,7 +46,7 @@ fn allows_record(
         (field_record_of found.now) }
 {
     match find_in(own, source.schema, found.number) {
-        Some(placed) => allows_value(entries, &placed.entry, source, found.value),
+        Some(placed) => allows_value(entries, &placed.value, source, found.value),
         None => true,
     }
 }

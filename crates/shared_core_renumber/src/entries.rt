@@ -3,6 +3,8 @@
 ghost use Rattle.std.specs.Prelude.{◌≡◌};
 ghost use Rattle.shared_core_renumber.specs.Entries.{find_in, from_schema};
 
+use shared_core_canonical::places::Placed;
+
 /// A field of a message: its number in the payload that is read, and the one in the payload that is written. The
 /// entries of a schema stand together in a table, in the order in which their fields are written. Of several entries of
 /// a number in a schema the first one counts.
@@ -21,13 +23,6 @@ pub struct Renumbering {
     pub nested: u64,
 }
 
-/// An entry with its place: how many entries stand from the first one of its group on.
-#[derive(Clone, Copy)]
-pub struct Placed {
-    pub place: usize,
-    pub entry: Renumbering,
-}
-
 /// The entries from the first one of a schema on.
 pub fn from_schema(entries: &[Renumbering], schema: u64) -> &[Renumbering]
     ensures { result.now ≡ from_schema schema entries.now }
@@ -42,8 +37,9 @@ pub fn from_schema(entries: &[Renumbering], schema: u64) -> &[Renumbering]
     rest
 }
 
-/// The first entry that has a number in what is read, among those of a schema, which are at the front.
-pub fn find_in(own: &[Renumbering], schema: u64, number: u32) -> Option<Placed>
+/// The first entry that has a number in what is read, among those of a schema, which are at the front. Its place is how
+/// many entries stand from the first one of its group on.
+pub fn find_in(own: &[Renumbering], schema: u64, number: u32) -> Option<Placed<Renumbering>>
     ensures { result ≡ find_in schema number own.now }
 {
     let mut rest = own;
@@ -59,7 +55,7 @@ pub fn find_in(own: &[Renumbering], schema: u64, number: u32) -> Option<Placed>
         if entry.number == u64::from(number) {
             return Some(Placed {
                 place,
-                entry: *entry,
+                value: *entry,
             });
         }
         before = entry.group;

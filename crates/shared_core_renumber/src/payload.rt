@@ -36,7 +36,7 @@ pub fn is_renumberable(entries: &[Renumbering], schema: u64, payload: &[u8]) -> 
 /// `Malformed` if and only if the payload or a message within that the table has is not made of records, or a record is
 /// of another form than its field, or more than one hundred levels deep, before anything is allocated; `TooLong` if the
 /// result has more than 4,294,967,295 bytes; `OutOfMemory` if an allocation fails. Any table is safe: each record is
-/// compared with each entry three times at most. What is nested is copied once for each level whose length changes.
+/// compared with each entry twice at most. What is nested is copied once for each level whose length changes.
 pub fn renumbered(
     alloc: Global,
     entries: &[Renumbering],

@@ -1,18 +1,19 @@
-//! Writing a payload at other field numbers: one pass over the records finds those of the table, which are then
-//! appended group by group. Messages within are appended by the same functions.
+//! Writing a payload at other field numbers: one pass over the records finds those of the table, which are then put in
+//! the order of the groups, and appended. Messages within are appended by the same functions.
 
 ghost use Rattle.std.specs.Prelude.{◌≡◌, ◌≤◌, ◌++◌, true, false, IfOk, OnOk, drop, flat_map, length};
 ghost use Rattle.std.specs.List.{list_all};
 ghost use Rattle.shared_core_wire.specs.View.{value_of};
 ghost use Rattle.shared_core_wire.specs.WrittenRecords.{content_record};
 ghost use Rattle.shared_core_renumber.specs.Allowed.{nested_allows, payload_allows, value_allows};
-ghost use Rattle.shared_core_renumber.specs.Written.{found_views, group_bytes, is_allowed, nested_bytes, payload_bytes};
-ghost use Rattle.shared_core_renumber.specs.Written.{value_bytes};
+ghost use Rattle.shared_core_renumber.specs.Written.{allows_found, found_bytes, found_values, nested_bytes};
+ghost use Rattle.shared_core_renumber.specs.Written.{payload_bytes, value_bytes};
 
 use crate::entries::{Renumbering, from_schema};
-use crate::found::{Found, find_records};
+use crate::found::{Found, sorted_records};
 use crate::source::Source;
 use shared_core_canonical::append::{append_content, append_key, append_number, append_varint};
+use shared_core_canonical::places::{Placed, front_at};
 use shared_core_codec::size::LENGTH;
 use shared_core_wire::record::WireValue;
 use shared_core_wire::varint::low_32;
@@ -30,51 +31,39 @@ pub fn append_message(
         ++ payload_bytes entries.now source.now.left source.now.schema source.now.bytes.now) }
 {
     let own = from_schema(entries, source.schema);
-    let found = find_records(own, source)?;
+    let found = sorted_records(own, source)?;
     let mut rest = own;
     let mut before = 0;
+    let mut start = 0;
     while let Some((entry, after)) = rest.split_first() {
         if entry.schema != source.schema {
             return Ok(());
         }
+        let group = front_at(found.as_slice(), start, own.len() - rest.len());
         if entry.group != before {
-            let group = Group {
-                place: rest.len(),
-                found: found.as_slice(),
-            };
-            append_group(entries, &group, source, out)?;
+            append_group(entries, group, source, out)?;
         }
+        start += group.len();
         before = entry.group;
         rest = after;
     }
     Ok(())
 }
 
-/// The records of the fields of a table, and the place of a group of these.
-#[derive(Clone, Copy)]
-struct Group<'a> {
-    place: usize,
-    found: &'a [Found<'a>],
-}
-
 /// Appends the records of the fields of a group, in their order.
 #[cycle(message)]
 fn append_group(
     entries: &[Renumbering],
-    group: &Group<'_>,
+    group: &[Placed<Found<'_>>],
     source: &Source<'_>,
     out: &mut Vec<u8>,
 ) -> Result<(), AllocError>
-    requires { list_all (is_allowed (nested_allows entries.now source.now.left)) (found_views group.now.found.now)
-        ≡ true }
+    requires { list_all (allows_found (nested_allows entries.now source.now.left)) (found_values group.now) ≡ true }
     ensures { OnOk result (out.new.items ≡ out.old.items
-        ++ flat_map (group_bytes (nested_bytes entries.now source.now.left) group.now.place)
-        (found_views group.now.found.now)) }
+        ++ flat_map (found_bytes (nested_bytes entries.now source.now.left)) (found_values group.now)) }
 {
-    for found in group.found {
-        if found.place == group.place {
-            append_found(entries, found, source, out)?;
-        }
+    for found in group {
+        append_found(entries, &found.value, source, out)?;
     }
     Ok(())
 }

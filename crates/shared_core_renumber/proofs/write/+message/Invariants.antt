@@ -1,8 +1,10 @@
-use Rattle.std.proofs.Common.{◌≡◌, ◌+◌, ◌*◌, ◌++◌, drop, flat_map, length, true}
+use Rattle.std.proofs.Common.{◌≡◌, ℕ, ◌≤◌, ◌+◌, ◌-◌, ◌*◌, ◌++◌, drop, flat_map, length, true}
 use Rattle.std.specs.List.{list_all}
+use Rattle.shared_core_canonical.specs.Places.{at_place, rise_from}
+use Rattle.shared_core_canonical.specs.Rows.{records_read}
 use Rattle.shared_core_renumber.specs.Allowed.{nested_allows}
-use Rattle.shared_core_renumber.specs.Written.{entries_bytes, found_views, group_bytes, is_allowed, nested_bytes}
-use Rattle.shared_core_renumber.specs.Written.{payload_bytes}
+use Rattle.shared_core_renumber.specs.Written.{allows_found, entries_bytes, found_bytes, found_values, nested_bytes}
+use Rattle.shared_core_renumber.specs.Written.{payload_bytes, records_found}
 use Rattle.shared_core_renumber.proofs.write.+message.Given as goal
 
 abbrev pub decreases-append_message : goal.decreases-append_message
@@ -22,18 +24,24 @@ decreases-append_nested l = 5 * l.source.now.left
 
 abbrev pub invariant-append_group-loop-found : goal.invariant-append_group-loop-found
 invariant-append_group-loop-found l = record {
-  allowed : list_all (is_allowed (nested_allows l.entries l.source.left))
-      (found_views (drop l.found-index l.group.found.now)) ≡ true;
-  written : l.out.items ++ flat_map (group_bytes (nested_bytes l.entries l.source.left) l.group.place)
-      (found_views (drop l.found-index l.group.found.now)) ≡ l.initial.out.items ++ flat_map
-      (group_bytes (nested_bytes l.entries l.source.left) l.group.place) (found_views l.group.found.now);
+  allowed : list_all (allows_found (nested_allows l.entries l.source.left))
+      (found_values (drop l.found-index l.group)) ≡ true;
+  written : l.out.items ++ flat_map (found_bytes (nested_bytes l.entries l.source.left))
+      (found_values (drop l.found-index l.group)) ≡ l.initial.out.items ++ flat_map
+      (found_bytes (nested_bytes l.entries l.source.left)) (found_values l.group);
 }
 
 abbrev pub invariant-append_message-loop-entry : goal.invariant-append_message-loop-entry
-invariant-append_message-loop-entry l =
-    l.out.items ++ entries_bytes (nested_bytes l.entries l.source.left) l.source.schema l.before l.rest
-    (found_views l.found.items) ≡ l.initial.out.items ++ payload_bytes l.entries l.source.left l.source.schema
-    l.source.bytes.now
+invariant-append_message-loop-entry l = record {
+  within : length l.rest ≤ length l.own;
+  started : l.start ≤ length l.found.items;
+  rising : rise_from (length l.own - length l.rest) (drop l.start l.found.items) ≡ true;
+  same : (place : ℕ) → length l.own - length l.rest ≤ place → at_place place (drop l.start l.found.items) ≡ at_place
+      place l.found.items;
+  written : l.out.items ++ entries_bytes (nested_bytes l.entries l.source.left) l.source.schema l.before l.rest
+      (records_found l.source.schema l.own (records_read l.source.left l.source.bytes.now)) ≡ l.initial.out.items ++
+      payload_bytes l.entries l.source.left l.source.schema l.source.bytes.now;
+}
 
 abbrev pub decreases-append_message-loop-entry : goal.decreases-append_message-loop-entry
 decreases-append_message-loop-entry l = length l.rest
