@@ -1,1 +1,4 @@
+pub mod LastNames
+pub mod Steps
+pub mod Read
 pub mod Pushed

@@ -1,3 +1,12 @@
+pub mod Names
+pub mod MessageNames
 pub mod Chosen
+pub mod Sayings
+pub mod Messages
 pub mod Renames
+pub mod Named
+pub mod Pairs
+pub mod Fields
 pub mod Numberings
+pub mod Kinds
+pub mod Entries

@@ -1,10 +1,13 @@
 //! The codes that messages of a set say, and which message the payloads of a type are read by.
 
-ghost use Rattle.std.specs.Prelude.{◌≡◌, IfOk};
+ghost use Rattle.std.specs.Prelude.{◌≡◌, ◌||◌, IfOk, nat_lt, ◌++◌};
 ghost use Rattle.schema_lines.specs.Chosen.{choice, choices, chosen, first_saying, kind_of, says, says_kind};
+ghost use Rattle.schema_lines.specs.Sayings.{code_by, has_letter, has_letters, is_same, same_count, said_by};
+ghost use Rattle.schema_lines.specs.Sayings.{said_from, sayings_of};
+ghost use Rattle.schema_lines.specs.MessageNames.{message_codes};
 
-use crate::message_names::MESSAGE_CODES;
-use descriptor_set::{DescriptorSet, SaidCode};
+use crate::message_names::message_codes;
+use descriptor_set::{MessageDescriptor, SaidCode};
 use std::alloc::{AllocError, Global};
 
 /// A code that a message of a set says.
@@ -15,71 +18,135 @@ pub struct Saying {
     pub code: u32,
 }
 
-/// The base of second numbers that do not say it.
-#[derive(Clone, Copy, Debug, PartialEq, Eq)]
-enum Base {
-    Decimal,
-    Hexadecimal,
-}
-
-/// The code that is said, by the base of its second number.
-fn code_by(said: &SaidCode, base: Base) -> u32 {
-    match (base, said.decimal) {
-        (Base::Decimal, Some(code)) => code,
-        _ => said.hexadecimal,
+/// The code that is said, whose second number is hexadecimal or decimal.
+fn code_by(said: &SaidCode, is_hexadecimal: bool) -> u32
+    ensures { result ≡ code_by is_hexadecimal said.now }
+{
+    if is_hexadecimal {
+        return said.hexadecimal;
+    }
+    match said.decimal {
+        Some(code) => code,
+        None => said.hexadecimal,
     }
 }
 
-/// The codes that the messages of a set say, by their order.
-fn sayings_by(alloc: Global, set: &DescriptorSet, base: Base) -> Result<Vec<Saying>, AllocError> {
+/// Appends the codes that a message says.
+fn append_said(
+    sayings: &mut Vec<Saying>,
+    message: usize,
+    said: &[SaidCode],
+    is_hexadecimal: bool,
+) -> Result<(), AllocError>
+    ensures { IfOk result (λ _. sayings.new.items ≡ sayings.old.items ++ said_by is_hexadecimal message said.now) }
+{
+    let mut rest = said;
+    while let Some((first, after)) = rest.split_first() {
+        sayings.push(Saying {
+            message,
+            code: code_by(first, is_hexadecimal),
+        })?;
+        rest = after;
+    }
+    Ok(())
+}
+
+/// The codes that messages say, in their order.
+fn sayings_by(
+    alloc: Global,
+    messages: &[MessageDescriptor],
+    is_hexadecimal: bool,
+) -> Result<Vec<Saying>, AllocError>
+    ensures { IfOk result (λ sayings. sayings.items ≡ said_from is_hexadecimal 0 messages.now) }
+{
     let mut sayings = Vec::new(alloc);
-    for (message, descriptor) in set.messages.iter().enumerate() {
-        for said in &descriptor.codes {
-            sayings.push(Saying {
-                message,
-                code: code_by(said, base),
-            })?;
-        }
+    let mut rest = messages;
+    let mut index: usize = 0;
+    while let Some((message, after)) = rest.split_first() {
+        append_said(
+            &mut sayings,
+            index,
+            message.codes.as_slice(),
+            is_hexadecimal,
+        )?;
+        rest = after;
+        index += 1;
     }
     Ok(sayings)
 }
 
-/// Whether a second number has a hexadecimal digit above 9.
-fn has_letter(set: &DescriptorSet) -> bool {
-    for message in &set.messages {
-        for said in &message.codes {
-            if said.decimal.is_none() {
-                return true;
-            }
-        }
-    }
-    false
+/// Whether a second number of a message has a hexadecimal digit above 9.
+fn has_letter(message: &MessageDescriptor) -> bool
+    ensures { result ≡ has_letter message.now }
+{
+    message.codes.iter().any(|said| said.decimal.is_none())
+}
+
+/// Whether a second number of some message has one.
+fn has_letters(messages: &[MessageDescriptor]) -> bool
+    ensures { result ≡ has_letters messages.now }
+{
+    messages.iter().any(has_letter)
 }
 
 /// How many of the messages with a name of the protocol say the code of their type.
-fn same_count(sayings: &[Saying], named: &[Option<usize>]) -> usize {
+fn same_count(sayings: &[Saying], named: &[Option<usize>], codes: &[Option<u32>]) -> usize
+    ensures { result ≡ same_count sayings.now named.now codes.now }
+{
     let mut count: usize = 0;
-    for (message, code) in named.iter().zip(MESSAGE_CODES.iter()) {
-        if let (Some(message), Some(code)) = (message, code) {
-            if says(sayings, *message, *code) {
-                count = count.saturating_add(1);
-            }
+    let mut rest = named;
+    let mut left = codes;
+    while let Some((message, after)) = rest.split_first() {
+        let Some((code, others)) = left.split_first() else {
+            return count;
+        };
+        if is_same(sayings, *message, *code) {
+            count += 1;
         }
+        rest = after;
+        left = others;
     }
     count
 }
 
-/// The codes that the messages of a set say. Second numbers are hexadecimal if one of them has a digit above 9, or if
-/// more of the messages with a name of the protocol have the codes of their types then.
+/// Whether a message with a name of the protocol says the code of its type.
+fn is_same(sayings: &[Saying], message: Option<usize>, code: Option<u32>) -> bool
+    ensures { result ≡ is_same sayings.now message code }
+{
+    match (message, code) {
+        (Some(message), Some(code)) => says(sayings, message, code),
+        _ => false,
+    }
+}
+
+/// Whether second numbers are hexadecimal, by the codes that are said if they are not and if they are: one of them has
+/// a digit above 9, or more of the messages with a name of the protocol have the codes of their types then.
+fn is_hexadecimal(
+    messages: &[MessageDescriptor],
+    named: &[Option<usize>],
+    decimal: &[Saying],
+    hexadecimal: &[Saying],
+) -> bool
+    ensures { result ≡ (has_letters messages.now || nat_lt (same_count decimal.now named.now message_codes)
+        (same_count hexadecimal.now named.now message_codes)) }
+{
+    let codes = message_codes();
+    has_letters(messages)
+        || same_count(decimal, named, codes) < same_count(hexadecimal, named, codes)
+}
+
+/// The codes that the messages of a set say, by those that have a name of the protocol.
+#[tactic(auto, unfolding(crate::specs::Sayings::sayings_of))]
 pub(crate) fn sayings_of(
     alloc: Global,
-    set: &DescriptorSet,
+    messages: &[MessageDescriptor],
     named: &[Option<usize>],
-) -> Result<Vec<Saying>, AllocError> {
-    let decimal = sayings_by(alloc, set, Base::Decimal)?;
-    let hexadecimal = sayings_by(alloc, set, Base::Hexadecimal)?;
-    let is_more = same_count(hexadecimal.as_slice(), named) > same_count(decimal.as_slice(), named);
-    if has_letter(set) || is_more {
+) -> Result<Vec<Saying>, AllocError>
+    ensures { IfOk result (λ sayings. sayings.items ≡ sayings_of messages.now named.now) }
+{
+    let decimal = sayings_by(alloc, messages, false)?;
+    let hexadecimal = sayings_by(alloc, messages, true)?;
+    if is_hexadecimal(messages, named, decimal.as_slice(), hexadecimal.as_slice()) {
         Ok(hexadecimal)
     } else {
         Ok(decimal)

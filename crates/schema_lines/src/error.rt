@@ -33,24 +33,44 @@ impl fmt::Display for SchemaError {
 impl Error for SchemaError {}
 
 impl From<DescriptorError> for SchemaError {
+    ghost use Rattle.schema_lines.specs.declared.error.SchemaError.TheVariants.{Descriptor};
+    ghost use Rattle.std.specs.Prelude.{◌≡◌};
+
+    ghost from_gives = { λ why error. error ≡ Descriptor why };
+
     fn from(error: DescriptorError) -> SchemaError {
         SchemaError::Descriptor(error)
     }
 }
 
 impl From<OutputFailed> for SchemaError {
+    ghost use Rattle.schema_lines.specs.declared.error.SchemaError.TheVariants.{Output};
+    ghost use Rattle.std.specs.Prelude.{◌≡◌};
+
+    ghost from_gives = { λ _ error. error ≡ Output };
+
     fn from(_error: OutputFailed) -> SchemaError {
         SchemaError::Output
     }
 }
 
 impl From<AllocError> for SchemaError {
+    ghost use Rattle.schema_lines.specs.declared.error.SchemaError.TheVariants.{OutOfMemory};
+    ghost use Rattle.std.specs.Prelude.{◌≡◌};
+
+    ghost from_gives = { λ _ error. error ≡ OutOfMemory };
+
     fn from(_error: AllocError) -> SchemaError {
         SchemaError::OutOfMemory
     }
 }
 
 impl<T: Drop> From<AllocFailed<T>> for SchemaError {
+    ghost use Rattle.schema_lines.specs.declared.error.SchemaError.TheVariants.{OutOfMemory};
+    ghost use Rattle.std.specs.Prelude.{◌≡◌};
+
+    ghost from_gives = { λ _ error. error ≡ OutOfMemory };
+
     fn from(_error: AllocFailed<T>) -> SchemaError {
         SchemaError::OutOfMemory
     }

@@ -1,10 +1,14 @@
 //! The rows of messages and their fields.
 
+ghost use Rattle.std.specs.Prelude.{◌≡◌, IfOk};
+ghost use Rattle.schema_lines.specs.Fields.{json_index, matching, plain_index};
+
 use crate::kinds::{
     Ours, is_map, is_same_kind, kind_name, message_name, our_field, their_kind, their_label,
 };
 use crate::message_names::MESSAGE_COUNT;
-use crate::pairs::{Pairs, field_count, last_name, plain};
+use crate::names::{is_same, plain};
+use crate::pairs::Pairs;
 use crate::rows::{Row, Said};
 use descriptor_set::{DescriptorSet, FieldDescriptor, MessageDescriptor};
 use shared_core_json::names::names_of;
@@ -92,7 +96,7 @@ impl<'a> Table<'a> {
         let mut taken = Vec::new(self.alloc);
         for name in names_of(schema) {
             if let Some(ours) = our_field(schema, name.0) {
-                let found = matching(self.alloc, message, name.1)?;
+                let found = matching(self.alloc, message.fields.as_slice(), name.1)?;
                 self.append_field(
                     schema,
                     name.1,
@@ -162,25 +166,53 @@ impl<'a> Table<'a> {
     }
 }
 
-/// The index of the field of a message that is called as one of the protocol: by its name in JSON, or else by its plain
-/// name.
+/// The index of the field that is called as one of the protocol: by its name in JSON, or else by its plain name.
+#[tactic(auto, unfolding(crate::specs::Fields::matching))]
 pub(crate) fn matching(
     alloc: Global,
-    message: &MessageDescriptor,
+    fields: &[FieldDescriptor],
     name: &str,
-) -> Result<Option<usize>, AllocError> {
-    if let Some(index) = message
-        .fields
-        .iter()
-        .position(|field| field.json_name.as_str() == name)
-    {
+) -> Result<Option<usize>, AllocError>
+    ensures { IfOk result (λ found. found ≡ matching fields.now name.now) }
+{
+    if let Some(index) = json_index(fields, name) {
         return Ok(Some(index));
     }
-    let wanted = plain(alloc, name)?;
-    for (index, field) in message.fields.iter().enumerate() {
-        if plain(alloc, field.name.as_str())? == wanted {
+    let key = plain(alloc, name)?;
+    plain_index(alloc, fields, key.as_slice())
+}
+
+/// The index of the first field with a name in JSON.
+fn json_index(fields: &[FieldDescriptor], name: &str) -> Option<usize>
+    ensures { result ≡ json_index fields.now name.now }
+{
+    fields
+        .iter()
+        .position(|field| is_same(field.json_name.as_str(), name))
+}
+
+/// The index of the first field whose name has a plain form.
+fn plain_index(
+    alloc: Global,
+    fields: &[FieldDescriptor],
+    key: &[u8],
+) -> Result<Option<usize>, AllocError>
+    ensures { IfOk result (λ found. found ≡ plain_index key.now 0 fields.now) }
+{
+    let mut rest = fields;
+    let mut index: usize = 0;
+    while let Some((field, after)) = rest.split_first() {
+        let own = plain(alloc, field.name.as_str())?;
+        if own.as_slice() == key {
             return Ok(Some(index));
         }
+        rest = after;
+        index += 1;
     }
     Ok(None)
+}
+
+/// How many fields a schema has.
+fn field_count(schema: u32) -> usize {
+    names_of(schema).len()
 }

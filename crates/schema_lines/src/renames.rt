@@ -1,7 +1,8 @@
 //! Messages of a set that have another name than those of the protocol.
 
-ghost use Rattle.std.specs.Prelude.{IfSome};
-ghost use Rattle.schema_lines.specs.Renames.{IsRename};
+ghost use Rattle.std.specs.Prelude.{◌≡◌, IfSome};
+ghost use Rattle.std.specs.Option.{option_map};
+ghost use Rattle.schema_lines.specs.Renames.{IsRename, names_of, rename_of};
 
 use std::fmt;
 
@@ -18,7 +19,8 @@ pub struct Rename<'a> {
 impl<'a> Rename<'a> {
     /// The names of a word `THEIRS=OURS`; `None` if it has not this form.
     pub fn of(word: &'a str) -> Option<Rename<'a>>
-        ensures { IfSome result (IsRename word.now) }
+        ensures parts { IfSome result (IsRename word.now) }
+        ensures exact { option_map names_of result ≡ rename_of word.now }
     {
         let (theirs, ours) = word.split_once('=')?;
         if theirs.is_empty() || ours.is_empty() {

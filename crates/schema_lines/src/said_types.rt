@@ -24,7 +24,7 @@ pub fn other_types(
     renames: &[Rename<'_>],
 ) -> Result<Vec<OtherType>, SchemaError> {
     let pairs = Pairs::of(alloc, set, renames)?;
-    let sayings = sayings_of(alloc, set, pairs.all_own())?;
+    let sayings = sayings_of(alloc, set.messages.as_slice(), pairs.all_own())?;
     let mut types = Vec::new(alloc);
     for saying in &sayings {
         let Ok(code) = u16::try_from(saying.code) else {
