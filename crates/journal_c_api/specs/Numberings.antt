@@ -11,8 +11,11 @@ use Rattle.shared_core_stream.specs.Items.{SplitsInto}
 use Rattle.stream_lines.specs.Printing.{all_lines, first_trouble, Begins}
 use Rattle.stream_renumbering.specs.Streams.{item_bytes, item_trouble, IsLong}
 use Rattle.descriptor_set.specs.Descriptors.{IsDescriptorSet}
+use Rattle.descriptor_set.specs.declared.set.DescriptorSet.{DescriptorSet}
 use Rattle.schema_lines.specs.declared.numbering.Direction.{Direction}
 use Rattle.schema_lines.specs.declared.numbering.Direction.TheVariants.{Reading, Writing}
+use Rattle.schema_lines.specs.declared.renames.Rename.{Rename}
+use Rattle.schema_lines.specs.Entries.{numbering_entries}
 use Rattle.schema_lines.specs.Numberings.{IsOurs}
 use Rattle.shared_core_renumber.specs.declared.entries.Renumbering.{Renumbering}
 use Rattle.shared_core_renumber.specs.Payloads.{IsRenumberable, IsRenumbered, IsRenumberedTooLong}
@@ -30,9 +33,16 @@ abbrev pub direction_of : ℕ → Option Direction
 direction_of number =
     if nat_eq number 0 then Some Reading else (if nat_eq number 1 then Some Writing else None)
 
+-- Entries are all those of the numbering of the messages of some set with some renames, in their order. No contract
+-- says which messages are read of a set's bytes.
+abbrev pub IsNumberingOf : Direction → List Renumbering → Type 0
+IsNumberingOf direction entries =
+    (found : DescriptorSet) × (renames : List Rename) × (numbering_entries found renames direction ≡ Ok entries)
+
 -- The entries of the numbering of a set, which is then a descriptor set: each is of a field of the protocol.
 abbrev pub FindsNumbering : {Z : Type 0} → Direction → List ℕ → Result (Vec Renumbering Z) CallError → Type 0
-FindsNumbering direction set (Ok entries) = IsDescriptorSet set × All (IsOurs direction) entries.items
+FindsNumbering direction set (Ok entries) =
+    IsDescriptorSet set × All (IsOurs direction) entries.items × IsNumberingOf direction entries.items
 FindsNumbering direction set (Err Malformed) = Unit {0}
 FindsNumbering direction set (Err OutOfMemory) = Unit {0}
 FindsNumbering direction set (Err error) = ⊥
@@ -43,8 +53,8 @@ FindsNumbering direction set (Err error) = ⊥
 abbrev pub WritesNumbering : ℕ → List ℕ → List Renumbering → List Renumbering → Result ℕ CallError → Type 0
 WritesNumbering number set old new (Ok count) =
     (direction : Direction) × (direction_of number ≡ Some direction) × IsDescriptorSet set
-    × (entries : List Renumbering) × All (IsOurs direction) entries × (count ≡ length entries)
-    × (new ≡ front_over entries old)
+    × (entries : List Renumbering) × All (IsOurs direction) entries × IsNumberingOf direction entries
+    × (count ≡ length entries) × (new ≡ front_over entries old)
 WritesNumbering number set old new (Err UnknownOption) = (direction_of number ≡ None) × (new ≡ old)
 WritesNumbering number set old new (Err Malformed) = (direction_of number ≢ None) × (new ≡ old)
 WritesNumbering number set old new (Err OutOfMemory) = (direction_of number ≢ None) × (new ≡ old)

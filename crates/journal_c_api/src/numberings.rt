@@ -6,7 +6,7 @@ ghost use Rattle.schema_lines.specs.Numberings.{IsOurs};
 ghost use Rattle.descriptor_set.specs.Descriptors.{IsDescriptorSet};
 ghost use Rattle.journal_c_api.specs.Numberings.{direction_of, front_over, FindsNumbering, IsDumpBy, ReturnsDump};
 ghost use Rattle.journal_c_api.specs.Numberings.{ReturnsItems, ReturnsLines, ReturnsRenumbered, ReturnsStream};
-ghost use Rattle.journal_c_api.specs.Numberings.{WritesList};
+ghost use Rattle.journal_c_api.specs.Numberings.{IsNumberingOf, WritesList};
 ghost use Rattle.journal_c_api.specs.Numberings.{WritesNumbering};
 ghost use Rattle.journal_c_api.specs.Outcomes.{Writes, bytes_of};
 
@@ -339,6 +339,7 @@ fn numbering(
 ) -> Result<Vec<Renumbering>, Rejection>
     ensures set { IfOk result (λ _. IsDescriptorSet set.now) }
     ensures ours { IfOk result (λ entries. All (IsOurs direction) entries.items) }
+    ensures exact { IfOk result (λ entries. IsNumberingOf direction entries.items) }
 {
     let lines = lines_of(alloc, renames)?;
     let set = descriptors(alloc, set)?;
