@@ -34,7 +34,7 @@ direction_of number =
     if nat_eq number 0 then Some Reading else (if nat_eq number 1 then Some Writing else None)
 
 -- Entries are all those of the numbering of the messages of some set with some renames, in their order. No contract
--- says which messages are read of a set's bytes.
+-- specifies the messages that are read of a set's bytes.
 abbrev pub IsNumberingOf : Direction → List Renumbering → Type 0
 IsNumberingOf direction entries =
     (found : DescriptorSet) × (renames : List Rename) × (numbering_entries found renames direction ≡ Ok entries)
