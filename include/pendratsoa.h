@@ -620,7 +620,7 @@ int64_t journal_verdict(uint32_t version, const uint8_t *recorded, size_t record
 
 /*
  * How far a replay has followed its recording. One whose other numbers are 0 is before its first item, so that `struct
- * journal_replay replay = {8, 0};` begins one of version 8. A copy of it goes on by itself.
+ * journal_replay replay = {8, 0, 0, 0, 0, 0};` begins one of version 8. A copy of it goes on by itself.
  */
 struct journal_replay {
     uint64_t version;         /* the version of both, from 5 to 9 */
