@@ -46,7 +46,9 @@ def plain(text):
 
 
 def inline(text):
-    """A line of Markdown: code and strong text are bold, and a link is its text."""
+    """A line of Markdown: code and strong text are bold, and a link is its text, or is left out with its parentheses:
+    the page is not installed."""
+    text = re.sub(r" \(\[[^]]*\]\([^)]*\)\)", "", text)
     text = re.sub(r"\[([^]]*)\]\([^)]*\)", r"\1", text)
     parts = re.split(r"`([^`]*)`", text)
     found = ""
