@@ -1,12 +1,13 @@
 -- Names of messages and fields, and what of them is compared.
-use Rattle.std.specs.Prelude.{ℕ, ◌-◌, ◌==◌, not, if◌then◌else◌, List, [], ◌∷◌, map, length, take, codes, eqb}
+use Rattle.std.specs.Prelude.{ℕ, ◌-◌, ◌==◌, not, if◌then◌else◌, List, [], ◌∷◌, length, take, codes, eqb}
 use Rattle.std.specs.Prelude.{count_by}
 use Rattle.std.specs.Char.{to_ascii_lowercase}
-use Rattle.std.specs.List.{ends_with, filter}
+use Rattle.std.specs.List.{ends_with}
 
 -- A name in lower case, without its underscores. Only the case of ASCII counts.
 abbrev pub folded : List ℕ → List ℕ
-folded name = map to_ascii_lowercase (filter (λ b. not (b == 95)) name)
+folded [] = []
+folded (b ∷ name) = if not (b == 95) then to_ascii_lowercase b ∷ folded name else folded name
 
 -- A text without a suffix, if it has it.
 abbrev pub without : List ℕ → List ℕ → List ℕ

@@ -22,11 +22,15 @@ pub(crate) fn plain(alloc: Global, name: &str) -> Result<Vec<u8>, AllocError>
 fn folded(alloc: Global, name: &str) -> Result<Vec<u8>, AllocError>
     ensures { IfOk result (λ text. text.items ≡ folded name.now) }
 {
-    name.as_bytes()
-        .iter()
-        .filter(|byte| **byte != b'_')
-        .map(|byte| byte.to_ascii_lowercase())
-        .collect(alloc)
+    let mut text = Vec::new(alloc);
+    let mut rest = name.as_bytes();
+    while let Some((byte, after)) = rest.split_first() {
+        if *byte != b'_' {
+            text.push(byte.to_ascii_lowercase())?;
+        }
+        rest = after;
+    }
+    Ok(text)
 }
 
 /// The last part of a full name.

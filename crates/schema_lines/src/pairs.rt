@@ -111,7 +111,14 @@ fn schema_of(found: Option<usize>) -> Option<u32>
 fn numbers_of(alloc: Global, read: &[Option<usize>]) -> Result<Vec<Option<u32>>, AllocError>
     ensures { IfOk result (λ numbers. numbers.items ≡ map schema_of read.now) }
 {
-    read.iter().map(|found| schema_of(*found)).collect(alloc)
+    let mut numbers = Vec::new(alloc);
+    let mut rest = read;
+    while let Some((found, after)) = rest.split_first() {
+        let number = schema_of(*found);
+        numbers.push(number)?;
+        rest = after;
+    }
+    Ok(numbers)
 }
 
 /// For each schema of the protocol the index of the message of a set by which its payloads are read: the one of its
