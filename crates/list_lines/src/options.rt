@@ -7,6 +7,7 @@ use shared_core_base::version::Version;
 pub struct OtherName<'a> {
     /// The code of the type.
     pub code: u16,
+    /// What the listing calls it.
     pub name: &'a str,
 }
 

@@ -11,6 +11,7 @@ use std::alloc::Global;
 /// A type that the protocol does not have: the code that a message of a set says.
 #[derive(Clone, Copy, Debug, PartialEq, Eq, Drop)]
 pub struct OtherType {
+    /// The code of the type.
     pub code: u16,
     /// The index of the message.
     pub message: usize,
