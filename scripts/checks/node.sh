@@ -113,13 +113,20 @@ for file in package.json $(node -p "JSON.parse(require('fs').readFileSync('node/
 done
 cp examples/typescript/*.mts "$user/"
 
+# types NAME WORDS..: tsc takes files with all of its checks
+types() {
+  name=$1
+  shift
+  case_of "$name" \
+    tsc --strict --noFallthroughCasesInSwitch --noImplicitOverride --noImplicitReturns --noUncheckedIndexedAccess \
+    --noPropertyAccessFromIndexSignature --noUnusedLocals --noUnusedParameters --exactOptionalPropertyTypes \
+    --target es2022 --module node16 "$@"
+}
+
 # The types, and the example, which lists as that in C does.
 if command -v tsc > /dev/null; then
   case_of 'the types' tsc -p "$tree/node"
-  case_of 'the examples in TypeScript' \
-    tsc --strict --noFallthroughCasesInSwitch --noImplicitOverride --noImplicitReturns --noUncheckedIndexedAccess \
-    --noPropertyAccessFromIndexSignature --noUnusedLocals --noUnusedParameters --exactOptionalPropertyTypes \
-    --target es2022 --module node16 "$user/listing.mts" "$user/replay.mts"
+  types 'the examples in TypeScript' "$user/listing.mts" "$user/replay.mts"
   case_of 'the example in C' cc -std=c99 -I "$prefix/include" examples/c/listing.c "$prefix/lib/libpendratsoa.a" \
     -o "$work/listing"
   for stream in replay:8 recorded:8 cut_short:8 three_unknown_types:8 unknown_type:9; do
@@ -143,6 +150,13 @@ awk -v page="$user/page.mjs" -v compare="$user/compare.mjs" -v replay="$user/rep
   /^```ts$/ { file = section == "Compare" ? compared++ ? replay : compare : section == "Other" ? other : page; next }
   /^```$/ { file = "" }
   file != "" { print > file }' node/README.md
+if command -v tsc > /dev/null; then
+  for program in page compare replay other; do
+    # Node's own types are in the package @types/node
+    awk '/ from .node:fs.;$/ { print "// @ts-ignore" } { print }' "$user/$program.mjs" > "$user/typed_$program.mts"
+  done
+  types 'the programs of node/README.md in TypeScript' --noEmit "$user"/typed_*.mts
+fi
 ln -s "$PWD/examples" "$user/examples"
 (cd "$user" && node page.mjs) > "$work/log" 2> "$err"
 sed -n 1p "$work/log" > "$out"
