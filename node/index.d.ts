@@ -13,6 +13,9 @@
  * Bytes are a `Uint8Array` (a `Buffer` is one). One over a `SharedArrayBuffer`, which another thread may change
  * meanwhile, or whose buffer is detached, is a `TypeError`, as is any value of another kind than is declared here. What
  * is returned is the caller's, in memory of its own.
+ *
+ * Options are an object. A name in it that the call does not take is a `TypeError`, so that no misspelled option is
+ * ignored.
  */
 
 import type { MessageRecords, Records } from './messages.js';
@@ -256,7 +259,7 @@ export class Skipped {
   toJSON(): JsonObject;
 }
 
-/** What a stream takes. */
+/** What a stream takes. Any other name is a `TypeError`. */
 export interface StreamOptions {
   /**
    * The greatest size of a payload in bytes; without it there is no limit. A larger message is a `MessageTooLong` as
@@ -272,7 +275,7 @@ export interface StreamOptions {
   numbering?: Numbering;
 }
 
-/** What a frame is written by. */
+/** What a frame is written by. Any other name is a `TypeError`. */
 export interface FrameOptions {
   /** By which a payload is written at other field numbers; without it it is at those of the protocol. */
   numbering?: Numbering;
@@ -446,7 +449,7 @@ export function writeRecord<N extends SchemaName>(schema: N, record: Init<Record
 
 // Other field numbers.
 
-/** What a numbering is made of, besides a descriptor set. */
+/** What a numbering is made of, besides a descriptor set. Any other name is a `TypeError`. */
 export interface NumberingOptions {
   /** The names that messages have in the set, each with its name in the protocol; by default none. */
   readonly renames?: Readonly<Record<string, string>>;
@@ -546,7 +549,7 @@ export function notification(code: number, payload: Uint8Array): Notification;
 
 // Commands and journals compared.
 
-/** How commands and journals are compared. */
+/** How commands and journals are compared. Any other name is a `TypeError`, also `ignoreIds` of a replay. */
 export interface CompareOptions {
   /**
    * Whether the content of user data (values, parameters) is left out of the comparison, but not that of a signal; by
@@ -555,7 +558,7 @@ export interface CompareOptions {
   readonly ignorePayloads?: boolean;
 }
 
-/** How a replay is checked. */
+/** How a replay is checked. Any other name is a `TypeError`. */
 export interface ReplayOptions extends CompareOptions {
   /**
    * Whether completion ids are left out of the comparison, which shift behind an inserted command; by default they are

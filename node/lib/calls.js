@@ -15,6 +15,7 @@ import {
   VERDICT_NUMBERS,
 } from './declared.js';
 import { Unknown, notKnown, notTaken, refusal, wrongKind } from './errors.js';
+import { optionsOf } from './options.js';
 import { schemaNumber } from './schemas.js';
 import { isText, texts } from './text.js';
 
@@ -196,7 +197,8 @@ export function notification(code, payload) {
   return { idKind, id, resultKind, result: found.slice(nameLength) };
 }
 
-export function headerEq(code, first, second, { ignorePayloads = false } = {}) {
+export function headerEq(code, first, second, options) {
+  const { ignorePayloads = false } = optionsOf(options, ['ignorePayloads']);
   return checked(addon.headerEq(code, first, second, ignorePayloads), { call: 'headerEq', code, first, second }) === 1;
 }
 
@@ -205,7 +207,8 @@ export function difference(code, first, second) {
   return filled((out) => addon.difference(code, first, second, out), given, textOf);
 }
 
-export function compareJournals(version, recorded, replayed, { ignorePayloads = false } = {}) {
+export function compareJournals(version, recorded, replayed, options) {
+  const { ignorePayloads = false } = optionsOf(options, ['ignorePayloads']);
   const given = { call: 'compareJournals', version };
   const found = written(
     (out) => addon.verdict(version, recorded, replayed, ignorePayloads, verdictNumbers, out),

@@ -301,6 +301,13 @@ export function wrongKind(argument, value, wanted) {
   return error;
 }
 
+/** The error that options have a name which is not one of theirs. */
+export function unknownOption(name, names) {
+  const error = new TypeError(`options has ${shown(name)}, and may only have ${names.map(shown).join(' and ')}`);
+  error.code = 'ERR_INVALID_ARG_TYPE';
+  return error;
+}
+
 /** A value within a message: bytes by their number, all else on a line. */
 function shown(value) {
   if (ArrayBuffer.isView(value)) {

@@ -1,5 +1,6 @@
 // The calls in Node, and in what is like it: those of the addon where it is there, otherwise those of the WebAssembly
-// module. The environment variable PENDRATSOA_CALLS, as 'addon' or 'module', names the one that is to be taken.
+// module. The environment variable PENDRATSOA_CALLS, as 'addon' or 'module', names the one that is to be taken; another
+// value is an error.
 
 import { readFileSync } from 'node:fs';
 import { createRequire } from 'node:module';
@@ -44,6 +45,9 @@ function loadModule(causes) {
 
 function load() {
   const wanted = process.env.PENDRATSOA_CALLS;
+  if (!['addon', 'module', '', undefined].includes(wanted)) {
+    throw new Error(`PENDRATSOA_CALLS is ${texts.shown(wanted)}, and has to be 'addon' or 'module'`);
+  }
   const causes = [];
   const calls = (wanted !== 'module' && loadAddon(causes)) || (wanted !== 'addon' && loadModule(causes));
   if (calls) {

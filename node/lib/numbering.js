@@ -5,6 +5,7 @@ import { checked, known, kindOf, text, written } from './calls.js';
 import { LIST_KINDS, LIST_NUMBERS } from './declared.js';
 import { Malformed, noNumbering, wrongKind } from './errors.js';
 import { files } from './files.js';
+import { optionsOf } from './options.js';
 import { makeTables, renumbered, renumberedMessage, renumberedStream } from './renumber.js';
 import { Stream } from './stream.js';
 
@@ -22,7 +23,8 @@ export class Numbering {
   #set;
   #lines;
 
-  constructor(set, { renames = {} } = {}) {
+  constructor(set, options) {
+    const { renames = {} } = optionsOf(options, ['renames']);
     const lines = linesOf(renames);
     const given = { call: 'Numbering', set };
     const found = written((out) => addon.numberingText(set, lines, kindNumbers, out), given);

@@ -4,6 +4,7 @@ import { addon } from './addon.js';
 import { bytesWritten, checked, nameOf, schemaOf } from './calls.js';
 import { NUMBERING_DIRECTIONS, RENUMBERING_NUMBERS } from './declared.js';
 import { ofMessage, wrongKind } from './errors.js';
+import { optionsOf } from './options.js';
 
 // The tables of each numbering, by their directions.
 const tablesOf = new WeakMap();
@@ -29,9 +30,9 @@ function tableOf(direction, set, renames) {
   }
 }
 
-/** The numbering of options, or undefined if they have none. */
+/** The numbering of the options of a frame, or undefined if they have none. */
 export function numberingOf(options) {
-  const numbering = options?.numbering;
+  const { numbering } = optionsOf(options, ['numbering']);
   if (numbering !== undefined && !tablesOf.has(numbering)) {
     throw wrongKind('numbering', numbering, 'a Numbering');
   }

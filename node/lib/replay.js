@@ -15,6 +15,7 @@ import {
 } from './declared.js';
 import { wrongKind } from './errors.js';
 import { Message, Skipped, UnknownCode, receivedLength } from './items.js';
+import { optionsOf } from './options.js';
 import { itemAt } from './stream.js';
 
 const NOTHING = new Uint8Array(0);
@@ -29,7 +30,7 @@ const commandNumbers = new BigUint64Array(COMMAND_NUMBERS);
 const fieldNumbers = new BigUint64Array(CHANGED_FIELD_NUMBERS);
 
 /** The number of the options that are set. Each is a bit, by its place in the list, which begins with none. */
-function optionsOf(ignored) {
+function bitsOf(ignored) {
   let options = 0;
   for (const [name, value] of Object.entries(ignored)) {
     options += value ? 2 ** (REPLAY_OPTIONS.indexOf(name) - 1) : 0;
@@ -51,7 +52,8 @@ export class Replay {
   #size = 0;
   #next;
 
-  constructor(version, recorded, { ignorePayloads = false, ignoreIds = false } = {}) {
+  constructor(version, recorded, options) {
+    const { ignorePayloads = false, ignoreIds = false } = optionsOf(options, ['ignorePayloads', 'ignoreIds']);
     const ignored = { ignorePayloads, ignoreIds };
     for (const [name, value] of Object.entries(ignored)) {
       if (typeof value !== 'boolean') {
@@ -65,7 +67,7 @@ export class Replay {
     this.#version = version;
     this.#recorded = recorded;
     this.#numbers[REPLAY.version] = BigInt(version);
-    this.#numbers[REPLAY.options] = optionsOf(ignored);
+    this.#numbers[REPLAY.options] = bitsOf(ignored);
   }
 
   get version() {

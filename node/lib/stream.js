@@ -5,6 +5,7 @@ import { checked, nameOf } from './calls.js';
 import { ITEM, ITEM_KINDS, ITEM_NUMBERS } from './declared.js';
 import { Malformed, TooLong, incomplete, messageTooLong, notKnown } from './errors.js';
 import { messageThatCame, skippedThatCame, unknownCodeThatCame, wordOf } from './items.js';
+import { optionsOf } from './options.js';
 import { numberingOf, renumberedMessage } from './renumber.js';
 
 const NOTHING = new Uint8Array(0);
@@ -48,7 +49,8 @@ export class Stream {
     atEnd = (stream, call) => stream.#atEnd(call);
   }
 
-  constructor(version = 8, { maxMessageSize, numbering } = {}) {
+  constructor(version = 8, options) {
+    const { maxMessageSize, numbering } = optionsOf(options, ['maxMessageSize', 'numbering']);
     this.#version = version;
     this.#limit = maxMessageSize;
     this.#numbering = numberingOf({ numbering });
@@ -237,7 +239,7 @@ export function itemAt(version, bytes, offset) {
 }
 
 /** Decodes chunks into items. */
-export function decode(version = 8, options = {}) {
+export function decode(version = 8, options) {
   const stream = new Stream(version, options);
   return new TransformStream({
     transform(chunk, controller) {
@@ -253,7 +255,7 @@ export function decode(version = 8, options = {}) {
 }
 
 /** The items of the chunks of a source. */
-export function items(source, version = 8, options = {}) {
+export function items(source, version = 8, options) {
   return itemsOf(new Stream(version, options), source);
 }
 

@@ -1,7 +1,9 @@
 // Arguments of the wrong kind, detached and shared memory: the error of the language, and never a crash.
 
 import assert from 'node:assert/strict';
+import { spawnSync } from 'node:child_process';
 import test from 'node:test';
+import { runInNewContext } from 'node:vm';
 import { MessageChannel } from 'node:worker_threads';
 
 import * as pendratsoa from 'pendratsoa';
@@ -147,6 +149,67 @@ test('names of types and options of the wrong kind', () => {
     assert.throws(() => pendratsoa.compareJournals(8, NONE, NONE, { ignorePayloads }), wrong);
   }
   assert.throws(() => pendratsoa.headerEq(0x0400, NONE, NONE, null), TypeError);
+});
+
+// Each call that takes options, with a function of them and their names.
+const WITH_OPTIONS = [
+  [(options) => new pendratsoa.Stream(8, options), ['maxMessageSize', 'numbering']],
+  [(options) => pendratsoa.decode(8, options), ['maxMessageSize', 'numbering']],
+  [(options) => pendratsoa.items([], 8, options), ['maxMessageSize', 'numbering']],
+  [(options) => pendratsoa.frame(8, 0x0400, NONE, options), ['numbering']],
+  [(options) => pendratsoa.frameInto(8, 0x0400, NONE, new Uint8Array(8), options), ['numbering']],
+  [(options) => new pendratsoa.Message(8, 0x0400, NONE).frame(8, options), ['numbering']],
+  [(options) => new pendratsoa.Message(8, 0x0400, NONE).frameInto(new Uint8Array(8), 8, options), ['numbering']],
+  [(options) => new pendratsoa.Message(6, 0x0001, NONE).frameInto(new Uint8Array(8), 6, options), ['numbering']],
+  [(options) => new pendratsoa.Numbering(NONE, options), ['renames']],
+  [(options) => pendratsoa.Numbering.load('/dev/null', options), ['renames']],
+  [(options) => pendratsoa.headerEq(0x0400, NONE, NONE, options), ['ignorePayloads']],
+  [(options) => pendratsoa.compareJournals(8, NONE, NONE, options), ['ignorePayloads']],
+  [(options) => new pendratsoa.Replay(8, NONE, options), ['ignorePayloads', 'ignoreIds']],
+];
+
+test('options of the wrong kind, and unknown names in them', () => {
+  class Options {}
+  const wrong = [null, 1 << 20, '', 'bytes', true, 5n, Symbol('8'), () => 8, [], [8], new Map(), NONE, new Options()];
+  for (const [call, names] of WITH_OPTIONS) {
+    const given = Object.fromEntries(names.map((name) => [name, undefined]));
+    for (const options of [undefined, {}, given, Object.assign(Object.create(null), given)]) {
+      call(options);
+    }
+    call(Object.assign(new Options(), given));
+    call(runInNewContext('({})'));
+    for (const options of wrong) {
+      assert.throws(() => call(options), {
+        name: 'TypeError',
+        code: 'ERR_INVALID_ARG_TYPE',
+        message: /^options is .*, and has to be an object of options$/,
+      });
+    }
+    for (const options of [{ max_message_size: 5 }, { ...given, max_message_size: undefined }]) {
+      assert.throws(() => call(options), {
+        name: 'TypeError',
+        code: 'ERR_INVALID_ARG_TYPE',
+        message: `options has 'max_message_size', and may only have ${names.map((name) => `'${name}'`).join(' and ')}`,
+      });
+    }
+  }
+  assert.throws(() => pendratsoa.compareJournals(8, NONE, NONE, { ignoreIds: true }), TypeError);
+});
+
+test('PENDRATSOA_CALLS', () => {
+  const ran = (value) => {
+    const program = "import { libraryVersion } from 'pendratsoa'; console.log(libraryVersion())";
+    const env = { ...process.env, PENDRATSOA_CALLS: value };
+    return spawnSync(process.execPath, ['--input-type=module', '-e', program], { encoding: 'utf8', env });
+  };
+  for (const value of ['', process.env.PENDRATSOA_CALLS]) {
+    assert.equal(ran(value).stdout, `${pendratsoa.libraryVersion()}\n`);
+  }
+  for (const value of ['nonsense', 'Addon', ' module']) {
+    const { status, stderr } = ran(value);
+    assert.equal(status, 1);
+    assert.ok(stderr.includes(`Error: PENDRATSOA_CALLS is '${value}', and has to be 'addon' or 'module'`), stderr);
+  }
 });
 
 test('streams of the wrong kind', () => {

@@ -286,7 +286,7 @@ const KINDS = {
   },
 
   compare(version, ignore, recorded, replayed) {
-    const options = { ignorePayloads: ignore === 'yes', ignoreIds: ignore === 'ids' };
+    const options = { ignorePayloads: ignore === 'yes' };
     const verdict = compareJournals(Number(version), bytesOf(recorded), bytesOf(replayed), options);
     return `${snake(verdict.kind)} ${verdict.index}`;
   },
