@@ -150,6 +150,9 @@ if command -v mypy > /dev/null; then
     MYPYPATH=$site mypy --strict --cache-dir=/dev/null $file > "$out" 2> "$err"
     outcome "the types of $file" $?
   done
+  # the second part is one of the proxy
+  (cd "$work/page" && MYPYPATH=$site mypy --strict --cache-dir=/dev/null part[13456].py) > "$out" 2> "$err"
+  outcome 'the types of the programs of python/README.md' $?
 else
   without 'the types' 'mypy; the Debian package mypy has it'
 fi
