@@ -41,6 +41,34 @@ class TestRecords < Minitest::Test
     assert_raises(ArgumentError) { Pendratsoa::Value.new(contents: "") }
   end
 
+  def test_bytes_are_binary_in_a_record_that_is_made
+    text = "\u00e9"
+    [text, text.encode("UTF-16LE"), "e"].each do |given|
+      [
+        Pendratsoa::SetStateCommandMessage.new(key: given, value: Pendratsoa::Value.new(content: given), name: text),
+        Pendratsoa::StateKeys.new(keys: ["binary".b, given]),
+        Pendratsoa::ProposeRunCompletionMessage.new(result: given),
+        Pendratsoa::Value.new.with(content: given)
+      ].each do |record|
+        decoded = record.class.decode(record.encode)
+        assert_equal record, decoded
+        assert_equal 1, { record => 1 }[decoded]
+      end
+    end
+    framed = Pendratsoa::SetStateCommandMessage.new(key: text, value: Pendratsoa::Value.new(content: text), name: text)
+    assert_equal framed, Pendratsoa::Stream.new.feed(framed.frame).first.message
+    assert_equal ["\xC3\xA9".b, Encoding::BINARY, true], [framed.key, framed.key.encoding, framed.key.frozen?]
+    assert_equal [text, Encoding::UTF_8], [framed.name, framed.name.encoding]
+  end
+
+  def test_binary_bytes_are_not_copied
+    bytes = "\xC3".b
+    keys = [bytes]
+    assert_same bytes, Pendratsoa::Value.new(content: bytes).content
+    assert_same keys, Pendratsoa::StateKeys.new(keys: keys).keys
+    refute_predicate bytes, :frozen?
+  end
+
   def test_presence
     record = Pendratsoa::ErrorMessage.new(related_command_index: 0, related_command_name: "")
     assert_equal record, Pendratsoa::ErrorMessage.decode(record.encode)

@@ -56,7 +56,8 @@ module Pendratsoa
   end
 
   # What all records have. Each is a frozen class below this one, made with keywords: what is left out is absent, or
-  # what the field is by default.
+  # what the field is by default. A String of another encoding for a field of bytes becomes a binary one, with the same
+  # bytes, so that a record equals the one that its payload is decoded to.
   #
   #   command = Pendratsoa::SetStateCommandMessage.new(key: "counter", value: Pendratsoa::Value.new(content: "1"))
   #   command.frame(8)
@@ -105,6 +106,9 @@ module Pendratsoa
       # What the table of fields has of it: rows by their numbers, by their names, and what each field is by default.
       attr_reader :by_number, :entries, :defaults
 
+      # The places of the values that are bytes, lists of bytes, or a oneof with a member of bytes.
+      attr_reader :places_of_bytes
+
       private
 
       def has(defaults, rows)
@@ -113,6 +117,8 @@ module Pendratsoa
         found = rows.map { |row| Row.new(*row) }
         @by_number = found.to_h { |row| [row.number, row] }.freeze
         @entries = found.group_by(&:name).transform_values { |of_name| of_name[0].member ? of_name : of_name[0] }.freeze
+        bytes = found.select { |row| row.kind == Fields::Kinds::BYTES }
+        @places_of_bytes = bytes.map { |row| @members.index(row.name) }.freeze
         @members.each_with_index do |name, place|
           class_eval "def #{name} = @values[#{place}]", __FILE__, __LINE__ # def key = @values[0]
         end
@@ -120,10 +126,20 @@ module Pendratsoa
     end
 
     def initialize(**fields)
-      unknown = fields.keys - self.class.members
-      raise ArgumentError, "#{self.class} has no field #{unknown.join(", ")}" unless unknown.empty?
+      record = self.class
+      values = record.defaults.merge(fields).values
+      if values.length > record.members.length
+        raise ArgumentError, "#{record} has no field #{(fields.keys - record.members).join(", ")}"
+      end
 
-      @values = self.class.defaults.merge(fields).values.freeze
+      record.places_of_bytes.each do |place|
+        value = values[place]
+        case value
+        when String then values[place] = value.b.freeze unless value.encoding == Encoding::BINARY
+        when Array then values[place] = binary(value)
+        end
+      end
+      @values = values.freeze
       freeze
     end
 
@@ -164,5 +180,19 @@ module Pendratsoa
       "#<#{[self.class, *to_h.map { |name, value| "#{name}: #{value.inspect}" }].join(" ")}>"
     end
     alias to_s inspect
+
+    private
+
+    # A list with the same bytes in binary Strings. What is no String is left to `encode`, which rejects it.
+    def binary(values)
+      return values unless values.any? { |value| other_encoding?(value) }
+
+      values.map { |value| other_encoding?(value) ? value.b.freeze : value }.freeze
+    end
+
+    # Whether a value is a String that is not binary.
+    def other_encoding?(value)
+      value.is_a?(String) && value.encoding != Encoding::BINARY
+    end
   end
 end
