@@ -2,27 +2,11 @@
 
 use crate::error::Place;
 use crate::schemas::{DescriptorSchemas, FIELD, FILE, MESSAGE};
+use crate::values::text_in;
 use shared_core_codec::check::is_well_formed_in;
-use shared_core_codec::utf8::as_text;
 use shared_core_wire::record::WireValue;
 use shared_core_wire::records::{LEVELS, Records};
 use std::alloc::{AllocError, Global};
-
-/// The last text of a number among the records of some bytes; empty if there is none.
-pub(crate) fn text_in(bytes: &[u8], number: u32) -> &str {
-    let mut last: &[u8] = &[];
-    for item in Records::within(bytes, LEVELS) {
-        let Ok(found) = item else {
-            break;
-        };
-        if found.number == number {
-            if let WireValue::Length(content) = found.value {
-                last = content;
-            }
-        }
-    }
-    as_text(last).unwrap_or("")
-}
 
 /// The first record of a number whose content is not well-formed for a schema.
 fn first_malformed(bytes: &[u8], number: u32, schema: u32) -> Option<&[u8]> {

@@ -10,9 +10,11 @@ mod field;
 pub mod laws;
 mod names;
 mod read;
+mod read_field;
 mod schemas;
 mod set;
 mod table;
+mod values;
 
 pub use codes::SaidCode;
 pub use error::{DescriptorError, Place};
