@@ -8,7 +8,8 @@ use Rattle.std.specs.Ordering.{is_lt, nat_cmp}
 use Rattle.std.proofs.lemmas.Bool.{eqb-true, eqb-false, ltb-true, ltb-false, le-ltb, ne_eqb}
 use Rattle.std.proofs.lemmas.List.Elements.{filter_agree}
 use Rattle.shared_core_canonical.specs.declared.places.Placed.{Placed}
-use Rattle.shared_core_canonical.specs.Places.{at_place, front_at, rise_from}
+use Rattle.shared_core_canonical.specs.Places.{AreByPlace, AreInOrder, at_place, front_at, placed_values}
+use Rattle.shared_core_canonical.specs.Places.{placed_views, rise_from, values_at, views}
 
 -- ---- numbers
 
@@ -171,3 +172,34 @@ module _ {T : Type 0} where
       let test : (p : Placed T) → ties (λ a b. is_lt (nat_cmp a.place b.place)) one p ≡ eqb p.place place =
       λ p. ties_is place p.place in
       sym (filter_agree _ _ test ys) ∙ h one ∙ filter_agree _ _ test (x ∷ xs)
+
+-- ---- values of the program, as a view has them
+
+module _ {T V : Type 0} (view : T → V) where
+  pub views_at : (place : ℕ) (ps : List (Placed T)) → views view (at_place place ps) ≡ values_at place
+      (placed_views view ps)
+  views_at place [] = refl
+  views_at place (p ∷ ps) = by_test (views_at place ps) (eqb p.place place)
+    where
+      by_test : views view (at_place place ps) ≡ values_at place (placed_views view ps) → (b : Bool) → views view
+          (cond b (p ∷ at_place place ps) (at_place place ps)) ≡ placed_values (cond b
+          (record { place = p.place; value = view p.value } ∷ at_place place (placed_views view ps))
+          (at_place place (placed_views view ps)))
+      by_test later true = ap (λ (vs : List V). view p.value ∷ vs) later
+      by_test later false = later
+
+  -- what a sort by places gives
+  pub in_order : (vs : List (Placed V)) (found sorted : List (Placed T)) → placed_views view found ≡ vs → AreByPlace
+      found sorted → AreInOrder view vs sorted
+  in_order vs found sorted e sort = record {
+    rising = sort.rising;
+    same = λ place. ap (views view) (sort.same place) ∙ views_at place found
+        ∙ ap (λ (ws : List (Placed V)). values_at place ws) e;
+  }
+
+  -- what the front of values in order holds
+  pub front_views : (place start : ℕ) (front ps : List (Placed T)) → front ≡ front_at place (drop start ps) → rise_from
+      place (drop start ps) ≡ true → at_place place (drop start ps) ≡ at_place place ps → views view front ≡ views view
+      (at_place place ps)
+  front_views place start front ps e rising same =
+      ap (views view) (e ∙ front_is place (drop start ps) rising ∙ same)

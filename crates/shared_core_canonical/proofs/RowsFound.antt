@@ -15,12 +15,12 @@ use Rattle.shared_core_wire.specs.WrittenRecords.{content_record}
 use Rattle.shared_core_codec.specs.Checking.{field_record_of}
 use Rattle.shared_core_codec.specs.ProgramRows.{field_in_row, member_numbered}
 use Rattle.shared_core_canonical.specs.declared.places.Placed.{Placed}
-use Rattle.shared_core_canonical.specs.Places.{at_place, front_at, placed_values, rise_from}
-use Rattle.shared_core_canonical.specs.Found.{place_in, placed_record, records_found, records_at, places_record}
-use Rattle.shared_core_canonical.specs.Found.{found_views, found_records, AreInOrder}
+use Rattle.shared_core_canonical.specs.Places.{AreInOrder, at_place, front_at, placed_values, rise_from, values_at}
+use Rattle.shared_core_canonical.specs.Found.{place_in, placed_record, records_found, places_record}
+use Rattle.shared_core_canonical.specs.Found.{found_views, found_records}
 use Rattle.shared_core_canonical.specs.Rows.{NestedBytes, LastValue, last_over, last_found, run_record, scalar_element}
 use Rattle.shared_core_canonical.specs.Rows.{message_element, repeated_record, row_record, rows_record}
-use Rattle.shared_core_canonical.proofs.ByPlace.{equal_less, equal_more, front_is}
+use Rattle.shared_core_canonical.proofs.ByPlace.{equal_less, equal_more, front_views, views_at}
 
 -- ---- the numbers of rows
 
@@ -147,7 +147,7 @@ place_above (row ∷ rows) place n q e = by_test (place_above rows (place + 1) n
     by_test later false g = let up = later g in omega (arith, up)
 
 -- the records of the first row
-first_own : (row : Row) (rows : List Row) (place : ℕ) (rs : List FieldRecord) → records_at place
+first_own : (row : Row) (rows : List Row) (place : ℕ) (rs : List FieldRecord) → values_at place
     (records_found (row ∷ rows) place rs) ≡ filter (has_record row) rs
 first_own row rows place [] = refl
 first_own row rows place (r ∷ rs) = by_test (first_own row rows place rs) (has_record row r)
@@ -155,14 +155,14 @@ first_own row rows place (r ∷ rs) = by_test (first_own row rows place rs) (has
     later_fs : List (Placed FieldRecord)
     later_fs = records_found (row ∷ rows) place rs
 
-    skipped : (o : Option ℕ) → place_in rows (place + 1) r.number ≡ o → records_at place (placed_record o r ++ later_fs)
-        ≡ records_at place later_fs
+    skipped : (o : Option ℕ) → place_in rows (place + 1) r.number ≡ o → values_at place (placed_record o r ++ later_fs)
+        ≡ values_at place later_fs
     skipped None e = refl
     skipped (Some q) e =
         let up = place_above rows (place + 1) r.number q e in
         rw (equal_more place q (omega (arith, up))) refl
 
-    by_test : records_at place later_fs ≡ filter (has_record row) rs → (b : Bool) → records_at place (placed_record
+    by_test : values_at place later_fs ≡ filter (has_record row) rs → (b : Bool) → values_at place (placed_record
         (cond b (Some place) (place_in rows (place + 1) r.number)) r ++ later_fs) ≡ cond b
         (r ∷ filter (has_record row) rs) (filter (has_record row) rs)
     by_test later true =
@@ -171,8 +171,8 @@ first_own row rows place (r ∷ rs) = by_test (first_own row rows place rs) (has
 
 -- the records of the rows behind the first one
 later_own : (row : Row) (rows : List Row) (place q : ℕ) (rs : List FieldRecord) → are_distinct
-    (numbers row ++ all_numbers rows) ≡ true → place < q → records_at q (records_found (row ∷ rows) place rs) ≡
-    records_at q (records_found rows (place + 1) rs)
+    (numbers row ++ all_numbers rows) ≡ true → place < q → values_at q (records_found (row ∷ rows) place rs) ≡
+    values_at q (records_found rows (place + 1) rs)
 later_own row rows place q [] d l = refl
 later_own row rows place q (r ∷ rs) d l = by_test (later_own row rows place q rs d l) (has_record row r) refl
   where
@@ -182,8 +182,8 @@ later_own row rows place q (r ∷ rs) d l = by_test (later_own row rows place q 
     later_fs : List (Placed FieldRecord)
     later_fs = records_found rows (place + 1) rs
 
-    one_more : records_at q first_fs ≡ records_at q later_fs → (o : Option ℕ) → records_at q
-        (placed_record o r ++ first_fs) ≡ records_at q (placed_record o r ++ later_fs)
+    one_more : values_at q first_fs ≡ values_at q later_fs → (o : Option ℕ) → values_at q
+        (placed_record o r ++ first_fs) ≡ values_at q (placed_record o r ++ later_fs)
     one_more later None = later
     one_more later (Some p) = both (eqb p q)
       where
@@ -193,8 +193,8 @@ later_own row rows place q (r ∷ rs) d l = by_test (later_own row rows place q 
         both true = ap (λ (xs : List FieldRecord). r ∷ xs) later
         both false = later
 
-    by_test : records_at q first_fs ≡ records_at q later_fs → (b : Bool) → has_record row r ≡ b → records_at q
-        (placed_record (cond b (Some place) (place_in rows (place + 1) r.number)) r ++ first_fs) ≡ records_at q
+    by_test : values_at q first_fs ≡ values_at q later_fs → (b : Bool) → has_record row r ≡ b → values_at q
+        (placed_record (cond b (Some place) (place_in rows (place + 1) r.number)) r ++ first_fs) ≡ values_at q
         (placed_record (place_in rows (place + 1) r.number) r ++ later_fs)
     by_test later true t =
         rw (
@@ -207,11 +207,11 @@ later_own row rows place q (r ∷ rs) d l = by_test (later_own row rows place q 
 -- ---- what is written
 
 module _ (nested : NestedBytes) where
-  places_agree : (rows : List Row) (place : ℕ) (fs gs : List (Placed FieldRecord)) → ((q : ℕ) → place ≤ q → records_at q
-      fs ≡ records_at q gs) → places_record nested rows place fs ≡ places_record nested rows place gs
+  places_agree : (rows : List Row) (place : ℕ) (fs gs : List (Placed FieldRecord)) → ((q : ℕ) → place ≤ q → values_at q
+      fs ≡ values_at q gs) → places_record nested rows place fs ≡ places_record nested rows place gs
   places_agree [] place fs gs h = refl
   places_agree (row ∷ rows) place fs gs h = rw (h place (omega arith))
-      (ap (λ (xs : List ℕ). row_record nested row (records_at place gs) ++ xs)
+      (ap (λ (xs : List ℕ). row_record nested row (values_at place gs) ++ xs)
       (places_agree rows (place + 1) fs gs (λ q l. h q (omega arith))))
 
   places_are : (rows : List Row) (place : ℕ) (rs : List FieldRecord) → are_distinct (all_numbers rows) ≡ true
@@ -229,21 +229,9 @@ module _ (nested : NestedBytes) where
 
 -- ---- the records of the program
 
-pub views_at : (place : ℕ) (ps : List (Placed Record)) → found_records (at_place place ps) ≡ records_at place
-    (found_views ps)
-views_at place [] = refl
-views_at place (p ∷ ps) = by_test (views_at place ps) (eqb p.place place)
-  where
-    by_test : found_records (at_place place ps) ≡ records_at place (found_views ps) → (b : Bool) → found_records (cond b
-        (p ∷ at_place place ps) (at_place place ps)) ≡ placed_values (cond b
-        (record { place = p.place; value = field_record_of p.value } ∷ at_place place (found_views ps))
-        (at_place place (found_views ps)))
-    by_test later true = ap (λ (xs : List FieldRecord). field_record_of p.value ∷ xs) later
-    by_test later false = later
-
 -- records at a place pass what all records pass
 all_at : (test : FieldRecord → Bool) (rows : List Row) (place q : ℕ) (rs : List FieldRecord) → list_all test rs ≡
-    true → list_all test (records_at q (records_found rows place rs)) ≡ true
+    true → list_all test (values_at q (records_found rows place rs)) ≡ true
 all_at test rows place q [] h = refl
 all_at test rows place q (r ∷ rs) h =
     let e = and_split (test r) (list_all test rs) h in
@@ -252,8 +240,8 @@ all_at test rows place q (r ∷ rs) h =
     later_fs : List (Placed FieldRecord)
     later_fs = records_found rows place rs
 
-    by_place : test r ≡ true → list_all test (records_at q later_fs) ≡ true → (o : Option ℕ) → list_all test
-        (records_at q (placed_record o r ++ later_fs)) ≡ true
+    by_place : test r ≡ true → list_all test (values_at q later_fs) ≡ true → (o : Option ℕ) → list_all test
+        (values_at q (placed_record o r ++ later_fs)) ≡ true
     by_place first later None = later
     by_place first later (Some p) = by_test (eqb p q)
       where
@@ -265,22 +253,22 @@ all_at test rows place q (r ∷ rs) h =
 module _ (nested : NestedBytes) where
   -- what is written of the records that were found, in the order of their rows
   pub sorted_are : (rows : List Row) (rs : List FieldRecord) (ps : List (Placed Record)) → are_distinct
-      (all_numbers rows) ≡ true → AreInOrder (records_found rows 0 rs) ps → places_record nested rows 0 (found_views ps)
+      (all_numbers rows) ≡ true → AreInOrder field_record_of (records_found rows 0 rs) ps → places_record nested rows 0 (found_views ps)
       ≡ rows_record nested rows rs
   sorted_are rows rs ps d o =
-      places_agree nested rows 0 (found_views ps) (records_found rows 0 rs) (λ q l. sym (views_at q ps) ∙ o.same q)
+      places_agree nested rows 0 (found_views ps) (records_found rows 0 rs) (λ q l. sym (views_at field_record_of q ps) ∙ o.same q)
       ∙ places_are nested rows 0 rs d
 
 -- records in the order of their rows pass what all records pass
 pub sorted_pass : (test : FieldRecord → Bool) (rows : List Row) (rs : List FieldRecord) (ps : List (Placed Record))
-    → AreInOrder (records_found rows 0 rs) ps → list_all test rs ≡ true → (place : ℕ) → list_all test
-    (records_at place (found_views ps)) ≡ true
+    → AreInOrder field_record_of (records_found rows 0 rs) ps → list_all test rs ≡ true → (place : ℕ) → list_all test
+    (values_at place (found_views ps)) ≡ true
 sorted_pass test rows rs ps o h place =
-    ap (list_all test) (sym (views_at place ps) ∙ o.same place) ∙ all_at test rows 0 place rs h
+    ap (list_all test) (sym (views_at field_record_of place ps) ∙ o.same place) ∙ all_at test rows 0 place rs h
 
 -- the records of the row at a place
 pub own_is : (place start : ℕ) (own ps : List (Placed Record)) → own ≡ front_at place (drop start ps) → rise_from place
-    (drop start ps) ≡ true → at_place place (drop start ps) ≡ at_place place ps → found_records own ≡ records_at place
+    (drop start ps) ≡ true → at_place place (drop start ps) ≡ at_place place ps → found_records own ≡ values_at place
     (found_views ps)
 own_is place start own ps e rising same =
-    ap found_records (e ∙ front_is place (drop start ps) rising ∙ same) ∙ views_at place ps
+    front_views field_record_of place start own ps e rising same ∙ views_at field_record_of place ps

@@ -1,5 +1,5 @@
 -- The records of a message by their rows.
-use Rattle.std.specs.Prelude.{◌≡◌, ℕ, ◌+◌, true, List, [], ◌∷◌, ◌++◌, map, flat_map, if◌then◌else◌}
+use Rattle.std.specs.Prelude.{ℕ, ◌+◌, List, [], ◌∷◌, ◌++◌, flat_map, if◌then◌else◌}
 use Rattle.std.specs.Prelude.{Option, Some, None, is_some}
 use Rattle.shared_core_wire.specs.Grammar.{FieldRecord}
 use Rattle.shared_core_wire.specs.Schema.{Row}
@@ -7,7 +7,7 @@ use Rattle.shared_core_wire.specs.declared.records.Record.{Record}
 use Rattle.shared_core_codec.specs.Checking.{field_record_of}
 use Rattle.shared_core_codec.specs.ProgramRows.{field_in_row}
 use Rattle.shared_core_canonical.specs.declared.places.Placed.{Placed}
-use Rattle.shared_core_canonical.specs.Places.{at_place, placed_values, rise_from}
+use Rattle.shared_core_canonical.specs.Places.{placed_views, values_at, views}
 use Rattle.shared_core_canonical.specs.Rows.{NestedBytes, row_record}
 
 -- The place of the first row that has a number, where the rows begin at a place.
@@ -24,28 +24,15 @@ placed_record (Some place) r = record { place = place; value = r } ∷ []
 abbrev pub records_found : List Row → ℕ → List FieldRecord → List (Placed FieldRecord)
 records_found rows place rs = flat_map (λ r. placed_record (place_in rows place r.number) r) rs
 
--- The records of the row at a place.
-abbrev pub records_at : ℕ → List (Placed FieldRecord) → List FieldRecord
-records_at place fs = placed_values (at_place place fs)
-
 -- What is written for the records of some rows, which begin at a place.
 abbrev pub places_record : NestedBytes → List Row → ℕ → List (Placed FieldRecord) → List ℕ
 places_record nested [] place fs = []
 places_record nested (row ∷ rows) place fs =
-    row_record nested row (records_at place fs) ++ places_record nested rows (place + 1) fs
+    row_record nested row (values_at place fs) ++ places_record nested rows (place + 1) fs
 
--- A record of the program, with its place.
-abbrev pub found_view : Placed Record → Placed FieldRecord
-found_view p = record { place = p.place; value = field_record_of p.value }
-
+-- The records of the program, with their places and without.
 abbrev pub found_views : List (Placed Record) → List (Placed FieldRecord)
-found_views ps = map found_view ps
+found_views ps = placed_views field_record_of ps
 
--- The records, without their places.
 abbrev pub found_records : List (Placed Record) → List FieldRecord
-found_records ps = map (λ p. field_record_of p.value) ps
-
--- The records of the program by their places.
-pub record AreInOrder (fs : List (Placed FieldRecord)) (ps : List (Placed Record)) : Type 0 where
-  pub rising : rise_from 0 ps ≡ true
-  pub same : (place : ℕ) → found_records (at_place place ps) ≡ records_at place fs
+found_records ps = views field_record_of ps

@@ -9,7 +9,8 @@ ghost use Rattle.shared_core_wire.specs.Overlay.{meaning};
 ghost use Rattle.shared_core_wire.specs.Schema.{Repeated};
 ghost use Rattle.shared_core_codec.specs.Canonicity.{is_plain};
 ghost use Rattle.shared_core_codec.specs.ProgramRows.{field_view, kind_view};
-ghost use Rattle.shared_core_canonical.specs.Found.{found_records, found_views, places_record, records_at};
+ghost use Rattle.shared_core_canonical.specs.Found.{found_records, found_views, places_record};
+ghost use Rattle.shared_core_canonical.specs.Places.{values_at};
 ghost use Rattle.shared_core_canonical.specs.Places.{rise_from};
 ghost use Rattle.shared_core_canonical.specs.Rows.{nested_bytes, row_record, repeated_record};
 ghost use Rattle.shared_core_canonical.specs.Rows.{message_element, message_allows};
@@ -60,7 +61,7 @@ fn append_rows<T: Schemas>(
 ) -> Result<(), AllocError>
     requires rising { rise_from 0 source.now.records.now ≡ true }
     requires allowed { (place : ℕ) → list_all (accepts_record (accepts_message (T.table schemas.now) source.now.left)
-        (map T.Row.view rows.now)) (records_at place (found_views source.now.records.now)) ≡ true }
+        (map T.Row.view rows.now)) (values_at place (found_views source.now.records.now)) ≡ true }
     ensures { OnOk result (out.new.items ≡ out.old.items
         ++ places_record (nested_bytes (T.table schemas.now) source.now.left) (map T.Row.view rows.now) 0
         (found_views source.now.records.now)) }

@@ -1,7 +1,9 @@
 //! The records of a message that its schema has, by their rows.
 
 ghost use Rattle.std.specs.Prelude.{◌≡◌, IfOk, map};
-ghost use Rattle.shared_core_canonical.specs.Found.{AreInOrder, found_views, place_in, records_found};
+ghost use Rattle.shared_core_codec.specs.Checking.{field_record_of};
+ghost use Rattle.shared_core_canonical.specs.Found.{found_views, place_in, records_found};
+ghost use Rattle.shared_core_canonical.specs.Places.{AreInOrder};
 ghost use Rattle.shared_core_canonical.specs.Rows.{records_read};
 
 use crate::places::{Placed, sort_by_place};
@@ -20,7 +22,7 @@ pub fn sorted_records<'a, R: SchemaRow>(
     rows: &[R],
     source: &Source<'a>,
 ) -> Result<Vec<Placed<Record<'a>>>, AllocError>
-    ensures { IfOk result (λ found. AreInOrder (records_found (map R.view rows.now) 0
+    ensures { IfOk result (λ found. AreInOrder field_record_of (records_found (map R.view rows.now) 0
         (records_read source.now.left source.now.bytes.now)) found.items) }
 {
     let mut found = find_records(rows, source)?;

@@ -6,17 +6,17 @@ use Rattle.std.proofs.lemmas.Bool.{eqb-true, eqb-false, eq-eqb, ne_eqb}
 use Rattle.shared_core_wire.specs.Grammar.{FieldRecord}
 use Rattle.shared_core_wire.proofs.Runs.{and_split}
 use Rattle.shared_core_canonical.specs.declared.places.Placed.{Placed}
-use Rattle.shared_core_canonical.specs.Places.{at_place, front_at, placed_values, rise_from}
-use Rattle.shared_core_canonical.proofs.ByPlace.{front_is}
+use Rattle.shared_core_canonical.specs.Places.{AreInOrder, at_place, front_at, placed_values, rise_from, values_at}
+use Rattle.shared_core_canonical.proofs.ByPlace.{front_views}
 use Rattle.shared_core_renumber.specs.declared.entries.Renumbering.{Renumbering}
 use Rattle.shared_core_renumber.specs.declared.found.Found.{Found}
 use Rattle.shared_core_renumber.specs.Entries.{find_from, find_in, place_of}
 use Rattle.shared_core_renumber.specs.Allowed.{NestedTest}
 use Rattle.shared_core_renumber.specs.Written.{FoundRecord, FoundValue, NestedBytes, allows_found, found_bytes}
 use Rattle.shared_core_renumber.specs.Written.{found_record}
-use Rattle.shared_core_renumber.specs.Written.{found_values, found_views, group_bytes, is_allowed, ranked}
+use Rattle.shared_core_renumber.specs.Written.{found_values, group_bytes, is_allowed, ranked}
 use Rattle.shared_core_renumber.specs.Written.{records_found}
-use Rattle.shared_core_renumber.specs.Written.{AreInOrder, entries_bytes, first_bytes, value_view, values_at}
+use Rattle.shared_core_renumber.specs.Written.{entries_bytes, first_bytes, value_view}
 use Rattle.shared_core_renumber.specs.Written.{value_bytes}
 
 -- ---- the places of entries
@@ -67,31 +67,12 @@ place_within s n es p e = found_within s n 0 0 (length es) es p (sym e) (omega a
 
 -- ---- records at a place
 
-views_at : (place : ℕ) (ps : List (Placed Found)) → found_values (at_place place ps) ≡ values_at place (found_views ps)
-views_at place [] = refl
-views_at place (p ∷ ps) = by_test (views_at place ps) (eqb p.place place)
-  where
-    by_test : found_values (at_place place ps) ≡ values_at place (found_views ps) → (b : Bool) → found_values (cond b
-        (p ∷ at_place place ps) (at_place place ps)) ≡ placed_values (cond b
-        (record { place = p.place; value = value_view p.value } ∷ at_place place (found_views ps))
-        (at_place place (found_views ps)))
-    by_test later true = ap (λ (vs : List FoundValue). value_view p.value ∷ vs) later
-    by_test later false = later
-
-pub in_order : (vs : List (Placed FoundValue)) (found sorted : List (Placed Found)) → found_views found ≡ vs →
-    rise_from 0 sorted ≡ true → ((place : ℕ) → at_place place sorted ≡ at_place place found) → AreInOrder vs sorted
-in_order vs found sorted e rising same = record {
-  rising = rising;
-  same = λ place. ap found_values (same place) ∙ views_at place found
-      ∙ ap (λ (ws : List (Placed FoundValue)). values_at place ws) e;
-}
-
 -- what the front of records in order holds
 pub group_is : (place start : ℕ) (group ps : List (Placed Found)) (vs : List (Placed FoundValue)) → group ≡ front_at
     place (drop start ps) → rise_from place (drop start ps) ≡ true → at_place place (drop start ps) ≡ at_place place ps
-    → AreInOrder vs ps → found_values group ≡ values_at place vs
+    → AreInOrder value_view vs ps → found_values group ≡ values_at place vs
 group_is place start group ps vs e rising same order =
-    ap found_values (e ∙ front_is place (drop start ps) rising ∙ same) ∙ order.same place
+    front_views value_view place start group ps e rising same ∙ order.same place
 
 pub group_allowed : (inner : NestedTest) (count place : ℕ) (fs : List FoundRecord) → list_all (is_allowed inner) fs ≡
     true → list_all (allows_found inner) (values_at place (ranked count fs)) ≡ true

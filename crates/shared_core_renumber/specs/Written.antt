@@ -1,12 +1,12 @@
 -- What is written of a payload at other field numbers.
-use Rattle.std.specs.Prelude.{◌≡◌, ℕ, zero, suc, ◌-◌, ◌%◌, ◌^◌, Bool, true, false, List, [], ◌∷◌, ◌++◌, length, map}
+use Rattle.std.specs.Prelude.{ℕ, zero, suc, ◌-◌, ◌%◌, ◌^◌, Bool, false, List, [], ◌∷◌, ◌++◌, length, map}
 use Rattle.std.specs.Prelude.{flat_map}
 use Rattle.std.specs.Prelude.{Option, Some, None, nat_eq, if◌then◌else◌}
 use Rattle.shared_core_wire.specs.Grammar.{RecordValue, Varint, Length, FieldRecord}
 use Rattle.shared_core_wire.specs.View.{value_of}
 use Rattle.shared_core_wire.specs.WrittenRecords.{number_record, content_record}
 use Rattle.shared_core_canonical.specs.declared.places.Placed.{Placed}
-use Rattle.shared_core_canonical.specs.Places.{at_place, placed_values, rise_from}
+use Rattle.shared_core_canonical.specs.Places.{placed_views, views}
 use Rattle.shared_core_canonical.specs.Rows.{records_read}
 use Rattle.shared_core_renumber.specs.declared.entries.Renumbering.{Renumbering}
 use Rattle.shared_core_renumber.specs.declared.found.Found.{Found}
@@ -48,22 +48,12 @@ ranked count fs = map (λ f. record { place = count - f.place; value = (f.entry,
 abbrev pub value_view : Found → FoundValue
 value_view f = (f.entry, value_of f.value)
 
--- Those of the program, with their places.
+-- Those of the program, with their places and without.
 abbrev pub found_views : List (Placed Found) → List (Placed FoundValue)
-found_views ps = map (λ p. record { place = p.place; value = value_view p.value }) ps
+found_views ps = placed_views value_view ps
 
--- Those of the program, without their places.
 abbrev pub found_values : List (Placed Found) → List FoundValue
-found_values ps = map (λ p. value_view p.value) ps
-
--- Those at a place.
-abbrev pub values_at : ℕ → List (Placed FoundValue) → List FoundValue
-values_at place vs = placed_values (at_place place vs)
-
--- Those of the program by their places.
-pub record AreInOrder (vs : List (Placed FoundValue)) (ps : List (Placed Found)) : Type 0 where
-  pub rising : rise_from 0 ps ≡ true
-  pub same : (place : ℕ) → found_values (at_place place ps) ≡ values_at place vs
+found_values ps = views value_view ps
 
 -- Whether the entry of a record allows its value.
 abbrev pub allows_found : NestedTest → FoundValue → Bool

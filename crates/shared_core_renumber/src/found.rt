@@ -2,7 +2,8 @@
 
 ghost use Rattle.std.specs.Prelude.{◌≡◌, IfOk, length};
 ghost use Rattle.shared_core_canonical.specs.Rows.{records_read};
-ghost use Rattle.shared_core_renumber.specs.Written.{AreInOrder, found_views, ranked, records_found};
+ghost use Rattle.shared_core_canonical.specs.Places.{AreInOrder};
+ghost use Rattle.shared_core_renumber.specs.Written.{found_views, ranked, records_found, value_view};
 
 use crate::entries::{Renumbering, find_in};
 use crate::source::Source;
@@ -28,7 +29,7 @@ pub fn sorted_records<'a>(
     own: &[Renumbering],
     source: &Source<'a>,
 ) -> Result<Vec<Placed<Found<'a>>>, AllocError>
-    ensures { IfOk result (λ found. AreInOrder (ranked (length own.now) (records_found source.now.schema own.now
+    ensures { IfOk result (λ found. AreInOrder value_view (ranked (length own.now) (records_found source.now.schema own.now
         (records_read source.now.left source.now.bytes.now))) found.items) }
 {
     let mut found = find_records(own, source)?;

@@ -11,7 +11,9 @@ use Rattle.shared_core_codec.proofs.Checked.{message_below_in, message_zero_in, 
 use Rattle.shared_core_codec.specs.ProgramRows.{kind_view}
 use Rattle.shared_core_canonical.specs.declared.places.Placed.{Placed}
 use Rattle.shared_core_canonical.specs.Places.{at_place, front_at, rise_from}
-use Rattle.shared_core_canonical.specs.Found.{AreInOrder, found_records, found_views, places_record, records_at}
+use Rattle.shared_core_canonical.specs.Found.{found_records, found_views, places_record}
+use Rattle.shared_core_codec.specs.Checking.{field_record_of}
+use Rattle.shared_core_canonical.specs.Places.{AreInOrder, values_at}
 use Rattle.shared_core_canonical.specs.Found.{records_found}
 use Rattle.shared_core_canonical.specs.Rows.{rows_record, nested_bytes, records_read, row_record}
 use Rattle.shared_core_canonical.specs.Singles.{single_view}
@@ -58,8 +60,8 @@ message-append_rows-requires g t c =
     let rows = map g.T.Row.SchemaRow.view c.rows_of-rows.result.now in
     let ps = c.as_slice.result.now in
     let same : rows ≡ table c.args.schema = c.rows_of-rows.ensures in
-    let order : AreInOrder (records_found rows 0 rs) ps = subst
-    (λ (qs : List (Placed Record)). AreInOrder (records_found rows 0 rs) qs) (sym c.as_slice.ensures.value)
+    let order : AreInOrder field_record_of (records_found rows 0 rs) ps = subst
+    (λ (qs : List (Placed Record)). AreInOrder field_record_of (records_found rows 0 rs) qs) (sym c.as_slice.ensures.value)
     c.in_ok-found.ensures in
     let pass : list_all (accepts_record (accepts_message table left) rows) rs ≡ true = ap
     (λ (ks : List Row). list_all (accepts_record (accepts_message table left) ks) rs) same ∙
@@ -77,8 +79,8 @@ message-returns g t c =
     let rows = map g.T.Row.SchemaRow.view c.rows_of-rows.result.now in
     let ps = c.as_slice.result.now in
     let same : rows ≡ table c.args.schema = c.rows_of-rows.ensures in
-    let order : AreInOrder (records_found rows 0 rs) ps = subst
-    (λ (qs : List (Placed Record)). AreInOrder (records_found rows 0 rs) qs) (sym c.as_slice.ensures.value)
+    let order : AreInOrder field_record_of (records_found rows 0 rs) ps = subst
+    (λ (qs : List (Placed Record)). AreInOrder field_record_of (records_found rows 0 rs) qs) (sym c.as_slice.ensures.value)
     c.in_ok-found.ensures in
     let written : c.append_rows.new.out.items ≡ c.new-out.result.items ++ places_record nested rows 0 (found_views ps) =
     c.in_ok-append_rows.ensures in
@@ -116,13 +118,13 @@ append_rows-append_row-requires g t c =
     let place = length c.args.rows.now - length c.loop-row.rest.now in
     let split : c.loop-row.rest.now ≡ c.in-Some.row.now ∷ c.in-Some.after.now = search rules in
     let front : own ≡ front_at place (drop c.loop-row.start ps) = c.of_row-own.ensures.records in
-    let owned : found_records own ≡ records_at place (found_views ps) =
+    let owned : found_records own ≡ values_at place (found_views ps) =
     own_is place c.loop-row.start own ps front c.loop-row.invariant.rising
     (c.loop-row.invariant.same place (omega arith)) in
     let pass : list_all (λ r. row_allows (accepts_message table left) r row) (found_records own) ≡ true =
     ap (list_all (λ r. row_allows (accepts_message table left) r row)) owned
     ∙ first_pass table left row (map view c.in-Some.after.now) (map view c.loop-row.rest.now)
-    (records_at place (found_views ps)) (ap (map view) split) (c.loop-row.invariant.allowed place) in
+    (values_at place (found_views ps)) (ap (map view) split) (c.loop-row.invariant.allowed place) in
     let here : list_all (λ r. row_allows (accepts_message table c.of_row-own.result.left) r row) (found_records own) ≡
     true = subst
     (λ (l : ℕ). list_all (λ r. row_allows (accepts_message table l) r row) (found_records own) ≡ true)
@@ -149,14 +151,14 @@ append_rows-loop-row-preserved g t c =
     let front : own ≡ front_at place (drop start ps) = c.of_row-own.ensures.records in
     let gone : drop (start + length own) ps ≡ behind_place place (drop start ps) =
     ap (λ (qs : List (Placed Record)). drop (start + length qs) ps) front ∙ left_behind place start ps in
-    let owned : found_records own ≡ records_at place fs =
+    let owned : found_records own ≡ values_at place fs =
     own_is place start own ps front c.loop-row.invariant.rising (c.loop-row.invariant.same place (omega arith)) in
     let written : c.append_row.new.out.items ≡ c.loop-row.out.items ++ row_record
     (nested_bytes table c.of_row-own.result.left) row (found_records own) = c.in_ok-append_row.ensures in
     record {
       within = omega (arith, longer, c.loop-row.invariant.within);
       started = front_within place start own ps front c.loop-row.invariant.started;
-      allowed = λ q. later_pass table left row after (map view c.loop-row.rest.now) (records_at q fs)
+      allowed = λ q. later_pass table left row after (map view c.loop-row.rest.now) (values_at q fs)
           (ap (map view) split) (c.loop-row.invariant.allowed q);
       rising = ap (λ (qs : List (Placed Record)). rise_from next qs) gone
           ∙ behind_rises place next (drop start ps) step c.loop-row.invariant.rising;
@@ -169,9 +171,9 @@ append_rows-loop-row-preserved g t c =
           places_record nested after next fs) c.of_row-own.ensures.left
           ∙ ap (λ (rs : List FieldRecord). (c.loop-row.out.items ++ row_record nested row rs) ++
           places_record nested after next fs) owned
-          ∙ append_assoc c.loop-row.out.items (row_record nested row (records_at place fs))
+          ∙ append_assoc c.loop-row.out.items (row_record nested row (values_at place fs))
           (places_record nested after next fs)
-          ∙ sym (ap (λ (n : ℕ). c.loop-row.out.items ++ (row_record nested row (records_at place fs) ++
+          ∙ sym (ap (λ (n : ℕ). c.loop-row.out.items ++ (row_record nested row (values_at place fs) ++
           places_record nested after n fs)) step)
           ∙ sym (ap (λ (rest : List g.row.T-Row.Denot). c.loop-row.out.items ++ places_record nested
           (map view rest) place fs) split) ∙ c.loop-row.invariant.written;

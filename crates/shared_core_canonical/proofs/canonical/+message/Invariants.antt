@@ -2,7 +2,8 @@ use Rattle.std.proofs.Common.{◌≡◌, ℕ, ◌≤◌, ◌+◌, ◌-◌, ◌*�
 use Rattle.std.specs.List.{list_all}
 use Rattle.shared_core_wire.specs.Acceptance.{accepts_message, accepts_record}
 use Rattle.shared_core_canonical.specs.Places.{at_place, rise_from}
-use Rattle.shared_core_canonical.specs.Found.{found_records, found_views, places_record, records_at}
+use Rattle.shared_core_canonical.specs.Found.{found_records, found_views, places_record}
+use Rattle.shared_core_canonical.specs.Places.{values_at}
 use Rattle.shared_core_canonical.specs.Rows.{nested_bytes, message_element, message_allows}
 use Rattle.shared_core_canonical.proofs.canonical.+message.Given as goal
 
@@ -43,7 +44,7 @@ invariant-append_rows-loop-row g l = record {
   within : length l.rest ≤ length l.rows;
   started : l.start ≤ length l.source.records.now;
   allowed : (place : ℕ) → list_all (accepts_record (accepts_message (g.T.Schemas.table l.schemas) l.source.left)
-      (map g.T.Row.SchemaRow.view l.rest)) (records_at place (found_views l.source.records.now)) ≡ true;
+      (map g.T.Row.SchemaRow.view l.rest)) (values_at place (found_views l.source.records.now)) ≡ true;
   rising : rise_from (length l.rows - length l.rest) (drop l.start l.source.records.now) ≡ true;
   same : (place : ℕ) → length l.rows - length l.rest ≤ place → at_place place
       (drop l.start l.source.records.now) ≡ at_place place l.source.records.now;

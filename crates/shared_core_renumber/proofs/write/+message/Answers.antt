@@ -12,7 +12,8 @@ use Rattle.shared_core_renumber.specs.declared.found.Found.{Found}
 use Rattle.shared_core_renumber.specs.Entries.{from_schema}
 use Rattle.shared_core_renumber.specs.Allowed.{nested_allows, payload_allows}
 use Rattle.shared_core_renumber.specs.Written.{allows_found, entries_bytes, first_bytes, found_values}
-use Rattle.shared_core_renumber.specs.Written.{is_allowed, nested_bytes, ranked, records_found, values_at}
+use Rattle.shared_core_canonical.specs.Places.{values_at}
+use Rattle.shared_core_renumber.specs.Written.{is_allowed, nested_bytes, ranked, records_found}
 use Rattle.shared_core_renumber.proofs.Ranks.{entry_written, group_allowed, group_is, next_group, same_group}
 use Rattle.shared_core_renumber.proofs.Steps.{all_allowed, allows_none, allows_below, bytes_below}
 use Rattle.shared_core_renumber.proofs.write.+message.Goals.{append_message-then-entry-before+in_ok-append_group}
