@@ -13,6 +13,8 @@ pub mod Tables
 pub mod PayloadLaws
 pub mod Checked
 pub mod LoadedTables
+pub mod PassedRows
+mod Indexing
 pub mod CanonicityIn
 pub mod CanonicityExactIn
 pub mod Canonicity

@@ -1,7 +1,7 @@
 //! Tables of schemas as values. What reads payloads without a record is generic over one.
 
-ghost use Rattle.std.specs.Prelude.{◌≡◌, map};
-ghost use Rattle.shared_core_wire.specs.Schema.{Row as AnyRow, Table};
+ghost use Rattle.std.specs.Prelude.{◌≡◌, ◌≤◌, false, length, map, take};
+ghost use Rattle.shared_core_wire.specs.Schema.{Row as AnyRow, Table, all_numbers, includes};
 ghost use Rattle.shared_core_codec.specs.Table.{table as protocol};
 ghost use Rattle.shared_core_codec.specs.Tables.{IsTable, protocol_is_table};
 ghost use Rattle.shared_core_codec.specs.ProgramRows.{row_view, shape_view};
@@ -38,6 +38,16 @@ pub trait Schemas {
     /// The rows of the schema at an index of the table; past its end there are none.
     fn rows_of(&self, schema: u32) -> &[Self::Row]
         ensures { map Self.Row.view result.now ≡ table self.now schema };
+
+    /// How many of the first rows of a schema are passed over in search of a number: none of them has it. A table
+    /// without an index passes over none.
+    #[inline(always)]
+    fn rows_before(&self, schema: u32, number: u32) -> usize
+        ensures within { result ≤ length (table self.now schema) }
+        ensures lack { includes (all_numbers (take result (table self.now schema))) number ≡ false }
+    {
+        0
+    }
 
     /// The numbers of a schema are field numbers, no two fields share one, and no message field is a plain one.
     ghost valid: { (schemas : Self) → IsTable (table schemas) };

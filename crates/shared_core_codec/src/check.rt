@@ -1,9 +1,9 @@
 //! Checking payloads by the rows of their schema: in one pass, without a record and without allocating.
 
-ghost use Rattle.std.specs.Prelude.{◌≡◌, ◌↔◌, IsTrue, map, true};
+ghost use Rattle.std.specs.Prelude.{◌≡◌, ◌↔◌, ◌≤◌, IsTrue, drop, length, map, true};
 ghost use Rattle.std.specs.Option.{is_some};
 ghost use Rattle.shared_core_wire.specs.Acceptance.{accepts_payload, accepts_message, accepts_record};
-ghost use Rattle.shared_core_wire.specs.Acceptance.{accepts_element, accepts_numbers, accepts_value};
+ghost use Rattle.shared_core_wire.specs.Acceptance.{NestedAcceptance, accepts_element, accepts_numbers, accepts_value};
 ghost use Rattle.shared_core_wire.specs.Reader.{packed_numbers};
 ghost use Rattle.shared_core_wire.specs.Schema.{are_distinct, all_numbers};
 ghost use Rattle.shared_core_wire.specs.View.{value_of};
@@ -46,11 +46,37 @@ fn accepts_payload<T: Schemas>(schemas: &T, schema: u32, payload: &[u8], left: u
         let Ok(found) = item else {
             return false;
         };
-        if !accepts_record(schemas, rows, &found, left) {
+        let own = rows_from(schemas, schema, rows, &found);
+        if !accepts_record(schemas, own, &found, left) {
             return false;
         }
     }
     true
+}
+
+/// The rows of a schema from which that of a record is looked for. None before them has the record's number.
+#[inline(always)]
+fn rows_from<'a, T: Schemas>(
+    schemas: &T,
+    schema: u32,
+    rows: &'a [T::Row],
+    found: &Record<'_>,
+) -> &'a [T::Row]
+    requires { map T.Row.view rows.now ≡ T.table schemas.now schema }
+    ensures distinct { are_distinct (all_numbers (map T.Row.view result.now)) ≡ true }
+    ensures same { (nested : NestedAcceptance) → accepts_record nested (map T.Row.view result.now)
+        (field_record_of found.now) ≡ accepts_record nested (T.table schemas.now schema) (field_record_of found.now) }
+{
+    rows_after(rows, schemas.rows_before(schema, found.number))
+}
+
+/// The rows after the first ones.
+#[inline(always)]
+fn rows_after<R>(rows: &[R], count: usize) -> &[R]
+    requires { count ≤ length rows.now }
+    ensures { result.now ≡ drop count rows.now }
+{
+    &rows[count..]
 }
 
 /// Whether a payload with these rows may have a record.

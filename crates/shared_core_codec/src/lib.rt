@@ -28,6 +28,7 @@ pub mod packed;
 pub mod plain;
 pub mod record;
 pub mod repeated;
+mod row_index;
 pub mod rows;
 mod schemas;
 pub mod size;

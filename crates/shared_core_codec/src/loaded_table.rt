@@ -5,17 +5,22 @@ ghost use Rattle.std.specs.List.{list_all};
 ghost use Rattle.shared_core_wire.specs.Schema.{table_of};
 ghost use Rattle.shared_core_codec.specs.Tables.{each_is_rows, are_rows};
 ghost use Rattle.shared_core_codec.specs.LoadedRows.{schemas_view, are_schemas};
+ghost use Rattle.shared_core_codec.specs.RowIndexes.{AreIndexes};
 ghost use Rattle.shared_core_codec.specs.TableErrors.{table_error};
 
 use crate::any_table::Schemas;
 use crate::loaded_rows::{LoadedRow, first_error};
+use crate::row_index::{self, NumberPlace, indexes_of};
 use crate::table_error::TableError;
+use std::alloc::{AllocError, Global};
 
 /// A table of schemas that is made at run time, whose rows were checked.
 #[derive(Drop)]
 pub struct LoadedSchemas {
     schemas: Vec<Vec<LoadedRow>>,
+    indexes: Vec<Vec<NumberPlace>>,
     ghost valid: { list_all are_rows (schemas_view schemas.items) ≡ true },
+    ghost indexed: { AreIndexes (schemas_view schemas.items) indexes.items },
 }
 
 impl Schemas for LoadedSchemas {
@@ -30,6 +35,16 @@ impl Schemas for LoadedSchemas {
             self.schemas[place].as_slice()
         } else {
             &[]
+        }
+    }
+
+    #[inline(always)]
+    fn rows_before(&self, schema: u32, number: u32) -> usize {
+        let place = schema as usize;
+        if place < self.indexes.len() {
+            row_index::rows_before(self.rows_of(schema), self.indexes[place].as_slice(), number)
+        } else {
+            0
         }
     }
 
@@ -53,6 +68,21 @@ impl LoadedSchemas {
         if let Some(error) = first_error(schemas.as_slice()) {
             return Err(error);
         }
-        Ok(LoadedSchemas { schemas })
+        let indexes = Vec::new(*schemas.allocator());
+        Ok(LoadedSchemas { schemas, indexes })
+    }
+
+    /// The same table with an index of each schema of more than 16 rows: its numbers in ascending order, with the
+    /// places of their rows. Then the row of a number is found by halves, and not from the first row on. An error is
+    /// a failed allocation.
+    pub fn indexed(self, alloc: Global) -> Result<LoadedSchemas, AllocError>
+        ensures { IfOk result (λ indexed. ⟦<LoadedSchemas as Schemas>⟧.table indexed
+            ≡ ⟦<LoadedSchemas as Schemas>⟧.table self) }
+    {
+        let indexes = indexes_of(alloc, self.schemas.as_slice())?;
+        Ok(LoadedSchemas {
+            schemas: self.schemas,
+            indexes,
+        })
     }
 }

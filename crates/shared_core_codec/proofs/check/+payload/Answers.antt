@@ -1,4 +1,4 @@
-use Rattle.std.proofs.Common.{◌≡◌, ◌-◌, ◌∙◌, map, Bool, Option, Some, sym, ap, arith}
+use Rattle.std.proofs.Common.{◌≡◌, ◌-◌, ◌∙◌, map, Bool, Option, Some, sym, ap, arith, rules}
 use Rattle.shared_core_wire.specs.Acceptance.{accepts_record, accepts_message}
 use Rattle.shared_core_wire.specs.Schema.{Kind}
 use Rattle.shared_core_wire.specs.RecordsLeft.{records_left}
@@ -13,6 +13,18 @@ accepts_payload-loop-item-init g t c =
     c.args.schemas.now c.args.schema)))
     (ap records_left c.into_iter-item-iterator.ensures.into_iter_gives ∙ c.within-item-items.ensures.computed)
     ∙ all_checked (g.T.Schemas.table c.args.schemas.now) c.args.left c.args.schema c.args.payload.now
+
+pub accepts_payload-returns-then-not-accepts_record : goal.accepts_payload-returns-then-not-accepts_record
+accepts_payload-returns-then-not-accepts_record g t c =
+    let says = c.accepts_record.ensures
+    ∙ c.rows_from-own.ensures.same (accepts_message (g.T.Schemas.table c.args.schemas.now) c.args.left) in
+    search rules
+
+pub accepts_payload-loop-item-preserved : goal.accepts_payload-loop-item-preserved
+accepts_payload-loop-item-preserved g t c =
+    let says = c.accepts_record.ensures
+    ∙ c.rows_from-own.ensures.same (accepts_message (g.T.Schemas.table c.args.schemas.now) c.args.left) in
+    search rules
 
 pub accepts_record-returns-in_default : goal.accepts_record-returns-in_default
 accepts_record-returns-in_default g t c =
