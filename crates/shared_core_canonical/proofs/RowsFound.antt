@@ -1,6 +1,6 @@
 -- The records of a message by their rows.
 use Rattle.std.proofs.Common.{◌≡◌, ℕ, ◌+◌, ◌<◌, ◌≤◌, List, [], ◌∷◌, ◌++◌, Bool, true, false, cond, eqb}
-use Rattle.std.proofs.Common.{refl, sym, ap, ◌∙◌, flat_map, drop, arith, Option, Some, None}
+use Rattle.std.proofs.Common.{refl, sym, ap, ◌∙◌, flat_map, drop, take, arith, zero, suc, Option, Some, None}
 use Rattle.std.specs.Prelude.{is_some}
 use Rattle.std.specs.List.{filter, list_all}
 use Rattle.std.proofs.lemmas.Bool.{eq-eqb}
@@ -13,6 +13,7 @@ use Rattle.shared_core_wire.proofs.Runs.{and_split}
 use Rattle.shared_core_wire.proofs.ReadBack.{or_split, includes-append, distinct_back, distinct_other}
 use Rattle.shared_core_wire.specs.WrittenRecords.{content_record}
 use Rattle.shared_core_codec.specs.Checking.{field_record_of}
+use Rattle.shared_core_codec.proofs.PassedRows.{lacks}
 use Rattle.shared_core_codec.specs.ProgramRows.{field_in_row, member_numbered}
 use Rattle.shared_core_canonical.specs.declared.places.Placed.{Placed}
 use Rattle.shared_core_canonical.specs.Places.{AreInOrder, at_place, front_at, placed_values, rise_from, values_at}
@@ -56,6 +57,17 @@ rows_lack (row ∷ rows) place n h =
     let e = or_split (includes (numbers row) n) (includes (all_numbers rows) n)
     (sym (includes-append (numbers row) (all_numbers rows) n) ∙ h) in
     rw (row_lacks row n e.0) (rows_lack rows (place + 1) n e.1)
+
+-- rows without a number are passed over
+pub rows_passed : (rows : List Row) (count place n : ℕ) → includes (all_numbers (take count rows)) n ≡ false
+    → place_in rows place n ≡ place_in (drop count rows) (place + count) n
+rows_passed rows zero place n h = let e : place ≡ place + 0 = omega arith in ap (λ (p : ℕ). place_in rows p n) e
+rows_passed [] (suc count) place n h = refl
+rows_passed (row ∷ rows) (suc count) place n h =
+    let l = lacks row (take count rows) n h in
+    let e : place + 1 + count ≡ place + suc count = omega arith in
+    rw (row_lacks row n l.first) (rows_passed rows count (place + 1) n l.later
+    ∙ ap (λ (p : ℕ). place_in (drop count rows) p n) e)
 
 -- ---- the records of a row
 

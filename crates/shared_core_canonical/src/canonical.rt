@@ -40,7 +40,7 @@ pub fn message<T: Schemas>(
         (meaning (T.table schemas.now) source.now.left schema source.now.bytes.now)) }
 {
     let rows = schemas.rows_of(schema);
-    let found = sorted_records(rows, source)?;
+    let found = sorted_records(schemas, schema, rows, source)?;
     let mut out = Vec::new(source.alloc);
     let all = FoundRecords {
         alloc: source.alloc,

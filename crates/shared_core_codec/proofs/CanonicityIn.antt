@@ -38,7 +38,7 @@ use Rattle.shared_core_codec.specs.ProgramRows.{field_in_row, member_numbered}
 use Rattle.shared_core_codec.specs.RowEncoding.{unpacked}
 use Rattle.shared_core_codec.specs.Canonicity.{IsCanonicalIn, is_written_number, is_written_value, is_written_run}
 use Rattle.shared_core_codec.specs.Canonicity.{written_varint_at, is_written_list}
-use Rattle.shared_core_codec.specs.Canonicity.{is_written_element, is_default_value, is_plain, is_written_field}
+use Rattle.shared_core_codec.specs.Canonicity.{is_default_value, is_plain, is_written_field}
 use Rattle.shared_core_codec.specs.Canonicity.{may_recur, found_or, next_field, rows_after_field, rows_after}
 use Rattle.shared_core_codec.specs.Canonicity.{written_size, Coming, coming_after, all_come, all_come_read}
 use Rattle.shared_core_codec.specs.Canonicity.{is_canonical_message_in, is_canonical_payload_in}

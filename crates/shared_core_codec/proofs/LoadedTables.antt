@@ -1,5 +1,5 @@
 -- Schemas without a field that no table may have are those of a table.
-use Rattle.std.proofs.Common.{◌≡◌, ℕ, suc, List, [], ◌∷◌, ◌++◌, map, Bool, true, false, cond, not, ◌&&◌, Option, Some}
+use Rattle.std.proofs.Common.{◌≡◌, ℕ, suc, List, [], ◌∷◌, ◌++◌, map, Bool, true, false, cond, not, Option, Some}
 use Rattle.std.proofs.Common.{None}
 use Rattle.std.proofs.Common.{refl, sym, ap, ◌∙◌, length}
 use Rattle.std.proofs.lemmas.List.Folds.{list_all-append}
@@ -12,7 +12,7 @@ use Rattle.shared_core_wire.proofs.Runs.{and_split, and_join}
 use Rattle.shared_core_wire.proofs.ReadBack.{distinct_back}
 use Rattle.shared_core_codec.specs.Tables.{is_message, may_be_empty, are_rows}
 use Rattle.shared_core_codec.specs.LoadedRows.{knows_kind, knows_row, knows_rows, are_schemas}
-use Rattle.shared_core_codec.specs.TableErrors.{field_fault, plain_fault, members_fault, row_fault, rows_fault}
+use Rattle.shared_core_codec.specs.TableErrors.{field_fault, members_fault, row_fault, rows_fault}
 use Rattle.shared_core_codec.specs.TableErrors.{error_from, table_error}
 use Rattle.shared_core_codec.specs.declared.table_error.TableError.{TableError}
 

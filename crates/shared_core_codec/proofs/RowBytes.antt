@@ -10,8 +10,8 @@ use Rattle.shared_core_codec.specs.RowEncoding.{varints_of, before_row, before_r
 use Rattle.shared_core_codec.specs.Table.{table}
 use Rattle.shared_core_wire.specs.Canonical.{canonical_payload, element_values, is_default, kind_of, message_records}
 use Rattle.shared_core_wire.specs.Canonical.{number_bytes, part_values, row_records, written_number}
-use Rattle.shared_core_wire.specs.Schema.{Boolean, ByteString, Enumeration, Kind, Message, OneOf, Optional, Plain}
-use Rattle.shared_core_wire.specs.Schema.{Repeated, Row, Text, U32, U64, member_kind}
+use Rattle.shared_core_wire.specs.Schema.{Kind, Message, OneOf, Optional, Plain}
+use Rattle.shared_core_wire.specs.Schema.{Repeated, Row, U32, member_kind}
 use Rattle.shared_core_wire.specs.Encoding.{record_bytes, record_list_bytes, shortest_varint}
 use Rattle.shared_core_wire.proofs.ReadBack.{not_true}
 use Rattle.shared_core_wire.specs.Value.{Absent, Bytes, Elements, Member, Nested, Number, Part, Parts, cons, nil}

@@ -6,6 +6,6 @@ use Rattle.shared_core_canonical.proofs.found.find_records.Given as goal
 
 abbrev pub invariant-loop-item : goal.invariant-loop-item
 invariant-loop-item g l =
-    found_views l.found.items ++ records_found (map g.R.SchemaRow.view l.rows) 0
+    found_views l.found.items ++ records_found (map g.T.Row.SchemaRow.view l.rows) 0
     (records_of (records_left l.item-iterator)) ≡
-    records_found (map g.R.SchemaRow.view l.rows) 0 (records_read l.source.left l.source.bytes.now)
+    records_found (map g.T.Row.SchemaRow.view l.rows) 0 (records_read l.source.left l.source.bytes.now)

@@ -8,6 +8,6 @@ use Rattle.shared_core_canonical.proofs.found.sorted_records.Goals as goal
 pub returns : goal.returns
 returns g c =
     let source = c.args.source.now in
-    in_order field_record_of (records_found (map g.R.SchemaRow.view c.args.rows.now) 0
+    in_order field_record_of (records_found (map g.T.Row.SchemaRow.view c.args.rows.now) 0
     (records_read source.left source.bytes.now)) c.in_ok-found.found.items c.sort_by_place.new.placed.items
     c.in_ok-found.ensures c.in_ok-sort_by_place.ensures

@@ -1,5 +1,4 @@
-use Rattle.std.proofs.Common.{◌≡◌, ◌∙◌, ap, arith, length, ◌≤◌}
-use Rattle.shared_core_wire.specs.Schema.{table_of}
+use Rattle.std.proofs.Common.{◌∙◌, ap, arith}
 use Rattle.shared_core_codec.specs.LoadedRows.{rows_view}
 use Rattle.shared_core_codec.proofs.Checked.{at_index, past_end}
 use Rattle.shared_core_codec.proofs.loaded_table.LoadedSchemasSchemas.rows_of.Goals as goal
