@@ -56,6 +56,11 @@ impl<'t, T: Schemas> Schemas for TableRef<'t, T> {
         self.table.rows_of(schema)
     }
 
+    #[inline(always)]
+    fn rows_before(&self, schema: u32, number: u32) -> usize {
+        self.table.rows_before(schema, number)
+    }
+
     ghost valid = { λ borrowed. T.valid borrowed.table.now };
 }
 
