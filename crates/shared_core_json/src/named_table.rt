@@ -29,6 +29,11 @@ impl<T: Schemas + Drop> Schemas for NamedTable<T> {
         self.schemas.rows_of(schema)
     }
 
+    #[inline(always)]
+    fn rows_before(&self, schema: u32, number: u32) -> usize {
+        self.schemas.rows_before(schema, number)
+    }
+
     ghost valid = { λ named. T.valid named.schemas };
 }
 
