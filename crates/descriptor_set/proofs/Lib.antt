@@ -1,0 +1,3 @@
+pub mod FirstName
+pub mod Halving
+pub mod NameSteps

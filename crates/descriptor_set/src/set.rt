@@ -1,8 +1,13 @@
 //! What is read of a set.
 
+ghost use Rattle.std.specs.Prelude.{◌≡◌};
+ghost use Rattle.std.specs.String.{string_bytes};
+ghost use Rattle.descriptor_set.specs.Found.{AreSorted, first_index, index_of};
+ghost use Rattle.descriptor_set.specs.Tables.{message_names};
+
 use crate::codes::SaidCode;
 use crate::field::FieldDescriptor;
-use crate::names::find_message;
+use crate::names::{Named, find};
 
 /// A message of a set.
 #[derive(Debug, Drop)]
@@ -20,6 +25,14 @@ pub struct MessageDescriptor {
     pub codes: Vec<SaidCode>,
 }
 
+impl Named for MessageDescriptor {
+    ghost name_bytes = { λ message. string_bytes message.name };
+
+    fn full_name(&self) -> &str {
+        self.name.as_str()
+    }
+}
+
 /// A value of an enum.
 #[derive(Debug, Drop)]
 pub struct EnumValue {
@@ -32,6 +45,14 @@ pub struct EnumValue {
 pub struct EnumDescriptor {
     pub name: String,
     pub values: Vec<EnumValue>,
+}
+
+impl Named for EnumDescriptor {
+    ghost name_bytes = { λ descriptor. string_bytes descriptor.name };
+
+    fn full_name(&self) -> &str {
+        self.name.as_str()
+    }
 }
 
 /// The messages and enums of all files of a set.
@@ -47,7 +68,11 @@ pub struct DescriptorSet {
 
 impl DescriptorSet {
     /// The index of the message of a full name, without a dot before it. Halves the list at each step.
-    pub fn message_index(&self, name: &str) -> Option<usize> {
-        find_message(self.messages.as_slice(), name)
+    pub fn message_index(&self, name: &str) -> Option<usize>
+        ensures index { result ≡ index_of (message_names self.now.messages.items) name.now }
+        ensures first { AreSorted (message_names self.now.messages.items) →
+            result ≡ first_index (message_names self.now.messages.items) name.now }
+    {
+        find(self.messages.as_slice(), name)
     }
 }
