@@ -77,7 +77,7 @@ fn formed_of(
     ensures unknown { IfErr result (IsUnknownOf set.now message.now
         (unknown_in set.now message.now.fields.items)) }
 {
-    let mut formed = Vec::new(alloc);
+    let mut formed = Vec::with_capacity(alloc, message.fields.len())?;
     let mut rest = message.fields.as_slice();
     while let Some((field, after)) = rest.split_first() {
         match form_of(set, field) {
