@@ -10,6 +10,17 @@ use shared_core_base::version::Version;
 use shared_core_json::JsonError;
 use std::alloc::Global;
 
+/// The payload of a message, and what decides how it is read.
+#[derive(Clone, Copy)]
+pub struct TypedPayload<'a> {
+    /// The version of the protocol.
+    pub version: Version,
+    /// The type of the message.
+    pub ty: MessageType,
+    /// The bytes.
+    pub bytes: &'a Bytes,
+}
+
 /// Makes the canonical payloads of messages.
 pub trait Canonicalizer {
     /// Overwrites the buffer with the canonical payload of what a message's payload means, and returns the number of
@@ -18,10 +29,9 @@ pub trait Canonicalizer {
     fn canonical_of(
         &self,
         alloc: Global,
-        version: Version,
-        ty: MessageType,
-        payload: &Bytes,
+        payload: TypedPayload<'_>,
         canonical: &mut Vec<u8>,
     ) -> Result<Option<u32>, JsonError>
-        ensures returned { ReturnsEncoding (schema_at version ty) payload.now canonical.new.items result };
+        ensures returned { ReturnsEncoding (schema_at payload.entry.version payload.entry.ty) payload.entry.bytes.now
+            canonical.new.items result };
 }

@@ -12,7 +12,7 @@ mod scratch;
 mod stream;
 mod tables;
 
-pub use crate::canonicalizer::Canonicalizer;
+pub use crate::canonicalizer::{Canonicalizer, TypedPayload};
 pub use crate::message_table::MessageTable;
 pub use crate::options::Options;
 pub use crate::printer::MOST_SHOWN;

@@ -20,6 +20,7 @@ ghost use Rattle.dump_lines.specs.Lines.{number_member, rest_members, skipped_me
 ghost use Rattle.dump_lines.specs.Lines.{item_code as code_of_item, is_selected, malformed_members};
 ghost use Rattle.dump_lines.specs.Reading.{is_canonical_in};
 
+use crate::canonicalizer::TypedPayload;
 use crate::message_table::MessageTable;
 use crate::options::Options;
 use crate::scratch::Scratch;
@@ -29,10 +30,10 @@ use shared_core_base::header::MessageType;
 use shared_core_fields::check::is_canonical_in;
 use shared_core_fields::fields::CanonicalPayload;
 use shared_core_json::{JsonError, write_byte_string, write_payload};
-use shared_core_stream::encoding::{Decoder, Item, RawMessage};
+use shared_core_stream::encoding::{Item, RawMessage};
 use std::alloc::{AllocError, Global};
 use std::mem;
-use stream_lines::PrintError;
+use stream_lines::{PlacedItem, PrintError, Rest};
 
 /// What a code is multiplied by in the word of a header.
 const CODE_UNIT: u128 = 1 << 48;
@@ -58,118 +59,115 @@ pub fn is_selected(codes: &[u16], code: u16) -> bool
 /// Writes the members of the trailing bytes.
 pub fn write_rest(
     options: &Options<'_>,
-    offset: u128,
-    rest: &Decoder,
+    rest: Rest<'_>,
     scratch: &mut Scratch,
     out: &mut Writer,
 ) -> Result<(), AllocError>
     ensures tokens { OnOk result (out.new.tokens ++ end_object ∷ [] ≡ out.old.tokens
-        ++ members_tokens (number_member (codes "offset") offset
-        (number_member (codes "rest") (length rest.now.bytes) (rest_members options.now rest.now.bytes)))) }
+        ++ members_tokens (number_member (codes "offset") rest.entry.offset
+        (number_member (codes "rest") (length rest.entry.pending.now.bytes)
+        (rest_members options.now rest.entry.pending.now.bytes)))) }
     ensures before { out.new.before ≡ out.old.before }
 {
     let Scratch { text, base64, .. } = scratch;
-    write_offset(out, offset, text)?;
-    let count = rest.pending();
+    write_offset(out, rest.offset, text)?;
+    let count = rest.pending.pending();
     write_number(out, "rest", count)?;
     if options.payloads && count > 0 {
-        write_bytes(out, options.texts, rest.copy_pending()?.as_slice(), base64)?;
+        write_bytes(
+            out,
+            options.texts,
+            rest.pending.copy_pending()?.as_slice(),
+            base64,
+        )?;
     }
     Ok(())
 }
 
-/// Writes the objects of items by these options.
+/// Writes the object of an item by these options.
 #[derive(Drop)]
 pub struct ItemWriter<'a, M> {
     pub alloc: Global,
+    /// What the object contains.
     pub options: &'a Options<'a>,
     /// How payloads are read.
     pub messages: &'a M,
+    /// The item.
+    pub placed: &'a PlacedItem,
 }
 
 impl<'a, M: MessageTable> ItemWriter<'a, M> {
-    /// Overwrites the line with the object of an item. After an error the line is unspecified.
-    pub fn write_object(
-        &self,
-        offset: u128,
-        word: u64,
-        item: &Item,
-        scratch: &mut Scratch,
-    ) -> Result<(), PrintError>
+    /// Overwrites the line with the object of the item. After an error the line is unspecified.
+    pub fn write_object(&self, scratch: &mut Scratch) -> Result<(), PrintError>
         ensures utf8 { OnOk result (IsUtf8 scratch.new.line.items) }
         ensures printed { OnOk result (scratch.new.line.items ≡ print (tokens scratch.new.line.items)) }
         ensures object { OnOk result (tokens scratch.new.line.items
-            ≡ json_tokens (item_json_in (M.reading self.now.messages.now) self.now.options.now offset word item.now)) }
+            ≡ json_tokens (item_json_in (M.reading self.now.messages.now) self.now.options.now
+            self.now.placed.now.offset self.now.placed.now.word self.now.placed.now.item)) }
         ensures lack { IfErr result (IsLack
-            (HasLongPayload (M.reading self.now.messages.now) self.now.options.now item.now)) }
+            (HasLongPayload (M.reading self.now.messages.now) self.now.options.now self.now.placed.now.item)) }
     {
         let mut line = mem::replace(&mut scratch.line, Vec::new(self.alloc));
         line.clear();
         let mut out = Writer::new(line);
-        self.write_item(offset, word, item, scratch, &mut out)?;
+        self.write_item(scratch, &mut out)?;
         scratch.line = out.into_inner();
         Ok(())
     }
 
-    /// Writes the object of an item.
-    fn write_item(
-        &self,
-        offset: u128,
-        word: u64,
-        item: &Item,
-        scratch: &mut Scratch,
-        out: &mut Writer,
-    ) -> Result<(), PrintError>
+    /// Writes the object of the item.
+    fn write_item(&self, scratch: &mut Scratch, out: &mut Writer) -> Result<(), PrintError>
         ensures tokens { OnOk result (out.new.tokens ≡ out.old.tokens
-            ++ json_tokens (item_json_in (M.reading self.now.messages.now) self.now.options.now offset word item.now)) }
+            ++ json_tokens (item_json_in (M.reading self.now.messages.now) self.now.options.now
+            self.now.placed.now.offset self.now.placed.now.word self.now.placed.now.item)) }
         ensures before { out.new.before ≡ out.old.before }
         ensures lack { IfErr result (IsLack
-            (HasLongPayload (M.reading self.now.messages.now) self.now.options.now item.now)) }
+            (HasLongPayload (M.reading self.now.messages.now) self.now.options.now self.now.placed.now.item)) }
     {
         out.begin_object()?;
-        write_offset(out, offset, &mut scratch.text)?;
-        self.write_members(word, item, scratch, out)?;
+        write_offset(out, self.placed.offset, &mut scratch.text)?;
+        self.write_members(scratch, out)?;
         out.end_object()?;
         Ok(())
     }
 
-    /// Writes the members of an item after its offset.
-    fn write_members(
-        &self,
-        word: u64,
-        item: &Item,
-        scratch: &mut Scratch,
-        out: &mut Writer,
-    ) -> Result<(), PrintError>
+    /// Writes the members of the item after its offset.
+    fn write_members(&self, scratch: &mut Scratch, out: &mut Writer) -> Result<(), PrintError>
         ensures tokens { OnOk result (out.new.tokens ++ end_object ∷ [] ≡ out.old.tokens
-            ++ members_tokens (item_members_in (M.reading self.now.messages.now) self.now.options.now word item.now)) }
+            ++ members_tokens (item_members_in (M.reading self.now.messages.now) self.now.options.now
+            self.now.placed.now.word self.now.placed.now.item)) }
         ensures before { out.new.before ≡ out.old.before }
         ensures lack { IfErr result (IsLack
-            (HasLongPayload (M.reading self.now.messages.now) self.now.options.now item.now)) }
+            (HasLongPayload (M.reading self.now.messages.now) self.now.options.now self.now.placed.now.item)) }
     {
-        match item {
+        let word = self.placed.word;
+        match &self.placed.item {
             Item::Message(message) => {
-                return self.write_message_members(word, message, scratch, out);
+                return self.write_message_members(message, scratch, out);
             }
             Item::Unknown(code) => write_unknown(word, *code, &mut scratch.base64, out)?,
             Item::Skipped(code, payload) => {
-                write_skipped(self.options, word, *code, payload, &mut scratch.base64, out)?;
+                let skipped = SkippedMessage {
+                    word,
+                    code: *code,
+                    payload,
+                };
+                write_skipped(self.options, skipped, &mut scratch.base64, out)?;
             }
         }
         Ok(())
     }
 
-    /// Writes the members of a message after its offset.
+    /// Writes the members of the item after its offset, if it is this message.
     fn write_message_members(
         &self,
-        word: u64,
         message: &RawMessage,
         scratch: &mut Scratch,
         out: &mut Writer,
     ) -> Result<(), PrintError>
         ensures tokens { OnOk result (out.new.tokens ++ end_object ∷ [] ≡ out.old.tokens
-            ++ members_tokens (item_members_in (M.reading self.now.messages.now) self.now.options.now word
-            (variant.Message message.now))) }
+            ++ members_tokens (item_members_in (M.reading self.now.messages.now) self.now.options.now
+            self.now.placed.now.word (variant.Message message.now))) }
         ensures before { out.new.before ≡ out.old.before }
         ensures lack { IfErr result (IsLack ((self.now.options.now.payloads ≡ true) × IsLongForIn
             (M.reading self.now.messages.now)
@@ -183,9 +181,14 @@ impl<'a, M: MessageTable> ItemWriter<'a, M> {
         let header = message.header();
         write_ack(out, header.requested_ack())?;
         let written = u128::from(u64::from(header));
-        write_header(out, word, written, &mut scratch.base64)?;
+        write_header(out, self.placed.word, written, &mut scratch.base64)?;
         if self.options.payloads {
-            return self.write_payload(ty, message.payload(), scratch, out);
+            let payload = TypedPayload {
+                version: self.options.version,
+                ty,
+                bytes: message.payload(),
+            };
+            return self.write_payload(payload, scratch, out);
         }
         Ok(())
     }
@@ -193,29 +196,31 @@ impl<'a, M: MessageTable> ItemWriter<'a, M> {
     /// Writes the members of a message's payload.
     fn write_payload(
         &self,
-        ty: MessageType,
-        payload: &Bytes,
+        payload: TypedPayload<'_>,
         scratch: &mut Scratch,
         out: &mut Writer,
     ) -> Result<(), PrintError>
         ensures tokens { OnOk result (out.new.tokens ++ end_object ∷ [] ≡ out.old.tokens
             ++ members_tokens (payload_members_in (M.reading self.now.messages.now) self.now.options.now.texts
-            ((M.reading self.now.messages.now).schema_at self.now.options.now.version ty) payload.now)) }
+            ((M.reading self.now.messages.now).schema_at payload.entry.version payload.entry.ty)
+            payload.entry.bytes.now)) }
         ensures before { out.new.before ≡ out.old.before }
         ensures lack { IfErr result (IsLack (IsLongForIn (M.reading self.now.messages.now)
-            ((M.reading self.now.messages.now).schema_at self.now.options.now.version ty) payload.now)) }
+            ((M.reading self.now.messages.now).schema_at payload.entry.version payload.entry.ty)
+            payload.entry.bytes.now)) }
     {
         let texts = self.options.texts;
-        let Some(schema) = self.messages.schema_of(self.options.version, ty) else {
+        let bytes = payload.bytes;
+        let Some(schema) = self.messages.schema_of(payload.version, payload.ty) else {
             // the payload is opaque, as that of a custom entry
-            write_bytes(out, texts, payload, &mut scratch.base64)?;
+            write_bytes(out, texts, bytes, &mut scratch.base64)?;
             return Ok(());
         };
-        if !is_canonical(self.messages, schema, payload.as_slice()) {
-            return self.write_encoded(ty, payload, scratch, out);
+        if !is_canonical(self.messages, schema, bytes.as_slice()) {
+            return self.write_encoded(payload, scratch, out);
         }
         out.key("message")?;
-        let known = CanonicalPayload::known_in(self.messages.table(), schema, payload.as_slice());
+        let known = CanonicalPayload::known_in(self.messages.table(), schema, bytes.as_slice());
         write_payload(out, &mut scratch.base64, texts, known)?;
         Ok(())
     }
@@ -224,29 +229,31 @@ impl<'a, M: MessageTable> ItemWriter<'a, M> {
     /// malformed, and the bytes.
     fn write_encoded(
         &self,
-        ty: MessageType,
-        payload: &Bytes,
+        payload: TypedPayload<'_>,
         scratch: &mut Scratch,
         out: &mut Writer,
     ) -> Result<(), PrintError>
         ensures tokens { OnOk result (out.new.tokens ++ end_object ∷ [] ≡ out.old.tokens
             ++ members_tokens (payload_members_in (M.reading self.now.messages.now) self.now.options.now.texts
-            ((M.reading self.now.messages.now).schema_at self.now.options.now.version ty) payload.now)) }
+            ((M.reading self.now.messages.now).schema_at payload.entry.version payload.entry.ty)
+            payload.entry.bytes.now)) }
         ensures before { out.new.before ≡ out.old.before }
         ensures lack { IfErr result (IsLack (IsLongForIn (M.reading self.now.messages.now)
-            ((M.reading self.now.messages.now).schema_at self.now.options.now.version ty) payload.now)) }
+            ((M.reading self.now.messages.now).schema_at payload.entry.version payload.entry.ty)
+            payload.entry.bytes.now)) }
     {
-        let Options { version, texts, .. } = *self.options;
+        let texts = self.options.texts;
+        let bytes = payload.bytes;
         let messages = self.messages;
-        match messages.canonical_of(self.alloc, version, ty, payload, &mut scratch.canonical) {
+        match messages.canonical_of(self.alloc, payload, &mut scratch.canonical) {
             Ok(Some(schema)) => {
                 out.key("message")?;
                 let canonical = scratch.canonical.as_slice();
                 let known = CanonicalPayload::known_in(messages.table(), schema, canonical);
                 write_payload(out, &mut scratch.base64, texts, known)?;
             }
-            Ok(None) => write_bytes(out, texts, payload, &mut scratch.base64)?,
-            Err(JsonError::Malformed) => write_malformed(out, texts, payload, &mut scratch.base64)?,
+            Ok(None) => write_bytes(out, texts, bytes, &mut scratch.base64)?,
+            Err(JsonError::Malformed) => write_malformed(out, texts, bytes, &mut scratch.base64)?,
             Err(JsonError::TooLong) => return Err(PrintError::TooLong),
             Err(JsonError::OutOfMemory) => return Err(PrintError::OutOfMemory),
         }
@@ -295,19 +302,32 @@ fn write_unknown(
     Ok(())
 }
 
+/// A message that is skipped, since its code is unassigned.
+#[derive(Clone, Copy)]
+struct SkippedMessage<'a> {
+    /// The eight bytes of its header as a number.
+    word: u64,
+    code: u16,
+    payload: &'a Bytes,
+}
+
 /// Writes the members of a skipped message after its offset.
 fn write_skipped(
     options: &Options<'_>,
-    word: u64,
-    code: u16,
-    payload: &Bytes,
+    skipped: SkippedMessage<'_>,
     base64: &mut Vec<u8>,
     out: &mut Writer,
 ) -> Result<(), AllocError>
     ensures tokens { OnOk result (out.new.tokens ++ end_object ∷ [] ≡ out.old.tokens
-        ++ members_tokens (skipped_members options.now word code payload.now)) }
+        ++ members_tokens (skipped_members options.now skipped.entry.word skipped.entry.code
+        skipped.entry.payload.now)) }
     ensures before { out.new.before ≡ out.old.before }
 {
+    let SkippedMessage {
+        word,
+        code,
+        payload,
+    } = skipped;
     write_flag(out, "skipped", true)?;
     write_number(out, "code", code as u64)?;
     write_number(out, "length", payload.len() as u64)?;

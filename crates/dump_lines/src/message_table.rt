@@ -4,7 +4,7 @@ ghost use Rattle.std.specs.Prelude.{◌≡◌};
 ghost use Rattle.dump_lines.specs.Canonical.{ReturnsEncodingIn};
 ghost use Rattle.dump_lines.specs.Reading.{Reading};
 
-use bytes::Bytes;
+use crate::canonicalizer::TypedPayload;
 use shared_core_base::header::MessageType;
 use shared_core_base::version::Version;
 use shared_core_fields::payload_table::PayloadTable;
@@ -35,11 +35,10 @@ pub trait MessageTable {
     fn canonical_of(
         &self,
         alloc: Global,
-        version: Version,
-        ty: MessageType,
-        payload: &Bytes,
+        payload: TypedPayload<'_>,
         canonical: &mut Vec<u8>,
     ) -> Result<Option<u32>, JsonError>
-        ensures returned { ReturnsEncodingIn (reading self.now) ((reading self.now).schema_at version ty) payload.now
+        ensures returned { ReturnsEncodingIn (reading self.now)
+            ((reading self.now).schema_at payload.entry.version payload.entry.ty) payload.entry.bytes.now
             canonical.new.items result };
 }

@@ -18,9 +18,9 @@ use crate::pretty::pretty_text;
 use crate::scratch::Scratch;
 use json::Writer;
 use shared_core_codec::check::is_well_formed_in;
-use shared_core_stream::encoding::{Decoder, Item, RawMessage};
+use shared_core_stream::encoding::{Item, RawMessage};
 use std::alloc::{AllocError, Global};
-use stream_lines::{LinePrinter, PrintError, Trouble};
+use stream_lines::{LinePrinter, PlacedItem, PrintError, Rest, Trouble};
 
 /// The most trailing bytes that the last line has on a terminal: more are not for people to read.
 pub const MOST_SHOWN: u64 = 64;
@@ -68,38 +68,31 @@ impl<'a, M: MessageTable> LinePrinter for Printer<'a, M> {
 
     fn print_item(
         &self,
-        alloc: Global,
-        offset: u128,
-        word: u64,
-        item: Item,
+        placed: &PlacedItem,
         scratch: &mut Scratch,
         lines: &mut Vec<u8>,
     ) -> Result<(), PrintError> {
         let options = &self.options;
-        if !is_selected(options.codes, item_code(&item)) {
+        if !is_selected(options.codes, item_code(&placed.item)) {
             return Ok(());
         }
+        let alloc = *lines.allocator();
         let writer = ItemWriter {
             alloc,
             options,
             messages: self.messages,
+            placed,
         };
-        writer.write_object(offset, word, &item, scratch)?;
+        writer.write_object(scratch)?;
         Ok(append_object(alloc, options.pretty, scratch.line.as_slice(), lines)?)
     }
 
-    fn print_rest(
-        &self,
-        alloc: Global,
-        offset: u128,
-        rest: &Decoder,
-        lines: &mut Vec<u8>,
-    ) -> Result<(), AllocError> {
+    fn print_rest(&self, rest: Rest<'_>, lines: &mut Vec<u8>) -> Result<(), AllocError> {
         if self.is_terminal {
-            let options = rest_options(&self.options, rest.pending());
-            return append_rest(alloc, &options, offset, rest, lines);
+            let options = rest_options(&self.options, rest.pending.pending());
+            return append_rest(&options, rest, lines);
         }
-        append_rest(alloc, &self.options, offset, rest, lines)
+        append_rest(&self.options, rest, lines)
     }
 }
 
@@ -147,17 +140,12 @@ fn is_well_formed_for<M: MessageTable>(messages: &M, schema: Option<u32>, payloa
 }
 
 /// Appends the last line, where the options have one.
-fn append_rest(
-    alloc: Global,
-    options: &Options<'_>,
-    offset: u128,
-    rest: &Decoder,
-    lines: &mut Vec<u8>,
-) -> Result<(), AllocError>
-    ensures { OnOk result (lines.new.items ≡ lines.old.items ++ rest_line options.now offset rest.now.bytes) }
+fn append_rest(options: &Options<'_>, rest: Rest<'_>, lines: &mut Vec<u8>) -> Result<(), AllocError>
+    ensures { OnOk result (lines.new.items
+        ≡ lines.old.items ++ rest_line options.now rest.entry.offset rest.entry.pending.now.bytes) }
 {
     if options.rest {
-        append_unread(alloc, options, offset, rest, lines)
+        append_unread(options, rest, lines)
     } else {
         Ok(())
     }
@@ -166,17 +154,17 @@ fn append_rest(
 /// Appends the line of the trailing bytes.
 #[tactic(auto, using(crate::proofs::Good::good_tokens))]
 fn append_unread(
-    alloc: Global,
     options: &Options<'_>,
-    offset: u128,
-    rest: &Decoder,
+    rest: Rest<'_>,
     lines: &mut Vec<u8>,
 ) -> Result<(), AllocError>
-    ensures { OnOk result (lines.new.items ≡ lines.old.items ++ unread_line options.now offset rest.now.bytes) }
+    ensures { OnOk result (lines.new.items
+        ≡ lines.old.items ++ unread_line options.now rest.entry.offset rest.entry.pending.now.bytes) }
 {
+    let alloc = *lines.allocator();
     let mut out = Writer::new(Vec::new(alloc));
     out.begin_object()?;
-    write_rest(options, offset, rest, &mut Scratch::new(alloc), &mut out)?;
+    write_rest(options, rest, &mut Scratch::new(alloc), &mut out)?;
     out.end_object()?;
     append_object(alloc, options.pretty, out.into_inner().as_slice(), lines)
 }

@@ -13,7 +13,7 @@ use crate::options::Options;
 use crate::printer::Printer;
 use std::alloc::Global;
 use std::io::{Read, Write};
-use stream_lines::{PrintError, Report, print_lines};
+use stream_lines::{PrintError, Reading, Report, print_lines};
 
 /// The number of bytes that are read at a time.
 const CHUNK: usize = 65536;
@@ -40,7 +40,12 @@ pub fn dump<M: MessageTable, R: Read, W: Write>(
         × Appends (W.contents output.old) (W.contents output.new) written
         × IsDumpedIn (M.reading messages.now) options.now result read written (R.remaining input.new) }
 {
-    print_stream(alloc, options, messages, false, input, output)
+    let printer = Printer {
+        options: *options,
+        messages,
+        is_terminal: false,
+    };
+    print_stream(alloc, &printer, input, output)
 }
 
 /// Dumps a stream as `dump` does, except for the last line, which is without the trailing bytes if there are more of
@@ -58,38 +63,36 @@ pub fn dump_on_terminal<M: MessageTable, R: Read, W: Write>(
         × Appends (W.contents output.old) (W.contents output.new) written
         × IsShownIn (M.reading messages.now) options.now result read written (R.remaining input.new) }
 {
-    print_stream(alloc, options, messages, true, input, output)
+    let printer = Printer {
+        options: *options,
+        messages,
+        is_terminal: true,
+    };
+    print_stream(alloc, &printer, input, output)
 }
 
 /// Dumps a stream, on a terminal or not.
 fn print_stream<M: MessageTable, R: Read, W: Write>(
     alloc: Global,
-    options: &Options<'_>,
-    messages: &M,
-    is_terminal: bool,
+    printer: &Printer<'_, M>,
     input: &mut R,
     output: &mut W,
 ) -> Result<Report, PrintError>
-    requires spoken { 5 ≤ version_number options.now.version }
+    requires spoken { 5 ≤ version_number printer.now.options.version }
     ensures { (read : List ℕ) × (written : List ℕ)
         × Consumes (R.remaining input.old) (R.remaining input.new) read
         × Appends (W.contents output.old) (W.contents output.new) written
-        × ArePrinted (line_of_in (M.reading messages.now) options.now) (last_line is_terminal options.now)
-        (IsLong (M.reading messages.now) options.now) (trouble_of (M.reading messages.now) options.now)
-        options.now.version options.now.limit result read written (R.remaining input.new) }
+        × ArePrinted (line_of_in (M.reading printer.now.messages.now) printer.now.options)
+        (last_line printer.now.is_terminal printer.now.options)
+        (IsLong (M.reading printer.now.messages.now) printer.now.options)
+        (trouble_of (M.reading printer.now.messages.now) printer.now.options)
+        printer.now.options.version printer.now.options.limit result read written (R.remaining input.new) }
 {
-    let printer = Printer {
-        options: *options,
-        messages,
-        is_terminal,
-    };
-    print_lines(
+    let reading = Reading {
         alloc,
-        options.version,
-        options.limit,
-        &printer,
-        input,
-        output,
-        CHUNK,
-    )
+        version: printer.options.version,
+        limit: printer.options.limit,
+        chunk: CHUNK,
+    };
+    print_lines(reading, printer, input, output)
 }

@@ -3,9 +3,8 @@
 ghost use Rattle.std.specs.Prelude.{◌≡◌};
 ghost use Rattle.dump_lines.specs.Other.{schema_in};
 
-use crate::canonicalizer::Canonicalizer;
+use crate::canonicalizer::{Canonicalizer, TypedPayload};
 use crate::message_table::MessageTable;
-use bytes::Bytes;
 use shared_core_base::header::MessageType;
 use shared_core_base::version::Version;
 use shared_core_canonical::error::CanonicalError;
@@ -42,13 +41,10 @@ impl<'a, C: Canonicalizer> MessageTable for ProtocolTable<'a, C> {
     fn canonical_of(
         &self,
         alloc: Global,
-        version: Version,
-        ty: MessageType,
-        payload: &Bytes,
+        payload: TypedPayload<'_>,
         canonical: &mut Vec<u8>,
     ) -> Result<Option<u32>, JsonError> {
-        self.canonicalizer
-            .canonical_of(alloc, version, ty, payload, canonical)
+        self.canonicalizer.canonical_of(alloc, payload, canonical)
     }
 }
 
@@ -79,15 +75,13 @@ impl<'a, T: NamedSchemas> MessageTable for OtherTable<'a, T> {
     fn canonical_of(
         &self,
         alloc: Global,
-        version: Version,
-        ty: MessageType,
-        payload: &Bytes,
+        payload: TypedPayload<'_>,
         canonical: &mut Vec<u8>,
     ) -> Result<Option<u32>, JsonError> {
-        let Some(schema) = self.schema_of(version, ty) else {
+        let Some(schema) = self.schema_of(payload.version, payload.ty) else {
             return Ok(None);
         };
-        match canonical_payload_in(alloc, self.table, schema, payload.as_slice()) {
+        match canonical_payload_in(alloc, self.table, schema, payload.bytes.as_slice()) {
             Ok(written) => {
                 *canonical = written;
                 Ok(Some(schema))

@@ -16,10 +16,12 @@ use crate::payload::{RAW, explain_payload};
 use crate::piece::Piece;
 use shared_core_base::header::MessageType;
 use shared_core_message::schemas::schema_at;
-use shared_core_stream::encoding::{Decoder, Item};
+use shared_core_stream::encoding::Item;
 use std::alloc::{AllocError, Global};
 use std::io::{Read, Write};
-use stream_lines::{LinePrinter, PrintError, Report, Trouble, print_lines};
+use stream_lines::{
+    LinePrinter, PlacedItem, PrintError, Reading, Report, Rest, Trouble, print_lines,
+};
 
 /// The number of bytes that are read at a time.
 const CHUNK: usize = 65536;
@@ -49,15 +51,13 @@ pub fn explain<R: Read, W: Write>(
         × IsExplained options.now result read written (R.remaining input.new) }
 {
     let explainer = Explainer { options: *options };
-    print_lines(
+    let reading = Reading {
         alloc,
-        options.version,
-        options.limit,
-        &explainer,
-        input,
-        output,
-        CHUNK,
-    )
+        version: options.version,
+        limit: options.limit,
+        chunk: CHUNK,
+    };
+    print_lines(reading, &explainer, input, output)
 }
 
 /// Prints the lines of an explanation.
@@ -97,61 +97,49 @@ impl LinePrinter for Explainer {
 
     fn print_item(
         &self,
-        _alloc: Global,
-        offset: u128,
-        word: u64,
-        item: Item,
+        placed: &PlacedItem,
         scratch: &mut Scratch,
         text: &mut Vec<u8>,
     ) -> Result<(), PrintError> {
-        if !self.options.asks_for(offset, item.size() as u128) {
+        if !self
+            .options
+            .asks_for(placed.offset, placed.item.size() as u128)
+        {
             return Ok(());
         }
-        self.explain_at(offset, word, &item, scratch)?;
+        self.explain_at(placed, scratch)?;
         text.extend_from_slice(scratch.title.as_bytes())?;
         text.extend_from_slice(scratch.lines.text.as_slice())?;
         Ok(())
     }
 
-    fn print_rest(
-        &self,
-        alloc: Global,
-        offset: u128,
-        rest: &Decoder,
-        text: &mut Vec<u8>,
-    ) -> Result<(), AllocError> {
-        let bytes = rest.copy_pending()?;
+    fn print_rest(&self, rest: Rest<'_>, text: &mut Vec<u8>) -> Result<(), AllocError> {
+        let bytes = rest.pending.copy_pending()?;
         if bytes.len() == 0 {
             return Ok(());
         }
-        if !self.options.asks_for(offset, bytes.len() as u128) {
+        if !self.options.asks_for(rest.offset, bytes.len() as u128) {
             return Ok(());
         }
         text.extend_from_slice(b"rest\n")?;
-        let mut lines = Lines::new(alloc);
-        self.explain_rest_at(offset, bytes.as_slice(), &mut lines)?;
+        let mut lines = Lines::new(*text.allocator());
+        self.explain_rest_at(rest.offset, bytes.as_slice(), &mut lines)?;
         text.extend_from_slice(lines.text.as_slice())
     }
 }
 
 impl Explainer {
-    /// Overwrites the title and the lines with those of an item at an offset.
+    /// Overwrites the title and the lines with those of an item.
     #[tactic(auto, unfolding(crate::specs::Lines::lines_text))]
-    fn explain_at(
-        &self,
-        offset: u128,
-        word: u64,
-        item: &Item,
-        scratch: &mut Scratch,
-    ) -> Result<(), AllocError>
-        ensures title { OnOk result (string_bytes scratch.new.title ≡ title item.now) }
+    fn explain_at(&self, placed: &PlacedItem, scratch: &mut Scratch) -> Result<(), AllocError>
+        ensures title { OnOk result (string_bytes scratch.new.title ≡ title placed.now.item) }
         ensures lines { OnOk result (scratch.new.lines.text.items
-            ≡ lines_text offset (item_lines self.now.options word item.now)) }
+            ≡ lines_text placed.now.offset (item_lines self.now.options placed.now.word placed.now.item)) }
     {
         scratch.title.clear();
-        push_title(&mut scratch.title, item)?;
-        scratch.lines.begin(offset);
-        self.explain_item(&mut scratch.lines, word, item)
+        push_title(&mut scratch.title, &placed.item)?;
+        scratch.lines.begin(placed.offset);
+        self.explain_item(&mut scratch.lines, placed.word, &placed.item)
     }
 
     /// Overwrites the lines with those of trailing bytes at an offset.

@@ -9,10 +9,12 @@ ghost use Rattle.list_lines.specs.Listing as text;
 
 use crate::names::{name_at, other_name};
 use crate::options::{Options, OtherName};
-use shared_core_stream::encoding::{Decoder, Item};
+use shared_core_stream::encoding::Item;
 use std::alloc::{AllocError, Global};
 use std::io::{Read, Write};
-use stream_lines::{LinePrinter, PrintError, Report, Trouble, print_lines};
+use stream_lines::{
+    LinePrinter, PlacedItem, PrintError, Reading, Report, Rest, Trouble, print_lines,
+};
 
 /// Writes one line per item of a stream, and at its end the count of the trailing bytes.
 ///
@@ -37,15 +39,13 @@ pub fn list<R: Read, W: Write>(
     let listing = Listing {
         names: options.names,
     };
-    print_lines(
+    let reading = Reading {
         alloc,
-        options.version,
-        options.limit,
-        &listing,
-        input,
-        output,
-        options.chunk_size,
-    )
+        version: options.version,
+        limit: options.limit,
+        chunk: options.chunk_size,
+    };
+    print_lines(reading, &listing, input, output)
 }
 
 /// The printer of the lines of a listing.
@@ -77,36 +77,27 @@ impl<'a> LinePrinter for Listing<'a> {
     #[inline(always)]
     fn print_item(
         &self,
-        _alloc: Global,
-        _offset: u128,
-        _word: u64,
-        item: Item,
+        placed: &PlacedItem,
         line: &mut String,
         lines: &mut Vec<u8>,
     ) -> Result<(), PrintError> {
         line.clear();
-        write_item(line, self.names, item)?;
+        write_item(line, self.names, &placed.item)?;
         lines.extend_from_slice(line.as_bytes())?;
         Ok(())
     }
 
-    fn print_rest(
-        &self,
-        alloc: Global,
-        _offset: u128,
-        rest: &Decoder,
-        lines: &mut Vec<u8>,
-    ) -> Result<(), AllocError> {
-        let count = rest.pending();
-        let mut line = String::new(alloc);
+    fn print_rest(&self, rest: Rest<'_>, lines: &mut Vec<u8>) -> Result<(), AllocError> {
+        let count = rest.pending.pending();
+        let mut line = String::new(*lines.allocator());
         writeln!(line, "rest {count}")?;
         lines.extend_from_slice(line.as_bytes())
     }
 }
 
 /// Appends an item's line.
-fn write_item(text: &mut String, names: &[OtherName<'_>], item: Item) -> Result<(), AllocError>
-    ensures { OnOk result (string_bytes text.new ≡ string_bytes text.old ++ line_of names.now item) }
+fn write_item(text: &mut String, names: &[OtherName<'_>], item: &Item) -> Result<(), AllocError>
+    ensures { OnOk result (string_bytes text.new ≡ string_bytes text.old ++ line_of names.now item.now) }
 {
     match item {
         Item::Message(message) => {
@@ -120,13 +111,13 @@ fn write_item(text: &mut String, names: &[OtherName<'_>], item: Item) -> Result<
         }
         Item::Unknown(code) => {
             text.push_str("unknown ")?;
-            push_code(text, names, code)?;
+            push_code(text, names, *code)?;
             text.push_str("\n")
         }
         Item::Skipped(code, payload) => {
             let length = payload.len();
             text.push_str("skipped ")?;
-            push_code(text, names, code)?;
+            push_code(text, names, *code)?;
             writeln!(text, " {length}")
         }
     }

@@ -9,7 +9,7 @@ ghost use Rattle.show_lines.specs.Showing.{IsLong};
 ghost use Rattle.stream_lines.specs.Printing.{IsLack};
 
 use bytes::Bytes;
-use dump_lines::Canonicalizer;
+use dump_lines::{Canonicalizer, TypedPayload};
 use shared_core_base::header::MessageType;
 use shared_core_base::version::Version;
 use shared_core_fields::fields::CanonicalPayload;
@@ -75,8 +75,13 @@ impl<'a, C: Canonicalizer> Payloads<'a, C> {
         if let Some(checked) = CanonicalPayload::check(schema, payload.as_slice()) {
             return Ok(Held::Fields(checked));
         }
+        let typed = TypedPayload {
+            version: self.version,
+            ty,
+            bytes: payload,
+        };
         let canonicalizer = self.canonicalizer;
-        match canonicalizer.canonical_of(self.alloc, self.version, ty, payload, canonical) {
+        match canonicalizer.canonical_of(self.alloc, typed, canonical) {
             Ok(Some(schema)) => Ok(Held::Fields(CanonicalPayload::known(
                 schema,
                 canonical.as_slice(),

@@ -8,6 +8,6 @@ pub mod print;
 pub mod report;
 
 pub use crate::error::PrintError;
-pub use crate::line_printer::LinePrinter;
-pub use crate::print::print_lines;
+pub use crate::line_printer::{LinePrinter, PlacedItem, Rest};
+pub use crate::print::{Reading, print_lines};
 pub use crate::report::{Report, Trouble};

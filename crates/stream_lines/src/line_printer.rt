@@ -10,13 +10,32 @@ use crate::report::Trouble;
 use shared_core_stream::encoding::{Decoder, Item};
 use std::alloc::{AllocError, Global};
 
-/// Makes the lines of items.
+/// An item of a stream, and where it is.
+#[derive(Drop)]
+pub struct PlacedItem {
+    /// The offset of its header in the stream, in bytes.
+    pub offset: u128,
+    /// The eight bytes of its header as a number, the first byte highest.
+    pub word: u64,
+    /// The item.
+    pub item: Item,
+}
+
+/// The trailing bytes of a stream, which are in none of its items.
+#[derive(Clone, Copy)]
+pub struct Rest<'a> {
+    /// The offset of the first of them in the stream, in bytes.
+    pub offset: u128,
+    /// The decoder that has them pending.
+    pub pending: &'a Decoder,
+}
+
+/// Makes the lines of items. What it allocates is allocated as the text of the lines is.
 pub trait LinePrinter {
     /// Buffers in which lines are made, one after the other. Their contents do not matter.
     type Scratch: Drop;
 
-    /// The line of an item that begins at an offset of the stream, with this word as its header; nothing if it is not
-    /// printed.
+    /// The line of an item, by its offset, its word and the item; nothing if it is not printed.
     ghost item_line: { Self → ℕ → ℕ → AnyItem → List ℕ };
 
     /// The last line, by the offset of the trailing bytes, and these bytes.
@@ -35,27 +54,19 @@ pub trait LinePrinter {
     fn trouble(&self, item: &Item) -> Option<Trouble>
         ensures trouble { result ≡ item_trouble self.now item.now };
 
-    /// Appends the line of an item that begins at an offset of the stream, with this word as its header. Returns
-    /// `TooLong` only if the item is too long for a line.
+    /// Appends the line of an item. Returns `TooLong` only if the item is too long for a line.
     fn print_item(
         &self,
-        alloc: Global,
-        offset: u128,
-        word: u64,
-        item: Item,
+        placed: &PlacedItem,
         scratch: &mut Self::Scratch,
         lines: &mut Vec<u8>,
     ) -> Result<(), PrintError>
-        ensures line { OnOk result (lines.new.items ≡ lines.old.items ++ item_line self.now offset word item) }
-        ensures lack { IfErr result (IsLack (is_long self.now item)) };
+        ensures line { OnOk result (lines.new.items
+            ≡ lines.old.items ++ item_line self.now placed.now.offset placed.now.word placed.now.item) }
+        ensures lack { IfErr result (IsLack (is_long self.now placed.now.item)) };
 
-    /// Appends the last line. The trailing bytes are those that the decoder has pending.
-    fn print_rest(
-        &self,
-        alloc: Global,
-        offset: u128,
-        rest: &Decoder,
-        lines: &mut Vec<u8>,
-    ) -> Result<(), AllocError>
-        ensures line { OnOk result (lines.new.items ≡ lines.old.items ++ rest_line self.now offset rest.now.bytes) };
+    /// Appends the last line.
+    fn print_rest(&self, rest: Rest<'_>, lines: &mut Vec<u8>) -> Result<(), AllocError>
+        ensures line { OnOk result (lines.new.items
+            ≡ lines.old.items ++ rest_line self.now rest.entry.offset rest.entry.pending.now.bytes) };
 }

@@ -18,44 +18,56 @@ ghost use Rattle.stream_lines.specs.Printing.{item_size, trouble_at, ArePrinted,
 ghost use Rattle.stream_lines.specs.Steps.{Added, IsAfter};
 
 use crate::error::PrintError;
-use crate::line_printer::LinePrinter;
+use crate::line_printer::{LinePrinter, PlacedItem, Rest};
 use crate::output::write_whole;
 use crate::report::{Report, Trouble};
 use shared_core_base::version::Version;
 use shared_core_io::{ItemBuffer, ReadError};
-use shared_core_stream::encoding::{Item, MessageTooLong};
+use shared_core_stream::encoding::MessageTooLong;
 use std::alloc::Global;
 use std::io::{Read, Write};
 
-/// Writes one line per item of a stream of a version, of at least V5, and at its end a line for the trailing bytes.
+/// How a stream is read whose lines are printed.
+#[derive(Clone, Copy)]
+pub struct Reading {
+    /// What chunks, items and lines are allocated by.
+    pub alloc: Global,
+    /// The version of the protocol, at least V5.
+    pub version: Version,
+    /// The greatest length of a payload that is taken, in bytes; `u32::MAX` means no limit.
+    pub limit: u32,
+    /// The number of bytes that are read at a time, from 1 to 65,536.
+    pub chunk: usize,
+}
+
+/// Writes one line per item of a stream, and at its end a line for the trailing bytes.
 ///
-/// It reads at most `chunk` bytes at a time, from 1 to 65,536, and writes the lines of the items that it has read
-/// before it reads on. `Ok` comes only if the reader has no byte left, and then all is written. The report has the
-/// first error that the printer finds in an item, and the trailing bytes. After `Input` the lines of all items of what
-/// was read are written; after `Output` a prefix of these lines, or of all if the input had ended; after `OutOfMemory`
-/// and `TooLong` the lines of the first items. `TooLong` comes only if one of the items after them is too long for a
-/// line. `MessageTooLong` comes after the lines of the items before the first message whose payload is longer than the
-/// limit, as soon as its header is received; `u32::MAX` means no limit. Whatever is returned, no line is of a message
-/// that is longer, or of what comes after one.
+/// It reads at most `chunk` bytes at a time, and writes the lines of the items that it has read before it reads on.
+/// `Ok` comes only if the reader has no byte left, and then all is written. The report has the first error that the
+/// printer finds in an item, and the trailing bytes. After `Input` the lines of all items of what was read are written;
+/// after `Output` a prefix of these lines, or of all if the input had ended; after `OutOfMemory` and `TooLong` the
+/// lines of the first items. `TooLong` comes only if one of the items after them is too long for a line.
+/// `MessageTooLong` comes after the lines of the items before the first message whose payload is longer than the limit,
+/// as soon as its header is received. Whatever is returned, no line is of a message that is longer, or of what comes
+/// after one.
 pub fn print_lines<P: LinePrinter, R: Read, W: Write>(
-    alloc: Global,
-    version: Version,
-    limit: u32,
+    reading: Reading,
     printer: &P,
     input: &mut R,
     output: &mut W,
-    chunk: usize,
 ) -> Result<Report, PrintError>
-    requires spoken { 5 ≤ version_number version }
-    requires low { 1 ≤ chunk }
-    requires high { chunk ≤ 65536 }
+    requires spoken { 5 ≤ version_number reading.version }
+    requires low { 1 ≤ reading.chunk }
+    requires high { reading.chunk ≤ 65536 }
     ensures { (read : List ℕ) × (written : List ℕ)
         × Consumes (R.remaining input.old) (R.remaining input.new) read
         × Appends (W.contents output.old) (W.contents output.new) written
         × ArePrinted (P.item_line printer.now) (P.rest_line printer.now)
-        (P.is_long printer.now) (P.item_trouble printer.now) version limit result read written (R.remaining input.new) }
+        (P.is_long printer.now) (P.item_trouble printer.now) reading.version reading.limit result read written
+        (R.remaining input.new) }
 {
-    let mut items = ItemBuffer::new(alloc, version, limit, chunk);
+    let alloc = reading.alloc;
+    let mut items = ItemBuffer::new(alloc, reading.version, reading.limit, reading.chunk);
     let mut scratch = printer.scratch(alloc);
     let mut lines = Lines {
         text: Vec::new(alloc),
@@ -67,20 +79,24 @@ pub fn print_lines<P: LinePrinter, R: Read, W: Write>(
             Ok(true) => {}
             Ok(false) => {
                 lines.text.clear();
-                let rest = items.decoder();
-                printer.print_rest(alloc, lines.offset, rest, &mut lines.text)?;
+                let pending = items.decoder();
+                let rest = Rest {
+                    offset: lines.offset,
+                    pending,
+                };
+                printer.print_rest(rest, &mut lines.text)?;
                 write_whole(output, lines.text.as_slice())?;
                 return Ok(Report {
                     trouble: lines.trouble,
                     end: lines.offset,
-                    rest: rest.pending(),
+                    rest: pending.pending(),
                 });
             }
             Err(ReadError::Failed(_)) => return Err(PrintError::Input),
             Err(_) => return Err(PrintError::OutOfMemory),
         }
         lines.text.clear();
-        let longer = lines.add_held(alloc, printer, &mut items, &mut scratch)?;
+        let longer = lines.add_held(printer, &mut items, &mut scratch)?;
         write_whole(output, lines.text.as_slice())?;
         if let Some(message) = longer {
             return Err(PrintError::MessageTooLong(message));
@@ -103,7 +119,6 @@ impl Lines {
     /// Adds the lines of the items that were read. Returns the message after them, if it is longer than the limit.
     fn add_held<P: LinePrinter>(
         &mut self,
-        alloc: Global,
         printer: &P,
         items: &mut ItemBuffer,
         scratch: &mut P::Scratch,
@@ -122,7 +137,10 @@ impl Lines {
     {
         loop {
             match items.take_with_word() {
-                Ok(Some((word, item))) => self.add(alloc, printer, word, item, scratch)?,
+                Ok(Some((word, item))) => {
+                    let offset = self.offset;
+                    self.add(printer, PlacedItem { offset, word, item }, scratch)?;
+                }
                 Ok(None) => return Ok(None),
                 Err(ReadError::TooLong(message)) => return Ok(Some(message)),
                 Err(_) => return Err(PrintError::OutOfMemory),
@@ -130,28 +148,26 @@ impl Lines {
         }
     }
 
-    /// Adds the line of an item with this word as its header.
+    /// Adds the line of the next item.
     #[inline(always)]
     fn add<P: LinePrinter>(
         &mut self,
-        alloc: Global,
         printer: &P,
-        word: u64,
-        item: Item,
+        placed: PlacedItem,
         scratch: &mut P::Scratch,
     ) -> Result<(), PrintError>
-        requires room { self.old.offset + item_size item < 2 ^ 128 }
+        requires next { placed.offset ≡ self.old.offset }
+        requires room { self.old.offset + item_size placed.item < 2 ^ 128 }
         ensures line { OnOk result (self.new.text.items
-            ≡ self.old.text.items ++ P.item_line printer.now self.old.offset word item) }
-        ensures place { OnOk result (self.new.offset ≡ self.old.offset + item_size item) }
+            ≡ self.old.text.items ++ P.item_line printer.now self.old.offset placed.word placed.item) }
+        ensures place { OnOk result (self.new.offset ≡ self.old.offset + item_size placed.item) }
         ensures trouble { OnOk result (self.new.trouble
-            ≡ option_or self.old.trouble (trouble_at (P.item_trouble printer.now) self.old.offset item)) }
-        ensures lack { IfErr result (IsLack (P.is_long printer.now item)) }
+            ≡ option_or self.old.trouble (trouble_at (P.item_trouble printer.now) self.old.offset placed.item)) }
+        ensures lack { IfErr result (IsLack (P.is_long printer.now placed.item)) }
     {
-        let size = item.size() as u128;
-        self.trouble = first(printer, self.offset, &item, self.trouble);
-        printer.print_item(alloc, self.offset, word, item, scratch, &mut self.text)?;
-        self.offset += size;
+        self.trouble = first(printer, &placed, self.trouble);
+        printer.print_item(&placed, scratch, &mut self.text)?;
+        self.offset += placed.item.size() as u128;
         Ok(())
     }
 }
@@ -159,14 +175,14 @@ impl Lines {
 /// The first error: the one that was found before, otherwise that of this item.
 fn first<P: LinePrinter>(
     printer: &P,
-    offset: u128,
-    item: &Item,
+    placed: &PlacedItem,
     found: Option<(u128, Trouble)>,
 ) -> Option<(u128, Trouble)>
-    ensures { result ≡ option_or found (trouble_at (P.item_trouble printer.now) offset item.now) }
+    ensures { result
+        ≡ option_or found (trouble_at (P.item_trouble printer.now) placed.now.offset placed.now.item) }
 {
     match found {
         Some(_) => found,
-        None => Some((offset, printer.trouble(item)?)),
+        None => Some((placed.offset, printer.trouble(&placed.item)?)),
     }
 }

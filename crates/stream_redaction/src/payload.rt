@@ -7,8 +7,8 @@ ghost use Rattle.stream_redaction.specs.Redaction.{after_varint, content_of_fiel
 ghost use Rattle.stream_redaction.specs.Redaction.{redacted_nested, redacted_payload, redacted_records};
 
 use crate::key::{Key, append_zeros};
+use crate::stream::Redaction;
 use shared_core_base::header::MessageType;
-use shared_core_base::version::Version;
 use shared_core_codec::check::is_well_formed;
 use shared_core_codec::rows::{Found, Kind, Row, find_field, rows_of};
 use shared_core_message::schemas::schema_at;
@@ -17,50 +17,50 @@ use shared_core_wire::records::{LEVELS, Record, Records};
 use shared_core_wire::varint::read_varint;
 use std::alloc::AllocError;
 
-/// Where records are: the rows of their message, which a group has none of, and how deep they may be nested.
+/// Where records are, and what replaces their contents.
 #[derive(Clone, Copy)]
-struct Level {
+struct Level<'a> {
+    key: &'a Key,
+    /// The rows of their message; none for a group.
     rows: &'static [Row],
+    /// How deep they may be nested.
     left: u32,
 }
 
-impl Key {
+impl Redaction {
     /// Appends the payload of a type, with its contents replaced. It has the same length. One that is not well-formed
     /// becomes zeros, which are not well-formed either, and that of a custom entry characters.
     pub fn append_payload(
         &self,
-        version: Version,
         ty: MessageType,
         payload: &[u8],
         out: &mut Vec<u8>,
     ) -> Result<(), AllocError>
-        ensures { OnOk result (out.new.items ≡ out.old.items ++ redacted_payload self.now version ty payload.now) }
+        ensures { OnOk result (out.new.items
+            ≡ out.old.items ++ redacted_payload self.now.key self.now.version ty payload.now) }
     {
-        let Some(schema) = schema_at(version, ty) else {
-            return self.append_replacement(payload, out);
+        let Some(schema) = schema_at(self.version, ty) else {
+            return self.key.append_replacement(payload, out);
         };
         if !is_well_formed(schema, payload) {
             return append_zeros(payload.len(), out);
         }
         let level = Level {
+            key: &self.key,
             rows: rows_of(schema),
             left: LEVELS,
         };
-        append_records(self, level, payload, out)
+        append_records(level, payload, out)
     }
 }
 
 /// Appends the records of a message or of a group, with their contents replaced.
 #[cycle(payload)]
 #[tactic(auto, using(crate::proofs::Redacting::going_end, crate::proofs::Redacting::going_next, crate::proofs::Redacting::going_record, crate::proofs::Redacting::going_stop))]
-fn append_records(
-    key: &Key,
-    level: Level,
-    payload: &[u8],
-    out: &mut Vec<u8>,
-) -> Result<(), AllocError>
+fn append_records(level: Level<'_>, payload: &[u8], out: &mut Vec<u8>) -> Result<(), AllocError>
     ensures { OnOk result (out.new.items
-        ≡ out.old.items ++ redacted_records key.now level.left (rows_view level.rows) payload.now) }
+        ≡ out.old.items
+        ++ redacted_records level.entry.key.now level.entry.left (rows_view level.entry.rows) payload.now) }
 {
     let mut rest = payload;
     for item in Records::within(payload, level.left) {
@@ -68,7 +68,7 @@ fn append_records(
             return append_zeros(rest.len(), out);
         };
         let (bytes, after) = rest.split_at(found.span.1 - found.span.0);
-        append_record(key, level, &found, bytes, out)?;
+        append_record(level, &found, bytes, out)?;
         rest = after;
     }
     Ok(())
@@ -77,38 +77,24 @@ fn append_records(
 /// Appends these bytes of a record, with its content replaced.
 #[cycle(payload)]
 fn append_record(
-    key: &Key,
-    level: Level,
+    level: Level<'_>,
     found: &Record<'_>,
     bytes: &[u8],
     out: &mut Vec<u8>,
 ) -> Result<(), AllocError>
-    ensures { OnOk result (out.new.items ≡ out.old.items ++ redacted_bytes key.now (redacted_nested key.now level.left)
-        (field_numbered (rows_view level.rows) found.now.number) (value_of found.now.value) bytes.now) }
+    ensures { OnOk result (out.new.items ≡ out.old.items ++ redacted_bytes level.entry.key.now
+        (redacted_nested level.entry.key.now level.entry.left)
+        (field_numbered (rows_view level.entry.rows) found.now.number) (value_of found.now.value) bytes.now) }
 {
     match found.value {
         WireValue::Length(content) => {
             out.extend_from_slice(&bytes[..bytes.len().saturating_sub(content.len())])?;
-            append_content(
-                key,
-                level.left,
-                find_field(level.rows, found.number),
-                content,
-                out,
-            )
+            append_content(level, find_field(level.rows, found.number), content, out)
         }
         WireValue::Group(content) => {
             let after = after_varint(bytes);
             out.extend_from_slice(&bytes[..bytes.len().saturating_sub(after.len())])?;
-            append_nested(
-                key,
-                Level {
-                    rows: &[],
-                    left: level.left,
-                },
-                content,
-                out,
-            )?;
+            append_nested(Level { rows: &[], ..level }, content, out)?;
             out.extend_from_slice(after.get(content.len()..).unwrap_or(&[]))
         }
         _ => out.extend_from_slice(bytes),
@@ -118,55 +104,46 @@ fn append_record(
 /// Appends what replaces length-delimited bytes of a field, if the record's number is that of one.
 #[cycle(payload)]
 fn append_content(
-    key: &Key,
-    left: u32,
+    level: Level<'_>,
     field: Option<Found>,
     content: &[u8],
     out: &mut Vec<u8>,
 ) -> Result<(), AllocError>
     ensures { OnOk result (out.new.items ≡ out.old.items
-        ++ content_of_field key.now (redacted_nested key.now left) (option_map found_view field) content.now) }
+        ++ content_of_field level.entry.key.now (redacted_nested level.entry.key.now level.entry.left)
+        (option_map found_view field) content.now) }
 {
     let Some(field) = field else {
-        return key.append_replacement(content, out);
+        return level.key.append_replacement(content, out);
     };
     match field.kind {
         Kind::U32 => out.extend_from_slice(content),
         Kind::U64 => out.extend_from_slice(content),
         Kind::Boolean => out.extend_from_slice(content),
         Kind::Enumeration => out.extend_from_slice(content),
-        Kind::Message(schema) => append_nested(
-            key,
-            Level {
-                rows: rows_of(schema),
-                left,
-            },
-            content,
-            out,
-        ),
-        _ => key.append_replacement(content, out),
+        Kind::Message(schema) => {
+            let rows = rows_of(schema);
+            append_nested(Level { rows, ..level }, content, out)
+        }
+        _ => level.key.append_replacement(content, out),
     }
 }
 
 /// Appends a nested message or the content of a group, where the record that holds it is at this level.
 #[cycle(payload)]
-fn append_nested(
-    key: &Key,
-    level: Level,
-    content: &[u8],
-    out: &mut Vec<u8>,
-) -> Result<(), AllocError>
+fn append_nested(level: Level<'_>, content: &[u8], out: &mut Vec<u8>) -> Result<(), AllocError>
     ensures { OnOk result (out.new.items
-        ≡ out.old.items ++ redacted_nested key.now level.left (rows_view level.rows) content.now) }
+        ≡ out.old.items
+        ++ redacted_nested level.entry.key.now level.entry.left (rows_view level.entry.rows) content.now) }
 {
     if level.left == 0 {
         return append_zeros(content.len(), out);
     }
     let below = Level {
-        rows: level.rows,
         left: level.left - 1,
+        ..level
     };
-    append_records(key, below, content, out)
+    append_records(below, content, out)
 }
 
 /// The bytes after a varint.

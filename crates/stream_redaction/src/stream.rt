@@ -9,10 +9,12 @@ ghost use Rattle.stream_redaction.specs.Streams as spec;
 use crate::key::{Key, append_zeros};
 use crate::options::Options;
 use shared_core_base::version::Version;
-use shared_core_stream::encoding::{Decoder, Item};
+use shared_core_stream::encoding::Item;
 use std::alloc::{AllocError, Global};
 use std::io::{Read, Write};
-use stream_lines::{LinePrinter, PrintError, Report, Trouble, print_lines};
+use stream_lines::{
+    LinePrinter, PlacedItem, PrintError, Reading, Report, Rest, Trouble, print_lines,
+};
 
 /// The size of a header in bytes.
 const HEADER: usize = 8;
@@ -42,22 +44,22 @@ pub fn redact<R: Read, W: Write>(
         version: options.version,
         key: options.key,
     };
-    print_lines(
+    let reading = Reading {
         alloc,
-        options.version,
-        options.limit,
-        &redaction,
-        input,
-        output,
-        options.chunk_size,
-    )
+        version: options.version,
+        limit: options.limit,
+        chunk: options.chunk_size,
+    };
+    print_lines(reading, &redaction, input, output)
 }
 
 /// Writes items with their contents replaced.
 #[derive(Drop)]
-struct Redaction {
-    version: Version,
-    key: Key,
+pub struct Redaction {
+    /// The version of the protocol.
+    pub version: Version,
+    /// What replaces the contents.
+    pub key: Key,
 }
 
 impl LinePrinter for Redaction {
@@ -79,25 +81,16 @@ impl LinePrinter for Redaction {
 
     fn print_item(
         &self,
-        _alloc: Global,
-        _offset: u128,
-        word: u64,
-        item: Item,
+        placed: &PlacedItem,
         _scratch: &mut (),
         lines: &mut Vec<u8>,
     ) -> Result<(), PrintError> {
-        lines.extend_from_slice(&word.to_be_bytes())?;
-        Ok(self.append_body(&item, lines)?)
+        lines.extend_from_slice(&placed.word.to_be_bytes())?;
+        Ok(self.append_body(&placed.item, lines)?)
     }
 
-    fn print_rest(
-        &self,
-        _alloc: Global,
-        _offset: u128,
-        rest: &Decoder,
-        lines: &mut Vec<u8>,
-    ) -> Result<(), AllocError> {
-        append_rest(rest.copy_pending()?.as_slice(), lines)
+    fn print_rest(&self, rest: Rest<'_>, lines: &mut Vec<u8>) -> Result<(), AllocError> {
+        append_rest(rest.pending.copy_pending()?.as_slice(), lines)
     }
 }
 
@@ -108,12 +101,9 @@ impl Redaction {
             ≡ lines.old.items ++ redacted_body self.now.key self.now.version item.now) }
     {
         match item {
-            Item::Message(message) => self.key.append_payload(
-                self.version,
-                message.ty(),
-                message.payload().as_slice(),
-                lines,
-            ),
+            Item::Message(message) => {
+                self.append_payload(message.ty(), message.payload().as_slice(), lines)
+            }
             Item::Unknown(_) => Ok(()),
             Item::Skipped(_, payload) => self.key.append_replacement(payload.as_slice(), lines),
         }

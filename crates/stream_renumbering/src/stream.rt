@@ -11,10 +11,12 @@ use crate::options::Options;
 use shared_core_base::version::Version;
 use shared_core_message::schemas::schema_at;
 use shared_core_renumber::{RenumberError, Renumbering, is_renumberable, renumbered};
-use shared_core_stream::encoding::{Decoder, Item, RawMessage};
+use shared_core_stream::encoding::{Item, RawMessage};
 use std::alloc::{AllocError, Global};
 use std::io::{Read, Write};
-use stream_lines::{LinePrinter, PrintError, Report, Trouble, print_lines};
+use stream_lines::{
+    LinePrinter, PlacedItem, PrintError, Reading, Report, Rest, Trouble, print_lines,
+};
 
 /// The greatest number of bytes that are read at a time.
 const CHUNK: usize = 65536;
@@ -43,15 +45,13 @@ pub fn renumber<R: Read, W: Write>(
         version: options.version,
         entries: options.entries,
     };
-    print_lines(
+    let reading = Reading {
         alloc,
-        options.version,
-        options.limit,
-        &writer,
-        input,
-        output,
-        CHUNK,
-    )
+        version: options.version,
+        limit: options.limit,
+        chunk: CHUNK,
+    };
+    print_lines(reading, &writer, input, output)
 }
 
 /// Writes items at other field numbers.
@@ -91,16 +91,14 @@ impl<'a> LinePrinter for Writer<'a> {
 
     fn print_item(
         &self,
-        alloc: Global,
-        _offset: u128,
-        word: u64,
-        item: Item,
+        placed: &PlacedItem,
         _scratch: &mut (),
         lines: &mut Vec<u8>,
     ) -> Result<(), PrintError> {
-        match &item {
+        let word = placed.word;
+        match &placed.item {
             Item::Message(message) => {
-                let payload = self.payload_of(alloc, message)?;
+                let payload = self.payload_of(*lines.allocator(), message)?;
                 append_message(word, payload.as_slice(), lines)
             }
             Item::Unknown(_) => Ok(lines.extend_from_slice(&word.to_be_bytes())?),
@@ -111,14 +109,8 @@ impl<'a> LinePrinter for Writer<'a> {
         }
     }
 
-    fn print_rest(
-        &self,
-        _alloc: Global,
-        _offset: u128,
-        rest: &Decoder,
-        lines: &mut Vec<u8>,
-    ) -> Result<(), AllocError> {
-        lines.extend_from_slice(rest.copy_pending()?.as_slice())
+    fn print_rest(&self, rest: Rest<'_>, lines: &mut Vec<u8>) -> Result<(), AllocError> {
+        lines.extend_from_slice(rest.pending.copy_pending()?.as_slice())
     }
 }
 

@@ -8,7 +8,7 @@ ghost use Rattle.shared_core_base.specs.Version.{version_number};
 
 use crate::descriptors::{Description, TheirTable};
 use bytes::Bytes;
-use dump_lines::MessageTable;
+use dump_lines::{MessageTable, TypedPayload};
 use field_paths::label::next_index;
 use json::Writer;
 use replay_bench::Side;
@@ -233,7 +233,12 @@ impl<'a> Pair<'a> {
         let alloc = self.alloc;
         let messages = self.description.messages.table();
         let mut canonical = Vec::new(alloc);
-        let found = messages.canonical_of(alloc, self.version, self.ty, payload, &mut canonical);
+        let typed = TypedPayload {
+            version: self.version,
+            ty: self.ty,
+            bytes: payload,
+        };
+        let found = messages.canonical_of(alloc, typed, &mut canonical);
         let mut values = Values {
             alloc,
             numbering: self.description.numbering.as_slice(),

@@ -7,11 +7,9 @@ ghost use Rattle.shared_core_json.specs.Payloads.{IsCanonicalOf, IsTooLong};
 ghost use Rattle.shared_core_json.specs.declared.error.JsonError.TheVariants.{Malformed, TooLong};
 
 use bytes::Bytes;
-use dump_lines::Canonicalizer;
+use dump_lines::{Canonicalizer, TypedPayload};
 use shared_core::messages::{RecordVisitor, schema_at, visit_record};
 use shared_core::wire::WireRecord;
-use shared_core_base::header::MessageType;
-use shared_core_base::version::Version;
 use shared_core_json::{JsonError, write_canonical};
 use std::alloc::Global;
 use std::fmt::Debug;
@@ -24,17 +22,15 @@ impl Canonicalizer for Records {
     fn canonical_of(
         &self,
         alloc: Global,
-        version: Version,
-        ty: MessageType,
-        payload: &Bytes,
+        payload: TypedPayload<'_>,
         canonical: &mut Vec<u8>,
     ) -> Result<Option<u32>, JsonError> {
-        let Some(schema) = schema_at(version, ty) else {
+        let Some(schema) = schema_at(payload.version, payload.ty) else {
             return Ok(None);
         };
         let writing = Writing {
             alloc,
-            payload,
+            payload: payload.bytes,
             buffer: mem::replace(canonical, Vec::new(alloc)),
         };
         match visit_record(schema, writing) {

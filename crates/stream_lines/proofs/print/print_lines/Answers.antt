@@ -19,14 +19,15 @@ loop-init g c =
     let bytes = ap (λ (held : Unread). held.bytes) c.new-items.ensures in
     record {
       counted = omega arith;
-      state = c.new-items.ensures ∙ ap (λ (left : List ℕ). holding c.args.version c.args.limit 0 left) (sym bytes);
+      state = c.new-items.ensures ∙ ap (λ (left : List ℕ). holding c.args.reading.version c.args.reading.limit 0
+          left) (sym bytes);
       so_far = subst (λ (left : List ℕ). GoesOn (g.P.LinePrinter.item_line c.args.printer.now)
-          (g.P.LinePrinter.item_trouble c.args.printer.now) c.args.version c.args.limit
+          (g.P.LinePrinter.item_trouble c.args.printer.now) c.args.reading.version c.args.reading.limit
           (g.R.Read.remaining c.args.input.now) (g.W.Write.contents c.args.output.now)
           (g.R.Read.remaining c.args.input.now) (g.W.Write.contents c.args.output.now) 0 left None) (sym bytes)
           (starts (g.P.LinePrinter.item_line c.args.printer.now)
           (g.P.LinePrinter.rest_line c.args.printer.now) (g.P.LinePrinter.is_long c.args.printer.now)
-          (g.P.LinePrinter.item_trouble c.args.printer.now) c.args.version c.args.limit _ _);
+          (g.P.LinePrinter.item_trouble c.args.printer.now) c.args.reading.version c.args.reading.limit _ _);
     }
 
 pub returns-in_err-print_rest-in-Ok-false : goal.returns-in_err-print_rest-in-Ok-false
@@ -39,12 +40,14 @@ returns-in_err-print_rest-in-Ok-false g c =
     (ap (λ (held : Unread). held.bytes) still) gone in
     let so_far = stays (g.P.LinePrinter.item_line c.args.printer.now)
     (g.P.LinePrinter.rest_line c.args.printer.now) (g.P.LinePrinter.is_long c.args.printer.now)
-    (g.P.LinePrinter.item_trouble c.args.printer.now) c.args.version c.args.limit _ _ _ _ _ _ _ c.loop.invariant.so_far
+    (g.P.LinePrinter.item_trouble c.args.printer.now) c.args.reading.version c.args.reading.limit _ _ _ _ _ _ _
+    c.loop.invariant.so_far
     _ read came same in
     let from = err_from_is_err_and c.from_residual.result c.from_residual.ensures.1 in
     rw (from.1, from.2) (ended_lack (g.P.LinePrinter.item_line c.args.printer.now)
     (g.P.LinePrinter.rest_line c.args.printer.now) (g.P.LinePrinter.is_long c.args.printer.now)
-    (g.P.LinePrinter.item_trouble c.args.printer.now) c.args.version c.args.limit _ _ _ _ _ _ _ so_far _ _
+    (g.P.LinePrinter.item_trouble c.args.printer.now) c.args.reading.version c.args.reading.limit _ _ _ _ _ _ _
+    so_far _ _
     (Consumes-nil _) OutOfMemory tt)
 
 pub returns-in_err-write_whole-in-Ok-false : goal.returns-in_err-write_whole-in-Ok-false
@@ -57,21 +60,23 @@ returns-in_err-write_whole-in-Ok-false g c =
     (ap (λ (held : Unread). held.bytes) still) gone in
     let so_far = stays (g.P.LinePrinter.item_line c.args.printer.now)
     (g.P.LinePrinter.rest_line c.args.printer.now) (g.P.LinePrinter.is_long c.args.printer.now)
-    (g.P.LinePrinter.item_trouble c.args.printer.now) c.args.version c.args.limit _ _ _ _ _ _ _ c.loop.invariant.so_far
+    (g.P.LinePrinter.item_trouble c.args.printer.now) c.args.reading.version c.args.reading.limit _ _ _ _ _ _ _
+    c.loop.invariant.so_far
     _ read came same in
     let last = g.P.LinePrinter.rest_line c.args.printer.now in
     let at = c.loop.lines.offset in
-    let rest = ap (λ (unread : Unread). unread.bytes) c.decoder-rest.ensures ∙ left in
+    let rest = ap (λ (unread : Unread). unread.bytes) c.decoder-pending.ensures ∙ left in
     let text : c.as_slice.result.now ≡ last at (held_in c.loop.items).bytes =
     c.as_slice.ensures.value ∙ c.in_ok-print_rest-in-Ok-false.ensures.line
-    ∙ ap (λ (l : List ℕ). l ++ last at c.decoder-rest.result.now.bytes) c.clear.ensures.items
+    ∙ ap (λ (l : List ℕ). l ++ last at c.decoder-pending.result.now.bytes) c.clear.ensures.items
     ∙ ap (λ (bytes : List ℕ). last at bytes) rest in
     let (cut, wrote_cut, begins) = c.in_err-write_whole-in-Ok-false.ensures in
     let from = err_from_is_err_and c.from_residual-in_err-write_whole-in-Ok-false.result
     c.from_residual-in_err-write_whole-in-Ok-false.ensures.1 in
     rw (from.1, from.2) (ended_cut (g.P.LinePrinter.item_line c.args.printer.now)
     (g.P.LinePrinter.rest_line c.args.printer.now) (g.P.LinePrinter.is_long c.args.printer.now)
-    (g.P.LinePrinter.item_trouble c.args.printer.now) c.args.version c.args.limit _ _ _ _ _ _ _ so_far _ cut end
+    (g.P.LinePrinter.item_trouble c.args.printer.now) c.args.reading.version c.args.reading.limit _ _ _ _ _ _ _
+    so_far _ cut end
     wrote_cut (subst (Begins cut) text begins))
 
 pub returns-in-Ok-false : goal.returns-in-Ok-false
@@ -84,19 +89,21 @@ returns-in-Ok-false g c =
     (ap (λ (held : Unread). held.bytes) still) gone in
     let so_far = stays (g.P.LinePrinter.item_line c.args.printer.now)
     (g.P.LinePrinter.rest_line c.args.printer.now) (g.P.LinePrinter.is_long c.args.printer.now)
-    (g.P.LinePrinter.item_trouble c.args.printer.now) c.args.version c.args.limit _ _ _ _ _ _ _ c.loop.invariant.so_far
+    (g.P.LinePrinter.item_trouble c.args.printer.now) c.args.reading.version c.args.reading.limit _ _ _ _ _ _ _
+    c.loop.invariant.so_far
     _ read came same in
     let last = g.P.LinePrinter.rest_line c.args.printer.now in
     let at = c.loop.lines.offset in
-    let rest = ap (λ (unread : Unread). unread.bytes) c.decoder-rest.ensures ∙ left in
+    let rest = ap (λ (unread : Unread). unread.bytes) c.decoder-pending.ensures ∙ left in
     let text : c.as_slice.result.now ≡ last at (held_in c.loop.items).bytes =
     c.as_slice.ensures.value ∙ c.in_ok-print_rest-in-Ok-false.ensures.line
-    ∙ ap (λ (l : List ℕ). l ++ last at c.decoder-rest.result.now.bytes) c.clear.ensures.items
+    ∙ ap (λ (l : List ℕ). l ++ last at c.decoder-pending.result.now.bytes) c.clear.ensures.items
     ∙ ap (λ (bytes : List ℕ). last at bytes) rest in
     let (all, wrote_all, whole) = c.in_ok-write_whole-in-Ok-false.ensures in
     ended_whole (g.P.LinePrinter.item_line c.args.printer.now)
     (g.P.LinePrinter.rest_line c.args.printer.now) (g.P.LinePrinter.is_long c.args.printer.now)
-    (g.P.LinePrinter.item_trouble c.args.printer.now) c.args.version c.args.limit _ _ _ _ _ _ _ so_far _ all end
+    (g.P.LinePrinter.item_trouble c.args.printer.now) c.args.reading.version c.args.reading.limit _ _ _ _ _ _ _
+    so_far _ all end
     wrote_all c.loop.lines.trouble c.pending.result
     so_far.noted (c.pending.ensures ∙ ap (λ (bytes : List ℕ). length bytes) rest) (whole ∙ text)
 
@@ -108,48 +115,54 @@ returns-in-Err-Failed g c =
     let same = ap (λ (held : Unread). held.bytes) (sym after ∙ kept.0) in
     let so_far = stays (g.P.LinePrinter.item_line c.args.printer.now)
     (g.P.LinePrinter.rest_line c.args.printer.now) (g.P.LinePrinter.is_long c.args.printer.now)
-    (g.P.LinePrinter.item_trouble c.args.printer.now) c.args.version c.args.limit _ _ _ _ _ _ _ c.loop.invariant.so_far
+    (g.P.LinePrinter.item_trouble c.args.printer.now) c.args.reading.version c.args.reading.limit _ _ _ _ _ _ _
+    c.loop.invariant.so_far
     _ read came same in
     ended_input (g.P.LinePrinter.item_line c.args.printer.now)
     (g.P.LinePrinter.rest_line c.args.printer.now) (g.P.LinePrinter.is_long c.args.printer.now)
-    (g.P.LinePrinter.item_trouble c.args.printer.now) c.args.version c.args.limit _ _ _ _ _ _ _ so_far
+    (g.P.LinePrinter.item_trouble c.args.printer.now) c.args.reading.version c.args.reading.limit _ _ _ _ _ _ _ so_far
 
 pub returns-in-Err : goal.returns-in-Err
 returns-in-Err g c =
     let (read, came, after) = c.fill.ensures.filled in
     ended_lack (g.P.LinePrinter.item_line c.args.printer.now)
     (g.P.LinePrinter.rest_line c.args.printer.now) (g.P.LinePrinter.is_long c.args.printer.now)
-    (g.P.LinePrinter.item_trouble c.args.printer.now) c.args.version c.args.limit _ _ _ _ _ _ _ c.loop.invariant.so_far
+    (g.P.LinePrinter.item_trouble c.args.printer.now) c.args.reading.version c.args.reading.limit _ _ _ _ _ _ _
+    c.loop.invariant.so_far
     _ read came
     OutOfMemory tt
 
 pub returns-in_err-longer : goal.returns-in_err-longer
 returns-in_err-longer g c =
     let (read, came, after) = c.fill.ensures.filled in
-    let here = filled c.args.version c.args.limit c.loop.lines.offset (held_in c.loop.items) (held_in c.fill.new.self)
+    let here = filled c.args.reading.version c.args.reading.limit c.loop.lines.offset (held_in c.loop.items) (held_in
+    c.fill.new.self)
     read c.loop.invariant.state after in
     let lack = subst (λ (state : Unread). IsLack (IsLongIn (g.P.LinePrinter.is_long c.args.printer.now)
     state.version state.bytes) c.in_err-longer.field-0.0) here c.in_err-longer.ensures.lack in
     let from = err_from_is_err_and c.from_residual-in_err-longer.result c.from_residual-in_err-longer.ensures.1 in
     rw (from.1, from.2) (ended_lack (g.P.LinePrinter.item_line c.args.printer.now)
     (g.P.LinePrinter.rest_line c.args.printer.now) (g.P.LinePrinter.is_long c.args.printer.now)
-    (g.P.LinePrinter.item_trouble c.args.printer.now) c.args.version c.args.limit _ _ _ _ _ _ _ c.loop.invariant.so_far
+    (g.P.LinePrinter.item_trouble c.args.printer.now) c.args.reading.version c.args.reading.limit _ _ _ _ _ _ _
+    c.loop.invariant.so_far
     _ read came _ lack)
 
 pub returns-in_err-write_whole : goal.returns-in_err-write_whole
 returns-in_err-write_whole g c =
     let (read, came, after) = c.fill.ensures.filled in
-    let here = filled c.args.version c.args.limit c.loop.lines.offset (held_in c.loop.items) (held_in c.fill.new.self)
+    let here = filled c.args.reading.version c.args.reading.limit c.loop.lines.offset (held_in c.loop.items) (held_in
+    c.fill.new.self)
     read c.loop.invariant.state after in
     let bytes = (held_in c.loop.items).bytes ++ read in
     let line = g.P.LinePrinter.item_line c.args.printer.now in
     let trouble = g.P.LinePrinter.item_trouble c.args.printer.now in
     let has : Option Longer → Type 0 =
-    λ longer. HasAdded line trouble c.args.version c.args.limit c.loop.lines.offset c.loop.lines.trouble [] bytes longer
+    λ longer. HasAdded line trouble c.args.reading.version c.args.reading.limit c.loop.lines.offset
+    c.loop.lines.trouble [] bytes longer
     c.add_held.new.self.offset c.add_held.new.self.trouble c.add_held.new.self.text.items
     (held_in c.add_held.new.items) in
     let every : has c.in_ok-longer.longer =
-    subst (λ (text : List ℕ). HasAdded line trouble c.args.version c.args.limit c.loop.lines.offset
+    subst (λ (text : List ℕ). HasAdded line trouble c.args.reading.version c.args.reading.limit c.loop.lines.offset
     c.loop.lines.trouble text bytes c.in_ok-longer.longer c.add_held.new.self.offset c.add_held.new.self.trouble
     c.add_held.new.self.text.items (held_in c.add_held.new.items)) c.clear-in-loop.ensures.items
     (subst (λ (state : Unread). HasAdded line trouble state.version state.limit c.loop.lines.offset
@@ -162,24 +175,27 @@ returns-in_err-write_whole g c =
     c.from_residual-in_err-write_whole.ensures.1 in
     rw (from.1, from.2) (ended_output (g.P.LinePrinter.item_line c.args.printer.now)
     (g.P.LinePrinter.rest_line c.args.printer.now) (g.P.LinePrinter.is_long c.args.printer.now)
-    (g.P.LinePrinter.item_trouble c.args.printer.now) c.args.version c.args.limit _ _ _ _ _ _ _ c.loop.invariant.so_far
+    (g.P.LinePrinter.item_trouble c.args.printer.now) c.args.reading.version c.args.reading.limit _ _ _ _ _ _ _
+    c.loop.invariant.so_far
     _ read came _ _ _
     rest step _ written wrote (subst (Begins written) c.as_slice-in-loop.ensures.value begins))
 
 pub returns-in-Some : goal.returns-in-Some
 returns-in-Some g c =
     let (read, came, after) = c.fill.ensures.filled in
-    let here = filled c.args.version c.args.limit c.loop.lines.offset (held_in c.loop.items) (held_in c.fill.new.self)
+    let here = filled c.args.reading.version c.args.reading.limit c.loop.lines.offset (held_in c.loop.items) (held_in
+    c.fill.new.self)
     read c.loop.invariant.state after in
     let bytes = (held_in c.loop.items).bytes ++ read in
     let line = g.P.LinePrinter.item_line c.args.printer.now in
     let trouble = g.P.LinePrinter.item_trouble c.args.printer.now in
     let has : Option Longer → Type 0 =
-    λ longer. HasAdded line trouble c.args.version c.args.limit c.loop.lines.offset c.loop.lines.trouble [] bytes longer
+    λ longer. HasAdded line trouble c.args.reading.version c.args.reading.limit c.loop.lines.offset
+    c.loop.lines.trouble [] bytes longer
     c.add_held.new.self.offset c.add_held.new.self.trouble c.add_held.new.self.text.items
     (held_in c.add_held.new.items) in
     let every : has c.in_ok-longer.longer =
-    subst (λ (text : List ℕ). HasAdded line trouble c.args.version c.args.limit c.loop.lines.offset
+    subst (λ (text : List ℕ). HasAdded line trouble c.args.reading.version c.args.reading.limit c.loop.lines.offset
     c.loop.lines.trouble text bytes c.in_ok-longer.longer c.add_held.new.self.offset c.add_held.new.self.trouble
     c.add_held.new.self.text.items (held_in c.add_held.new.items)) c.clear-in-loop.ensures.items
     (subst (λ (state : Unread). HasAdded line trouble state.version state.limit c.loop.lines.offset
@@ -193,24 +209,27 @@ returns-in-Some g c =
     (g.W.Write.contents c.write_whole-in-loop.new.output)) (is ∙ c.as_slice-in-loop.ensures.value) wrote in
     ended_long (g.P.LinePrinter.item_line c.args.printer.now)
     (g.P.LinePrinter.rest_line c.args.printer.now) (g.P.LinePrinter.is_long c.args.printer.now)
-    (g.P.LinePrinter.item_trouble c.args.printer.now) c.args.version c.args.limit _ _ _ _ _ _ _ c.loop.invariant.so_far
+    (g.P.LinePrinter.item_trouble c.args.printer.now) c.args.reading.version c.args.reading.limit _ _ _ _ _ _ _
+    c.loop.invariant.so_far
     _ read came _ _ _ rest step _
     all_written c.in-Some.message next
 
 pub loop-preserved : goal.loop-preserved
 loop-preserved g c =
     let (read, came, after) = c.fill.ensures.filled in
-    let here = filled c.args.version c.args.limit c.loop.lines.offset (held_in c.loop.items) (held_in c.fill.new.self)
+    let here = filled c.args.reading.version c.args.reading.limit c.loop.lines.offset (held_in c.loop.items) (held_in
+    c.fill.new.self)
     read c.loop.invariant.state after in
     let bytes = (held_in c.loop.items).bytes ++ read in
     let line = g.P.LinePrinter.item_line c.args.printer.now in
     let trouble = g.P.LinePrinter.item_trouble c.args.printer.now in
     let has : Option Longer → Type 0 =
-    λ longer. HasAdded line trouble c.args.version c.args.limit c.loop.lines.offset c.loop.lines.trouble [] bytes longer
+    λ longer. HasAdded line trouble c.args.reading.version c.args.reading.limit c.loop.lines.offset
+    c.loop.lines.trouble [] bytes longer
     c.add_held.new.self.offset c.add_held.new.self.trouble c.add_held.new.self.text.items
     (held_in c.add_held.new.items) in
     let every : has c.in_ok-longer.longer =
-    subst (λ (text : List ℕ). HasAdded line trouble c.args.version c.args.limit c.loop.lines.offset
+    subst (λ (text : List ℕ). HasAdded line trouble c.args.reading.version c.args.reading.limit c.loop.lines.offset
     c.loop.lines.trouble text bytes c.in_ok-longer.longer c.add_held.new.self.offset c.add_held.new.self.trouble
     c.add_held.new.self.text.items (held_in c.add_held.new.items)) c.clear-in-loop.ensures.items
     (subst (λ (state : Unread). HasAdded line trouble state.version state.limit c.loop.lines.offset
@@ -224,7 +243,8 @@ loop-preserved g c =
     (g.W.Write.contents c.write_whole-in-loop.new.output)) (is ∙ c.as_slice-in-loop.ensures.value) wrote in
     let so_far = goes_on (g.P.LinePrinter.item_line c.args.printer.now)
     (g.P.LinePrinter.rest_line c.args.printer.now) (g.P.LinePrinter.is_long c.args.printer.now)
-    (g.P.LinePrinter.item_trouble c.args.printer.now) c.args.version c.args.limit _ _ _ _ _ _ _ c.loop.invariant.so_far
+    (g.P.LinePrinter.item_trouble c.args.printer.now) c.args.reading.version c.args.reading.limit _ _ _ _ _ _ _
+    c.loop.invariant.so_far
     _ read came _ _ _ rest step _
     all_written next.0 next.1 in
     let left = ap (λ (held : Unread). held.bytes) next.2 in
@@ -233,12 +253,13 @@ loop-preserved g c =
         arith,
         c.loop.invariant.counted,
         step.place,
-        then_long c.args.version bytes rest step.more step.next,
+        then_long c.args.reading.version bytes rest step.more step.next,
         ap (λ (held : Unread). length held.bytes) here,
         c.fill.ensures.bound,
       );
-      state = next.2 ∙ ap (λ (l : List ℕ). holding c.args.version c.args.limit c.add_held.new.self.offset l) (sym left);
-      so_far = subst (λ (l : List ℕ). GoesOn line trouble c.args.version c.args.limit
+      state = next.2 ∙ ap (λ (l : List ℕ). holding c.args.reading.version c.args.reading.limit
+          c.add_held.new.self.offset l) (sym left);
+      so_far = subst (λ (l : List ℕ). GoesOn line trouble c.args.reading.version c.args.reading.limit
           (g.R.Read.remaining c.args.input.now) (g.W.Write.contents c.args.output.now)
           (g.R.Read.remaining c.fill.new.reader) (g.W.Write.contents c.write_whole-in-loop.new.output)
           c.add_held.new.self.offset l c.add_held.new.self.trouble) (sym left) so_far;
@@ -247,4 +268,5 @@ loop-preserved g c =
 pub returns : goal.returns
 returns g c = ended_input (g.P.LinePrinter.item_line c.args.printer.now)
     (g.P.LinePrinter.rest_line c.args.printer.now) (g.P.LinePrinter.is_long c.args.printer.now)
-    (g.P.LinePrinter.item_trouble c.args.printer.now) c.args.version c.args.limit _ _ _ _ _ _ _ c.loop.invariant.so_far
+    (g.P.LinePrinter.item_trouble c.args.printer.now) c.args.reading.version c.args.reading.limit _ _ _ _ _ _ _
+    c.loop.invariant.so_far

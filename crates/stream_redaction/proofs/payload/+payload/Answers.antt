@@ -8,7 +8,7 @@ pub append_nested-returns-then-level-eq0 : goal.append_nested-returns-then-level
 append_nested-returns-then-level-eq0 t c =
     subst (λ (more : List ℕ). OnOk c.append_zeros.result
     (c.append_zeros.new.out.items ≡ c.args.out.now.items ++ more))
-    (sym (nested_zero c.args.key.now c.args.level.left (rows_view c.args.level.rows) c.args.content.now
+    (sym (nested_zero c.args.level.key.now c.args.level.left (rows_view c.args.level.rows) c.args.content.now
     (omega (arith, c.if-level-eq0.true))))
     c.append_zeros.ensures
 
@@ -16,12 +16,13 @@ pub append_nested-returns : goal.append_nested-returns
 append_nested-returns t c =
     subst (λ (more : List ℕ). OnOk c.append_records.result
     (c.append_records.new.out.items ≡ c.args.out.now.items ++ more))
-    (sym (nested_below c.args.key.now (c.args.level.left - 1) c.args.level.left (rows_view c.args.level.rows)
+    (sym (nested_below c.args.level.key.now (c.args.level.left - 1) c.args.level.left (rows_view c.args.level.rows)
     c.args.content.now (omega (arith, c.if-level-eq0.false))))
     c.append_records.ensures
 
 pub append_records-loop-item-init : goal.append_records-loop-item-init
 append_records-loop-item-init t c =
-    going_start c.args.key.now c.args.level.left (rows_view c.args.level.rows) c.args.out.now.items c.args.payload.now
+    going_start c.args.level.key.now c.args.level.left (rows_view c.args.level.rows) c.args.out.now.items
+    c.args.payload.now
     (records_left c.into_iter-item-iterator.result)
     (ap records_left c.into_iter-item-iterator.ensures.into_iter_gives ∙ c.within-item-items.ensures.computed)

@@ -11,12 +11,12 @@ abbrev pub decreases-append_record : goal.decreases-append_record
 decreases-append_record l = 4 * l.level.left + 2
 
 abbrev pub decreases-append_content : goal.decreases-append_content
-decreases-append_content l = 4 * l.left + 1
+decreases-append_content l = 4 * l.level.left + 1
 
 abbrev pub decreases-append_nested : goal.decreases-append_nested
 decreases-append_nested l = 4 * l.level.left
 
 abbrev pub invariant-append_records-loop-item : goal.invariant-append_records-loop-item
 invariant-append_records-loop-item l =
-    Going l.key l.level.left (rows_view l.level.rows) l.fn.out.items l.payload l.out.items l.rest
+    Going l.level.key.now l.level.left (rows_view l.level.rows) l.fn.out.items l.payload l.out.items l.rest
     (records_left l.item-iterator)

@@ -11,10 +11,10 @@ pub returns-in_ok-write_payload-in-Ok-Some-clause-tokens : goal.returns-in_ok-wr
 returns-in_ok-write_payload-in-Ok-Some-clause-tokens g c =
     let r = g.M.MessageTable.reading c.args.self.now.messages.now in
     let s = c.in-Ok-Some.schema in
-    let payload = c.args.payload.now in
+    let payload = c.args.payload.bytes.now in
     let known = c.known_in-known.result in
     let given = c.known_in-known.ensures.same in
-    let found : ReturnsEncodingIn r (r.schema_at c.args.self.now.options.now.version c.args.ty) payload
+    let found : ReturnsEncodingIn r (r.schema_at c.args.payload.version c.args.payload.ty) payload
     c.canonical_of.new.canonical.items (Ok (Some s)) = search rules in
     let is : known.bytes.now ≡ c.canonical_of.new.canonical.items = search rules in
     shown_canonical r c.args.self.now.options.now.texts _ s payload known.schema known.bytes.now
@@ -28,8 +28,8 @@ pub returns-in_ok-write_malformed-in-Err-Malformed-clause-tokens :
     goal.returns-in_ok-write_malformed-in-Err-Malformed-clause-tokens
 returns-in_ok-write_malformed-in-Err-Malformed-clause-tokens g c =
     let r = g.M.MessageTable.reading c.args.self.now.messages.now in
-    let payload = c.args.payload.now in
-    let found : ReturnsEncodingIn r (r.schema_at c.args.self.now.options.now.version c.args.ty) payload
+    let payload = c.args.payload.bytes.now in
+    let found : ReturnsEncodingIn r (r.schema_at c.args.payload.version c.args.payload.ty) payload
     c.canonical_of.new.canonical.items (Err Malformed) = search rules in
     c.in_ok-write_malformed-in-Err-Malformed.ensures.tokens
     ∙ ap (λ (ms : Members). c.args.out.now.tokens ++ members_tokens ms)

@@ -21,7 +21,8 @@ returns-then-self-clause-tokens g c =
     (key (codes "length") ∷ number (decimal (length message.payload)) ∷ []) = search rules in
     let ack : c.write_ack.new.out.tokens ≡ c.write_number-2.new.out.tokens ++ ack_tokens message.header.requested_ack =
     search rules in
-    let head : c.write_header.new.out.tokens ≡ c.write_ack.new.out.tokens ++ header_tokens c.args.word
+    let head : c.write_header.new.out.tokens ≡ c.write_ack.new.out.tokens ++ header_tokens
+    c.args.self.now.placed.now.word
     (word_of message.header) = search rules in
     let r = g.M.MessageTable.reading c.args.self.now.messages.now in
     let members = payload_members_in r c.args.self.now.options.now.texts
@@ -29,7 +30,7 @@ returns-then-self-clause-tokens g c =
     rw c.if-self.true (on_ok_weaker c.write_payload.result
     (λ t. let last : c.write_payload.new.out.tokens ++ (end_object ∷ []) ≡ c.write_header.new.out.tokens ++
     members_tokens members = search (rules, t) in last ∙ head_with_header c.args.out.now.tokens _ _ _ _ _ _ _ _
-    message.header.requested_ack c.args.word (word_of message.header) members ty code len ack head)
+    message.header.requested_ack c.args.self.now.placed.now.word (word_of message.header) members ty code len ack head)
     c.write_payload.ensures.tokens)
 
 pub returns-clause-tokens : goal.returns-clause-tokens
@@ -43,7 +44,8 @@ returns-clause-tokens g c =
     (key (codes "length") ∷ number (decimal (length message.payload)) ∷ []) = search rules in
     let ack : c.write_ack.new.out.tokens ≡ c.write_number-2.new.out.tokens ++ ack_tokens message.header.requested_ack =
     search rules in
-    let head : c.write_header.new.out.tokens ≡ c.write_ack.new.out.tokens ++ header_tokens c.args.word
+    let head : c.write_header.new.out.tokens ≡ c.write_ack.new.out.tokens ++ header_tokens
+    c.args.self.now.placed.now.word
     (word_of message.header) = search rules in
     rw c.if-self.false (head_with_header c.args.out.now.tokens _ _ _ _ _ _ _ _ message.header.requested_ack
-    c.args.word (word_of message.header) no_members ty code len ack head)
+    c.args.self.now.placed.now.word (word_of message.header) no_members ty code len ack head)

@@ -17,10 +17,10 @@ pub returns-clause-tokens : goal.returns-clause-tokens
 returns-clause-tokens g c =
     let r = g.M.MessageTable.reading c.args.self.now.messages.now in
     let s = c.in-Some.schema in
-    let payload = c.args.payload.now in
+    let payload = c.args.payload.bytes.now in
     let known = c.known_in-known.result in
     let given = c.known_in-known.ensures.same in
-    let found : r.schema_at c.args.self.now.options.now.version c.args.ty ≡ Some s = search rules in
+    let found : r.schema_at c.args.payload.version c.args.payload.ty ≡ Some s = search rules in
     let is : known.bytes.now ≡ payload = search rules in
     let at = c.table.ensures.table in
     let canonical : IsCanonicalIn r.table s payload = search rules in

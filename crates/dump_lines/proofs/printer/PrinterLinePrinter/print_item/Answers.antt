@@ -9,6 +9,6 @@ use Rattle.dump_lines.proofs.printer.PrinterLinePrinter.print_item.Goals as goal
 pub append_object-requires-clause-good : goal.append_object-requires-clause-good
 append_object-requires-clause-good g c =
     let json = item_json_in (g.M.MessageTable.reading c.args.self.now.messages.now) c.args.self.now.options
-    c.args.offset c.args.word c.args.item in
+    c.args.placed.now.offset c.args.placed.now.word c.args.placed.now.item in
     let is : tokens c.as_slice.result.now ≡ json_tokens json = search rules in
     subst AreGood (sym is) (good_tokens json)

@@ -1,4 +1,4 @@
-use Rattle.std.proofs.Common.{◌≡◌, ◌∙◌, ℕ, None, Ok, Some, ap, arith, subst, sym}
+use Rattle.std.proofs.Common.{◌≡◌, ◌∙◌, ℕ, None, Ok, Some, ap, arith, refl, subst, sym}
 use Rattle.std.proofs.lemmas.Result.{err_from_is_err_and}
 use Rattle.shared_core_stream.proofs.Items.{then_takes}
 use Rattle.shared_core_stream.specs.Items.{NoItemBegins}
@@ -22,7 +22,7 @@ add-requires g c =
     let step = takes version c.args.items.now.decoder.limit c.loop-word.self.offset old
     (held_in c.take_with_word.new.self) c.in-Ok-Some.item state taken after in
     let before = then_long version (held_in c.args.items.now).bytes old.bytes added.more added.next in
-    record { room = omega (arith, c.requires.room, added.place, before, step.1) }
+    record { next = refl; room = omega (arith, c.requires.room, added.place, before, step.1) }
 
 pub loop-word-preserved : goal.loop-word-preserved
 loop-word-preserved g c =
