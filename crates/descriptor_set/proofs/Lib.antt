@@ -1,3 +1,4 @@
 pub mod FirstName
 pub mod Halving
 pub mod NameSteps
+pub mod LastValues

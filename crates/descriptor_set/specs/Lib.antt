@@ -6,3 +6,5 @@ pub mod TableEnums
 pub mod TableErrors
 pub mod TableNames
 pub mod Tables
+pub mod FieldReading
+pub mod Values

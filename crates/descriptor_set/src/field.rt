@@ -1,5 +1,8 @@
 //! The fields of messages.
 
+ghost use Rattle.std.specs.Prelude.{◌≡◌};
+ghost use Rattle.descriptor_set.specs.FieldReading.{kind_of};
+
 /// The type of a field, by the name that .proto files have for it.
 #[derive(Clone, Copy, Debug, PartialEq, Eq)]
 pub enum FieldKind {
@@ -28,7 +31,9 @@ pub enum FieldKind {
 
 impl FieldKind {
     /// The type of a number of FieldDescriptorProto.Type.
-    pub fn from_number(number: u64) -> FieldKind {
+    pub fn from_number(number: u64) -> FieldKind
+        ensures { result ≡ kind_of number }
+    {
         match number {
             1 => FieldKind::Double,
             2 => FieldKind::Float,

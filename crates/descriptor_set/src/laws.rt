@@ -1,7 +1,8 @@
-//! The laws of codes in comments. Each is the contract of a function that does nothing.
+//! The laws of codes in comments, and of what is read of fields. Each is the contract of a function that does nothing.
 
 ghost use Rattle.std.specs.Prelude.{◌≡◌, [], ◌∷◌, None, Some, codes};
 ghost use Rattle.descriptor_set.specs.Codes.{plain_code, said_codes};
+ghost use Rattle.descriptor_set.specs.FieldReading.{camel_case, low_bits};
 
 /// What comments say: a sum whose second number may be decimal or hexadecimal; numbers whose bits are joined; a digit
 /// that only a hexadecimal number has; several codes; and none.
@@ -14,4 +15,17 @@ pub fn comments_say_codes()
     ensures several { said_codes (codes "message type: 1026, or code = <code>0x0403</code>.")
         ≡ plain_code 1026 ∷ plain_code 1027 ∷ [] }
     ensures none { said_codes (codes "subtype: 5, types: 6, type 7, type: 8th, type: 0x") ≡ [] }
+{}
+
+/// The names in JSON of names: without underscores, with a capital after each; only ASCII letters change.
+pub fn names_in_json()
+    ensures words { camel_case (codes "foo_bar_baz") ≡ codes "fooBarBaz" }
+    ensures around { camel_case (codes "_a__b_") ≡ codes "AB" }
+    ensures digits { camel_case (codes "x_1y") ≡ codes "x1y" }
+{}
+
+/// Of an int32 the low 32 bits count: 5 of 2^32 + 5, and all of -1.
+pub fn low_bits_count()
+    ensures above { low_bits 4294967301 ≡ 5 }
+    ensures negative { low_bits 18446744073709551615 ≡ 4294967295 }
 {}
