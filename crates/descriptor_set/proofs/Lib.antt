@@ -1,4 +1,5 @@
 pub mod FirstName
 pub mod Halving
 pub mod NameSteps
+pub mod FoundComments
 pub mod LastValues

@@ -1,4 +1,5 @@
 pub mod Codes
+pub mod Comments
 pub mod Descriptors
 pub mod Errors
 pub mod Found
