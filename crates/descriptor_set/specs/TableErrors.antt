@@ -1,6 +1,6 @@
 -- The errors of making a table of a set.
 use Rattle.std.specs.Prelude.{◌≡◌, ℕ, ◌==◌, if◌then◌else◌, List, [], ◌∷◌, Option, Some, None, Result, Ok, Err}
-use Rattle.std.specs.Prelude.{slice_get, String}
+use Rattle.std.specs.Prelude.{slice_get, String, ⊤}
 use Rattle.std.specs.Option.{option_map, option_or}
 use Rattle.std.specs.String.{string_bytes}
 use Rattle.std.specs.declared.alloc.Global.{Global}
@@ -128,3 +128,11 @@ ReturnsBy set found (Err other) = ⊥
 -- The same of the table of a set.
 abbrev pub ReturnsTable : {Z : Type 0} → DescriptorSet → Result Z DescriptorError → Type 0
 ReturnsTable set result = ReturnsBy set (table_error (schemas_of set)) result
+
+-- A table comes of a set: it has the messages of all its fields, and each field is one that a table may have.
+abbrev pub HasTable : DescriptorSet → Type 0
+HasTable set = (unknown_of set ≡ None) × (table_error (schemas_of set) ≡ None)
+
+-- An error is the one that a set has in the place of a table.
+abbrev pub IsTableError : DescriptorSet → DescriptorError → Type 0
+IsTableError set e = ReturnsTable {⊤} set (Err e)

@@ -99,7 +99,7 @@ pub fn table_of(alloc: Global, set: &DescriptorSet) -> Result<LoadedSchemas, Des
 {
     let rows = all_rows_of(alloc, set)?;
     match LoadedSchemas::new(rows) {
-        Ok(loaded) => Ok(loaded),
+        Ok(loaded) => Ok(loaded.indexed(alloc)?),
         Err(error) => {
             let error = invalid_field(alloc, set, &error)?;
             Err(error)

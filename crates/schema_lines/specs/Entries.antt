@@ -1,16 +1,16 @@
 -- The entries of the numbering of a set: by schemas, by the rows of what is written, and by the fields of a row.
-use Rattle.std.specs.Prelude.{◌≡◌, ℕ, ◌+◌, ◌==◌, min, Bool, false, if◌then◌else◌, List, [], ◌∷◌, ◌++◌, map}
+use Rattle.std.specs.Prelude.{◌≡◌, ℕ, ◌+◌, ◌==◌, min, if◌then◌else◌, List, [], ◌∷◌, ◌++◌, map}
 use Rattle.std.specs.Prelude.{Option, Some, None, Result, Ok, Err, Vec, slice_get}
-use Rattle.std.specs.List.{cons_option, list_any}
+use Rattle.std.specs.List.{cons_option}
 use Rattle.shared_core_wire.specs.Schema.{numbers, Kind}
 use Rattle.shared_core_codec.specs.Table.{table}
 use Rattle.shared_core_json.specs.Fields.{names_of}
 use Rattle.shared_core_renumber.specs.declared.entries.Renumbering.{Renumbering}
 use Rattle.descriptor_set.specs.declared.field.FieldDescriptor.{FieldDescriptor}
-use Rattle.descriptor_set.specs.declared.field.Presence.{Presence}
-use Rattle.descriptor_set.specs.declared.field.Presence.TheVariants as presence
 use Rattle.descriptor_set.specs.declared.set.DescriptorSet.{DescriptorSet}
 use Rattle.descriptor_set.specs.declared.set.MessageDescriptor.{MessageDescriptor}
+use Rattle.descriptor_set.specs.TableErrors.{HasTable, IsTableError}
+use Rattle.descriptor_set.specs.Tables.{is_among, is_oneof, oneof_of, with_oneof}
 use Rattle.schema_lines.specs.declared.error.SchemaError.{SchemaError}
 use Rattle.schema_lines.specs.declared.error.SchemaError.TheVariants as error
 use Rattle.schema_lines.specs.declared.numbering.Direction.{Direction}
@@ -55,22 +55,6 @@ matches_of set named s fields = matches_in set named s fields (names_of s).names
 abbrev pub member_numbers : List (ℕ × Kind) → List ℕ
 member_numbers members = map (λ m. m.0) members
 
--- The index of the oneof of a field, if it is in one.
-abbrev pub oneof_of : Presence → Option ℕ
-oneof_of (presence.Member oneof) = Some oneof
-oneof_of presence.Plain = None
-oneof_of presence.Optional = None
-oneof_of presence.Repeated = None
-
--- Whether a oneof that may be there is a given one, and whether it is among these.
-abbrev pub is_oneof : ℕ → Option ℕ → Bool
-is_oneof oneof None = false
-is_oneof oneof (Some other) = other == oneof
-
-abbrev pub is_among : List ℕ → Option ℕ → Bool
-is_among seen None = false
-is_among seen (Some oneof) = list_any (λ other. other == oneof) seen
-
 -- The numbers of a oneof's members among some fields.
 abbrev pub members_of : ℕ → List FieldDescriptor → List ℕ
 members_of oneof [] = []
@@ -81,11 +65,6 @@ members_of oneof (field ∷ rest) =
 abbrev pub others_of : Option ℕ → List FieldDescriptor → List ℕ
 others_of None rest = []
 others_of (Some oneof) rest = members_of oneof rest
-
--- The oneofs that have had a row, and one more.
-abbrev pub with_oneof : List ℕ → Option ℕ → List ℕ
-with_oneof seen None = seen
-with_oneof seen (Some oneof) = seen ++ oneof ∷ []
 
 -- The rows of a message of a set, by the numbers of their fields: a oneof is a row at its first member. Some have had
 -- their row.
@@ -180,12 +159,12 @@ entries_in set direction (Ok named) =
 abbrev pub numbering_entries : DescriptorSet → List Rename → Direction → Result (List Renumbering) (ℕ × RenameFault)
 numbering_entries set renames direction = entries_in set direction (named_of set renames)
 
--- The result of a numbering that should have these entries. An error is of the set, of the wrong rename, or an
--- allocation that failed. Which error a wrong set gives is not said here.
-abbrev pub IsNumbering : {Z : Type 0} → Result (List Renumbering) (ℕ × RenameFault)
+-- The result of a numbering of a set that should have these entries. An error is of the table of the set, or else of
+-- the wrong rename, or an allocation that failed.
+abbrev pub IsNumbering : {Z : Type 0} → DescriptorSet → Result (List Renumbering) (ℕ × RenameFault)
     → Result (Vec Renumbering Z) SchemaError → Type 0
-IsNumbering wanted (Ok entries) = wanted ≡ Ok entries.items
-IsNumbering wanted (Err (error.Rename index fault)) = wanted ≡ Err (index, fault)
-IsNumbering wanted (Err (error.Descriptor why)) = Unit {0}
-IsNumbering wanted (Err error.OutOfMemory) = Unit {0}
-IsNumbering wanted (Err error.Output) = ⊥
+IsNumbering set wanted (Ok entries) = HasTable set × (wanted ≡ Ok entries.items)
+IsNumbering set wanted (Err (error.Rename index fault)) = HasTable set × (wanted ≡ Err (index, fault))
+IsNumbering set wanted (Err (error.Descriptor why)) = IsTableError set why
+IsNumbering set wanted (Err error.OutOfMemory) = Unit {0}
+IsNumbering set wanted (Err error.Output) = ⊥

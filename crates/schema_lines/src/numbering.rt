@@ -8,11 +8,12 @@ ghost use Rattle.shared_core_codec.specs.Table.{table};
 ghost use Rattle.shared_core_json.specs.Fields.{name_view};
 ghost use Rattle.schema_lines.specs.Messages.{items_of};
 ghost use Rattle.schema_lines.specs.Numberings.{nested_of, IsMatch, IsOurs};
-ghost use Rattle.schema_lines.specs.Entries.{entries_from, entry_of, is_among, IsNumbering, last_group, match_of};
+ghost use Rattle.descriptor_set.specs.Tables.{is_among, is_oneof, oneof_of, with_oneof};
+ghost use Rattle.schema_lines.specs.Entries.{entries_from, entry_of, IsNumbering, last_group, match_of};
 ghost use Rattle.schema_lines.specs.Entries.{matches_of, member_numbers, members_of, number_entries};
-ghost use Rattle.schema_lines.specs.Entries.{numbering_entries, oneof_of};
+ghost use Rattle.schema_lines.specs.Entries.{numbering_entries};
 ghost use Rattle.schema_lines.specs.Entries.{others_of, read_number, row_entries, rows_entries, rows_in, their_rows};
-ghost use Rattle.schema_lines.specs.Entries.{is_oneof, with_oneof, written_number};
+ghost use Rattle.schema_lines.specs.Entries.{written_number};
 
 use crate::error::SchemaError;
 use crate::fields::matching;
@@ -77,7 +78,7 @@ pub fn numbering_of(
     direction: Direction,
 ) -> Result<Vec<Renumbering>, SchemaError>
     ensures ours { IfOk result (λ entries. All (IsOurs direction) entries.items) }
-    ensures exact { IsNumbering (numbering_entries set.now renames.now direction) result }
+    ensures exact { IsNumbering set.now (numbering_entries set.now renames.now direction) result }
 {
     table_of(alloc, set)?;
     let pairs = Pairs::of(alloc, set, renames)?;
