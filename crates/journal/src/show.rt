@@ -17,7 +17,7 @@ use command_line::{Decoding, Pipe, Progress, encoding_of, is_auto, max_message_o
 use encoded_input::Encoding;
 use shared_core_base::version::Version;
 use shared_core_renumber::Renumbering;
-use show_lines::{Filter, Options, Test, show};
+use show_lines::{Filter, Options, Showing, Test};
 use std::alloc::Global;
 use std::process::ExitCode;
 use stream_lines::PrintError;
@@ -174,7 +174,12 @@ fn run_parsed(call: &Call<'_>, parsed: &Arguments<'_>, opened: Opened) -> ExitCo
         &beginning,
     );
     let mut output = Pipe::new(call.rt.stdout());
-    let shown = show(call.rt.alloc(), &options, &Records, &mut input, &mut output);
+    let showing = Showing {
+        alloc: call.rt.alloc(),
+        options: &options,
+        canonicalizer: &Records,
+    };
+    let shown = showing.show(&mut input, &mut output);
     progress.clear();
     match shown {
         Ok(found) => {

@@ -11,11 +11,10 @@ use crate::excerpt::push_excerpt;
 use crate::facts::{FAILURE, Role};
 use shared_core_fields::fields::{CanonicalPayload, Field, FieldValue};
 use shared_core_json::names::name_of;
-use std::alloc::{AllocError, Global};
+use std::alloc::AllocError;
 
 /// Appends the fields of a message, in order.
 pub fn push_fields(
-    alloc: Global,
     line: &mut String,
     role: Role,
     payload: CanonicalPayload<'_>,
@@ -25,14 +24,13 @@ pub fn push_fields(
 {
     let schema = payload.schema;
     for field in payload.fields() {
-        push_field(alloc, line, role, schema, &field)?;
+        push_field(line, role, schema, &field)?;
     }
     Ok(())
 }
 
 /// Appends a field of a message.
 fn push_field(
-    alloc: Global,
     line: &mut String,
     role: Role,
     schema: u32,
@@ -42,17 +40,13 @@ fn push_field(
         ++ field_text role schema (field_part field.now)) }
 {
     match field.value {
-        FieldValue::Message(message) if !field.is_repeated => push_nested(alloc, line, message),
-        _ => push_scalar(alloc, line, role, schema, field),
+        FieldValue::Message(message) if !field.is_repeated => push_nested(line, message),
+        _ => push_scalar(line, role, schema, field),
     }
 }
 
 /// Appends the fields of a nested message, except those that are messages.
-fn push_nested(
-    alloc: Global,
-    line: &mut String,
-    payload: CanonicalPayload<'_>,
-) -> Result<(), AllocError>
+fn push_nested(line: &mut String, payload: CanonicalPayload<'_>) -> Result<(), AllocError>
     ensures { OnOk result (string_bytes line.new ≡ string_bytes line.old ++ nested_text payload.entry.schema
         (payload_meaning payload.entry.schema payload.entry.bytes.now)) }
 {
@@ -61,7 +55,7 @@ fn push_nested(
         line.push_str(" failed")?;
     }
     for field in payload.fields() {
-        push_scalar(alloc, line, Role::Other, schema, &field)?;
+        push_scalar(line, Role::Other, schema, &field)?;
     }
     Ok(())
 }
@@ -69,7 +63,6 @@ fn push_nested(
 /// Appends a field that is not a message: a text, bytes or a number; nothing of an id, of a repeated field or of
 /// another kind.
 fn push_scalar(
-    alloc: Global,
     line: &mut String,
     role: Role,
     schema: u32,
@@ -82,8 +75,8 @@ fn push_scalar(
         return Ok(());
     }
     match field.value {
-        FieldValue::Text(text) => push_text(alloc, line, text),
-        FieldValue::ByteString(bytes) => push_bytes(alloc, line, bytes),
+        FieldValue::Text(text) => push_text(line, text),
+        FieldValue::ByteString(bytes) => push_bytes(line, bytes),
         FieldValue::U32(number) => {
             if is_id(role, field.number) {
                 return Ok(());
@@ -107,19 +100,19 @@ fn is_id(role: Role, number: u32) -> bool
 }
 
 /// Appends a text, after a space.
-fn push_text(alloc: Global, line: &mut String, text: &str) -> Result<(), AllocError>
+fn push_text(line: &mut String, text: &str) -> Result<(), AllocError>
     ensures { OnOk result (string_bytes line.new ≡ string_bytes line.old ++ shown_text text.now) }
 {
     line.push_str(" ")?;
-    push_excerpt(alloc, line, text.as_bytes())
+    push_excerpt(line, text.as_bytes())
 }
 
 /// Appends bytes, after a space and in quotes.
-pub fn push_bytes(alloc: Global, line: &mut String, bytes: &[u8]) -> Result<(), AllocError>
+pub fn push_bytes(line: &mut String, bytes: &[u8]) -> Result<(), AllocError>
     ensures { OnOk result (string_bytes line.new ≡ string_bytes line.old ++ shown_bytes bytes.now) }
 {
     line.push_str(" \"")?;
-    push_excerpt(alloc, line, bytes)?;
+    push_excerpt(line, bytes)?;
     line.push_str("\"")
 }
 

@@ -4,7 +4,7 @@ ghost use Rattle.std.specs.Prelude.{◌≡◌, ◌≤◌, ◌++◌, length, OnOk
 ghost use Rattle.std.specs.String.{string_bytes};
 ghost use Rattle.show_lines.specs.Excerpt.{excerpt, front, front_size, is_inner};
 
-use std::alloc::{AllocError, Global};
+use std::alloc::AllocError;
 use terminal_text::{Escapes, push_escaped};
 
 /// The most bytes of a text or of bytes that a line has.
@@ -12,10 +12,10 @@ const MOST_SHOWN: usize = 40;
 
 /// Appends the beginning of a text, or of bytes that may be one: what is not UTF-8 is shown as U+FFFD, characters that
 /// a terminal may take as commands are escaped, and two dots follow if it is not all.
-pub fn push_excerpt(alloc: Global, line: &mut String, bytes: &[u8]) -> Result<(), AllocError>
+pub fn push_excerpt(line: &mut String, bytes: &[u8]) -> Result<(), AllocError>
     ensures { OnOk result (string_bytes line.new ≡ string_bytes line.old ++ excerpt bytes.now) }
 {
-    let text = String::from_utf8_lossy(alloc, front(bytes))?;
+    let text = String::from_utf8_lossy(*line.allocator(), front(bytes))?;
     push_escaped(line, Escapes::Text, text.as_str())?;
     if bytes.len() > MOST_SHOWN {
         line.push_str("..")?;

@@ -11,10 +11,10 @@ mod matching;
 mod options;
 mod place;
 mod range;
-mod scratch;
+pub mod scratch;
 mod stream;
 pub mod waiting;
 
 pub use crate::filter::{Filter, FilterError, Test, Word};
 pub use crate::options::Options;
-pub use crate::stream::show;
+pub use crate::stream::Showing;

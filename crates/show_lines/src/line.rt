@@ -10,24 +10,29 @@ ghost use Rattle.stream_lines.specs.Printing.{IsLack};
 use crate::contents::{push_bytes, push_fields};
 use crate::facts::{Facts, Role, facts_of, role_of};
 use crate::held::{Held, Payloads};
+use crate::scratch::Scratch;
 use dump_lines::Canonicalizer;
 use shared_core_stream::encoding::Item;
-use std::alloc::{AllocError, Global};
+use std::alloc::AllocError;
 use stream_lines::PrintError;
 
-/// Overwrites the line with the name of an item, and returns what is known of it. `canonical` is a buffer that may be
-/// overwritten. After an error the line is unspecified.
+/// Overwrites the name with that of an item, and returns what is known of it. The canonical payload may be overwritten
+/// too. After an error the name is unspecified.
 pub fn write_name<C: Canonicalizer>(
     payloads: &Payloads<'_, C>,
     index: u128,
     item: &Item,
-    line: &mut String,
-    canonical: &mut Vec<u8>,
+    scratch: &mut Scratch,
 ) -> Result<Facts, PrintError>
-    ensures text { OnOk result (string_bytes line.new ≡ item_name payloads.now.version index item.now) }
+    ensures text { OnOk result (string_bytes scratch.new.name ≡ item_name payloads.now.version index item.now) }
     ensures facts { IfOk result (λ facts. facts ≡ item_facts payloads.now.version item.now) }
     ensures lack { IfErr result (IsLack (IsLong payloads.now.version item.now)) }
 {
+    let Scratch {
+        name: line,
+        canonical,
+        ..
+    } = scratch;
     line.clear();
     write!(line, "#{index} ")?;
     push_type(line, item)?;
@@ -36,7 +41,7 @@ pub fn write_name<C: Canonicalizer>(
             let ty = message.ty();
             let held = payloads.held_by(ty, message.payload(), canonical)?;
             let role = role_of(ty);
-            push_held(payloads.alloc, line, role, held)?;
+            push_held(line, role, held)?;
             Ok(facts_held(role, held))
         }
         Item::Unknown(_) => Ok(Facts::without_ids(Role::Other, false)),
@@ -63,13 +68,13 @@ pub fn push_type(line: &mut String, item: &Item) -> Result<(), AllocError>
 }
 
 /// Appends what a line has of what a message holds.
-fn push_held(alloc: Global, line: &mut String, role: Role, held: Held<'_>) -> Result<(), AllocError>
+fn push_held(line: &mut String, role: Role, held: Held<'_>) -> Result<(), AllocError>
     ensures { OnOk result (string_bytes line.new ≡ string_bytes line.old ++ held_text role (held_view held.entry)) }
 {
     match held {
-        Held::Opaque(bytes) => push_bytes(alloc, line, bytes),
+        Held::Opaque(bytes) => push_bytes(line, bytes),
         Held::Malformed(_) => line.push_str(" malformed"),
-        Held::Fields(payload) => push_fields(alloc, line, role, payload),
+        Held::Fields(payload) => push_fields(line, role, payload),
     }
 }
 

@@ -7,12 +7,19 @@ use std::alloc::Global;
 pub struct Scratch {
     /// The name of an item.
     pub name: String,
-    /// What names the id of the invocation that it calls.
-    pub invocation: String,
-    /// What it completes, or what completes it.
-    pub joined: String,
+    /// What the line says of the other halves of the item.
+    pub joining: Joining,
     /// The canonical payload of a message.
     pub canonical: Vec<u8>,
+}
+
+/// The texts by which an item is joined with its other halves.
+#[derive(Drop)]
+pub struct Joining {
+    /// What it completes, or what completes it.
+    pub joined: String,
+    /// What names the id of the invocation that it calls.
+    pub invocation: String,
 }
 
 impl Scratch {
@@ -20,8 +27,10 @@ impl Scratch {
     pub fn new(alloc: Global) -> Scratch {
         Scratch {
             name: String::new(alloc),
-            invocation: String::new(alloc),
-            joined: String::new(alloc),
+            joining: Joining {
+                joined: String::new(alloc),
+                invocation: String::new(alloc),
+            },
             canonical: Vec::new(alloc),
         }
     }

@@ -11,6 +11,7 @@ ghost use Rattle.show_lines.specs.Waiting.{coming_view, halves_view, half_view, 
 ghost use Rattle.show_lines.specs.Waiting.{open_lines, other_half, waiting_after, waiting_with};
 
 use crate::facts::Facts;
+use crate::scratch::Joining;
 use itoa::Buffer;
 use std::alloc::{AllocError, Global};
 use std::collections::BTreeMap;
@@ -65,21 +66,21 @@ impl Waiting {
         }
     }
 
-    /// Overwrites `joined` with what the line of an item that was read says of its other halves. Each half that it is
-    /// waits, or its other half does no longer. `invocation` is a buffer that is overwritten.
+    /// Overwrites `joined` with what the line of an item that was read says of its other halves, and `invocation` too.
+    /// Each half that it is waits, or its other half does no longer.
     pub fn join_item(
         &mut self,
         facts: &Facts,
         item: Named<'_>,
-        joined: &mut String,
-        invocation: &mut String,
+        joining: &mut Joining,
     ) -> Result<(), AllocError>
-        ensures joined { OnOk result (string_bytes joined.new
+        ensures joined { OnOk result (string_bytes joining.new.joined
             ≡ joins item.entry.is_selected (halves_view self.old.halves.entries) facts.now item.entry.text.now) }
         ensures waiting { OnOk result (halves_view self.new.halves.entries
             ≡ waiting_then item.entry.is_selected (halves_view self.old.halves.entries) facts.now
             item.entry.text.now) }
     {
+        let Joining { joined, invocation } = joining;
         joined.clear();
         invocation.clear();
         invocation.push_str("the invocation id of ")?;

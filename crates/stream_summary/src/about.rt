@@ -93,7 +93,7 @@ fn push_message<C: Canonicalizer>(
     ensures lack { IfErr result (IsLack (IsLong payloads.now.version (Message message.now))) }
 {
     let held = payloads.held_by(message.ty(), message.payload(), canonical)?;
-    push_labels(payloads.alloc, line, held)?;
+    push_labels(line, held)?;
     Ok(())
 }
 

@@ -15,22 +15,10 @@ use shared_core_stream::encoding::Item;
 use show_lines::facts::{Facts, Role};
 use show_lines::held::Payloads;
 use show_lines::line::write_name;
+use show_lines::scratch::Scratch;
 use show_lines::waiting::{Named, Waiting};
 use std::alloc::{AllocError, Global};
 use stream_lines::PrintError;
-
-/// The buffers in which the parts of a line are made.
-#[derive(Drop)]
-struct Scratch {
-    /// The name of an item.
-    name: String,
-    /// What names the id of the invocation that it calls.
-    invocation: String,
-    /// What it completes, or what completes it.
-    joined: String,
-    /// The canonical payload of a message.
-    canonical: Vec<u8>,
-}
 
 /// What a description has of the items so far.
 #[derive(Drop)]
@@ -64,12 +52,7 @@ impl Summary {
             state: String::new(alloc),
             failure: String::new(alloc),
             largest: Largest::new(alloc),
-            scratch: Scratch {
-                name: String::new(alloc),
-                invocation: String::new(alloc),
-                joined: String::new(alloc),
-                canonical: Vec::new(alloc),
-            },
+            scratch: Scratch::new(alloc),
         }
     }
 
@@ -83,24 +66,23 @@ impl Summary {
         ensures seen { OnOk result (seen_by self.new ≡ then_seen payloads.now.version (seen_by self.old) item.now) }
         ensures lack { IfErr result (IsLack (IsLong payloads.now.version item.now)) }
     {
+        let facts = write_name(payloads, self.all.items, item, &mut self.scratch)?;
         let Scratch {
             name,
-            invocation,
-            joined,
+            joining,
             canonical,
         } = &mut self.scratch;
-        let facts = write_name(payloads, self.all.items, item, name, canonical)?;
         let named = Named {
             is_selected: true,
             text: name.as_str(),
         };
-        self.waiting.join_item(&facts, named, joined, invocation)?;
+        self.waiting.join_item(&facts, named, joining)?;
         write_start(payloads, item, &mut self.start, canonical)?;
         write_state(payloads, item, &mut self.state, canonical)?;
         write_failure(
             facts.is_failure,
             name.as_str(),
-            joined.as_str(),
+            joining.joined.as_str(),
             &mut self.failure,
         )?;
         self.largest.note(item.size() - 8, name.as_str())?;

@@ -12,16 +12,16 @@ use Rattle.show_lines.proofs.stream.Lines.add.Goals.{then-has_line+in_ok-push_li
 
 pub returns-clause-line : goal.returns-clause-line
 returns-clause-line g c =
-    let options = c.args.walk.now.options.now in
+    let options = c.args.showing.now.options.now in
     let known = known_by c.args.self.now in
     let facts = c.in_ok-facts.facts in
     let text = c.args.self.now.text.items in
-    let name = string_bytes c.write_name.new.line in
+    let name = string_bytes c.write_name.new.scratch.name in
     let told = c.in_ok-facts.ensures.facts
     ∙ ap (λ (v : Version). item_facts v c.args.item.now) c.payloads.ensures in
     let named = c.in_ok-facts.ensures.text
     ∙ ap (λ (v : Version). item_name v known.place.index c.args.item.now) c.payloads.ensures in
-    let joined = string_bytes c.join.new.self.scratch.joined in
+    let joined = string_bytes c.join.new.self.scratch.joining.joined in
     ap (λ t. t.items) c.count.ensures.text ∙ elim c.if-has_line.branch [
       | then-has_line+in_ok-push_line w ↦ line_added options known c.args.item.now facts name
           c.in_ok-is_selected.is_selected told named c.in_ok-is_selected.ensures.selected c.has_line.result joined text
@@ -38,10 +38,10 @@ returns-clause-line g c =
 
 pub returns-clause-known : goal.returns-clause-known
 returns-clause-known g c =
-    let options = c.args.walk.now.options.now in
+    let options = c.args.showing.now.options.now in
     let known = known_by c.args.self.now in
     let facts = c.in_ok-facts.facts in
-    let name = string_bytes c.write_name.new.line in
+    let name = string_bytes c.write_name.new.scratch.name in
     let told = c.in_ok-facts.ensures.facts
     ∙ ap (λ (v : Version). item_facts v c.args.item.now) c.payloads.ensures in
     let named = c.in_ok-facts.ensures.text

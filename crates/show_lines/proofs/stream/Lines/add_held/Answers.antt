@@ -40,7 +40,7 @@ loop-item-preserved g c =
     let (accepts, taken, after) = all_taken in
     let old = held_in c.loop-item.items in
     let new = held_in c.take_with_word.new.self in
-    let options = c.args.walk.now.options.now in
+    let options = c.args.showing.now.options.now in
     let limit = c.args.items.now.decoder.limit in
     let step = takes c.args.items.now.decoder.version limit c.loop-item.self.offset old new c.in-Ok-Some.item
     c.loop-item.invariant.state taken after in
@@ -68,7 +68,7 @@ loop-item-preserved-in_ok-add-in-Ok-Some g c =
     let (accepts, taken, after) = all_taken in
     let old = held_in c.loop-item.items in
     let new = held_in c.take_with_word.new.self in
-    let options = c.args.walk.now.options.now in
+    let options = c.args.showing.now.options.now in
     let limit = c.args.items.now.decoder.limit in
     let step = takes c.args.items.now.decoder.version limit c.loop-item.self.offset old new c.in-Ok-Some.item
     c.loop-item.invariant.state taken after in
@@ -96,7 +96,7 @@ loop-item-preserved-in_ok-add-in-Ok-Some-2 g c =
     let (accepts, taken, after) = all_taken in
     let old = held_in c.loop-item.items in
     let new = held_in c.take_with_word.new.self in
-    let options = c.args.walk.now.options.now in
+    let options = c.args.showing.now.options.now in
     let limit = c.args.items.now.decoder.limit in
     let step = takes c.args.items.now.decoder.version limit c.loop-item.self.offset old new c.in-Ok-Some.item
     c.loop-item.invariant.state taken after in
@@ -124,7 +124,7 @@ loop-item-preserved-in_ok-add-in-Ok-Some-3 g c =
     let (accepts, taken, after) = all_taken in
     let old = held_in c.loop-item.items in
     let new = held_in c.take_with_word.new.self in
-    let options = c.args.walk.now.options.now in
+    let options = c.args.showing.now.options.now in
     let limit = c.args.items.now.decoder.limit in
     let step = takes c.args.items.now.decoder.version limit c.loop-item.self.offset old new c.in-Ok-Some.item
     c.loop-item.invariant.state taken after in
@@ -152,7 +152,7 @@ loop-item-preserved-in_ok-add-in-Ok-Some-4 g c =
     let (accepts, taken, after) = all_taken in
     let old = held_in c.loop-item.items in
     let new = held_in c.take_with_word.new.self in
-    let options = c.args.walk.now.options.now in
+    let options = c.args.showing.now.options.now in
     let limit = c.args.items.now.decoder.limit in
     let step = takes c.args.items.now.decoder.version limit c.loop-item.self.offset old new c.in-Ok-Some.item
     c.loop-item.invariant.state taken after in
@@ -187,7 +187,7 @@ returns-in_err-add-in-Ok-Some-clause-lack g c =
     let next = subst (λ (v : Version). IsItemsThen v all added.more old.bytes) (sym c.requires.version) added.next in
     let until = then_takes version all old.bytes new.bytes added.more c.in-Ok-Some.item next step.0.0 in
     let from = err_from_is_err_and c.from_residual.result c.from_residual.ensures.1 in
-    rw (from.1, from.2) (lack_in (IsLong c.args.walk.now.options.now.version) version all new.bytes added.more
+    rw (from.1, from.2) (lack_in (IsLong c.args.showing.now.options.now.version) version all new.bytes added.more
     c.in-Ok-Some.item _ until c.in_err-add-in-Ok-Some.ensures.lack)
 
 pub returns-in-Ok-None-clause-added : goal.returns-in-Ok-None-clause-added

@@ -8,7 +8,7 @@ abbrev pub invariant-loop-item : goal.invariant-loop-item
 invariant-loop-item g l = record {
   state : held_in l.items ≡ holding l.fn.items.decoder.version l.fn.items.decoder.limit l.self.offset
       (held_in l.items).bytes;
-  added : Added l.walk.options.now l.fn.items.decoder.limit l.fn.self.offset (known_by l.fn.self)
+  added : Added l.showing.options.now l.fn.items.decoder.limit l.fn.self.offset (known_by l.fn.self)
       l.fn.self.text.items (held_in l.fn.items).bytes l.self.offset (known_by l.self) l.self.text.items
       (held_in l.items).bytes;
   counted : AreCounted l.self;

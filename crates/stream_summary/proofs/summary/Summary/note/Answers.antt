@@ -15,7 +15,7 @@ returns-clause-seen g c =
     let seen = seen_by c.args.self.now in
     let item = c.args.item.now in
     let facts = c.in_ok-facts.facts in
-    let name = string_bytes c.write_name.new.line in
+    let name = string_bytes c.write_name.new.scratch.name in
     let size = c.size-size.ensures in
     let less : c.size.result - 8 ≡ payload_length item = omega (arith, c.size.ensures) in
     noted version seen item facts name c.in_ok-facts.ensures.facts c.in_ok-facts.ensures.text _

@@ -16,11 +16,11 @@ use Rattle.show_lines.specs.Showing.{IsLong}
 use Rattle.show_lines.specs.Steps.{known_by}
 use Rattle.show_lines.proofs.Progress.{ended_cut, ended_input, ended_lack, ended_long, ended_output, ended_whole}
 use Rattle.show_lines.proofs.Progress.{goes_on, starts, stays, GoesOn, HasAdded}
-use Rattle.show_lines.proofs.stream.show.Goals as goal
+use Rattle.show_lines.proofs.stream.Showing.show.Goals as goal
 
 pub loop-init : goal.loop-init
 loop-init g c =
-    let options = c.args.options.now in
+    let options = c.args.self.now.options.now in
     let bytes = ap (λ (held : Unread). held.bytes) c.new-items.ensures in
     record {
       counted = omega (arith, c.new-lines.ensures.place);
@@ -43,7 +43,7 @@ loop-init g c =
 
 pub returns-in_err-add_last-in-Ok-false : goal.returns-in_err-add_last-in-Ok-false
 returns-in_err-add_last-in-Ok-false g c =
-    let options = c.args.options.now in
+    let options = c.args.self.now.options.now in
     let (read, came, after) = c.fill.ensures.filled in
     let (end, still, gone) = c.in-Ok-false.ensures.end c.in-Ok-false.field-0-test in
     let (same, left) = all_decoded c.fill.new.self.decoder.bytes
@@ -56,7 +56,7 @@ returns-in_err-add_last-in-Ok-false g c =
 
 pub returns-in_err-write_whole-in-Ok-false : goal.returns-in_err-write_whole-in-Ok-false
 returns-in_err-write_whole-in-Ok-false g c =
-    let options = c.args.options.now in
+    let options = c.args.self.now.options.now in
     let (read, came, after) = c.fill.ensures.filled in
     let (end, still, gone) = c.in-Ok-false.ensures.end c.in-Ok-false.field-0-test in
     let (same, left) = all_decoded c.fill.new.self.decoder.bytes
@@ -74,7 +74,7 @@ returns-in_err-write_whole-in-Ok-false g c =
 
 pub returns-in-Ok-false : goal.returns-in-Ok-false
 returns-in-Ok-false g c =
-    let options = c.args.options.now in
+    let options = c.args.self.now.options.now in
     let (read, came, after) = c.fill.ensures.filled in
     let (end, still, gone) = c.in-Ok-false.ensures.end c.in-Ok-false.field-0-test in
     let (same, left) = all_decoded c.fill.new.self.decoder.bytes
@@ -93,7 +93,7 @@ returns-in-Ok-false g c =
 
 pub returns-in-Err-Failed : goal.returns-in-Err-Failed
 returns-in-Err-Failed g c =
-    let options = c.args.options.now in
+    let options = c.args.self.now.options.now in
     let (read, came, after) = c.fill.ensures.filled in
     let kept : LosesNothing c.loop.items.decoder.rejected (held_in c.loop.items) (held_in c.fill.new.self)
     (reading.Failed c.in-Err-Failed.field-0-0) = rw c.in-Err-Failed.field-0-is at c.in-Err-Failed.ensures.error in
@@ -104,11 +104,11 @@ returns-in-Err-Failed g c =
 pub returns-in-Err : goal.returns-in-Err
 returns-in-Err g c =
     let (read, came, after) = c.fill.ensures.filled in
-    ended_lack c.args.options.now _ _ _ _ _ _ _ c.loop.invariant.so_far _ read came OutOfMemory tt
+    ended_lack c.args.self.now.options.now _ _ _ _ _ _ _ c.loop.invariant.so_far _ read came OutOfMemory tt
 
 pub returns-in_err-longer : goal.returns-in_err-longer
 returns-in_err-longer g c =
-    let options = c.args.options.now in
+    let options = c.args.self.now.options.now in
     let (read, came, after) = c.fill.ensures.filled in
     let here = filled options.version options.limit c.loop.lines.offset (held_in c.loop.items)
     (held_in c.fill.new.self) read c.loop.invariant.state after in
@@ -119,7 +119,7 @@ returns-in_err-longer g c =
 
 pub returns-in_err-write_whole : goal.returns-in_err-write_whole
 returns-in_err-write_whole g c =
-    let options = c.args.options.now in
+    let options = c.args.self.now.options.now in
     let (read, came, after) = c.fill.ensures.filled in
     let here = filled options.version options.limit c.loop.lines.offset (held_in c.loop.items)
     (held_in c.fill.new.self) read c.loop.invariant.state after in
@@ -144,7 +144,7 @@ returns-in_err-write_whole g c =
 
 pub returns-in-Some : goal.returns-in-Some
 returns-in-Some g c =
-    let options = c.args.options.now in
+    let options = c.args.self.now.options.now in
     let (read, came, after) = c.fill.ensures.filled in
     let here = filled options.version options.limit c.loop.lines.offset (held_in c.loop.items)
     (held_in c.fill.new.self) read c.loop.invariant.state after in
@@ -170,7 +170,7 @@ returns-in-Some g c =
 
 pub loop-preserved : goal.loop-preserved
 loop-preserved g c =
-    let options = c.args.options.now in
+    let options = c.args.self.now.options.now in
     let (read, came, after) = c.fill.ensures.filled in
     let here = filled options.version options.limit c.loop.lines.offset (held_in c.loop.items)
     (held_in c.fill.new.self) read c.loop.invariant.state after in
@@ -211,4 +211,4 @@ loop-preserved g c =
     }
 
 pub returns : goal.returns
-returns g c = ended_input c.args.options.now _ _ _ _ _ _ _ c.loop.invariant.so_far
+returns g c = ended_input c.args.self.now.options.now _ _ _ _ _ _ _ c.loop.invariant.so_far

@@ -3,7 +3,7 @@ use Rattle.std.specs.Prelude.{flat_map, string_bytes}
 use Rattle.shared_core_codec.specs.Payloads.{payload_meaning}
 use Rattle.shared_core_fields.specs.Views.{fields_left}
 use Rattle.stream_summary.specs.Labels.{label, labels}
-use Rattle.stream_summary.proofs.labels.Labels.+labels.Given as goal
+use Rattle.stream_summary.proofs.labels.+labels.Given as goal
 
 abbrev pub decreases-push_field : goal.decreases-push_field
 decreases-push_field l = 2 * l.levels + 1
