@@ -21,6 +21,7 @@ use command_line::{
 };
 use std::io::Stdout;
 use std::process::ExitCode;
+use stream_lines::Reading;
 
 const PROGRAM: &str = "journal_list";
 
@@ -50,14 +51,13 @@ fn run_parsed(rt: &HostRuntime, parsed: &Arguments<'_>, input: Input) -> ExitCod
     let progress = Progress::beside_output(rt, PROGRAM, input_size(&input));
     let mut input = Watched::new(input, &progress);
     let mut output = Pipe::new(rt.stdout());
-    let listed = list_at(
-        rt.alloc(),
-        parsed.version,
-        parsed.limit,
-        &mut input,
-        &mut output,
-        parsed.chunk_size,
-    );
+    let reading = Reading {
+        alloc: rt.alloc(),
+        version: parsed.version,
+        limit: parsed.limit,
+        chunk: parsed.chunk_size,
+    };
+    let listed = list_at(reading, &mut input, &mut output);
     progress.clear();
     end(rt, Outcome::Listed(listed), &output)
 }

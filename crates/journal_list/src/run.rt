@@ -15,6 +15,7 @@ use std::alloc::Global;
 use std::fmt;
 use std::io::{Read, Write};
 use std::process::ExitCode;
+use stream_lines::Reading;
 
 /// How a run ended.
 #[derive(Drop)]
@@ -49,7 +50,13 @@ pub fn run<R: Read, W: Write>(
     let Some((version, chunk_size)) = options(words) else {
         return Outcome::Rejected;
     };
-    Outcome::Listed(list_at(alloc, version, u32::MAX, input, output, chunk_size))
+    let reading = Reading {
+        alloc,
+        version,
+        limit: u32::MAX,
+        chunk: chunk_size,
+    };
+    Outcome::Listed(list_at(reading, input, output))
 }
 
 /// Prints the line for the standard error, or nothing after a whole listing.
