@@ -16,5 +16,5 @@ pub use crate::canonicalizer::{Canonicalizer, TypedPayload};
 pub use crate::message_table::MessageTable;
 pub use crate::options::Options;
 pub use crate::printer::MOST_SHOWN;
-pub use crate::stream::{dump, dump_on_terminal};
+pub use crate::stream::Dumping;
 pub use crate::tables::{OtherTable, ProtocolTable};

@@ -74,12 +74,8 @@ pub fn write_rest(
     let count = rest.pending.pending();
     write_number(out, "rest", count)?;
     if options.payloads && count > 0 {
-        write_bytes(
-            out,
-            options.texts,
-            rest.pending.copy_pending()?.as_slice(),
-            base64,
-        )?;
+        let bytes = rest.pending.copy_pending()?;
+        write_bytes(out, options.texts, bytes.as_slice(), base64)?;
     }
     Ok(())
 }

@@ -14,7 +14,7 @@ use crate::dump::arguments::{Arguments, parse_arguments};
 pub use crate::dump::canonical::Records;
 use crate::fitting::{Asked, NOT_BY_A_SET, version_of};
 use command_line::{Decoding, Input, Pipe, Progress, input_size, note};
-use dump_lines::{MOST_SHOWN, MessageTable, Options, ProtocolTable, dump, dump_on_terminal};
+use dump_lines::{Dumping, MOST_SHOWN, MessageTable, Options, ProtocolTable};
 use std::io::IsTerminal;
 use std::process::ExitCode;
 use stream_lines::{PrintError, Report};
@@ -91,10 +91,15 @@ fn run_parsed<M: MessageTable>(
         Escapes::Json,
         is_terminal,
     ));
+    let dumping = Dumping {
+        alloc: call.rt.alloc(),
+        options,
+        messages,
+    };
     let dumped = if is_terminal {
-        dump_on_terminal(call.rt.alloc(), &options, messages, &mut input, &mut output)
+        dumping.dump_on_terminal(&mut input, &mut output)
     } else {
-        dump(call.rt.alloc(), &options, messages, &mut input, &mut output)
+        dumping.dump(&mut input, &mut output)
     };
     progress.clear();
     match dumped {

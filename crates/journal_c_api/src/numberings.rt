@@ -12,7 +12,7 @@ ghost use Rattle.journal_c_api.specs.Outcomes.{Writes, bytes_of};
 
 use crate::outcome::{CallError, version_of, write_outcome, write_over};
 use descriptor_set::{DescriptorError, DescriptorSet, named_table_of, read_set};
-use dump_lines::{MessageTable, Options as DumpOptions, OtherTable, dump};
+use dump_lines::{Dumping, MessageTable, Options as DumpOptions, OtherTable};
 use schema_lines::{Direction, Rename, SchemaError, numbering_of, schemas_of, write_schema};
 use shared_core::version::Version;
 use shared_core_codec::loaded_table::LoadedSchemas;
@@ -322,7 +322,12 @@ fn dump_by<M: MessageTable>(
 {
     let mut input = stream;
     let mut output = Vec::new(alloc);
-    match dump(alloc, options, messages, &mut input, &mut output) {
+    let dumping = Dumping {
+        alloc,
+        options: *options,
+        messages,
+    };
+    match dumping.dump(&mut input, &mut output) {
         Ok(_) => Ok(output),
         Err(PrintError::TooLong) => Err(CallError::TooLong),
         // no limit is set, and memory is read and written without a fault
