@@ -3,3 +3,5 @@ pub mod Halving
 pub mod NameSteps
 pub mod FoundComments
 pub mod LastValues
+pub mod Readings
+pub mod SameNames

@@ -48,7 +48,7 @@ abbrev pub member_presence : Bool → Option ℕ → Bool → FieldKind → Pres
 member_presence false (Some oneof) is_proto3 k = presence.Member oneof
 member_presence is_optional oneof is_proto3 k = single_presence is_optional is_proto3 k
 
--- How a field is there, by its label, of which 3 is `repeated`.
+-- How a field is there, by its label; 3 is `repeated`.
 abbrev pub presence_by : ℕ → Bool → Option ℕ → Bool → FieldKind → Presence
 presence_by label is_optional oneof is_proto3 k =
     if label == 3 then presence.Repeated else member_presence is_optional oneof is_proto3 k

@@ -8,4 +8,6 @@ pub mod TableErrors
 pub mod TableNames
 pub mod Tables
 pub mod FieldReading
+pub mod Reading
+pub mod Sets
 pub mod Values

@@ -135,4 +135,4 @@ HasTable set = (unknown_of set ≡ None) × (table_error (schemas_of set) ≡ No
 
 -- An error is the one that a set has in the place of a table.
 abbrev pub IsTableError : DescriptorSet → DescriptorError → Type 0
-IsTableError set e = ReturnsTable {⊤} set (Err e)
+IsTableError set e = ReturnsTable {Z = ⊤} set (Err e)

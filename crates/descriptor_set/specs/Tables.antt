@@ -1,6 +1,6 @@
 -- The table of schemas of a set: what its fields are there, and the rows of its messages.
-use Rattle.std.specs.Prelude.{ℕ, ◌+◌, ◌^◌, ◌==◌, Bool, true, false, ◌&&◌, if◌then◌else◌, nat_lt, List, [], ◌∷◌, ◌++◌, map}
-use Rattle.std.specs.Prelude.{Option, Some, None, slice_get}
+use Rattle.std.specs.Prelude.{ℕ, ◌+◌, ◌^◌, ◌==◌, Bool, true, false, ◌&&◌, if◌then◌else◌, nat_lt}
+use Rattle.std.specs.Prelude.{List, [], ◌∷◌, ◌++◌, map, Option, Some, None, slice_get}
 use Rattle.std.specs.List.{cons_option, list_any}
 use Rattle.std.specs.Option.{option_or}
 use Rattle.std.specs.String.{string_bytes}
@@ -156,7 +156,7 @@ schemas_of set = map (field_rows set) set.messages.items
 
 -- ---- fields without a row
 
--- The field of an index of a message, if its form says why a table has no row for it.
+-- The field of an index of a message, if its form has the reason for which a table has no row for it.
 abbrev pub passed_by : ℕ → ℕ → Form → Option PassedOver
 passed_by message index (form.None why) = Some (record { message = message; field = index; why = why })
 passed_by message index (form.Kind k) = None

@@ -17,7 +17,7 @@ pub fn comments_say_codes()
     ensures none { said_codes (codes "subtype: 5, types: 6, type 7, type: 8th, type: 0x") ≡ [] }
 {}
 
-/// The names in JSON of names: without underscores, with a capital after each; only ASCII letters change.
+/// The names in JSON of names: without underscores, with a capital after each. Only the case of ASCII changes.
 pub fn names_in_json()
     ensures words { camel_case (codes "foo_bar_baz") ≡ codes "fooBarBaz" }
     ensures around { camel_case (codes "_a__b_") ≡ codes "AB" }

@@ -4,16 +4,20 @@
 
 mod codes;
 mod comments;
+mod contents;
 mod error;
 mod fault;
 mod field;
+mod fields;
 mod form;
 pub mod laws;
 mod names;
 mod read;
 mod read_field;
+mod reading;
 mod schemas;
 mod set;
+mod sorting;
 mod table;
 mod table_enums;
 mod table_names;

@@ -1,7 +1,7 @@
 //! The values of fields of descriptor.proto's messages. Where a field comes more than once, the last record counts.
 
 ghost use Rattle.std.specs.Prelude.{◌≡◌};
-ghost use Rattle.descriptor_set.specs.Values.{content_in, is_map_entry, is_set, last_of, number_in, numbers_in};
+ghost use Rattle.descriptor_set.specs.Values.{content_in, is_map_entry, last_of, number_in, numbers_in};
 ghost use Rattle.descriptor_set.specs.Values.{text_in, text_of};
 
 use shared_core_codec::utf8::as_text;
@@ -64,13 +64,6 @@ fn number_after(other: u64, bytes: &[u8], number: u32) -> u64
         }
     }
     last
-}
-
-/// Whether the last varint of a number is true.
-pub(crate) fn is_set(bytes: &[u8], number: u32) -> bool
-    ensures { result ≡ is_set number bytes.now }
-{
-    number_in(bytes, number) != 0
 }
 
 /// Whether a message is the entry of a map: `map_entry` of its options, which merges all their records.
