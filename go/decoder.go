@@ -53,17 +53,24 @@ type Decoder struct {
 
 // A MessageTooLong is the error of a message whose payload is larger than the limit of its decoder.
 type MessageTooLong struct {
-	// Code is that of its type, Length the size of its payload by its header, Limit the greatest that is taken, and
-	// Offset where its header begins in the stream.
-	Code          uint16
+	// Code is that of its type, and Type its name, as "SetStateCommand", which is empty if no type has the code.
+	Code uint16
+	Type string
+	// Length is the size of its payload by its header, Limit the greatest that is taken, and Offset where its header
+	// begins in the stream.
 	Length, Limit uint32
 	Offset        int64
 }
 
-// Error returns a text as "pendratsoa: a message of type 0x0403 at offset 0 has 10 bytes, more than the limit of 9".
+// Error returns a text as "pendratsoa: a message of type SetStateCommand (0x0403) at offset 0 has 10 bytes, more than
+// the limit of 9".
 func (e *MessageTooLong) Error() string {
-	return fmt.Sprintf("pendratsoa: a message of type %#04x at offset %d has %d bytes, more than the limit of %d",
-		e.Code, e.Offset, e.Length, e.Limit)
+	named := fmt.Sprintf("%#04x", e.Code)
+	if e.Type != "" {
+		named = fmt.Sprintf("%s (%#04x)", e.Type, e.Code)
+	}
+	return fmt.Sprintf("pendratsoa: a message of type %s at offset %d has %d bytes, more than the limit of %d", named,
+		e.Offset, e.Length, e.Limit)
 }
 
 // Unwrap returns ErrTooLong.
@@ -194,7 +201,8 @@ func (d *Decoder) look() (int64, error) {
 	}
 	if result == tooLong && len(d.rest) >= headerSize {
 		code, length := binary.BigEndian.Uint16(d.rest), binary.BigEndian.Uint32(d.rest[4:])
-		d.ended = &MessageTooLong{code, length, d.limit, d.offset}
+		name, _ := TypeName(code)
+		d.ended = &MessageTooLong{code, name, length, d.limit, d.offset}
 		d.rest = nil
 		return 0, d.ended
 	}

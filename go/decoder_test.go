@@ -364,13 +364,13 @@ func TestMessageTooLong(t *testing.T) {
 		}
 		for i := 0; i < 2; i++ {
 			var long *MessageTooLong
-			wanted := MessageTooLong{0, math.MaxUint32, limit, int64(whole)}
+			wanted := MessageTooLong{0, "Start", math.MaxUint32, limit, int64(whole)}
 			if !errors.As(err, &long) || *long != wanted || decoder.Rest() != 0 || len(decoder.Trailing()) != 0 {
 				t.Errorf("%v, with %d bytes left, %x", err, decoder.Rest(), decoder.Trailing())
 			}
 			_, err = decoder.Next()
 		}
-		text := "pendratsoa: a message of type 0x0000 at offset %d has 4294967295 bytes, more than the limit of %d"
+		text := "pendratsoa: a message of type Start (0x0000) at offset %d has 4294967295 bytes, more than the limit of %d"
 		if err.Error() != fmt.Sprintf(text, whole, limit) || !errors.Is(err, ErrTooLong) {
 			t.Errorf("the error is %v", err)
 		}

@@ -16,9 +16,9 @@ import (
 
 // The cases of conformance/packages.cases, which its README specifies: what each kind of line returns for its words.
 var packageCases = map[string]func(t *testing.T, words []string) string{
-	"items": itemsCase, "read": readCase, "as": asCase, "compare": compareCase, "mismatch": mismatchCase,
-	"replay": stepsCase, "encode": encodeCase, "decode": decodeCase, "json": jsonCase, "number": numberCase,
-	"limit": limitCase,
+	"items": itemsCase, "too_long": tooLongCase, "read": readCase, "as": asCase, "compare": compareCase,
+	"mismatch": mismatchCase, "replay": stepsCase, "encode": encodeCase, "decode": decodeCase, "json": jsonCase,
+	"number": numberCase, "limit": limitCase,
 }
 
 func TestPackages(t *testing.T) {
@@ -232,10 +232,16 @@ func endOf(err error) string {
 	case errors.As(err, &incomplete) && errors.Is(err, io.ErrUnexpectedEOF):
 		return fmt.Sprintf("incomplete %d %d %s", incomplete.Offset, incomplete.Rest, nameOf(incomplete.Type))
 	case errors.As(err, &long) && errors.Is(err, ErrTooLong):
-		name, _ := TypeName(long.Code)
-		return fmt.Sprintf("too_long %d %s %d", long.Offset, nameOf(name), long.Length)
+		return fmt.Sprintf("too_long %d %s %d", long.Offset, nameOf(long.Type), long.Length)
 	}
 	return err.Error()
+}
+
+func tooLongCase(t *testing.T, words []string) string {
+	decoder := NewDecoder(bytes.NewReader(bytesOf(t, words[2])), must(strconv.Atoi(words[0]))(t))
+	decoder.SetMaxMessageSize(uint32(must(strconv.Atoi(words[1]))(t)))
+	_, err := all(decoder)
+	return strings.TrimPrefix(err.Error(), "pendratsoa: ")
 }
 
 // itemsOf returns the items of a stream that is there as a whole.

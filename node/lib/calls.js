@@ -96,11 +96,16 @@ export function typeCode(name) {
 
 /** The name of a type, or its code where a message was made with one that no type has. */
 export function nameOf(code) {
+  return nameIfAny(code) ?? `code 0x${code.toString(16)}`;
+}
+
+/** The name of a type, or undefined of a code that no type has. */
+export function nameIfAny(code) {
   try {
     return typeName(code);
   } catch (error) {
     if (error instanceof Unknown) {
-      return `code 0x${code.toString(16)}`;
+      return undefined;
     }
     throw error;
   }

@@ -254,11 +254,10 @@ export function noNumbering({ call, set }, { reason, text }) {
   return new NumberingError(`${call}: ${said}: ${text}`, { call, ...details, reason, text });
 }
 
-/** The error of the message of a header, at an offset of a stream, that is longer than the limit of the stream. */
-export function messageTooLong({ call, maxMessageSize }, head, offset) {
-  const view = new DataView(head.buffer, head.byteOffset, 8);
-  const [typeCode, length, limit] = [view.getUint16(0), view.getUint32(4), maxMessageSize];
-  const what = `a message of type ${codeText(typeCode)} at offset ${offset} has ${length} bytes`;
+/** The error of a message that is longer than the limit of its stream, by what its header says, and by its offset. */
+export function messageTooLong({ call, maxMessageSize: limit }, { name, typeCode, length, offset }) {
+  const type = name === undefined ? codeText(typeCode) : `${name} (${codeText(typeCode)})`;
+  const what = `a message of type ${type} at offset ${offset} has ${length} bytes`;
   return new MessageTooLong(`${call}: ${what}, more than the limit of ${limit}`, {
     call,
     argument: 'maxMessageSize',

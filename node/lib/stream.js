@@ -1,7 +1,7 @@
 // Streams that come in chunks.
 
 import { addon } from './addon.js';
-import { checked, nameOf } from './calls.js';
+import { checked, nameIfAny, nameOf } from './calls.js';
 import { ITEM, ITEM_KINDS, ITEM_NUMBERS } from './declared.js';
 import { Malformed, TooLong, incomplete, messageTooLong, notKnown } from './errors.js';
 import { messageThatCame, skippedThatCame, unknownCodeThatCame, wordOf } from './items.js';
@@ -141,12 +141,19 @@ export class Stream {
       return checked(returned, given);
     } catch (error) {
       if (error instanceof TooLong) {
-        this.#ended = messageTooLong(given, bytes, this.#offset);
+        this.#ended = messageTooLong(given, this.#announced(bytes));
         this.#clear();
         throw this.#ended;
       }
       throw error;
     }
+  }
+
+  /** What the header says of a message that the next bytes begin. */
+  #announced(bytes) {
+    const head = new DataView(bytes.buffer, bytes.byteOffset, HEADER_SIZE);
+    const typeCode = head.getUint16(0);
+    return { name: nameIfAny(typeCode), typeCode, length: head.getUint32(4), offset: this.#offset };
   }
 
   #clear() {

@@ -257,6 +257,14 @@ const KINDS = {
     return found;
   },
 
+  too_long(version, limit, word) {
+    const stream = new Stream(Number(version), { maxMessageSize: Number(limit) });
+    stream.feed(bytesOf(word));
+    const error = thrown(() => [...stream]);
+    assert.ok(error instanceof MessageTooLong, `${error}`);
+    return error.message.slice(`${error.call}: `.length);
+  },
+
   read(call, version, word) {
     return itemsOf(version, word)
       .map((item) => {

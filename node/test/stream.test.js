@@ -362,7 +362,7 @@ test('a message that is longer than the limit ends the stream', async () => {
     limit,
     offset: INPUT.length,
     message:
-      `Stream: a message of type 0x0403 at offset ${INPUT.length} has 4294967295 bytes, ` +
+      `Stream: a message of type SetStateCommand (0x0403) at offset ${INPUT.length} has 4294967295 bytes, ` +
       `more than the limit of ${limit}`,
   };
   for (let i = 0; i < 2; i += 1) {

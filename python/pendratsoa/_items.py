@@ -375,6 +375,14 @@ def name_of(code: int) -> str:
         return f"code {code:#x}"
 
 
+def type_of(code: int) -> str:
+    """The name of a type and its code, or only the code where no type has it."""
+    try:
+        return f"{_calls.type_name(code)} ({code:#06x})"
+    except Unknown:
+        return f"{code:#06x}"
+
+
 def _fields(item: Union[Message, Skipped]) -> str:
     """An item as dataclasses show it, with a long payload cut short."""
     fields = (f"{part.name}={shown(getattr(item, part.name))}" for part in dataclasses.fields(item) if part.repr)

@@ -8,7 +8,7 @@ from typing import Union, cast
 
 from ._errors import Incomplete, MessageTooLong, OutOfMemory, TooLong
 from ._fast import pending_of
-from ._items import Item, Message, name_of, read_as, renumbered
+from ._items import Item, Message, name_of, read_as, renumbered, type_of
 from ._kinds import BytesLike
 from ._named import named
 from ._request import Request
@@ -218,7 +218,7 @@ class Stream:
     def _too_long(self, head: bytes, limit: int) -> MessageTooLong:
         """The error of the message of a header, which is longer than the limit."""
         code, length, offset = int.from_bytes(head[:2], "big"), int.from_bytes(head[4:], "big"), self._pending.offset()
-        what = f"a message of type {code:#06x} at offset {offset} has {length} bytes"
+        what = f"a message of type {type_of(code)} at offset {offset} has {length} bytes"
         error = self._request.error(MessageTooLong, f"{what}, more than the limit of {limit}", "max_message_size")
         assert isinstance(error, MessageTooLong)
         error.code, error.length, error.limit, error.offset = code, length, limit, offset

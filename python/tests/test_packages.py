@@ -225,6 +225,13 @@ class TestPackages(unittest.TestCase):
         self.assertEqual(stream.trailing, b"" if isinstance(ended, MessageTooLong) else whole[len(came) :])
         return listing(found, ended)
 
+    def too_long_result(self, version, limit, word):
+        stream = Stream(int(version), int(limit))
+        stream.feed(bytes_of(word))
+        with self.assertRaises(MessageTooLong) as error:
+            list(stream)
+        return str(error.exception).partition(": ")[2]
+
     def read_result(self, call, version, word):
         return ", ".join(self.reading(item, READS[call]) for item in items_of(version, word))
 

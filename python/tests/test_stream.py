@@ -168,8 +168,8 @@ class TestFeeding(unittest.TestCase):
             with self.assertRaises(MessageTooLong) as ended:
                 for item in stream:
                     found.append(item)
-            text = "Stream: a message of type 0x0000 at offset {} has 4294967295 bytes, more than the limit of {}"
-            self.assertEqual(str(ended.exception), text.format(len(INPUT), INPUT_LENGTH))
+            what = f"a message of type Start (0x0000) at offset {len(INPUT)} has 4294967295 bytes"
+            self.assertEqual(str(ended.exception), f"Stream: {what}, more than the limit of {INPUT_LENGTH}")
             error = ended.exception
             self.assertEqual((error.argument, error.value), ("max_message_size", INPUT_LENGTH))
             self.assertEqual((error.code, error.length, error.limit), (0, 0xFFFF_FFFF, INPUT_LENGTH))

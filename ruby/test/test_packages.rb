@@ -149,6 +149,11 @@ class TestPackages < Minitest::Test
     name_of(code) == "-" ? format("code 0x%04x", code) : name_of(code)
   end
 
+  def too_long_result(version, limit, word)
+    stream = Pendratsoa::Stream.new(version: Integer(version), max_message_size: Integer(limit)).feed(bytes_of(word))
+    assert_raises(Pendratsoa::MessageTooLong) { stream.to_a }.message.partition(": ").last
+  end
+
   def read_result(call, version, word)
     results = items_of(version, word).map do |item|
       next "none" unless item.is_a?(Pendratsoa::Message)

@@ -223,8 +223,8 @@ class TestStream < Minitest::Test
     items = []
     2.times do
       error = assert_raises(Pendratsoa::MessageTooLong) { stream.each { |item| items << item } }
-      assert_equal "Stream: a message of type 0x0000 at offset 17 has 4294967295 bytes, more than the limit of 9",
-                   error.message
+      text = "a message of type Start (0x0000) at offset 17 has 4294967295 bytes, more than the limit of 9"
+      assert_equal "Stream: #{text}", error.message
       assert_equal [0, 0xffff_ffff, 9, 17], [error.code, error.length, error.limit, error.offset]
       assert_equal ["Stream", :max_message_size, 9], [error.call, error.argument, error.value]
       assert_equal 0, stream.rest

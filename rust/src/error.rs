@@ -316,9 +316,10 @@ impl fmt::Display for MessageTooLong {
             limit,
             offset,
         } = self;
+        let named = name_and_code(*code);
         write!(
             f,
-            "a message of type {code:#06x} at offset {offset} has {length} bytes, more than the limit of {limit}"
+            "a message of type {named} at offset {offset} has {length} bytes, more than the limit of {limit}"
         )
     }
 }
@@ -352,6 +353,14 @@ impl fmt::Display for MessagePayload {
 /// The name of a type, or its code if no type has it.
 fn name(code: u16) -> String {
     type_name(code).unwrap_or_else(|_| format!("code {code:#06x}"))
+}
+
+/// The name of a type and its code, or only the code if no type has it.
+fn name_and_code(code: u16) -> String {
+    match type_name(code) {
+        Ok(name) => format!("{name} ({code:#06x})"),
+        Err(_) => format!("{code:#06x}"),
+    }
 }
 
 impl fmt::Display for Argument {
@@ -409,11 +418,11 @@ mod tests {
             (
                 Error::MessageTooLong(MessageTooLong {
                     code: 0x0400,
-                    length: 1_048_577,
-                    limit: 1_048_576,
+                    length: 1025,
+                    limit: 1024,
                     offset: 106,
                 }),
-                "a message of type 0x0400 at offset 106 has 1048577 bytes, more than the limit of 1048576",
+                "a message of type InputCommand (0x0400) at offset 106 has 1025 bytes, more than the limit of 1024",
             ),
             (
                 Error::Unknown(Argument::Version(7)),

@@ -228,7 +228,7 @@ fn a_message_that_is_longer_than_the_limit_ends_the_stream() {
         }
         assert_eq!(
             error.to_string(),
-            "a message of type 0x0400 at offset 8 has 10 bytes, more than the limit of 9"
+            "a message of type InputCommand (0x0400) at offset 8 has 10 bytes, more than the limit of 9"
         );
         assert_eq!((decoder.offset(), decoder.rest()), (8, 0));
         assert_eq!(decoder.trailing(), []);

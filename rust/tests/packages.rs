@@ -160,6 +160,13 @@ fn items_case(words: &[&str]) -> String {
     found
 }
 
+fn too_long_case(words: &[&str]) -> String {
+    let mut decoder = decoder(words[0].parse().unwrap(), words[1].parse().ok());
+    decoder.feed(&bytes(words[2])).unwrap();
+    let ended = decoder.items().find_map(Result::err);
+    ended.unwrap().to_string()
+}
+
 /// What is made of each item of a stream that is there as a whole.
 fn each(version: &str, stream: &str, result: impl Fn(&Item<'_>) -> String) -> String {
     let mut decoder = decoder(version.parse().unwrap(), None);
@@ -401,6 +408,7 @@ fn each_case_has_its_result() {
         let words: Vec<&str> = question.split(' ').collect();
         let result = match words[0] {
             "items" => items_case(&words[1..]),
+            "too_long" => too_long_case(&words[1..]),
             "read" => read_case(&words[1..]),
             "as" => as_case(&words[1..]),
             "compare" => compare_case(&words[1..]),

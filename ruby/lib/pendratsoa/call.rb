@@ -129,7 +129,7 @@ module Pendratsoa
 
     # The error of a message that is longer than the limit of a stream.
     def message_too_long(code, offset, length, limit)
-      what = "a message of type #{Shown.code(code)} at offset #{offset} has #{length} bytes"
+      what = "a message of type #{Shown.type_and_code(code)} at offset #{offset} has #{length} bytes"
       error(MessageTooLong, "#{what}, more than the limit of #{limit}", :max_message_size,
             code: code, length: length, limit: limit, offset: offset)
     end

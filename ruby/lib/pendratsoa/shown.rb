@@ -28,6 +28,13 @@ module Pendratsoa
     rescue Unknown
       "code #{code(code)}"
     end
+
+    # The name of a type and its code, or only the code if no type has it.
+    def self.type_and_code(code)
+      "#{Pendratsoa.type_name(code)} (#{code(code)})"
+    rescue Unknown
+      code(code)
+    end
   end
   private_constant :Shown
 end
