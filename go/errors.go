@@ -138,9 +138,9 @@ var (
 const ofCode = ", or not of the kind that the call is for"
 
 // arguments are those of a call that an error can be about, each with its value. The payload is the only one of the
-// call or the first of two.
+// call or the first of two. What is meant asks whether another name was.
 type arguments struct {
-	version, schema, code, name, payload, second string
+	version, schema, code, name, meant, payload, second string
 }
 
 // refusal returns the error that a negative number of the library is, of a call with these arguments.
@@ -153,7 +153,7 @@ func (given arguments) refusal(call string, number int64) error {
 		return unknown(call, given.schema, ofSchema)
 	case unknownType:
 		if given.name != "" {
-			return unknown(call, given.name, "")
+			return unknown(call, given.name, given.meant)
 		}
 		return unknown(call, given.code, ofCode)
 	case malformedSecond:

@@ -18,7 +18,7 @@ import (
 var packageCases = map[string]func(t *testing.T, words []string) string{
 	"items": itemsCase, "too_long": tooLongCase, "read": readCase, "as": asCase, "compare": compareCase,
 	"mismatch": mismatchCase, "replay": stepsCase, "encode": encodeCase, "decode": decodeCase, "json": jsonCase,
-	"number": numberCase, "limit": limitCase,
+	"number": numberCase, "name": nameCase, "limit": limitCase,
 }
 
 func TestPackages(t *testing.T) {
@@ -440,6 +440,26 @@ func numberCase(t *testing.T, words []string) string {
 		return "unknown"
 	}
 	return "known"
+}
+
+func nameCase(t *testing.T, words []string) string {
+	var err error
+	if words[0] == "type" {
+		_, err = TypeCode(words[1])
+	} else {
+		_, err = SchemaNamed(words[1])
+	}
+	if err == nil {
+		return "known"
+	}
+	said, meant, asks := strings.Cut(err.Error(), "; did you mean ")
+	if !errors.Is(err, ErrUnknown) || !strings.HasSuffix(said, strconv.Quote(words[1])) {
+		t.Error(err)
+	}
+	if !asks {
+		return "unknown"
+	}
+	return "unknown " + strings.Trim(meant, `"?`)
 }
 
 func TestErrorsOfAMessageThatDidNotCome(t *testing.T) {

@@ -2,6 +2,7 @@ package pendratsoa
 
 import (
 	"fmt"
+	"strings"
 	"sync/atomic"
 )
 
@@ -47,7 +48,7 @@ func SchemaNamed(name string) (int, error) {
 			return number, nil
 		}
 	}
-	return 0, unknown("SchemaNamed", nameText(name), "")
+	return 0, unknown("SchemaNamed", nameText(name), recordMeant(name))
 }
 
 // TypeName returns the name of the type that has a code, as "SleepCommand", or "CustomEntry(64513)" of a custom entry.
@@ -65,9 +66,39 @@ func TypeName(code uint16) (string, error) {
 func TypeCode(name string) (uint16, error) {
 	code := journalTypeCode([]byte(name))
 	if code < 0 {
-		return 0, arguments{name: nameText(name)}.refusal("TypeCode", code)
+		return 0, arguments{name: nameText(name), meant: typeMeant(name)}.refusal("TypeCode", code)
 	}
 	return uint16(code), nil
+}
+
+// typeMeant returns the question whether a type was meant by the name of its record, or nothing if it is of none.
+func typeMeant(name string) string {
+	before, _, isMessage := strings.Cut(name, "Message")
+	if !isMessage || !isRecord(name) {
+		return ""
+	}
+	return didYouMean(before)
+}
+
+// recordMeant returns the question whether a record was meant by the name of its type, or nothing if it is of none.
+func recordMeant(name string) string {
+	if record := name + "Message"; isRecord(record) {
+		return didYouMean(record)
+	}
+	return ""
+}
+
+func isRecord(name string) bool {
+	for _, known := range schemaNames {
+		if name == known {
+			return true
+		}
+	}
+	return false
+}
+
+func didYouMean(name string) string {
+	return fmt.Sprintf("; did you mean %q?", name)
 }
 
 // headerSize is how many bytes a header has.

@@ -211,10 +211,27 @@ const LONG = ['payloadLength', 'maxMessageSize', 'json', 'payload', 'first', 'st
 // What is said of each argument that can be unknown.
 const UNKNOWN = {
   version: (value) => `protocol version ${shown(value)} (${FIRST_VERSION} to ${LAST_VERSION})`,
-  schema: (value) => `schema ${shown(value)}${typeof value === 'string' ? '' : ` (0 to ${SCHEMA_NAMES.length - 1})`}`,
+  schema: (value) => `schema ${shown(value)}${typeof value === 'string' ? recordMeant(value) : NUMBERS}`,
   code: (value) => `code ${codeText(value)}, or not of the kind that the call is for`,
-  name: (value) => `name ${shown(value)}`,
+  name: (value) => `name ${shown(value)}${typeMeant(value)}`,
 };
+const NUMBERS = ` (0 to ${SCHEMA_NAMES.length - 1})`;
+
+/** The question whether a type was meant by the name of its record; nothing if it is of none. */
+function typeMeant(name) {
+  const type = name.split('Message', 1)[0];
+  return type !== name && SCHEMA_NAMES.includes(name) ? didYouMean(type) : '';
+}
+
+/** The question whether a record was meant by the name of its type; nothing if it is of none. */
+export function recordMeant(name) {
+  const record = `${name}Message`;
+  return SCHEMA_NAMES.includes(record) ? didYouMean(record) : '';
+}
+
+function didYouMean(name) {
+  return `; did you mean ${shown(name)}?`;
+}
 
 /** The error that a negative number is, of a call: its name and its arguments, by their names. */
 export function refusal(number, given) {

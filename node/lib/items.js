@@ -18,7 +18,7 @@ import {
   typeCode,
   typeName,
 } from './calls.js';
-import { Unknown, notKnown, ofMessage, wrongKind } from './errors.js';
+import { Unknown, notKnown, ofMessage, recordMeant, wrongKind } from './errors.js';
 import { payloadOf, recordOf } from './fields.js';
 import { frameAt, into } from './frames.js';
 import { isCommandCode, isNotificationCode } from './protocol.js';
@@ -204,7 +204,8 @@ export class Message {
 function messageSchema(name) {
   const number = typeof name === 'string' ? schemaNumber(name) : undefined;
   if (RECORDS[number]?.code === undefined) {
-    throw wrongKind('name', name, "the name of a message's record");
+    const meant = typeof name === 'string' ? recordMeant(name) : '';
+    throw wrongKind('name', name, `the name of a message's record${meant}`);
   }
   return number;
 }

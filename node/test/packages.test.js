@@ -24,6 +24,7 @@ import {
   isWellFormed,
   items,
   readRecord,
+  typeCode,
   typeName,
   writeRecord,
 } from 'pendratsoa';
@@ -363,6 +364,17 @@ const KINDS = {
     }
   },
 
+  name(what, name) {
+    const error = thrown(() => (what === 'type' ? typeCode(name) : isWellFormed(name, new Uint8Array(0))));
+    if (error === undefined) {
+      return 'known';
+    }
+    assert.ok(error instanceof Unknown, `${error}`);
+    const [said, meant] = error.message.split('; did you mean ');
+    assert.ok(said.endsWith(`'${name}'`), `${error}`);
+    return meant === undefined ? 'unknown' : `unknown ${meant.replace(/['?]/g, '')}`;
+  },
+
   limit(text) {
     const error = thrown(() => new Stream(8, { maxMessageSize: Number(text) }));
     assert.ok(error === undefined || error instanceof RangeError || error instanceof TooLong, `${error}`);
@@ -497,5 +509,10 @@ test('the name of a record', () => {
     for (const name of ['Value', 'SetStateCommand', '', 33, undefined]) {
       assert.throws(() => item.record(name), { name: 'TypeError', code: 'ERR_INVALID_ARG_TYPE' });
     }
+    assert.throws(() => item.record('SetStateCommand'), {
+      message:
+        "name is 'SetStateCommand', and has to be the name of a message's record; " +
+        "did you mean 'SetStateCommandMessage'?",
+    });
   }
 });

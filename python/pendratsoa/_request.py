@@ -71,6 +71,17 @@ def shown(value: object) -> str:
     return text if len(text) <= 80 else f"{text[:77]}.."
 
 
+def meant(argument: str, name: str) -> str:
+    """The question whether another name was meant: that of a type's record in place of the type's, or the reverse."""
+    if argument == "schema":
+        other = f"{name}Message"
+        is_one = other in SCHEMA_NAMES
+    else:
+        other = name.partition("Message")[0]
+        is_one = name in SCHEMA_NAMES and other != name
+    return f"; did you mean {other!r}?" if is_one else ""
+
+
 class Request:
     """A call by its name in this package, with its arguments by their names. A method that takes the name of an
     argument checks it, and returns what the library takes in its place."""
@@ -204,8 +215,8 @@ class Request:
         if argument == "code":
             return self.error(Unknown, f"code {shown(value)} is not that of {self.kind}", argument)
         name, known = KNOWN[argument]
-        where = f" ({known})" if known and not isinstance(value, str) else ""
-        return self.error(Unknown, f"unknown {name} {shown(value)}{where}", argument)
+        more = meant(argument, value) if isinstance(value, str) else f" ({known})" if known else ""
+        return self.error(Unknown, f"unknown {name} {shown(value)}{more}", argument)
 
 
 # what checks each argument that is not bytes

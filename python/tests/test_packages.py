@@ -8,7 +8,7 @@ import unittest
 
 from pendratsoa import FieldError, Incomplete, JournalError, JsonError, Malformed, Message, NoId, NoResult, Replay
 from pendratsoa import MessageTooLong, Numbering, NumberingError, Skipped, Stream, TooLong, Unknown, UnknownCode
-from pendratsoa import compare_journals, is_well_formed, messages, type_name
+from pendratsoa import compare_journals, is_well_formed, messages, type_code, type_name
 from support import SET_STATE_COMMAND, TOP
 
 
@@ -331,6 +331,16 @@ class TestPackages(unittest.TestCase):
             return "known"
         self.assertIs(type(error), Unknown)
         return "unknown"
+
+    def name_result(self, what, name):
+        call = type_code if what == "type" else lambda schema: is_well_formed(schema, b"")
+        error = raised(call, name)
+        if error is None:
+            return "known"
+        self.assertIs(type(error), Unknown)
+        said, asks, meant = str(error).partition("; did you mean ")
+        self.assertTrue(said.endswith(repr(name)), error)
+        return f"unknown {meant.strip(chr(39) + '?')}" if asks else "unknown"
 
     def limit_result(self, number):
         try:

@@ -369,6 +369,16 @@ class TestPackages < Minitest::Test
     error ? "out_of_range" : "ok"
   end
 
+  def name_result(what, name)
+    error = raised { what == "type" ? Pendratsoa.type_code(name) : Pendratsoa.well_formed?(name, "") }
+    return "known" unless error
+
+    assert_instance_of Pendratsoa::Unknown, error
+    said, _, meant = error.message.partition("; did you mean ")
+    assert_operator said, :end_with?, name.inspect
+    ["unknown", meant.delete('"?')].reject(&:empty?).join(" ")
+  end
+
   def number_result(what, number)
     error = raised { NUMBERS.fetch(what).call(Integer(number)) }
     return "known" unless error

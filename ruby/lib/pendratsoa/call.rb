@@ -165,7 +165,8 @@ module Pendratsoa
       return error(Unknown, "code #{Shown.value(value)} is not that of #{@kind}", argument) if argument == :code
 
       name, known = KNOWN.fetch(argument)
-      error(Unknown, "unknown #{name} #{Shown.value(value)}#{known unless value.is_a?(String)}", argument)
+      more = value.is_a?(String) ? meant(argument, value) : known
+      error(Unknown, "unknown #{name} #{Shown.value(value)}#{more}", argument)
     end
 
     # An error of this call, about one of its arguments or none.
@@ -175,6 +176,13 @@ module Pendratsoa
     end
 
     private
+
+    # The question whether another name was meant: that of a type's record in place of the type's, or the reverse.
+    def meant(argument, name)
+      of_schema = argument == :schema
+      other = of_schema ? "#{name}Message" : name.b.partition("Message").first
+      "; did you mean #{other.inspect}?" if other != name && SCHEMA_NAMES.include?(of_schema ? other : name)
+    end
 
     def unexpected(what)
       error(Error, "the library returned #{what}, which this gem does not know")
