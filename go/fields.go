@@ -2,6 +2,7 @@ package pendratsoa
 
 import (
 	"encoding"
+	"encoding/binary"
 	"errors"
 	"fmt"
 	"strings"
@@ -39,6 +40,15 @@ type Record interface {
 	Schema() int
 	read(table *fieldTable, level uint64) error
 	write(writer *fieldWriter, level uint64)
+}
+
+// A MessageRecord is the record of a message, whose type follows from the record.
+type MessageRecord interface {
+	Record
+	// Frame returns the message as a frame of a version: its header, and its canonical payload.
+	Frame(version int) ([]byte, error)
+	// AppendFrame appends the frame that Frame returns to a slice, as append does.
+	AppendFrame(dst []byte, version int) ([]byte, error)
 }
 
 // Record returns what the payload means: a pointer to a struct as SetStateCommandMessage, for a type switch. A custom
@@ -86,14 +96,18 @@ func As[R Record](item Item) (record R, ok bool, err error) {
 	return found, true, nil
 }
 
-// NewMessageOf returns the message of a type at a version that a record is of. The errors are those of MarshalBinary of
-// the record and of NewMessage.
-func NewMessageOf(version int, code uint16, record Record) (Message, error) {
-	payload, err := record.MarshalBinary()
+// NewMessageOf returns the message of a record at a version, whose type follows from the record. It requests an
+// acknowledgement if the header of its type does at this version. The errors are those of the record's Frame.
+func NewMessageOf(version int, record MessageRecord) (Message, error) {
+	frame, err := record.Frame(version)
 	if err != nil {
 		return Message{}, err
 	}
-	return NewMessage(version, code, payload)
+	return Message{
+		Version: version, Code: binary.BigEndian.Uint16(frame), Payload: frame[headerSize:len(frame):len(frame)],
+		// the flag is the high bit of the third byte
+		RequestedAck: frame[2]&0x80 != 0,
+	}, nil
 }
 
 // A tableField is an entry of the table of fields, as the library has it.

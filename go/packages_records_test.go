@@ -1,6 +1,7 @@
 package pendratsoa
 
 import (
+	"bytes"
 	"errors"
 	"fmt"
 	"math"
@@ -89,14 +90,9 @@ func (f *caseFields) headers(name string) []HeaderRecord {
 	return headers
 }
 
-// A framed is a record of a message.
-type framed interface {
-	Frame(version int) ([]byte, error)
-}
-
 // The record of each type that a line of the kind encode has, of its fields.
-var recordsOf = map[string]func(f *caseFields) framed{
-	"StartMessage": func(f *caseFields) framed {
+var recordsOf = map[string]func(f *caseFields) MessageRecord{
+	"StartMessage": func(f *caseFields) MessageRecord {
 		return &StartMessage{
 			ID: f.bytes("id"), DebugID: f.text("debug_id"), KnownEntries: f.u32("known_entries"),
 			PartialState: f.words["partial_state"] == "true", Scope: f.optionalText("scope"),
@@ -104,17 +100,17 @@ var recordsOf = map[string]func(f *caseFields) framed{
 				"duration_since_last_stored_entry", 0, math.MaxUint64),
 		}
 	},
-	"ErrorMessage": func(f *caseFields) framed {
+	"ErrorMessage": func(f *caseFields) MessageRecord {
 		behavior := f.number("behavior", "behavior", math.MinInt32, math.MaxInt32)
 		return &ErrorMessage{
 			Code: f.u32("code"), RelatedCommandIndex: f.optionalU32("related_command_index"),
 			Behavior: ErrorBehavior(behavior),
 		}
 	},
-	"InputCommandMessage": func(f *caseFields) framed {
+	"InputCommandMessage": func(f *caseFields) MessageRecord {
 		return &InputCommandMessage{Headers: f.headers("headers"), Value: f.value("value")}
 	},
-	"SendSignalCommandMessage": func(f *caseFields) framed {
+	"SendSignalCommandMessage": func(f *caseFields) MessageRecord {
 		record := &SendSignalCommandMessage{
 			TargetInvocationID: f.text("target_invocation_id"), EntryName: f.text("entry_name"),
 		}
@@ -146,7 +142,12 @@ func encodeCase(t *testing.T, words []string) string {
 	if fields.outOfRange != "" {
 		return "out_of_range " + fields.outOfRange
 	}
-	frame, err := record.Frame(must(strconv.Atoi(words[0]))(t))
+	version := must(strconv.Atoi(words[0]))(t)
+	frame, err := record.Frame(version)
+	message, other := NewMessageOf(version, record)
+	if fmt.Sprint(other) != fmt.Sprint(err) || err == nil && !bytes.Equal(message.Bytes(), frame) {
+		t.Errorf("%x, %v", message.Bytes(), other)
+	}
 	var refused *FieldError
 	switch {
 	case errors.Is(err, ErrUnknown):
@@ -157,6 +158,15 @@ func encodeCase(t *testing.T, words []string) string {
 		return err.Error()
 	}
 	return digitsOf(frame)
+}
+
+func messageCase(t *testing.T, words []string) string {
+	record := newRecord(must(SchemaNamed(words[1]))(t)).(MessageRecord)
+	message, err := NewMessageOf(must(strconv.Atoi(words[0]))(t), record)
+	if errors.Is(err, ErrUnknown) {
+		return "unknown"
+	}
+	return message.String()
 }
 
 func decodeCase(t *testing.T, words []string) string {

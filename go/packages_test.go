@@ -17,8 +17,8 @@ import (
 // The cases of conformance/packages.cases, which its README specifies: what each kind of line returns for its words.
 var packageCases = map[string]func(t *testing.T, words []string) string{
 	"items": itemsCase, "too_long": tooLongCase, "read": readCase, "as": asCase, "compare": compareCase,
-	"mismatch": mismatchCase, "replay": stepsCase, "encode": encodeCase, "decode": decodeCase, "json": jsonCase,
-	"number": numberCase, "name": nameCase, "limit": limitCase,
+	"mismatch": mismatchCase, "replay": stepsCase, "encode": encodeCase, "message": messageCase, "decode": decodeCase,
+	"json": jsonCase, "number": numberCase, "name": nameCase, "limit": limitCase,
 }
 
 func TestPackages(t *testing.T) {

@@ -44,8 +44,8 @@ func TestRecordsOfAStream(t *testing.T) {
 				t.Errorf("%+v", record)
 			}
 		}
-		made := must(NewMessageOf(8, message.Code, record))(t)
-		if made.Code != message.Code || made.Type() != message.Type() {
+		made := must(NewMessageOf(8, record.(MessageRecord)))(t)
+		if made.Code != message.Code || made.Type() != message.Type() || made.RequestedAck != message.RequestedAck {
 			t.Errorf("%v", made)
 		}
 	}

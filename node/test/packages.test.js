@@ -341,6 +341,15 @@ const KINDS = {
     }
   },
 
+  message(version, name) {
+    try {
+      return String(Message.of(name.replace(/Message(V6)?$/, ''), {}, Number(version)));
+    } catch (error) {
+      assert.ok(error instanceof Unknown, `${error}`);
+      return 'unknown';
+    }
+  },
+
   decode(name, word) {
     try {
       return fieldsOf(readRecord(name, bytesOf(word))).join(', ') || '-';

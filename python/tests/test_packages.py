@@ -302,11 +302,20 @@ class TestPackages(unittest.TestCase):
 
     def encode_result(self, version, name, *words):
         try:
-            return record_of(getattr(messages, name), words).frame(int(version)).hex()
+            record = record_of(getattr(messages, name), words)
+            frame = record.frame(int(version))
+            self.assertEqual(Message.of_record(record, int(version)).bytes, frame)
+            return frame.hex()
         except Unknown:
             return "unknown"
         except FieldError as error:
             return f"{error.reason} {error.path}"
+
+    def message_result(self, version, name):
+        try:
+            return str(Message.of_record(getattr(messages, name)(), int(version)))
+        except Unknown:
+            return "unknown"
 
     def decode_result(self, name, word):
         try:

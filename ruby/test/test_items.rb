@@ -53,6 +53,19 @@ class TestItems < Minitest::Test
     [[nil], [0, nil], [1.5]].each { |words| assert_raises(TypeError) { Pendratsoa::Message.of(*words) } }
   end
 
+  def test_the_message_of_a_record
+    record = Pendratsoa::SetStateCommandMessage.new(key: "a")
+    message = Pendratsoa::Message.of_record(record, version: 9)
+    assert_equal ["SetStateCommand", 9, record], [message.type, message.version, message.message]
+    assert_equal record.frame(8), Pendratsoa::Message.of_record(record).bytes
+    earlier = Pendratsoa::SuspensionMessageV6.new(waiting_completions: [7])
+    assert_equal earlier, Pendratsoa::Message.of_record(earlier, version: 6).message
+    assert_raises(Pendratsoa::Unknown) { Pendratsoa::Message.of_record(earlier, version: 7) }
+    [Pendratsoa::Value.new, Pendratsoa::SetStateCommandMessage, nil].each do |other|
+      assert_raises(TypeError) { Pendratsoa::Message.of_record(other) }
+    end
+  end
+
   def test_pattern_matching
     case Pendratsoa::Message.new(8, CODES[:input], "x")
     in Pendratsoa::Message[code:, payload: "x"] then assert_equal CODES[:input], code

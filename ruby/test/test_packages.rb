@@ -233,11 +233,20 @@ class TestPackages < Minitest::Test
       field, value = word.split("=")
       [attribute(record, field), value_of(field, value)]
     end
-    record.new(**fields).frame(Integer(version)).unpack1("H*")
+    made = record.new(**fields)
+    frame = made.frame(Integer(version))
+    assert_equal frame, Pendratsoa::Message.of_record(made, version: Integer(version)).bytes
+    frame.unpack1("H*")
   rescue Pendratsoa::Unknown
     "unknown"
   rescue Pendratsoa::FieldError => error
     "#{error.reason} #{error.path}"
+  end
+
+  def message_result(version, name)
+    Pendratsoa::Message.of_record(Pendratsoa.const_get(name).new, version: Integer(version)).to_s
+  rescue Pendratsoa::Unknown
+    "unknown"
   end
 
   # The attribute of a record that has a field, or a member of a oneof.

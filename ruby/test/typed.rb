@@ -96,6 +96,7 @@ module Typed
     lines("json/readings.txt", "read").each { |name, word| tried { Pendratsoa.from_json(name, bytes(word)) } }
     used(Pendratsoa.header_eq?(code, payload, ""), Pendratsoa.difference(code, payload, ""))
     Pendratsoa::Message.of(:SetStateCommand, payload, version: 9).json
+    Pendratsoa::Message.of_record(Pendratsoa::SetStateCommandMessage.new(key: "a"), version: 9).command?
     Pendratsoa::Message.from_json("SetStateCommand", { "key" => "YQ==" })
     tried { Pendratsoa.type_name(8) }
   end

@@ -106,7 +106,7 @@ pub trait MessageRecord<'a>: Record<'a> {
 }
 
 /// How many bytes a header has.
-const HEADER: usize = 8;
+pub(crate) const HEADER: usize = 8;
 
 /// What the generated code has of each record.
 pub trait Fields<'a>: Default {

@@ -10,7 +10,7 @@ use crate::calls::{
 };
 use crate::error::{narrowed, Argument, Error, MessageTooLong};
 use crate::ffi::{self, ItemNumbers, Refusal, ITEM_MESSAGE, ITEM_SKIPPED, ITEM_UNKNOWN_CODE};
-use crate::fields::MessageRecord;
+use crate::fields::{MessageRecord, HEADER};
 use crate::message_type::MessageType;
 use crate::messages::AnyMessage;
 use crate::notification::{notification, Notification};
@@ -398,6 +398,31 @@ impl<'a> Message<'a> {
     ) -> Result<Message<'a>, Error> {
         *buffer = from_json(schema(version, code)?, json)?;
         Message::new(version, code, buffer)
+    }
+
+    /// The message of a record, whose type follows from the record, as it would come in a stream of the version. Its
+    /// frame takes the place of what the buffer holds, and has the payload in it.
+    ///
+    /// The errors are those of [`MessageRecord::frame`]. After an error the buffer is unchanged.
+    ///
+    /// ```
+    /// use pendratsoa::messages::SleepCommandMessage;
+    /// use pendratsoa::Message;
+    ///
+    /// let sleep = SleepCommandMessage { wake_up_time: 5, ..Default::default() };
+    /// let mut buffer = Vec::new();
+    /// let message = Message::from_record(8, &sleep, &mut buffer)?;
+    /// assert_eq!(message.type_name()?, "SleepCommand");
+    /// assert_eq!(message.record()?, Some(sleep));
+    /// # Ok::<(), pendratsoa::Error>(())
+    /// ```
+    pub fn from_record<'r, R: MessageRecord<'r>>(
+        version: u32,
+        record: &R,
+        buffer: &'a mut Vec<u8>,
+    ) -> Result<Message<'a>, Error> {
+        *buffer = record.frame(version)?;
+        Message::new(version, R::TYPE.code(), &buffer[HEADER..])
     }
 
     /// Where the message begins in its stream, in bytes, as [`Item::offset`]; `None` of one received in no stream. An

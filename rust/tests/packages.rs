@@ -15,7 +15,7 @@ use pendratsoa::{
 
 mod packages_records;
 
-use packages_records::{decode_case, encode_case};
+use packages_records::{decode_case, encode_case, message_case};
 
 /// The bytes of a word.
 fn bytes(word: &str) -> Vec<u8> {
@@ -431,6 +431,7 @@ fn each_case_has_its_result() {
             "mismatch" => mismatch_case(&words[1..]),
             "replay" => replay_case(&words[1..]),
             "encode" => encode_case(&words[1..]),
+            "message" => message_case(&words[1..]),
             "decode" => decode_case(&words[1..]),
             "json" => json_case(&words[1..]),
             "number" => number_case(&words[1..]),

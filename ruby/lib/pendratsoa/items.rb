@@ -90,6 +90,17 @@ module Pendratsoa
       new(version, code, bytes, Pendratsoa.header(version, code, bytes.bytesize).getbyte(2) >= 0x80)
     end
 
+    # The message of a record, whose type follows from the class of the record. It requests an acknowledgement if the
+    # header of its type does at this version. Unknown if there is no such version, or the record is not one of it;
+    # FieldError, or a TypeError, as `encode` of the record.
+    def self.of_record(record, version: 8)
+      unless record.is_a?(MessageRecord)
+        raise TypeError, "Message.of_record: record must be that of a message, not #{record.class}"
+      end
+
+      of(record.class::CODE, record.frame(version).byteslice(8..), version: version)
+    end
+
     # The message of a type that JSON means: a text in protobuf's form, or a Hash as `json` returns it. Its payload is
     # canonical, and it requests an acknowledgement if the header of its type does at this version. JsonError if the
     # text means no such message; Unknown if there is no such version or type, or the type is that of a custom entry.

@@ -3,11 +3,12 @@
 use std::collections::HashMap;
 
 use pendratsoa::messages::{
-    ErrorBehavior, ErrorMessage, Failure, Header, InputCommandMessage, MessageRecord, Record,
-    SendSignalCommandMessage, SendSignalCommandResult, SendSignalCommandSignalId, StartMessage,
-    Value, Void,
+    ErrorBehavior, ErrorMessage, Failure, Header, InputCommandMessage, MessageRecord,
+    ProposeRunCompletionMessage, Record, SendSignalCommandMessage, SendSignalCommandResult,
+    SendSignalCommandSignalId, SetStateCommandMessage, SignalNotificationMessage, StartMessage,
+    SuspensionMessage, SuspensionMessageV6, Value, Void,
 };
-use pendratsoa::{Error, FieldError};
+use pendratsoa::{Error, FieldError, Item, Message};
 
 use crate::{bytes, word};
 
@@ -80,7 +81,12 @@ impl Words<'_> {
 }
 
 fn frame_of<'a, R: MessageRecord<'a>>(record: &R, version: u32) -> Result<Vec<u8>, String> {
-    record.frame(version).map_err(|error| match error {
+    let frame = record.frame(version);
+    let mut buffer = Vec::new();
+    let message = Message::from_record(version, record, &mut buffer);
+    let bytes = message.and_then(|message| Item::from(message).to_bytes());
+    assert_eq!(bytes, frame);
+    frame.map_err(|error| match error {
         Error::Unknown(_) => "unknown".to_owned(),
         Error::Field(FieldError { reason, path, .. }) => format!("{reason:?} {path}"),
         error => error.to_string(),
@@ -158,6 +164,34 @@ pub fn encode_case(words: &[&str]) -> String {
     match encoded(words[0].parse().unwrap(), words[1], &given) {
         Ok(frame) => word(&frame),
         Err(why) => why,
+    }
+}
+
+/// The message of a record without a field, or why there is none.
+pub fn message_case(words: &[&str]) -> String {
+    let version = words[0].parse().unwrap();
+    match words[1] {
+        "StartMessage" => message_of(&StartMessage::default(), version),
+        "SetStateCommandMessage" => message_of(&SetStateCommandMessage::default(), version),
+        "ProposeRunCompletionMessage" => {
+            message_of(&ProposeRunCompletionMessage::default(), version)
+        }
+        "SuspensionMessage" => message_of(&SuspensionMessage::default(), version),
+        "SuspensionMessageV6" => message_of(&SuspensionMessageV6::default(), version),
+        "SignalNotificationMessage" => message_of(&SignalNotificationMessage::default(), version),
+        name => panic!("{name}"),
+    }
+}
+
+fn message_of<'a, R: MessageRecord<'a>>(record: &R, version: u32) -> String {
+    let mut buffer = vec![7];
+    match Message::from_record(version, record, &mut buffer) {
+        Ok(message) => Item::Message(message).to_string(),
+        Err(Error::Unknown(_)) => {
+            assert_eq!(buffer, [7]);
+            "unknown".to_owned()
+        }
+        Err(error) => error.to_string(),
     }
 }
 
