@@ -21,6 +21,7 @@ Gem::Specification.new do |spec|
   end
   # a release has the licences too
   pages = %w[README.md LICENSE LINKED.txt]
-  spec.files = Dir["lib/**/*.{rb,so}", "ext/**/*.{rb,c,h}", "sig/*.rbs", *pages, base: __dir__].sort
+  parts = ["lib/**/*.{rb,so}", "ext/**/*.{rb,c,h}", "sig/*.rbs", "examples/*.rb"]
+  spec.files = Dir[*parts, *pages, base: __dir__].sort
   spec.metadata["rubygems_mfa_required"] = "true"
 end

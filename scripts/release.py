@@ -36,6 +36,7 @@ import zipfile
 
 import linked
 import package
+import released_pages
 from machines import MACHINES, Machine
 from package import NotMade, needs, run, version
 
@@ -126,7 +127,8 @@ class Release:
         return {"version": version(), "toolchain": run("rt", "version").strip(), "needs": "".join(lines)}
 
     def copy(self, folder: str, name: str | None = None) -> pathlib.Path:
-        """A copy of a package, a folder of the repository, without its tests, and with the licences."""
+        """A copy of a package, a folder of the repository, without its tests, and with the licences. Its README names
+        what is outside of the folder by the path in the archive of pages."""
         target = self.work / (name or folder)
         listed = run("git", "ls-files", "-z", "--cached", "--others", "--exclude-standard", "--", folder)
         for file in filter(os.path.isfile, listed.split("\0")):
@@ -134,6 +136,9 @@ class Release:
             if not TESTS.search(inside):
                 (target / inside).parent.mkdir(parents=True, exist_ok=True)
                 shutil.copyfile(file, target / inside)
+        for page in target.rglob("README.md"):
+            path = f"{folder}/{page.relative_to(target)}"
+            page.write_text(released_pages.released(folder, path, page.read_text()))
         for file, text in self.licences.items():
             package.write(target / file, text)
         return target
@@ -157,10 +162,10 @@ class Release:
 def tarball(release: Release, machine: Machine) -> None:
     """The programs and the library, for any Linux with glibc: unpack it, and run its install.sh."""
     prefix = release.prefixes[machine.name]
-    pages = prefix / "share/doc/pendratsoa"
+    folder = prefix / "share/doc/pendratsoa"
     changes = pathlib.Path("CHANGELOG.md").read_text()
     for file, text in {**release.licences, "CHANGELOG.md": changes, "PROVED": release.proved}.items():
-        package.write(pages / file, text)
+        package.write(folder / file, text)
     files = [path.relative_to(prefix) for path in prefix.rglob("*") if path.is_symlink() or not path.is_dir()]
     package.write(prefix / "FILES", "".join(sorted(f"{file}\n" for file in files)))
     package.write(prefix / "VERSION", f"{version()}\n")
@@ -280,13 +285,13 @@ def go_module(release: Release) -> None:
 
 
 def reference(release: Release) -> None:
-    """The reference pages of all languages, as one archive."""
+    """The reference pages of all languages, and the pages that the packages name, as one archive."""
     folder = release.work / "reference"
     run("sh", "scripts/reference.sh", folder)
     absent = [name for name in run("sh", "scripts/reference.sh", "--list").split() if not (folder / name).is_dir()]
     if absent:
         raise NotMade(f"there are no tools for the reference pages of {', '.join(absent)}")
-    release.archive(folder, f"pendratsoa-reference-{version()}.tar.gz")
+    release.archive(folder, released_pages.ARCHIVE)
 
 
 # The kinds of files: those that are made for each processor, in an order in which none takes in what another adds, and

@@ -53,15 +53,14 @@ def example_of(language: str) -> str:
 
 
 def links(check: checks.Check, out: pathlib.Path) -> None:
-    """The links of the pages in a folder lead to a page there, and to an anchor of it."""
-    pages = {page.name: page.read_text(encoding="utf-8") for page in out.glob("*.html")}
+    """The links of the pages in a folder lead to a file, and to an anchor of it."""
     wrong = []
-    for name, text in pages.items():
-        for target in sorted(set(re.findall(r'href="([^":]*)"', text))):
-            page, _, anchor = html.unescape(target).partition("#")
-            there = pages.get(page or name, "")
-            if not there or anchor and f'id="{html.escape(anchor)}"' not in there:
-                wrong.append(f"{name}: {target}")
+    for page in sorted(out.glob("*.html")):
+        for target in sorted(set(re.findall(r'href="([^":]*)"', page.read_text(encoding="utf-8")))):
+            file, _, anchor = html.unescape(target).partition("#")
+            there = page.parent / file if file else page
+            if not there.is_file() or anchor and f'id="{html.escape(anchor)}"' not in there.read_text(encoding="utf-8"):
+                wrong.append(f"{page.name}: {target}")
     check.case(f"the links of {out.name}", not wrong, wrong)
 
 
@@ -83,6 +82,10 @@ def main(check: checks.Check) -> None:
         check.case(f"{language}: the first page begins with its example", 0 <= at < 2000, at)
         if language in OWN:
             links(check, out / language)
+    languages.repository(out)
+    named = languages.released_pages.named()
+    for folder in sorted({(out / path).parent for path in named if path.endswith(".md")}):
+        links(check, folder)
     languages.front(out, made)
     for language in made:
         place = languages.LANGUAGES[language][2]

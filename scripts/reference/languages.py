@@ -8,7 +8,8 @@ A language has a folder, whose page begins with an example that the checks run, 
 pages are those that users of the language expect: of rustdoc, of Sphinx for Python, of YARD for Ruby and of Doxygen for
 C. Those of Go (in the form of pkg.go.dev, by go/doc), of TypeScript (by its compiler) and of Rattle are made here. A
 language whose tool is absent is left out, which a line on the standard error reports. No library has to be built. The
-same tools make the same bytes of the same commit.
+same tools make the same bytes of the same commit. With all languages there are also the pages of the folder docs, the
+examples, and what the packages' own pages link to, each at its path.
 """
 from __future__ import annotations
 
@@ -31,6 +32,10 @@ import rattle_pages
 
 PARTS = pathlib.Path(__file__).resolve().parent
 ROOT = PARTS.parent.parent
+sys.path.insert(1, str(PARTS.parent))
+
+import released_pages  # noqa: E402
+
 TITLE = "Pendratsoa"
 
 
@@ -415,11 +420,42 @@ def made(language: str, out: pathlib.Path) -> Undocumented:
         return LANGUAGES[language][0](Work(out / language, pathlib.Path(work)))
 
 
+def repository(out: pathlib.Path) -> None:
+    """The pages and programs of the repository that the packages name, at their paths there; pages as HTML, whose links
+    to others of them are links."""
+    named = released_pages.named()
+    for path in named:
+        target = out / released_pages.archived(path)
+        target.parent.mkdir(parents=True, exist_ok=True)
+        if not path.endswith(".md"):
+            shutil.copyfile(ROOT / path, target)
+            continue
+
+        def to(link: str, page: str = path) -> str | None:
+            file, _, anchor = link.partition("#")
+            if re.match(r"https?:", link):
+                return link
+            found = released_pages.target(page, file)
+            if found not in named:
+                return None
+            place = os.path.relpath(released_pages.archived(found), os.path.dirname(page))
+            return f"{place}#{anchor}" if anchor else place
+
+        text = (ROOT / path).read_text(encoding="utf-8")
+        title = re.match(r"# (.*)", text)
+        write(target, title[1] if title else path, markdown_page.converted(text, to))
+
+
 def front(out: pathlib.Path, languages: list[str]) -> None:
-    """The page that leads to the languages that were made."""
+    """The page that leads to the languages that were made, and to the pages of the repository that are there."""
     rows = "".join(f'<li><a href="{LANGUAGES[name][2]}">{LANGUAGES[name][1]}</a></li>\n' for name in languages)
-    write(out / "index.html", f"{TITLE} {version()}",
-          f"<h1>{TITLE} {version()}</h1>\n<p>The reference of each language:</p>\n<ul>\n{rows}</ul>")
+    body = f"<h1>{TITLE} {version()}</h1>\n<p>The reference of each language:</p>\n<ul>\n{rows}</ul>"
+    there = [path for path in map(released_pages.archived, released_pages.named()) if (out / path).is_file()]
+    if there:
+        rows = "".join(f'<li><a href="{path}">{path.removesuffix(".html")}</a></li>\n'
+                       for path in [*filter(re.compile(r"\.html$").search, there), "examples/"])
+        body += f"\n<p>Pages, and programs with their streams:</p>\n<ul>\n{rows}</ul>"
+    write(out / "index.html", f"{TITLE} {version()}", body)
 
 
 def make(out: pathlib.Path, languages: collections.abc.Iterable[str]) -> dict[str, str]:
@@ -431,6 +467,8 @@ def make(out: pathlib.Path, languages: collections.abc.Iterable[str]) -> dict[st
             made(language, out)
         except NotMade as why:
             left_out[language] = str(why)
+    if set(languages) == set(LANGUAGES):
+        repository(out)
     front(out, [language for language in LANGUAGES if language in languages and language not in left_out])
     return left_out
 

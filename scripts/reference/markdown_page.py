@@ -2,6 +2,7 @@
 that GitHub gives them, paragraphs, lists, tables, blocks of code, links, code and bold text."""
 from __future__ import annotations
 
+import collections.abc
 import html
 import re
 
@@ -11,7 +12,16 @@ def anchor(heading: str) -> str:
     return re.sub(r"[^a-z0-9_ -]", "", heading.lower()).replace(" ", "-")
 
 
-def inline(text: str) -> str:
+# Where a link of a page leads, by what the page has for it; None where that is nowhere.
+To = collections.abc.Callable[[str], "str | None"]
+
+
+def nowhere(_: str) -> str | None:
+    """A page of which no other one is there has only the texts of its links to them."""
+    return None
+
+
+def inline(text: str, to: To = nowhere) -> str:
     """A text within a paragraph."""
     parts = text.split("`")
     for number, part in enumerate(parts):
@@ -22,26 +32,31 @@ def inline(text: str) -> str:
             part = re.sub(r"\*\*(.+?)\*\*", r"<b>\1</b>", part)
             parts[number] = part
     joined = "".join(parts)
-    # a link to a page of this repository has its text only, and one within the page is a link
+    # a link within the page is one, and one that leads nowhere is its text
     joined = re.sub(r"\[([^\]]+)\]\((#[^)]*)\)", r'<a href="\2">\1</a>', joined)
-    return re.sub(r"\[([^\]]+)\]\([^)]*\)", r"\1", joined)
+
+    def linked(link: re.Match[str]) -> str:
+        found = to(html.unescape(link[2]))
+        return link[1] if found is None else f'<a href="{html.escape(found)}">{link[1]}</a>'
+
+    return re.sub(r"\[([^\]]+)\]\(([^)]*)\)", linked, joined)
 
 
 def cells(row: str) -> list[str]:
     return [cell.strip() for cell in re.split(r"(?<!\\)\|", row.strip().strip("|"))]
 
 
-def table(rows: list[str], ids: list[str] | None = None) -> str:
+def table(rows: list[str], ids: list[str] | None = None, to: To = nowhere) -> str:
     """A table; its rows may have anchors."""
     head, _, *others = rows
-    shown = ["<tr>" + "".join(f"<th>{inline(cell)}</th>" for cell in cells(head)) + "</tr>"]
+    shown = ["<tr>" + "".join(f"<th>{inline(cell, to)}</th>" for cell in cells(head)) + "</tr>"]
     for number, row in enumerate(others):
         of = f' id="{ids[number]}"' if ids else ""
-        shown.append(f"<tr{of}>" + "".join(f"<td>{inline(cell)}</td>" for cell in cells(row)) + "</tr>")
+        shown.append(f"<tr{of}>" + "".join(f"<td>{inline(cell, to)}</td>" for cell in cells(row)) + "</tr>")
     return "<table>\n" + "\n".join(shown) + "\n</table>\n"
 
 
-def converted(text: str) -> str:
+def converted(text: str, to: To = nowhere) -> str:
     """A page, or the text of a comment."""
     out: list[str] = []
     lines = text.splitlines()
@@ -72,9 +87,9 @@ def converted(text: str) -> str:
         elif heading:
             number += 1
             level = len(heading[1])
-            out.append(f'<h{level} id="{anchor(heading[2])}">{inline(heading[2])}</h{level}>')
+            out.append(f'<h{level} id="{anchor(heading[2])}">{inline(heading[2], to)}</h{level}>')
         elif line.startswith("|"):
-            out.append(table(taken(r"\|")))
+            out.append(table(taken(r"\|"), to=to))
         elif re.match(r"([-*]|\d+\.) ", line):
             items: list[str] = []
             while number < len(lines) and lines[number].strip() and not re.match(r"\||#|```", lines[number]):
@@ -84,12 +99,12 @@ def converted(text: str) -> str:
                 else:
                     items[-1] += " " + lines[number].strip()
                 number += 1
-            out.append("<ul>" + "".join(f"<li>{inline(item)}</li>" for item in items) + "</ul>")
+            out.append("<ul>" + "".join(f"<li>{inline(item, to)}</li>" for item in items) + "</ul>")
         else:
             paragraph = [line]
             number += 1
             while number < len(lines) and lines[number].strip() and not re.match(r"\||#|```|[-*] ", lines[number]):
                 paragraph.append(lines[number])
                 number += 1
-            out.append(f"<p>{inline(' '.join(paragraph))}</p>")
+            out.append(f"<p>{inline(' '.join(paragraph), to)}</p>")
     return "\n".join(out) + "\n"
