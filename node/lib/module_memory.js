@@ -1,5 +1,5 @@
 // The memory of the WebAssembly module, and the arguments of its calls: checked as src/arguments.c checks those of the
-// addon, with the same errors. module_calls.js has the calls.
+// addon, with the same errors; of an array of numbers that looks only at the size. module_calls.js has the calls.
 
 import { TOO_LONG, UNKNOWN_CODE, UNKNOWN_SCHEMA, UNKNOWN_VERSION } from './declared.js';
 

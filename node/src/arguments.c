@@ -148,16 +148,18 @@ static enum reading read_flag(napi_env env, enum parameter parameter, napi_value
 }
 
 /*
- * Reads a typed array of a type. One over shared memory is not taken, since another thread may change it while a call
+ * Reads the bytes of a Uint8Array. One over shared memory is not taken, since another thread may change it while a call
  * reads it, nor one whose buffer is detached, since it would seem to be empty.
  */
-static enum reading read_array(napi_env env, enum parameter parameter, napi_value value, napi_typedarray_type wanted,
-                               const char *has_to_be, void **elements, size_t *length) {
+static enum reading read_bytes(napi_env env, enum parameter parameter, napi_value value, struct slice *slice) {
+    /* a text is encoded before it comes here */
+    const char *has_to_be = parameter == JSON ? "a string or a Uint8Array" : "a Uint8Array";
     bool is_own = false;
     bool is_detached = false;
-    napi_typedarray_type type = wanted;
+    void *bytes = NULL;
+    napi_typedarray_type type = napi_uint8_array;
     napi_value buffer = NULL;
-    napi_status status = napi_get_typedarray_info(env, value, &type, length, elements, &buffer, NULL);
+    napi_status status = napi_get_typedarray_info(env, value, &type, &slice->length, &bytes, &buffer, NULL);
 
     if (status == napi_invalid_arg) {
         return wrong_value(env, parameter, value, has_to_be);
@@ -165,7 +167,7 @@ static enum reading read_array(napi_env env, enum parameter parameter, napi_valu
     if (!succeeded(env, status)) {
         return THROWN;
     }
-    if (type != wanted) {
+    if (type != napi_uint8_array) {
         return wrong_kind(env, parameter, "another typed array", has_to_be);
     }
     if (!succeeded(env, napi_is_arraybuffer(env, buffer, &is_own))) {
@@ -175,30 +177,42 @@ static enum reading read_array(napi_env env, enum parameter parameter, napi_valu
         return wrong_kind(env, parameter, "a view on shared memory", "a copy of it");
     }
     /* a view on a detached buffer has no elements */
-    if (*length == 0 && !succeeded(env, napi_is_detached_arraybuffer(env, buffer, &is_detached))) {
+    if (slice->length == 0 && !succeeded(env, napi_is_detached_arraybuffer(env, buffer, &is_detached))) {
         return THROWN;
     }
-    return is_detached ? wrong_kind(env, parameter, "a view on a detached buffer", has_to_be) : READ;
-}
-
-static enum reading read_bytes(napi_env env, enum parameter parameter, napi_value value, struct slice *slice) {
-    void *bytes = NULL;
-    /* a text is encoded before it comes here */
-    const char *has_to_be = parameter == JSON ? "a string or a Uint8Array" : "a Uint8Array";
-    enum reading reading = read_array(env, parameter, value, napi_uint8_array, has_to_be, &bytes, &slice->length);
-
+    if (is_detached) {
+        return wrong_kind(env, parameter, "a view on a detached buffer", has_to_be);
+    }
     slice->bytes = bytes;
-    return reading;
+    return READ;
 }
 
+/*
+ * Reads an array of numbers of 64 bits, which the folder lib made. Node-API tells the type of a typed array by eleven
+ * calls, which take as long as all else of an array, so this looks only whether its elements are within the buffer.
+ */
 static enum reading read_numbers(napi_env env, enum parameter parameter, napi_value value, uint64_t **numbers,
                                  size_t *count) {
     void *elements = NULL;
-    enum reading reading =
-        read_array(env, parameter, value, napi_biguint64_array, "a BigUint64Array", &elements, count);
+    size_t offset = 0;
+    size_t size = 0;
+    napi_value buffer = NULL;
+    napi_status status = napi_get_typedarray_info(env, value, NULL, count, &elements, &buffer, &offset);
 
+    if (status == napi_ok) {
+        status = napi_get_arraybuffer_info(env, buffer, NULL, &size);
+    }
+    if (status == napi_invalid_arg) {
+        return wrong_value(env, parameter, value, "a BigUint64Array");
+    }
+    if (!succeeded(env, status)) {
+        return THROWN;
+    }
+    if (offset % sizeof **numbers != 0 || offset > size || *count > (size - offset) / sizeof **numbers) {
+        return wrong_kind(env, parameter, "another typed array", "a BigUint64Array");
+    }
     *numbers = elements;
-    return reading;
+    return READ;
 }
 
 static enum reading read_argument(napi_env env, enum parameter parameter, napi_value value,
