@@ -11,6 +11,7 @@ use Rattle.shared_core_stream.specs.Items.{SplitsInto}
 use Rattle.stream_lines.specs.Printing.{all_lines, first_trouble, Begins}
 use Rattle.stream_renumbering.specs.Streams.{item_bytes, item_trouble, IsLong}
 use Rattle.descriptor_set.specs.Descriptors.{IsDescriptorSet}
+use Rattle.descriptor_set.specs.Sets.{IsSetOf}
 use Rattle.descriptor_set.specs.declared.set.DescriptorSet.{DescriptorSet}
 use Rattle.schema_lines.specs.declared.numbering.Direction.{Direction}
 use Rattle.schema_lines.specs.declared.numbering.Direction.TheVariants.{Reading, Writing}
@@ -33,16 +34,16 @@ abbrev pub direction_of : ℕ → Option Direction
 direction_of number =
     if nat_eq number 0 then Some Reading else (if nat_eq number 1 then Some Writing else None)
 
--- Entries are all those of the numbering of the messages of some set with some renames, in their order. No contract
--- specifies the messages that are read of a set's bytes.
-abbrev pub IsNumberingOf : Direction → List Renumbering → Type 0
-IsNumberingOf direction entries =
-    (found : DescriptorSet) × (renames : List Rename) × (numbering_entries found renames direction ≡ Ok entries)
+-- Entries are all those of the numbering of what is read of a set, with some renames, in their order.
+abbrev pub IsNumberingOf : Direction → List ℕ → List Renumbering → Type 0
+IsNumberingOf direction set entries =
+    (found : DescriptorSet) × IsSetOf set found × (renames : List Rename)
+    × (numbering_entries found renames direction ≡ Ok entries)
 
 -- The entries of the numbering of a set, which is then a descriptor set: each is of a field of the protocol.
 abbrev pub FindsNumbering : {Z : Type 0} → Direction → List ℕ → Result (Vec Renumbering Z) CallError → Type 0
 FindsNumbering direction set (Ok entries) =
-    IsDescriptorSet set × All (IsOurs direction) entries.items × IsNumberingOf direction entries.items
+    IsDescriptorSet set × All (IsOurs direction) entries.items × IsNumberingOf direction set entries.items
 FindsNumbering direction set (Err Malformed) = Unit {0}
 FindsNumbering direction set (Err OutOfMemory) = Unit {0}
 FindsNumbering direction set (Err error) = ⊥
@@ -53,7 +54,7 @@ FindsNumbering direction set (Err error) = ⊥
 abbrev pub WritesNumbering : ℕ → List ℕ → List Renumbering → List Renumbering → Result ℕ CallError → Type 0
 WritesNumbering number set old new (Ok count) =
     (direction : Direction) × (direction_of number ≡ Some direction) × IsDescriptorSet set
-    × (entries : List Renumbering) × All (IsOurs direction) entries × IsNumberingOf direction entries
+    × (entries : List Renumbering) × All (IsOurs direction) entries × IsNumberingOf direction set entries
     × (count ≡ length entries) × (new ≡ front_over entries old)
 WritesNumbering number set old new (Err UnknownOption) = (direction_of number ≡ None) × (new ≡ old)
 WritesNumbering number set old new (Err Malformed) = (direction_of number ≢ None) × (new ≡ old)

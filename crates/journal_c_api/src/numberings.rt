@@ -4,6 +4,7 @@ ghost use Rattle.std.specs.Prelude.{◌≡◌, ◌≤◌, All, IfOk};
 ghost use Rattle.shared_core_base.specs.Version.{version_number};
 ghost use Rattle.schema_lines.specs.Numberings.{IsOurs};
 ghost use Rattle.descriptor_set.specs.Descriptors.{IsDescriptorSet};
+ghost use Rattle.descriptor_set.specs.Sets.{IsSetOf};
 ghost use Rattle.journal_c_api.specs.Numberings.{direction_of, front_over, FindsNumbering, IsDumpBy, ReturnsDump};
 ghost use Rattle.journal_c_api.specs.Numberings.{ReturnsItems, ReturnsLines, ReturnsRenumbered, ReturnsStream};
 ghost use Rattle.journal_c_api.specs.Numberings.{IsNumberingOf, WritesList};
@@ -344,7 +345,7 @@ fn numbering(
 ) -> Result<Vec<Renumbering>, Rejection>
     ensures set { IfOk result (λ _. IsDescriptorSet set.now) }
     ensures ours { IfOk result (λ entries. All (IsOurs direction) entries.items) }
-    ensures exact { IfOk result (λ entries. IsNumberingOf direction entries.items) }
+    ensures exact { IfOk result (λ entries. IsNumberingOf direction set.now entries.items) }
 {
     let lines = lines_of(alloc, renames)?;
     let set = descriptors(alloc, set)?;
@@ -369,7 +370,8 @@ fn list_of(alloc: Global, set: &[u8], renames: &[u8]) -> Result<Vec<u8>, Rejecti
 
 /// Reads a set.
 fn descriptors(alloc: Global, set: &[u8]) -> Result<DescriptorSet, Rejection>
-    ensures { IfOk result (λ _. IsDescriptorSet set.now) }
+    ensures set { IfOk result (λ _. IsDescriptorSet set.now) }
+    ensures read { IfOk result (λ read. IsSetOf set.now read) }
 {
     match read_set(alloc, set) {
         Ok(set) => Ok(set),
