@@ -48,7 +48,8 @@ impl<'a, M: MessageTable> Dumping<'a, M> {
         ensures { (read : List ℕ) × (written : List ℕ)
             × Consumes (R.remaining input.old) (R.remaining input.new) read
             × Appends (W.contents output.old) (W.contents output.new) written
-            × IsDumpedIn (M.reading self.now.messages.now) self.now.options result read written (R.remaining input.new) }
+            × IsDumpedIn (M.reading self.now.messages.now) self.now.options result read written
+            (R.remaining input.new) }
     {
         let printer = Printer {
             options: self.options,

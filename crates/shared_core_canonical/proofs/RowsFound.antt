@@ -265,10 +265,11 @@ all_at test rows place q (r ∷ rs) h =
 module _ (nested : NestedBytes) where
   -- what is written of the records that were found, in the order of their rows
   pub sorted_are : (rows : List Row) (rs : List FieldRecord) (ps : List (Placed Record)) → are_distinct
-      (all_numbers rows) ≡ true → AreInOrder field_record_of (records_found rows 0 rs) ps → places_record nested rows 0 (found_views ps)
-      ≡ rows_record nested rows rs
+      (all_numbers rows) ≡ true → AreInOrder field_record_of (records_found rows 0 rs) ps → places_record nested rows 0
+      (found_views ps) ≡ rows_record nested rows rs
   sorted_are rows rs ps d o =
-      places_agree nested rows 0 (found_views ps) (records_found rows 0 rs) (λ q l. sym (views_at field_record_of q ps) ∙ o.same q)
+      places_agree nested rows 0 (found_views ps) (records_found rows 0 rs)
+      (λ q l. sym (views_at field_record_of q ps) ∙ o.same q)
       ∙ places_are nested rows 0 rs d
 
 -- records in the order of their rows pass what all records pass

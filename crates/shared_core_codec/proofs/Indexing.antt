@@ -140,7 +140,8 @@ more_indexes : (schemas : List (Vec LoadedRow Global)) (indexes : List (Vec Numb
     → AllZip HasIndex (take i schemas) indexes → HasIndex rows index
     → AllZip HasIndex (take (suc i) schemas) (indexes ++ index ∷ [])
 more_indexes [] indexes i rows index l e h own = absurd (omega arith)
-more_indexes (one ∷ schemas) [] zero rows index l e h own = (subst (λ (v : Vec LoadedRow Global). HasIndex v index) e own, tt)
+more_indexes (one ∷ schemas) [] zero rows index l e h own =
+    (subst (λ (v : Vec LoadedRow Global). HasIndex v index) e own, tt)
 more_indexes (one ∷ schemas) (other ∷ indexes) zero rows index l e h own = absurd h
 more_indexes (one ∷ schemas) [] (suc i) rows index l e h own = absurd h
 more_indexes (one ∷ schemas) (other ∷ indexes) (suc i) rows index l e h own =

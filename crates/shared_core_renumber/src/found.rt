@@ -29,8 +29,8 @@ pub fn sorted_records<'a>(
     own: &[Renumbering],
     source: &Source<'a>,
 ) -> Result<Vec<Placed<Found<'a>>>, AllocError>
-    ensures { IfOk result (λ found. AreInOrder value_view (ranked (length own.now) (records_found source.now.schema own.now
-        (records_read source.now.left source.now.bytes.now))) found.items) }
+    ensures { IfOk result (λ found. AreInOrder value_view (ranked (length own.now)
+        (records_found source.now.schema own.now (records_read source.now.left source.now.bytes.now))) found.items) }
 {
     let mut found = find_records(own, source)?;
     sort_by_place(&mut found)?;

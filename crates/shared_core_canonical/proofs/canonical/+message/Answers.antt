@@ -61,7 +61,8 @@ message-append_rows-requires g t c =
     let ps = c.as_slice.result.now in
     let same : rows ≡ table c.args.schema = c.rows_of-rows.ensures in
     let order : AreInOrder field_record_of (records_found rows 0 rs) ps = subst
-    (λ (qs : List (Placed Record)). AreInOrder field_record_of (records_found rows 0 rs) qs) (sym c.as_slice.ensures.value)
+    (λ (qs : List (Placed Record)). AreInOrder field_record_of (records_found rows 0 rs) qs)
+    (sym c.as_slice.ensures.value)
     c.in_ok-found.ensures in
     let pass : list_all (accepts_record (accepts_message table left) rows) rs ≡ true = ap
     (λ (ks : List Row). list_all (accepts_record (accepts_message table left) ks) rs) same ∙
@@ -80,7 +81,8 @@ message-returns g t c =
     let ps = c.as_slice.result.now in
     let same : rows ≡ table c.args.schema = c.rows_of-rows.ensures in
     let order : AreInOrder field_record_of (records_found rows 0 rs) ps = subst
-    (λ (qs : List (Placed Record)). AreInOrder field_record_of (records_found rows 0 rs) qs) (sym c.as_slice.ensures.value)
+    (λ (qs : List (Placed Record)). AreInOrder field_record_of (records_found rows 0 rs) qs)
+    (sym c.as_slice.ensures.value)
     c.in_ok-found.ensures in
     let written : c.append_rows.new.out.items ≡ c.new-out.result.items ++ places_record nested rows 0 (found_views ps) =
     c.in_ok-append_rows.ensures in
