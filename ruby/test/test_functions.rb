@@ -70,7 +70,8 @@ class TestNames < Minitest::Test
 
   def test_a_schema_by_its_name
     assert_equal Pendratsoa.to_json(13, "\x12\x01x"), Pendratsoa.to_json("ErrorMessage", "\x12\x01x")
-    error = assert_error(Pendratsoa::Unknown, 'canonical: unknown schema "Error"') do
+    text = 'canonical: unknown schema "Error"; did you mean "ErrorMessage"?'
+    error = assert_error(Pendratsoa::Unknown, text) do
       Pendratsoa.canonical("Error", "")
     end
     assert_equal ["canonical", :schema, "Error"], [error.call, error.argument, error.value]
