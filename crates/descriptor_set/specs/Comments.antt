@@ -15,7 +15,7 @@ use Rattle.descriptor_set.specs.declared.comments.Comments.{Comments}
 use Rattle.descriptor_set.specs.Codes.{said_codes}
 use Rattle.descriptor_set.specs.Values.{content_in, contents_in, records_in}
 
--- The low 32 bits of varints, one after the other; the first one was read or not. There are at most so many.
+-- The low 32 bits of varints that follow one another, at most this many. The first one was read, where it could be.
 abbrev pub numbers_past : ℕ → Option (ℕ × List ℕ) → List ℕ
 numbers_past zero found = []
 numbers_past (suc most) None = []

@@ -6,7 +6,7 @@ use Rattle.std.specs.declared.alloc.Global.{Global}
 use Rattle.shared_core_wire.specs.Schema.{Row, all_numbers, includes, numbers, table_of}
 use Rattle.shared_core_codec.specs.declared.row_index.NumberPlace.{NumberPlace}
 
--- There are so many rows, and none of the first ones, up to a place, has a number.
+-- A place is at most the number of rows, and none of the rows before it has a field number.
 abbrev pub LackUpTo : List Row → ℕ → ℕ → Type 0
 LackUpTo rows place n = (place ≤ length rows) × (includes (all_numbers (take place rows)) n ≡ false)
 
