@@ -1,7 +1,10 @@
 //! The fields of messages.
 
-ghost use Rattle.std.specs.Prelude.{◌≡◌};
+ghost use Rattle.std.specs.Prelude.{◌≡◌, IfOk};
 ghost use Rattle.descriptor_set.specs.FieldReading.{kind_of};
+ghost use Rattle.descriptor_set.specs.Tables.{is_among, is_oneof, oneof_of, with_oneof};
+
+use std::alloc::AllocError;
 
 /// The type of a field, by the name that .proto files have for it.
 #[derive(Clone, Copy, Debug, PartialEq, Eq)]
@@ -93,6 +96,48 @@ pub enum Presence {
     Repeated,
     /// A member of the oneof of this index.
     Member(u32),
+}
+
+impl Presence {
+    /// The index of the oneof of a field, if it is in one.
+    pub fn oneof(self) -> Option<u32>
+        ensures { result ≡ oneof_of self }
+    {
+        match self {
+            Presence::Member(oneof) => Some(oneof),
+            _ => None,
+        }
+    }
+
+    /// Whether a field is a member of the oneof of an index.
+    pub fn is_member_of(self, oneof: u32) -> bool
+        ensures { result ≡ is_oneof oneof (oneof_of self) }
+    {
+        match self.oneof() {
+            Some(other) => other == oneof,
+            None => false,
+        }
+    }
+
+    /// Whether a field is a member of one of the oneofs of these indices.
+    pub fn is_among(self, oneofs: &[u32]) -> bool
+        ensures { result ≡ is_among oneofs.now (oneof_of self) }
+    {
+        match self.oneof() {
+            Some(oneof) => oneofs.contains(&oneof),
+            None => false,
+        }
+    }
+
+    /// Appends the index of the oneof of a field, if it is in one.
+    pub fn append_oneof(self, oneofs: &mut Vec<u32>) -> Result<(), AllocError>
+        ensures { IfOk result (λ _. oneofs.new.items ≡ with_oneof oneofs.old.items (oneof_of self)) }
+    {
+        if let Some(oneof) = self.oneof() {
+            oneofs.push(oneof)?;
+        }
+        Ok(())
+    }
 }
 
 /// A field of a message.

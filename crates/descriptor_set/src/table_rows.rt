@@ -3,8 +3,7 @@
 ghost use Rattle.std.specs.Prelude.{◌≡◌, ◌∷◌, ◌++◌, [], IfErr, IfOk, None, map};
 ghost use Rattle.shared_core_codec.specs.LoadedRows.{row_view, rows_view};
 ghost use Rattle.shared_core_codec.specs.ProgramRows.{field_view};
-ghost use Rattle.descriptor_set.specs.Tables.{field_rows, formed_in, is_among, is_oneof, members_of, oneof_of};
-ghost use Rattle.descriptor_set.specs.Tables.{row_at, rows_from, unknown_in, with_oneof};
+ghost use Rattle.descriptor_set.specs.Tables.{field_rows, formed_in, members_of, row_at, rows_from, unknown_in};
 ghost use Rattle.descriptor_set.specs.TableErrors.{IsUnknown, IsUnknownOf, place_at, place_view};
 ghost use Rattle.descriptor_set.specs.TableErrors.{text_at};
 
@@ -99,46 +98,6 @@ fn formed_of(
     Ok(formed)
 }
 
-/// The oneof of a field, if it is in one.
-fn oneof_of(presence: Presence) -> Option<u32>
-    ensures { result ≡ oneof_of presence }
-{
-    match presence {
-        Presence::Member(oneof) => Some(oneof),
-        _ => None,
-    }
-}
-
-/// Whether a oneof that may be there is a given one.
-fn is_oneof(oneof: u32, found: Option<u32>) -> bool
-    ensures { result ≡ is_oneof oneof found }
-{
-    match found {
-        Some(other) => other == oneof,
-        None => false,
-    }
-}
-
-/// Whether a oneof, if there is one, is among these.
-fn is_among(seen: &[u32], oneof: Option<u32>) -> bool
-    ensures { result ≡ is_among seen.now oneof }
-{
-    match oneof {
-        Some(oneof) => seen.contains(&oneof),
-        None => false,
-    }
-}
-
-/// Appends a oneof, if there is one.
-fn append_oneof(seen: &mut Vec<u32>, oneof: Option<u32>) -> Result<(), AllocError>
-    ensures { IfOk result (λ _. seen.new.items ≡ with_oneof seen.old.items oneof) }
-{
-    if let Some(oneof) = oneof {
-        seen.push(oneof)?;
-    }
-    Ok(())
-}
-
 /// The members of a oneof: the first one, and those among the fields that follow.
 fn members_of(
     alloc: Global,
@@ -161,7 +120,7 @@ fn append_members(members: &mut Vec<Field>, oneof: u32, fields: &[Formed]) -> Re
 {
     let mut rest = fields;
     while let Some((formed, after)) = rest.split_first() {
-        if is_oneof(oneof, oneof_of(formed.presence)) {
+        if formed.presence.is_member_of(oneof) {
             members.push(formed.field)?;
         }
         rest = after;
@@ -193,11 +152,10 @@ fn rows_of(alloc: Global, fields: &[Formed]) -> Result<Vec<LoadedRow>, AllocErro
     let mut seen = Vec::new(alloc);
     let mut rest = fields;
     while let Some((first, after)) = rest.split_first() {
-        let oneof = oneof_of(first.presence);
-        if !is_among(seen.as_slice(), oneof) {
+        if !first.presence.is_among(seen.as_slice()) {
             let row = row_at(alloc, first, after)?;
             rows.push(row)?;
-            append_oneof(&mut seen, oneof)?;
+            first.presence.append_oneof(&mut seen)?;
         }
         rest = after;
     }

@@ -8,7 +8,7 @@ ghost use Rattle.shared_core_codec.specs.Table.{table};
 ghost use Rattle.shared_core_json.specs.Fields.{name_view};
 ghost use Rattle.schema_lines.specs.Messages.{items_of};
 ghost use Rattle.schema_lines.specs.Numberings.{nested_of, IsMatch, IsOurs};
-ghost use Rattle.descriptor_set.specs.Tables.{is_among, is_oneof, oneof_of, with_oneof};
+ghost use Rattle.descriptor_set.specs.Tables.{oneof_of};
 ghost use Rattle.schema_lines.specs.Entries.{entries_from, entry_of, IsNumbering, last_group, match_of};
 ghost use Rattle.schema_lines.specs.Entries.{matches_of, member_numbers, members_of, number_entries};
 ghost use Rattle.schema_lines.specs.Entries.{numbering_entries};
@@ -20,7 +20,7 @@ use crate::fields::matching;
 use crate::kinds::{is_same_kind, message_at, our_field};
 use crate::pairs::Pairs;
 use crate::renames::Rename;
-use descriptor_set::{DescriptorSet, FieldDescriptor, Presence, table_of};
+use descriptor_set::{DescriptorSet, FieldDescriptor, table_of};
 use shared_core_codec::any_table::{RowShape, SchemaRow};
 use shared_core_codec::rows::{Field, Kind, Row, rows_of};
 use shared_core_json::names::{Name, names_of};
@@ -233,26 +233,6 @@ fn our_rows(alloc: Global, schema: u32) -> Result<Vec<Vec<u32>>, AllocError>
     Ok(rows)
 }
 
-/// The index of the oneof of a field, if it is in one.
-fn oneof_of(presence: Presence) -> Option<u32>
-    ensures { result ≡ oneof_of presence }
-{
-    match presence {
-        Presence::Member(oneof) => Some(oneof),
-        _ => None,
-    }
-}
-
-/// Whether a field is a member of a oneof.
-fn is_member(presence: Presence, oneof: u32) -> bool
-    ensures { result ≡ is_oneof oneof (oneof_of presence) }
-{
-    match oneof_of(presence) {
-        Some(other) => other == oneof,
-        None => false,
-    }
-}
-
 /// Appends the numbers of a oneof's members among some fields.
 fn append_members(
     row: &mut Vec<u32>,
@@ -263,7 +243,7 @@ fn append_members(
 {
     let mut rest = fields;
     while let Some((field, after)) = rest.split_first() {
-        if is_member(field.presence, oneof) {
+        if field.presence.is_member_of(oneof) {
             row.push(field.number)?;
         }
         rest = after;
@@ -281,30 +261,10 @@ fn row_at(
 {
     let mut row = Vec::new(alloc);
     row.push(field.number)?;
-    if let Some(oneof) = oneof_of(field.presence) {
+    if let Some(oneof) = field.presence.oneof() {
         append_members(&mut row, oneof, rest)?;
     }
     Ok(row)
-}
-
-/// Whether a oneof, if there is one, is among these.
-fn is_among(seen: &[u32], oneof: Option<u32>) -> bool
-    ensures { result ≡ is_among seen.now oneof }
-{
-    match oneof {
-        Some(oneof) => seen.contains(&oneof),
-        None => false,
-    }
-}
-
-/// Appends a oneof, if there is one.
-fn append_oneof(seen: &mut Vec<u32>, oneof: Option<u32>) -> Result<(), AllocError>
-    ensures { IfOk result (λ _. seen.new.items ≡ with_oneof seen.old.items oneof) }
-{
-    if let Some(oneof) = oneof {
-        seen.push(oneof)?;
-    }
-    Ok(())
 }
 
 /// The rows of a message of a set, by the numbers of their fields: a oneof is a row at its first member.
@@ -315,11 +275,10 @@ fn their_rows(alloc: Global, fields: &[FieldDescriptor]) -> Result<Vec<Vec<u32>>
     let mut seen = Vec::new(alloc);
     let mut rest = fields;
     while let Some((field, after)) = rest.split_first() {
-        let oneof = oneof_of(field.presence);
-        if !is_among(seen.as_slice(), oneof) {
+        if !field.presence.is_among(seen.as_slice()) {
             let row = row_at(alloc, field, after)?;
             rows.push(row)?;
-            append_oneof(&mut seen, oneof)?;
+            field.presence.append_oneof(&mut seen)?;
         }
         rest = after;
     }
