@@ -1,10 +1,16 @@
 //! What subcommands have in common: how one is called, and how it reports.
+//!
+//! Where a function here or of a subcommand has a status as its error, what is wrong was reported before.
 
 use clap::Error;
-use command_line::{Input, OpenError, Progress, fail, note, note_terminal, open, report};
+use command_line::{Input, Progress, fail, note, note_terminal, open, report};
 use std::fmt::Display;
+use std::io::IsTerminal;
 use std::process::ExitCode;
-use stream_lines::Trouble;
+use stream_lines::{PrintError, Trouble};
+
+/// The status if the arguments cannot be followed: a file cannot be opened, say.
+pub const INVALID: u8 = 2;
 
 /// A call of a subcommand.
 #[derive(Clone, Copy, Drop)]
@@ -19,10 +25,31 @@ pub struct Call<'a> {
 }
 
 impl<'a> Call<'a> {
+    /// Prints what is wrong with the arguments, or the help or the version that they request, and returns the status.
+    pub fn report(&self, error: &Error) -> ExitCode {
+        report(self.rt, self.name, error, self.failure)
+    }
+
+    /// Fails if the output is a terminal, which takes some bytes of `what` as commands.
+    pub fn expect_redirected(&self, what: &str) -> Result<(), ExitCode> {
+        if !self.rt.stdout().is_terminal() {
+            return Ok(());
+        }
+        Err(fail(
+            self.rt,
+            self.name,
+            format_args!("{what} is not written to a terminal: redirect it"),
+            INVALID,
+        ))
+    }
+
     /// Opens a file for reading, or the standard input if the path is `-`. If that is a terminal, says that it is read.
-    pub fn open<'p>(&self, path: &'p str) -> Result<Input, OpenError<'p>> {
+    pub fn open(&self, path: &str) -> Result<Input, ExitCode> {
         note_terminal(self.rt, self.name, path);
-        open(self.rt, path)
+        match open(self.rt, path) {
+            Ok(input) => Ok(input),
+            Err(error) => Err(self.fail(error, INVALID)),
+        }
     }
 
     /// Prints a text in a line on the standard error, after the name.
@@ -41,6 +68,20 @@ impl<'a> Call<'a> {
             return ExitCode::from(self.failure);
         }
         self.fail(why, self.failure)
+    }
+
+    /// Prints why an input was not printed, and returns the status. If the reader of the output has closed it, which
+    /// `is_closed` tells, nothing is printed.
+    pub fn fail_printing(
+        &self,
+        error: PrintError,
+        is_closed: bool,
+        progress: &Progress<'_>,
+    ) -> ExitCode {
+        match error {
+            PrintError::Output if is_closed => ExitCode::from(self.failure),
+            error => self.fail_reading(error, progress),
+        }
     }
 
     /// Reports what is wrong with the item at an offset.
@@ -70,10 +111,5 @@ impl<'a> Call<'a> {
             self.name,
             format_args!("offset {offset}: {count} {bytes} after the last whole item"),
         );
-    }
-
-    /// Prints what is wrong with the arguments, or the help or the version that they request, and returns the status.
-    pub fn report(&self, error: &Error) -> ExitCode {
-        report(self.rt, self.name, error, self.failure)
     }
 }

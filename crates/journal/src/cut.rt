@@ -6,13 +6,12 @@ ghost use Rattle.shared_core_base.specs.Version.{version_number};
 
 use crate::call::Call;
 use crate::definitions;
-use crate::fitting::{Asked, version_of};
-use crate::parts::{File, LACKING};
+use crate::file::File;
+use crate::parts::LACKING;
 use clap::error::ErrorKind;
 use clap::{ArgMatches, Command, Error};
-use command_line::{Pipe, encoding_of, fail, is_auto, max_message_of, protocol_of};
+use command_line::{Pipe, fail};
 use std::alloc::Global;
-use std::io::IsTerminal;
 use std::process::ExitCode;
 use stream_parts::{Located, Range};
 
@@ -20,8 +19,6 @@ use stream_parts::{Located, Range};
 #[derive(Drop)]
 struct Arguments<'a> {
     file: File<'a>,
-    /// Whether the version is to be the newest that the stream fits.
-    is_auto: bool,
     range: Range,
 }
 
@@ -67,22 +64,13 @@ fn parse_arguments<'a>(
     name: &'static str,
     words: &'a [String],
 ) -> Result<Arguments<'a>, Error>
-    ensures { IfOk result (λ parsed. 5 ≤ version_number parsed.file.version) }
+    ensures { IfOk result (λ parsed. 5 ≤ version_number parsed.file.options.version) }
 {
     let mut command = definitions::CUT.command(alloc, name)?.no_binary_name(true);
     let matches = command.try_get_matches_from_mut(words)?;
-    let limit = max_message_of(&mut command, &matches)?;
+    let file = File::of(&mut command, &matches)?;
     let range = range_of(&mut command, &matches)?;
-    Ok(Arguments {
-        file: File {
-            path: matches.get_str("file").unwrap_or("-"),
-            version: protocol_of(&matches),
-            limit,
-            encoding: encoding_of(&matches),
-        },
-        is_auto: is_auto(&matches),
-        range,
-    })
+    Ok(Arguments { file, range })
 }
 
 /// Reports that the journal lacks a command of the range, and returns the status.
@@ -119,9 +107,9 @@ fn fail_lacking(call: &Call<'_>, path: &str, range: Range, commands: u64) -> Exi
     }
 }
 
-/// Writes the part. The error is the status, after what is wrong was reported.
+/// Writes the part. The error is the status.
 fn write(call: &Call<'_>, file: &File<'_>, located: &Located) -> Result<(), ExitCode>
-    requires { 5 ≤ version_number file.now.version }
+    requires { 5 ≤ version_number file.now.options.version }
 {
     let mut output = Pipe::new(call.rt.stdout());
     let mut part = located.part();
@@ -134,36 +122,18 @@ fn write(call: &Call<'_>, file: &File<'_>, located: &Located) -> Result<(), Exit
 }
 
 /// Parses the arguments, writes the part, and returns the status.
-pub fn run(call: &Call<'_>) -> ExitCode {
+pub fn run(call: &Call<'_>) -> Result<ExitCode, ExitCode> {
     let parsed = match parse_arguments(call.rt.alloc(), call.name, call.words) {
         Ok(parsed) => parsed,
-        Err(error) => return call.report(&error),
+        Err(error) => return Err(call.report(&error)),
     };
-    if call.rt.stdout().is_terminal() {
-        return call.fail("the stream is not written to a terminal: redirect it", 2);
+    call.expect_redirected("the stream")?;
+    let file = parsed.file.fitted(call)?;
+    let located = file.locate(call, parsed.range)?;
+    let commands = located.all.commands;
+    if parsed.range.is_lacking(commands) {
+        return Err(fail_lacking(call, file.path, parsed.range, commands));
     }
-    let asked = Asked {
-        version: parsed.file.version,
-        is_auto: parsed.is_auto,
-        limit: parsed.file.limit,
-        encoding: parsed.file.encoding,
-    };
-    let version = match version_of(call, &asked, &[parsed.file.path]) {
-        Ok(version) => version,
-        Err(status) => return status,
-    };
-    let file = File {
-        version,
-        ..parsed.file
-    };
-    match file.locate(call, parsed.range) {
-        Ok(located) if parsed.range.is_lacking(located.all.commands) => {
-            fail_lacking(call, file.path, parsed.range, located.all.commands)
-        }
-        Ok(located) => match write(call, &file, &located) {
-            Ok(()) => ExitCode::SUCCESS,
-            Err(status) => status,
-        },
-        Err(status) => status,
-    }
+    write(call, &file, &located)?;
+    Ok(ExitCode::SUCCESS)
 }

@@ -7,13 +7,10 @@ use crate::beginning::{Beginning, Begun};
 use crate::call::Call;
 use crate::definitions;
 use crate::dump::Records;
-use crate::fitting::{Asked, all_fitting};
+use crate::file::{File, FileOptions};
+use crate::fitting::all_fitting;
 use clap::Error;
-use command_line::{
-    Decoding, Input, Pipe, Progress, encoding_of, fail, input_size, is_auto, max_message_of,
-    protocol_of,
-};
-use encoded_input::Encoding;
+use command_line::{Decoding, Input, Pipe, Progress, fail, input_size};
 use shared_core_base::version::Version;
 use std::alloc::{AllocError, Global};
 use std::process::ExitCode;
@@ -25,36 +22,13 @@ use terminal_text::{Escapes, push_escaped};
 /// The number of bytes that are read at a time.
 const CHUNK: usize = 65536;
 
-/// The status if a stream cannot be opened.
-const UNOPENED: u8 = 2;
-
 /// The parsed arguments.
 #[derive(Drop)]
 struct Arguments<'a> {
     /// The paths of the streams; `-` is the standard input.
     paths: Vec<&'a str>,
-    version: Version,
-    /// Whether the version of each stream is to be the newest that it fits.
-    is_auto: bool,
-    /// The greatest length of a payload that is taken.
-    limit: u32,
-    /// How the files are written, if they are text.
-    encoding: Option<Encoding>,
-}
-
-impl<'a> Arguments<'a> {
-    /// How the streams are read.
-    fn asked(&self) -> Asked
-        requires { 5 ≤ version_number self.now.version }
-        ensures { 5 ≤ version_number result.version }
-    {
-        Asked {
-            version: self.version,
-            is_auto: self.is_auto,
-            limit: self.limit,
-            encoding: self.encoding,
-        }
-    }
+    /// How each of them is read, at a version of its own if that is to be found.
+    options: FileOptions,
 }
 
 /// Parses the arguments. The error is an invalid argument, or a request for the help or the version.
@@ -63,24 +37,18 @@ fn parse_arguments<'a>(
     name: &'static str,
     words: &'a [String],
 ) -> Result<Arguments<'a>, Error>
-    ensures { IfOk result (λ parsed. 5 ≤ version_number parsed.version) }
+    ensures { IfOk result (λ parsed. 5 ≤ version_number parsed.options.version) }
 {
     let mut command = definitions::DESCRIBE
         .command(alloc, name)?
         .no_binary_name(true);
     let matches = command.try_get_matches_from_mut(words)?;
-    let limit = max_message_of(&mut command, &matches)?;
+    let options = FileOptions::of(&mut command, &matches)?;
     let mut paths = Vec::new(alloc);
     for path in matches.get_strs("file").unwrap_or(&["-"]) {
         paths.push(*path)?;
     }
-    Ok(Arguments {
-        paths,
-        version: protocol_of(&matches),
-        is_auto: is_auto(&matches),
-        limit,
-        encoding: encoding_of(&matches),
-    })
+    Ok(Arguments { paths, options })
 }
 
 /// How the description of a stream ended, after what is wrong was reported.
@@ -105,19 +73,25 @@ fn report_rest(call: &Call<'_>, version: Version, beginning: &Beginning, found: 
     }
 }
 
-/// Describes the input of a path, of a version.
-fn describe_input(call: &Call<'_>, asked: &Asked, path: &str, input: Input) -> Ended
-    requires { 5 ≤ version_number asked.now.version }
+/// Describes the input of a file.
+fn describe_input(call: &Call<'_>, file: &File<'_>, input: Input) -> Ended
+    requires { 5 ≤ version_number file.now.options.version }
 {
+    let FileOptions {
+        version,
+        limit,
+        encoding,
+        ..
+    } = file.options;
     let options = Options {
-        version: asked.version,
-        limit: asked.limit,
+        version,
+        limit,
         chunk_size: CHUNK,
     };
     let progress = Progress::beside_output(call.rt, call.name, input_size(&input));
     let beginning = Beginning::new();
     let mut input = Begun::new(
-        Decoding::new(input, path, asked.encoding, &progress),
+        Decoding::new(input, file.path, encoding, &progress),
         &beginning,
     );
     let mut output = Pipe::new(call.rt.stdout());
@@ -125,7 +99,7 @@ fn describe_input(call: &Call<'_>, asked: &Asked, path: &str, input: Input) -> E
     progress.clear();
     match described {
         Ok(found) => {
-            report_rest(call, options.version, &beginning, &found);
+            report_rest(call, version, &beginning, &found);
             Ended::Whole
         }
         // the reader has closed the output, so nothing is reported
@@ -172,46 +146,55 @@ fn write_fits(call: &Call<'_>, numbers: &str) -> Ended {
     }
 }
 
-/// Describes the stream of a path.
-fn describe_path(call: &Call<'_>, asked: &Asked, path: &str) -> Ended
-    requires { 5 ≤ version_number asked.now.version }
+/// Describes the stream of a file.
+fn describe_file(call: &Call<'_>, file: &File<'_>) -> Ended
+    requires { 5 ≤ version_number file.now.options.version }
 {
-    match call.open(path) {
-        Ok(input) => describe_input(call, asked, path, input),
-        Err(error) => Ended::Failed(call.fail(error, UNOPENED)),
+    match call.open(file.path) {
+        Ok(input) => describe_input(call, file, input),
+        Err(status) => Ended::Failed(status),
     }
 }
 
-/// Describes the stream of a path, after which versions it fits, by the newest of these.
-fn describe_fitting(call: &Call<'_>, asked: &Asked, path: &str) -> Ended {
-    let (version, numbers) = match all_fitting(call, asked, path) {
+/// Describes the stream of a file, after which versions it fits, by the newest of these.
+fn describe_fitting(call: &Call<'_>, file: &File<'_>) -> Ended {
+    let (version, numbers) = match all_fitting(call, file) {
         Ok(found) => found,
         Err(status) => return Ended::Failed(status),
     };
+    let options = FileOptions {
+        version,
+        ..file.options
+    };
     match write_fits(call, numbers) {
-        Ended::Whole => describe_path(call, &Asked { version, ..*asked }, path),
+        Ended::Whole => describe_file(call, &File { options, ..*file }),
         ended => ended,
     }
 }
 
 /// Describes the streams, and returns the status: 0, or that of the last stream that has another one. Where the output
 /// fails, it is the last.
-fn describe_all(call: &Call<'_>, asked: &Asked, paths: &[&str]) -> ExitCode
-    requires { 5 ≤ version_number asked.now.version }
+fn describe_all(call: &Call<'_>, parsed: &Arguments<'_>) -> ExitCode
+    requires { 5 ≤ version_number parsed.now.options.version }
 {
+    let options = parsed.options;
     let mut status = ExitCode::SUCCESS;
-    for (index, path) in paths.iter().enumerate() {
-        if paths.len() > 1 {
+    for (index, path) in parsed.paths.iter().enumerate() {
+        if parsed.paths.len() > 1 {
             match write_heading(call, *path, index == 0) {
                 Ended::Whole => {}
                 Ended::Failed(failed) => return failed,
                 Ended::Closed => return ExitCode::from(call.failure),
             }
         }
-        let ended = if asked.is_auto {
-            describe_fitting(call, asked, *path)
+        let file = File {
+            path: *path,
+            options,
+        };
+        let ended = if options.is_auto {
+            describe_fitting(call, &file)
         } else {
-            describe_path(call, asked, *path)
+            describe_file(call, &file)
         };
         match ended {
             Ended::Whole => {}
@@ -223,9 +206,9 @@ fn describe_all(call: &Call<'_>, asked: &Asked, paths: &[&str]) -> ExitCode
 }
 
 /// Parses the arguments, describes the streams, and returns the status.
-pub fn run(call: &Call<'_>) -> ExitCode {
+pub fn run(call: &Call<'_>) -> Result<ExitCode, ExitCode> {
     match parse_arguments(call.rt.alloc(), call.name, call.words) {
-        Ok(parsed) => describe_all(call, &parsed.asked(), parsed.paths.as_slice()),
-        Err(error) => call.report(&error),
+        Ok(parsed) => Ok(describe_all(call, &parsed)),
+        Err(error) => Err(call.report(&error)),
     }
 }

@@ -1,6 +1,6 @@
 //! Descriptor sets: which one a call names, reading it, and reporting why there is none.
 
-use crate::call::Call;
+use crate::call::{Call, INVALID};
 use crate::similar::push_similar;
 use clap::error::ErrorKind;
 use clap::{ArgMatches, Command, Error};
@@ -20,9 +20,6 @@ use std::env::{self, VarError};
 use std::io::{self, Read};
 use std::process::ExitCode;
 use terminal_text::{Escapes, push_escaped};
-
-/// The status if a set is not there, or is none.
-const NO_SET: u8 = 2;
 
 /// The variable of the environment that names a set where no option does.
 const VARIABLE: &str = "PENDRATSOA_SCHEMA";
@@ -81,12 +78,12 @@ pub fn schema_path(
                 call.rt,
                 call.name,
                 format_args!("{VARIABLE} is not UTF-8"),
-                NO_SET,
+                INVALID,
             ));
         }
     };
     match why_not(path.as_ref().map(|path| path.as_str()), schema, input) {
-        Some(why) => Err(call.fail(why, NO_SET)),
+        Some(why) => Err(call.fail(why, INVALID)),
         None => Ok(path),
     }
 }
@@ -266,10 +263,7 @@ fn made_of<T: Drop>(
 /// the status.
 pub fn read_descriptors(call: &Call<'_>, path: &str) -> Result<DescriptorSet, ExitCode> {
     let alloc = call.rt.alloc();
-    let input = match call.open(path) {
-        Ok(input) => input,
-        Err(error) => return Err(call.fail(error, NO_SET)),
-    };
+    let input = call.open(path)?;
     let bytes = match read(alloc, input) {
         Ok(bytes) => bytes,
         Err(error) => {
@@ -289,7 +283,7 @@ pub fn read_descriptors(call: &Call<'_>, path: &str) -> Result<DescriptorSet, Ex
             format_args!(
                 "{path}: a text, and not a descriptor set, which this makes of a .proto file: protoc --include_imports -o schema.binpb {path}",
             ),
-            NO_SET,
+            INVALID,
         )),
         Err(error) => Err(fail_descriptors(call, path, error)),
     }
@@ -299,7 +293,7 @@ pub fn read_descriptors(call: &Call<'_>, path: &str) -> Result<DescriptorSet, Ex
 pub fn fail_descriptors(call: &Call<'_>, path: &str, error: DescriptorError) -> ExitCode {
     match error {
         DescriptorError::OutOfMemory => call.fail(error, call.failure),
-        error => fail(call.rt, call.name, format_args!("{path}: {error}"), NO_SET),
+        error => fail(call.rt, call.name, format_args!("{path}: {error}"), INVALID),
     }
 }
 
@@ -313,7 +307,7 @@ pub fn fail_schema(
     if let SchemaError::Rename(index, fault) = error {
         if let Some(rename) = renames.get(index) {
             return match rename_text(call.rt.alloc(), set, rename, fault) {
-                Ok(text) => call.fail(text, NO_SET),
+                Ok(text) => call.fail(text, INVALID),
                 Err(error) => call.fail(error, call.failure),
             };
         }

@@ -15,7 +15,7 @@ use crate::diff::arguments::{Arguments, ValuesChoice, parse_arguments};
 use crate::diff::inputs::{Inputs, closed_side, open_both, open_both_by};
 use crate::diff::their_lines::{Shown, their_json, their_text};
 use crate::diff::theirs::{TheirDifference, Unread, their_difference};
-use crate::fitting::{Asked, version_of};
+use crate::file::File;
 use crate::renumbered::description_for;
 use command_line::{Decoding, Pipe, Progress, has_color};
 use diff_lines::{
@@ -135,9 +135,14 @@ fn options_of<'a>(call: &Call<'_>, parsed: &Arguments<'a>, is_terminal: bool) ->
 }
 
 /// Compares the two inputs, prints the verdict and returns its status.
-fn run_parsed<'a>(call: &Call<'a>, parsed: &Arguments<'a>, inputs: Inputs) -> ExitCode
-    requires { 5 ≤ version_number parsed.now.version }
+fn run_parsed<'a>(
+    call: &Call<'a>,
+    parsed: &Arguments<'a>,
+    inputs: Inputs,
+) -> Result<ExitCode, ExitCode>
+    requires { 5 ≤ version_number parsed.now.options.version }
 {
+    let version = parsed.options.version;
     let progress = Progress::new(call.rt, call.name, inputs.size());
     let beginnings = Beginnings {
         recorded: Beginning::new(),
@@ -146,10 +151,10 @@ fn run_parsed<'a>(call: &Call<'a>, parsed: &Arguments<'a>, inputs: Inputs) -> Ex
     let alloc = call.rt.alloc();
     let Inputs { recorded, replayed } = inputs;
     let journals = Journals {
-        version: parsed.version,
+        version,
         recorded: ItemReader::with_limit(
             alloc,
-            parsed.version,
+            version,
             recorded.limit,
             Begun::new(
                 Decoding::new(
@@ -163,7 +168,7 @@ fn run_parsed<'a>(call: &Call<'a>, parsed: &Arguments<'a>, inputs: Inputs) -> Ex
         ),
         replayed: ItemReader::with_limit(
             alloc,
-            parsed.version,
+            version,
             replayed.limit,
             Begun::new(
                 Decoding::new(
@@ -189,81 +194,64 @@ fn run_parsed<'a>(call: &Call<'a>, parsed: &Arguments<'a>, inputs: Inputs) -> Ex
     match found {
         Ok(found) => {
             tell(call, &found);
-            ExitCode::from(if found.is_same { 0 } else { 1 })
+            Ok(ExitCode::from(if found.is_same { 0 } else { 1 }))
         }
         // the reader has closed the output, so nothing is reported
-        Err(DiffError::Output) if output.is_broken() => ExitCode::from(call.failure),
+        Err(DiffError::Output) if output.is_broken() => Err(ExitCode::from(call.failure)),
         // it was reported what is wrong with the input
-        Err(_) if progress.has_reported() => ExitCode::from(call.failure),
-        Err(error) => end_without(call, parsed.version, error, &beginnings),
+        Err(_) if progress.has_reported() => Err(ExitCode::from(call.failure)),
+        Err(error) => Err(end_without(call, version, error, &beginnings)),
     }
 }
 
 /// Parses the arguments, compares the journals, and returns the status.
-pub fn run(call: &Call<'_>) -> ExitCode {
+pub fn run(call: &Call<'_>) -> Result<ExitCode, ExitCode> {
     let mut parsed = match parse_arguments(call.rt.alloc(), call.name, call.words) {
         Ok(parsed) => parsed,
-        Err(error) => return call.report(&error),
+        Err(error) => return Err(call.report(&error)),
     };
     if let Some(side) = closed_side(call.rt, &parsed) {
-        return call.fail(ReaderError::Read(side), call.failure);
+        return Err(call.fail(ReaderError::Read(side), call.failure));
     }
     let standard = standard_input(&parsed);
-    let description = match description_for(call, &parsed.schema, standard, parsed.is_auto) {
-        Ok(description) => description,
-        Err(status) => return status,
-    };
-    let asked = Asked {
-        version: parsed.version,
-        is_auto: parsed.is_auto,
-        limit: parsed.limit,
-        encoding: parsed.encoding,
-    };
-    parsed.version = match version_of(call, &asked, &[parsed.recorded, parsed.replayed]) {
-        Ok(version) => version,
-        Err(status) => return status,
-    };
-    let Some(description) = description else {
-        return run_plain(call, &parsed);
-    };
-    // a dump has names, and no numbers
-    if parsed.is_dump {
-        return run_plain(call, &parsed);
+    let description = description_for(call, &parsed.schema, &standard)?;
+    parsed.options = parsed
+        .options
+        .fitted(call, &[parsed.recorded, parsed.replayed])?;
+    match description {
+        // a dump has names, and no numbers
+        Some(description) if !parsed.is_dump => run_by_set(call, &parsed, &description),
+        _ => run_parsed(call, &parsed, open_both(call, &parsed)?),
     }
-    run_by_set(call, &parsed, &description)
 }
 
-/// The path of the journal that comes from the standard input, or else of the recorded one.
-fn standard_input<'a>(parsed: &Arguments<'a>) -> &'a str {
-    if parsed.replayed == "-" {
-        return parsed.replayed;
-    }
-    parsed.recorded
-}
-
-/// Opens both journals, compares them, and returns the status.
-fn run_plain(call: &Call<'_>, parsed: &Arguments<'_>) -> ExitCode
-    requires { 5 ≤ version_number parsed.now.version }
-{
-    match open_both(call, parsed) {
-        Ok(inputs) => run_parsed(call, parsed, inputs),
-        Err(status) => status,
+/// The journal that comes from the standard input, or else the recorded one.
+fn standard_input<'a>(parsed: &Arguments<'a>) -> File<'a> {
+    let path = if parsed.replayed == "-" {
+        parsed.replayed
+    } else {
+        parsed.recorded
+    };
+    File {
+        path,
+        options: parsed.options,
     }
 }
 
 /// Opens both journals by a set, compares them, also by the fields that only the set has, and returns the status.
-fn run_by_set(call: &Call<'_>, parsed: &Arguments<'_>, description: &Description) -> ExitCode
-    requires { 5 ≤ version_number parsed.now.version }
+fn run_by_set(
+    call: &Call<'_>,
+    parsed: &Arguments<'_>,
+    description: &Description,
+) -> Result<ExitCode, ExitCode>
+    requires { 5 ≤ version_number parsed.now.options.version }
 {
     let entries = description.numbering.as_slice();
-    let (inputs, given) = match open_both_by(call, parsed, entries) {
-        Ok(opened) => opened,
-        Err(status) => return status,
-    };
-    match their_difference(call.rt.alloc(), parsed.version, description, &given) {
+    let (inputs, given) = open_both_by(call, parsed, entries)?;
+    match their_difference(call.rt.alloc(), parsed.options.version, description, &given) {
         Ok(None) => run_parsed(call, parsed, inputs),
         Ok(Some(difference)) => match compared_beyond(call, parsed, &inputs, difference.index) {
-            Some(found) => end_different(call, parsed, &difference, &found),
+            Some(found) => Ok(end_different(call, parsed, &difference, &found)),
             None => run_parsed(call, parsed, inputs),
         },
         Err(Unread::Malformed(side, index)) => {
@@ -271,10 +259,10 @@ fn run_by_set(call: &Call<'_>, parsed: &Arguments<'_>, description: &Description
                 return run_parsed(call, parsed, inputs);
             }
             let error = ReaderError::Bench(BenchError::Malformed { side, index });
-            call.fail(error, call.failure)
+            Err(call.fail(error, call.failure))
         }
-        Err(Unread::TooLong) => call.fail("a canonical payload is too long", call.failure),
-        Err(Unread::OutOfMemory) => call.fail("out of memory", call.failure),
+        Err(Unread::TooLong) => Err(call.fail("a canonical payload is too long", call.failure)),
+        Err(Unread::OutOfMemory) => Err(call.fail("out of memory", call.failure)),
     }
 }
 
@@ -286,10 +274,10 @@ fn compared_beyond(
     inputs: &Inputs,
     index: u64,
 ) -> Option<Comparison>
-    requires { 5 ≤ version_number parsed.now.version }
+    requires { 5 ≤ version_number parsed.now.options.version }
 {
     let alloc = call.rt.alloc();
-    let version = parsed.version;
+    let version = parsed.options.version;
     let journals = Journals {
         version,
         recorded: ItemReader::new(alloc, version, Cursor::new(inputs.recorded.bytes())),

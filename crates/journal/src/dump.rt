@@ -9,16 +9,20 @@ mod suggestions;
 
 use crate::beginning::{Beginning, Begun};
 use crate::call::Call;
-use crate::descriptors::{read_messages, schema_path};
+use crate::descriptors::read_messages;
 use crate::dump::arguments::{Arguments, parse_arguments};
 pub use crate::dump::canonical::Records;
-use crate::fitting::{Asked, NOT_BY_A_SET, version_of};
-use command_line::{Decoding, Input, Pipe, Progress, input_size, note};
+use crate::file::FileOptions;
+use crate::renumbered::set_path;
+use command_line::{Decoding, Pipe, Progress, input_size, note};
 use dump_lines::{Dumping, MOST_SHOWN, MessageTable, Options, ProtocolTable};
 use std::io::IsTerminal;
 use std::process::ExitCode;
-use stream_lines::{PrintError, Report};
+use stream_lines::Report;
 use terminal_text::{Escapes, Escaping};
+
+/// The status of `--strict` if something is wrong with the stream.
+const UNFIT: u8 = 2;
 
 /// Reports the first error of the stream and the trailing bytes, and returns the status.
 fn end(call: &Call<'_>, options: &Options<'_>, beginning: &Beginning, found: &Report) -> ExitCode {
@@ -35,7 +39,7 @@ fn end(call: &Call<'_>, options: &Options<'_>, beginning: &Beginning, found: &Re
         }
     }
     if options.strict && (found.trouble.is_some() || found.rest > 0) {
-        return ExitCode::from(2);
+        return ExitCode::from(UNFIT);
     }
     ExitCode::SUCCESS
 }
@@ -58,18 +62,23 @@ fn report_rest(call: &Call<'_>, options: &Options<'_>, found: &Report) {
     );
 }
 
-/// Dumps the input, whose payloads are read by a table, and returns the status.
-fn run_parsed<M: MessageTable>(
+/// Dumps the stream, whose payloads are read by a table, and returns the status.
+fn run_by<M: MessageTable>(
     call: &Call<'_>,
     parsed: &Arguments<'_>,
     messages: &M,
-    input: Input,
-) -> ExitCode
-    requires { 5 ≤ version_number parsed.now.version }
+) -> Result<ExitCode, ExitCode>
+    requires { 5 ≤ version_number parsed.now.file.options.version }
 {
+    let FileOptions {
+        version,
+        limit,
+        encoding,
+        ..
+    } = parsed.file.options;
     let options = Options {
-        version: parsed.version,
-        limit: parsed.limit,
+        version,
+        limit,
         codes: parsed.codes.as_slice(),
         payloads: parsed.payloads,
         texts: parsed.texts,
@@ -78,10 +87,11 @@ fn run_parsed<M: MessageTable>(
         rest: parsed.codes.is_empty(),
         strict: parsed.strict,
     };
+    let input = call.open(parsed.file.path)?;
     let progress = Progress::beside_output(call.rt, call.name, input_size(&input));
     let beginning = Beginning::new();
     let mut input = Begun::new(
-        Decoding::new(input, parsed.path, parsed.encoding, &progress),
+        Decoding::new(input, parsed.file.path, encoding, &progress),
         &beginning,
     );
     let is_terminal = call.rt.stdout().is_terminal();
@@ -103,59 +113,22 @@ fn run_parsed<M: MessageTable>(
     };
     progress.clear();
     match dumped {
-        Ok(found) => end(call, &options, &beginning, &found),
-        // the reader has closed the output, so nothing is reported
-        Err(PrintError::Output) if output.is_broken() => ExitCode::from(call.failure),
-        Err(error) => call.fail_reading(error, &progress),
-    }
-}
-
-/// Opens the stream, dumps it by a table, and returns the status.
-fn run_by<M: MessageTable>(call: &Call<'_>, parsed: &Arguments<'_>, messages: &M) -> ExitCode
-    requires { 5 ≤ version_number parsed.now.version }
-{
-    match call.open(parsed.path) {
-        Ok(input) => run_parsed(call, parsed, messages, input),
-        Err(error) => call.fail(error, 2),
-    }
-}
-
-/// Dumps the stream by the descriptor set of a file, and returns the status.
-fn run_by_set(call: &Call<'_>, parsed: &Arguments<'_>, path: &str) -> ExitCode
-    requires { 5 ≤ version_number parsed.now.version }
-{
-    match read_messages(call, path, parsed.schema.renames.as_slice()) {
-        Ok(messages) => run_by(call, parsed, &messages.table()),
-        Err(status) => status,
+        Ok(found) => Ok(end(call, &options, &beginning, &found)),
+        Err(error) => Err(call.fail_printing(error, output.is_broken(), &progress)),
     }
 }
 
 /// Parses the arguments, dumps the stream, and returns the status.
-pub fn run(call: &Call<'_>) -> ExitCode {
+pub fn run(call: &Call<'_>) -> Result<ExitCode, ExitCode> {
     let mut parsed = match parse_arguments(call.rt.alloc(), call.name, call.words) {
         Ok(parsed) => parsed,
-        Err(error) => return call.report(&error),
+        Err(error) => return Err(call.report(&error)),
     };
-    let path = match schema_path(call, &parsed.schema, parsed.path) {
-        Ok(path) => path,
-        Err(status) => return status,
-    };
-    if let Some(path) = path {
-        if parsed.is_auto {
-            return call.fail(NOT_BY_A_SET, 2);
-        }
-        return run_by_set(call, &parsed, path.as_str());
+    if let Some(path) = set_path(call, &parsed.schema, &parsed.file)? {
+        let messages = read_messages(call, path.as_str(), parsed.schema.renames.as_slice())?;
+        return run_by(call, &parsed, &messages.table());
     }
-    let asked = Asked {
-        version: parsed.version,
-        is_auto: parsed.is_auto,
-        limit: parsed.limit,
-        encoding: parsed.encoding,
-    };
-    parsed.version = match version_of(call, &asked, &[parsed.path]) {
-        Ok(version) => version,
-        Err(status) => return status,
-    };
+    parsed.file = parsed.file.fitted(call)?;
     let messages = ProtocolTable {
         canonicalizer: &Records,
     };

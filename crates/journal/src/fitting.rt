@@ -3,10 +3,9 @@
 ghost use Rattle.std.specs.Prelude.{◌≤◌, IfOk};
 ghost use Rattle.shared_core_base.specs.Version.{version_number};
 
-use crate::call::Call;
-use crate::parts::File;
+use crate::call::{Call, INVALID};
+use crate::file::{File, FileOptions};
 use command_line::{Decoding, Progress, fail, input_size, note};
-use encoded_input::Encoding;
 use shared_core_base::version::Version;
 use std::fmt;
 use std::process::ExitCode;
@@ -15,41 +14,6 @@ use stream_versions::{Options, check, fits};
 
 /// The number of bytes that are read at a time.
 const CHUNK: usize = 65536;
-
-/// The status if no version fits, or a file cannot be read twice.
-const UNFIT: u8 = 2;
-
-/// Why no version is found of files whose payloads are read by a descriptor set.
-pub const NOT_BY_A_SET: &str =
-    "--protocol auto reads payloads by the protocol's own description, and not by a descriptor set";
-
-/// How the files of a call are read.
-#[derive(Clone, Copy, Drop)]
-pub struct Asked {
-    /// The version of the protocol, where it is given.
-    pub version: Version,
-    /// Whether the version is to be the newest that the files fit.
-    pub is_auto: bool,
-    /// The greatest length of a payload that is taken.
-    pub limit: u32,
-    /// How the files are written, if they are text.
-    pub encoding: Option<Encoding>,
-}
-
-impl Asked {
-    /// The file of a path, of a version.
-    fn file<'p>(&self, path: &'p str, version: Version) -> File<'p>
-        requires { 5 ≤ version_number version }
-        ensures { 5 ≤ version_number result.version }
-    {
-        File {
-            path,
-            version,
-            limit: self.limit,
-            encoding: self.encoding,
-        }
-    }
-}
 
 /// What does not fit a version in the file of a path.
 #[derive(Drop)]
@@ -90,16 +54,22 @@ impl<'p> fmt::Display for Misfit<'p> {
 
 /// What does not fit the version of a file in it. The error is the status, after what is wrong was reported.
 fn report_of(call: &Call<'_>, file: &File<'_>) -> Result<Report, ExitCode>
-    requires { 5 ≤ version_number file.now.version }
+    requires { 5 ≤ version_number file.now.options.version }
 {
-    let input = file.open(call)?;
+    let input = file.open_again(call)?;
+    let FileOptions {
+        version,
+        limit,
+        encoding,
+        ..
+    } = file.options;
     let options = Options {
-        version: file.version,
-        limit: file.limit,
+        version,
+        limit,
         chunk_size: CHUNK,
     };
     let progress = Progress::beside_output(call.rt, call.name, input_size(&input));
-    let mut input = Decoding::new(input, file.path, file.encoding, &progress);
+    let mut input = Decoding::new(input, file.path, encoding, &progress);
     let checked = check(call.rt.alloc(), &options, &mut input);
     progress.clear();
     match checked {
@@ -122,14 +92,21 @@ fn report_of(call: &Call<'_>, file: &File<'_>) -> Result<Report, ExitCode>
 /// status, after what is wrong was reported.
 fn misfit_of<'p>(
     call: &Call<'_>,
-    asked: &Asked,
+    options: &FileOptions,
     paths: &[&'p str],
     version: Version,
 ) -> Result<Option<Misfit<'p>>, ExitCode>
     requires { 5 ≤ version_number version }
 {
     for path in paths {
-        let found = report_of(call, &asked.file(*path, version))?;
+        let file = File {
+            path: *path,
+            options: FileOptions {
+                version,
+                ..*options
+            },
+        };
+        let found = report_of(call, &file)?;
         if !fits(&found) {
             return Ok(Some(Misfit { path: *path, found }));
         }
@@ -147,31 +124,45 @@ fn taken(call: &Call<'_>, version: Version) -> Version
     version
 }
 
-/// The version of the files: the one that is asked for, or the newest that they fit, which is reported. All versions
-/// that a stream fits read it to the same items (`fitting_versions_agree` of `stream_versions`). The error is the
-/// status, after it was reported why no version fits, or what else is wrong.
-pub fn version_of(call: &Call<'_>, asked: &Asked, paths: &[&str]) -> Result<Version, ExitCode>
-    requires { 5 ≤ version_number asked.now.version }
-    ensures { IfOk result (λ version. 5 ≤ version_number version) }
-{
-    if !asked.is_auto {
-        return Ok(asked.version);
+impl FileOptions {
+    /// How some files are read at the version that is asked for, or the newest that they fit, which is reported. All
+    /// versions that a stream fits read it to the same items (`fitting_versions_agree` of `stream_versions`). The error
+    /// is the status, after it was reported why no version fits, or what else is wrong.
+    pub fn fitted(&self, call: &Call<'_>, paths: &[&str]) -> Result<FileOptions, ExitCode>
+        requires { 5 ≤ version_number self.now.version }
+        ensures { IfOk result (λ options. 5 ≤ version_number options.version) }
+    {
+        if !self.is_auto {
+            return Ok(*self);
+        }
+        let version = newest(call, self, paths)?;
+        Ok(FileOptions { version, ..*self })
     }
-    newest(call, asked, paths)
+}
+
+impl<'a> File<'a> {
+    /// The file, as `FileOptions::fitted` has it read.
+    pub fn fitted(&self, call: &Call<'_>) -> Result<File<'a>, ExitCode>
+        requires { 5 ≤ version_number self.now.options.version }
+        ensures { IfOk result (λ file. 5 ≤ version_number file.options.version) }
+    {
+        let options = self.options.fitted(call, &[self.path])?;
+        Ok(File { options, ..*self })
+    }
 }
 
 /// The newest version that the files fit. What fits version 7 or 8 fits 9 too, and 5 and 6 fit alike (`fits_go_on`), so
 /// two are tried; the third is for the error.
-fn newest(call: &Call<'_>, asked: &Asked, paths: &[&str]) -> Result<Version, ExitCode>
+fn newest(call: &Call<'_>, options: &FileOptions, paths: &[&str]) -> Result<Version, ExitCode>
     ensures { IfOk result (λ version. 5 ≤ version_number version) }
 {
-    let Some(last) = misfit_of(call, asked, paths, Version::V9)? else {
+    let Some(last) = misfit_of(call, options, paths, Version::V9)? else {
         return Ok(taken(call, Version::V9));
     };
-    let Some(first) = misfit_of(call, asked, paths, Version::V6)? else {
+    let Some(first) = misfit_of(call, options, paths, Version::V6)? else {
         return Ok(taken(call, Version::V6));
     };
-    match misfit_of(call, asked, paths, Version::V8)? {
+    match misfit_of(call, options, paths, Version::V8)? {
         Some(middle) => Err(fail_unfit(call, &first, &middle, &last)),
         None => Ok(taken(call, Version::V8)),
     }
@@ -188,22 +179,19 @@ fn fail_unfit(
         call.rt,
         call.name,
         format_args!("no version fits: 9: {last}; 7 and 8: {middle}; 5 and 6: {first}"),
-        UNFIT,
+        INVALID,
     )
 }
 
-/// The newest version that a file fits, and the numbers of all. The error is as of `version_of`.
-pub fn all_fitting(
-    call: &Call<'_>,
-    asked: &Asked,
-    path: &str,
-) -> Result<(Version, &'static str), ExitCode>
+/// The newest version that a file fits, and the numbers of all. The error is as of `FileOptions::fitted`.
+pub fn all_fitting(call: &Call<'_>, file: &File<'_>) -> Result<(Version, &'static str), ExitCode>
     ensures { IfOk result (λ found. 5 ≤ version_number found.0) }
 {
-    let paths = [path];
-    let first = misfit_of(call, asked, &paths, Version::V6)?;
-    let middle = misfit_of(call, asked, &paths, Version::V8)?;
-    let Some(last) = misfit_of(call, asked, &paths, Version::V9)? else {
+    let options = &file.options;
+    let paths = [file.path];
+    let first = misfit_of(call, options, &paths, Version::V6)?;
+    let middle = misfit_of(call, options, &paths, Version::V8)?;
+    let Some(last) = misfit_of(call, options, &paths, Version::V9)? else {
         return Ok((
             taken(call, Version::V9),
             numbers(first.is_none(), middle.is_none()),

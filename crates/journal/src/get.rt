@@ -8,30 +8,20 @@ use crate::call::Call;
 use crate::definitions;
 use crate::descriptors::{SchemaArguments, schema_arguments};
 use crate::dump::Records;
-use crate::fitting::{Asked, version_of};
-use crate::parts::File;
+use crate::file::File;
 use crate::renumbered::{Opened, numbering_for, open_numbered};
 use crate::similar::push_similar;
 use clap::error::ErrorKind;
 use clap::{ArgMatches, Command, Error};
-use command_line::{
-    Decoding, Pipe, Progress, encoding_of, fail, is_auto, max_message_of, protocol_of,
-};
-use encoded_input::Encoding;
+use command_line::{Decoding, Pipe, Progress, fail};
 use field_paths::{Answer, Request, get};
 use shared_core_json::names::names_of;
-use shared_core_renumber::Renumbering;
 use std::alloc::{AllocError, Global};
-use std::io::IsTerminal;
 use std::process::ExitCode;
-use stream_lines::PrintError;
 use stream_visits::Options;
 
 /// The number of bytes that are read at a time.
 const CHUNK: usize = 65536;
-
-/// The status if the output is a terminal, which takes some characters as commands.
-const UNWRITABLE: u8 = 2;
 
 /// The status if the field is not there.
 const LACKING: u8 = 1;
@@ -43,8 +33,6 @@ struct Arguments<'a> {
     file: File<'a>,
     /// By what payloads are read.
     schema: SchemaArguments<'a>,
-    /// Whether the version is to be the newest that the stream fits.
-    is_auto: bool,
     /// The index of the item.
     index: u64,
     /// The path of the field.
@@ -57,22 +45,16 @@ fn parse_arguments<'a>(
     name: &'static str,
     words: &'a [String],
 ) -> Result<Arguments<'a>, Error>
-    ensures { IfOk result (λ parsed. 5 ≤ version_number parsed.file.version) }
+    ensures { IfOk result (λ parsed. 5 ≤ version_number parsed.file.options.version) }
 {
     let mut command = definitions::GET.command(alloc, name)?.no_binary_name(true);
     let matches = command.try_get_matches_from_mut(words)?;
-    let limit = max_message_of(&mut command, &matches)?;
+    let file = File::of(&mut command, &matches)?;
     let index = index_of(&mut command, &matches)?;
     let schema = schema_arguments(alloc, &mut command, &matches)?;
     Ok(Arguments {
-        file: File {
-            path: matches.get_str("file").unwrap_or("-"),
-            version: protocol_of(&matches),
-            limit,
-            encoding: encoding_of(&matches),
-        },
+        file,
         schema,
-        is_auto: is_auto(&matches),
         index,
         path: matches.get_str("path").unwrap_or(""),
     })
@@ -152,7 +134,7 @@ fn end(
         Answer::Written => return ExitCode::SUCCESS,
         Answer::NoItem => {
             if index == 0 {
-                beginning.report_no_message(call, parsed.file.version);
+                beginning.report_no_message(call, parsed.file.options.version);
             }
             return fail(
                 call.rt,
@@ -175,12 +157,12 @@ fn end(
 }
 
 /// Writes the field of a stream that is opened, and returns the status.
-fn run_with(call: &Call<'_>, parsed: &Arguments<'_>, opened: Opened) -> ExitCode
-    requires { 5 ≤ version_number parsed.now.file.version }
+fn run_with(call: &Call<'_>, parsed: &Arguments<'_>, opened: Opened) -> Result<ExitCode, ExitCode>
+    requires { 5 ≤ version_number parsed.now.file.options.version }
 {
     let request = Request {
         options: Options {
-            version: parsed.file.version,
+            version: parsed.file.options.version,
             limit: opened.limit,
             chunk_size: CHUNK,
         },
@@ -197,54 +179,21 @@ fn run_with(call: &Call<'_>, parsed: &Arguments<'_>, opened: Opened) -> ExitCode
     let got = get(call.rt.alloc(), &request, &Records, &mut input, &mut output);
     progress.clear();
     match got {
-        Ok(answer) => end(call, parsed, &beginning, answer),
-        // the reader has closed the output, so nothing is reported
-        Err(PrintError::Output) if output.is_broken() => ExitCode::from(call.failure),
-        Err(error) => call.fail_reading(error, &progress),
-    }
-}
-
-/// Opens the stream, whose payloads are read by a table if there is one, writes the field, and returns the status.
-fn run_by(call: &Call<'_>, parsed: &Arguments<'_>, numbering: Option<&[Renumbering]>) -> ExitCode
-    requires { 5 ≤ version_number parsed.now.file.version }
-{
-    match open_numbered(call, &parsed.file, numbering) {
-        Ok(opened) => run_with(call, parsed, opened),
-        Err(status) => status,
+        Ok(answer) => Ok(end(call, parsed, &beginning, answer)),
+        Err(error) => Err(call.fail_printing(error, output.is_broken(), &progress)),
     }
 }
 
 /// Parses the arguments, writes the field, and returns the status.
-pub fn run(call: &Call<'_>) -> ExitCode {
+pub fn run(call: &Call<'_>) -> Result<ExitCode, ExitCode> {
     let mut parsed = match parse_arguments(call.rt.alloc(), call.name, call.words) {
         Ok(parsed) => parsed,
-        Err(error) => return call.report(&error),
+        Err(error) => return Err(call.report(&error)),
     };
-    if call.rt.stdout().is_terminal() {
-        return call.fail(
-            "a field is not written to a terminal: redirect it",
-            UNWRITABLE,
-        );
-    }
-    let file = parsed.file;
-    let numbering = match numbering_for(call, &parsed.schema, file.path, parsed.is_auto) {
-        Ok(numbering) => numbering,
-        Err(status) => return status,
-    };
-    let asked = Asked {
-        version: file.version,
-        is_auto: parsed.is_auto,
-        limit: file.limit,
-        encoding: file.encoding,
-    };
-    let version = match version_of(call, &asked, &[file.path]) {
-        Ok(version) => version,
-        Err(status) => return status,
-    };
-    parsed.file = File { version, ..file };
-    run_by(
-        call,
-        &parsed,
-        numbering.as_ref().map(|entries| entries.as_slice()),
-    )
+    call.expect_redirected("a field")?;
+    let numbering = numbering_for(call, &parsed.schema, &parsed.file)?;
+    parsed.file = parsed.file.fitted(call)?;
+    let entries = numbering.as_ref().map(|entries| entries.as_slice());
+    let opened = open_numbered(call, &parsed.file, entries)?;
+    run_with(call, &parsed, opened)
 }

@@ -12,6 +12,7 @@ mod descriptors;
 mod diff;
 mod dump;
 mod explain;
+mod file;
 mod fitting;
 mod get;
 mod list;
@@ -50,7 +51,7 @@ const IS_A_PROGRAM: &str =
 const MOST_BYTES: usize = 4096;
 
 /// Runs a subcommand, and returns its status.
-fn run(call: &Call<'_>, subcommand: Subcommand) -> ExitCode {
+fn run(call: &Call<'_>, subcommand: Subcommand) -> Result<ExitCode, ExitCode> {
     match subcommand {
         Subcommand::List => list::run(call),
         Subcommand::Dump => dump::run(call),
@@ -120,5 +121,7 @@ fn main(rt: HostRuntime) -> ExitCode {
         words: arguments.get(asked.place()..).unwrap_or(&[]),
         failure: asked.subcommand.failure(),
     };
-    run(&call, asked.subcommand)
+    match run(&call, asked.subcommand) {
+        Ok(status) | Err(status) => status,
+    }
 }

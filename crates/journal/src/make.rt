@@ -6,14 +6,14 @@ use crate::descriptors::{
     SchemaArguments, fail_descriptors, fail_schema, read_descriptors, schema_arguments, schema_path,
 };
 use clap::Error;
-use command_line::{Input, Pipe, Progress, Watched, fail, input_size, protocol_of};
+use command_line::{Pipe, Progress, Watched, fail, input_size, protocol_of};
 use descriptor_set::readable_table_of;
 use make_lines::{LineTable, MakeError, Maker, OtherLines};
 use schema_lines::schemas_of;
 use shared_core_base::version::Version;
 use shared_core_codec::any_table::ProtocolSchemas;
 use std::alloc::Global;
-use std::io::{IsTerminal, Stdout};
+use std::io::Stdout;
 use std::process::ExitCode;
 
 /// The parsed arguments.
@@ -65,14 +65,14 @@ fn end(
     }
 }
 
-/// Makes the stream of the input, whose messages are read by a table, and returns the status.
-fn run_parsed<M: LineTable>(
+/// Makes the stream of the lines, whose messages are read by a table, and returns the status.
+fn run_by<M: LineTable>(
     call: &Call<'_>,
     parsed: &Arguments<'_>,
     messages: &M,
-    input: Input,
-) -> ExitCode {
+) -> Result<ExitCode, ExitCode> {
     let rt = call.rt;
+    let input = call.open(parsed.path)?;
     let progress = Progress::beside_output(rt, call.name, input_size(&input));
     let mut input = Watched::new(input, &progress);
     let mut output = Pipe::new(rt.stdout());
@@ -83,32 +83,21 @@ fn run_parsed<M: LineTable>(
     };
     let made = maker.make(&mut input, &mut output);
     progress.clear();
-    end(call, parsed.path, made, &output)
-}
-
-/// Opens the lines, makes the stream by a table, and returns the status.
-fn run_by<M: LineTable>(call: &Call<'_>, parsed: &Arguments<'_>, messages: &M) -> ExitCode {
-    match call.open(parsed.path) {
-        Ok(input) => run_parsed(call, parsed, messages, input),
-        Err(error) => call.fail(error, 2),
-    }
+    Ok(end(call, parsed.path, made, &output))
 }
 
 /// Makes the stream by the descriptor set of a file, and returns the status.
-fn run_by_set(call: &Call<'_>, parsed: &Arguments<'_>, path: &str) -> ExitCode {
+fn run_by_set(call: &Call<'_>, parsed: &Arguments<'_>, path: &str) -> Result<ExitCode, ExitCode> {
     let alloc = call.rt.alloc();
-    let set = match read_descriptors(call, path) {
-        Ok(set) => set,
-        Err(status) => return status,
-    };
+    let set = read_descriptors(call, path)?;
     let table = match readable_table_of(alloc, &set) {
         Ok(table) => table,
-        Err(error) => return fail_descriptors(call, path, error),
+        Err(error) => return Err(fail_descriptors(call, path, error)),
     };
     let renames = parsed.schema.renames.as_slice();
     let schemas = match schemas_of(alloc, &set, renames) {
         Ok(schemas) => schemas,
-        Err(error) => return fail_schema(call, &set, renames, error),
+        Err(error) => return Err(fail_schema(call, &set, renames, error)),
     };
     let messages = OtherLines {
         table: &table,
@@ -118,19 +107,13 @@ fn run_by_set(call: &Call<'_>, parsed: &Arguments<'_>, path: &str) -> ExitCode {
 }
 
 /// Parses the arguments, makes the stream, and returns the status.
-pub fn run(call: &Call<'_>) -> ExitCode {
+pub fn run(call: &Call<'_>) -> Result<ExitCode, ExitCode> {
     let parsed = match parse_arguments(call.rt.alloc(), call.name, call.words) {
         Ok(parsed) => parsed,
-        Err(error) => return call.report(&error),
+        Err(error) => return Err(call.report(&error)),
     };
-    if call.rt.stdout().is_terminal() {
-        return call.fail("the stream is not written to a terminal: redirect it", 2);
-    }
-    let path = match schema_path(call, &parsed.schema, parsed.path) {
-        Ok(path) => path,
-        Err(status) => return status,
-    };
-    match path {
+    call.expect_redirected("the stream")?;
+    match schema_path(call, &parsed.schema, parsed.path)? {
         Some(path) => run_by_set(call, &parsed, path.as_str()),
         None => run_by(call, &parsed, &ProtocolSchemas),
     }

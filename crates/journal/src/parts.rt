@@ -7,11 +7,10 @@ mod announcing;
 
 use crate::beginning::{Beginning, Begun};
 use crate::call::Call;
+use crate::file::{File, FileOptions};
 use crate::parts::announcing::announcing;
-use command_line::{Decoding, Input, Pipe, Progress, fail, input_size, note};
-use encoded_input::Encoding;
+use command_line::{Decoding, Pipe, Progress, fail, input_size, note};
 use shared_core::encoding::RawMessage;
-use shared_core_base::version::Version;
 use std::io::Stdout;
 use std::process::ExitCode;
 use stream_lines::output::write_whole;
@@ -23,50 +22,28 @@ const CHUNK: usize = 65536;
 /// The status if a stream has no message, or lacks a command.
 pub const LACKING: u8 = 1;
 
-/// A file that is read twice.
-#[derive(Clone, Copy, Drop)]
-pub struct File<'a> {
-    /// Its path.
-    pub path: &'a str,
-    /// The version of the protocol.
-    pub version: Version,
-    /// The greatest length of a payload that is taken.
-    pub limit: u32,
-    /// How it is written, if it is text.
-    pub encoding: Option<Encoding>,
-}
-
 impl<'a> File<'a> {
-    /// Opens the file. A pipe is none, since it can be read only once.
-    pub fn open(&self, call: &Call<'_>) -> Result<Input, ExitCode> {
-        let path = self.path;
-        match call.open(path) {
-            Ok(input) if input_size(&input).is_some() => Ok(input),
-            Ok(_) => Err(fail(
-                call.rt,
-                call.name,
-                format_args!("{path}: no file, and it is read twice"),
-                2,
-            )),
-            Err(error) => Err(call.fail(error, 2)),
-        }
-    }
-
     /// Reads the items of the file, and returns where the commands of a range are. The error is the status, after what
     /// is wrong was reported.
     pub fn locate(&self, call: &Call<'_>, range: Range) -> Result<Located, ExitCode>
-        requires { 5 ≤ version_number self.now.version }
+        requires { 5 ≤ version_number self.now.options.version }
     {
-        let input = self.open(call)?;
+        let input = self.open_again(call)?;
+        let FileOptions {
+            version,
+            limit,
+            encoding,
+            ..
+        } = self.options;
         let options = Options {
-            version: self.version,
-            limit: self.limit,
+            version,
+            limit,
             chunk_size: CHUNK,
         };
         let progress = Progress::beside_output(call.rt, call.name, input_size(&input));
         let beginning = Beginning::new();
         let mut input = Begun::new(
-            Decoding::new(input, self.path, self.encoding, &progress),
+            Decoding::new(input, self.path, encoding, &progress),
             &beginning,
         );
         let located = locate(call.rt.alloc(), &options, range, &mut input);
@@ -106,7 +83,7 @@ impl<'a> File<'a> {
             );
         }
         if count > 0 && offset == 0 {
-            beginning.report_no_message(call, self.version);
+            beginning.report_no_message(call, self.options.version);
             return Err(ExitCode::from(LACKING));
         }
         Ok(located)
@@ -121,9 +98,9 @@ impl<'a> File<'a> {
         entries: u128,
         output: &mut Pipe<Stdout>,
     ) -> Result<bool, ExitCode>
-        requires { 5 ≤ version_number self.now.version }
+        requires { 5 ≤ version_number self.now.options.version }
     {
-        let frame = match announcing(call.rt.alloc(), self.version, start, entries) {
+        let frame = match announcing(call.rt.alloc(), self.options.version, start, entries) {
             Ok(Some(frame)) => frame,
             Ok(None) => return Ok(false),
             Err(error) => return Err(call.fail(error, call.failure)),
@@ -141,9 +118,9 @@ impl<'a> File<'a> {
         part: &Part,
         output: &mut Pipe<Stdout>,
     ) -> Result<(), ExitCode> {
-        let input = self.open(call)?;
+        let input = self.open_again(call)?;
         let progress = Progress::beside_output(call.rt, call.name, input_size(&input));
-        let mut input = Decoding::new(input, self.path, self.encoding, &progress);
+        let mut input = Decoding::new(input, self.path, self.options.encoding, &progress);
         let copied = copy_part(call.rt.alloc(), part, &mut input, output);
         progress.clear();
         let path = self.path;

@@ -4,21 +4,15 @@ ghost use Rattle.std.specs.Prelude.{◌≤◌, IfOk};
 ghost use Rattle.shared_core_base.specs.Version.{version_number};
 
 use crate::beginning::{Beginning, Begun};
-use crate::call::Call;
+use crate::call::{Call, INVALID};
 use crate::definitions;
-use crate::fitting::{Asked, version_of};
+use crate::file::{File, FileOptions};
 use clap::Error;
-use command_line::{
-    Decoding, Input, Pipe, Progress, encoding_of, fail, input_size, is_auto, max_message_of,
-    protocol_of,
-};
-use encoded_input::Encoding;
-use shared_core_base::version::Version;
+use command_line::{Decoding, Pipe, Progress, fail, input_size};
 use std::alloc::Global;
-use std::io::{IsTerminal, Read};
+use std::io::Read;
 use std::process::ExitCode;
 use std::{fs, io};
-use stream_lines::PrintError;
 use stream_redaction::{Key, Options, redact};
 
 /// The number of bytes that are read at a time.
@@ -30,18 +24,10 @@ const RANDOM: &str = "/dev/urandom";
 /// The parsed arguments.
 #[derive(Drop)]
 struct Arguments<'a> {
-    /// The path of the stream, or `-` for the standard input.
-    path: &'a str,
+    /// The stream.
+    file: File<'a>,
     /// The secret; none if it is random.
     secret: Option<&'a str>,
-    /// The version of the protocol.
-    version: Version,
-    /// Whether the version is to be the newest that the stream fits.
-    is_auto: bool,
-    /// The greatest length of a payload that is taken.
-    limit: u32,
-    /// How the file is written, if it is text.
-    encoding: Option<Encoding>,
 }
 
 /// Parses the arguments. The error is an invalid argument, or a request for the help or the version.
@@ -50,20 +36,15 @@ fn parse_arguments<'a>(
     name: &'static str,
     words: &'a [String],
 ) -> Result<Arguments<'a>, Error>
-    ensures { IfOk result (λ parsed. 5 ≤ version_number parsed.version) }
+    ensures { IfOk result (λ parsed. 5 ≤ version_number parsed.file.options.version) }
 {
     let mut command = definitions::REDACT
         .command(alloc, name)?
         .no_binary_name(true);
     let matches = command.try_get_matches_from_mut(words)?;
-    let limit = max_message_of(&mut command, &matches)?;
     Ok(Arguments {
-        path: matches.get_str("file").unwrap_or("-"),
+        file: File::of(&mut command, &matches)?,
         secret: matches.get_str("key"),
-        version: protocol_of(&matches),
-        is_auto: is_auto(&matches),
-        limit,
-        encoding: encoding_of(&matches),
     })
 }
 
@@ -74,7 +55,7 @@ fn random_key(rt: &HostRuntime) -> io::Result<Key> {
     Ok(Key::new(&secret))
 }
 
-/// The key of the arguments. The error is the status, after what is wrong was reported.
+/// The key of the arguments. The error is the status.
 fn key_of(call: &Call<'_>, secret: Option<&str>) -> Result<Key, ExitCode> {
     if let Some(secret) = secret {
         return Ok(Key::new(secret.as_bytes()));
@@ -85,65 +66,51 @@ fn key_of(call: &Call<'_>, secret: Option<&str>) -> Result<Key, ExitCode> {
             call.rt,
             call.name,
             format_args!("{RANDOM}: {error}; --key TEXT gives a key"),
-            2,
+            INVALID,
         )),
     }
 }
 
-/// Writes the input with its contents replaced, and returns the status.
-fn run_with(call: &Call<'_>, parsed: &Arguments<'_>, options: &Options, input: Input) -> ExitCode
-    requires version { 5 ≤ version_number options.now.version }
-    requires low { 1 ≤ options.now.chunk_size }
-    requires high { options.now.chunk_size ≤ 65536 }
+/// Writes a stream with its contents replaced, and returns the status.
+fn run_with(call: &Call<'_>, file: &File<'_>, key: Key) -> Result<ExitCode, ExitCode>
+    requires { 5 ≤ version_number file.now.options.version }
 {
+    let FileOptions {
+        version,
+        limit,
+        encoding,
+        ..
+    } = file.options;
+    let options = Options {
+        version,
+        limit,
+        chunk_size: CHUNK,
+        key,
+    };
+    let input = call.open(file.path)?;
     let progress = Progress::beside_output(call.rt, call.name, input_size(&input));
     let beginning = Beginning::new();
     let mut input = Begun::new(
-        Decoding::new(input, parsed.path, parsed.encoding, &progress),
+        Decoding::new(input, file.path, encoding, &progress),
         &beginning,
     );
     let mut output = Pipe::new(call.rt.stdout());
-    let written = redact(call.rt.alloc(), options, &mut input, &mut output);
+    let written = redact(call.rt.alloc(), &options, &mut input, &mut output);
     progress.clear();
     match written {
-        Ok(found) => beginning.end_written(call, options.version, &found),
-        // the reader has closed the output, so nothing is reported
-        Err(PrintError::Output) if output.is_broken() => ExitCode::from(call.failure),
-        Err(error) => call.fail_reading(error, &progress),
+        Ok(found) => Ok(beginning.end_written(call, version, &found)),
+        Err(error) => Err(call.fail_printing(error, output.is_broken(), &progress)),
     }
 }
 
 /// Parses the arguments, writes the stream, and returns the status.
-pub fn run(call: &Call<'_>) -> ExitCode {
-    let mut parsed = match parse_arguments(call.rt.alloc(), call.name, call.words) {
+pub fn run(call: &Call<'_>) -> Result<ExitCode, ExitCode> {
+    let parsed = match parse_arguments(call.rt.alloc(), call.name, call.words) {
         Ok(parsed) => parsed,
-        Err(error) => return call.report(&error),
+        Err(error) => return Err(call.report(&error)),
     };
-    if call.rt.stdout().is_terminal() {
-        return call.fail("the stream is not written to a terminal: redirect it", 2);
-    }
-    let asked = Asked {
-        version: parsed.version,
-        is_auto: parsed.is_auto,
-        limit: parsed.limit,
-        encoding: parsed.encoding,
-    };
-    parsed.version = match version_of(call, &asked, &[parsed.path]) {
-        Ok(version) => version,
-        Err(status) => return status,
-    };
-    let key = match key_of(call, parsed.secret) {
-        Ok(key) => key,
-        Err(status) => return status,
-    };
-    let options = Options {
-        version: parsed.version,
-        limit: parsed.limit,
-        chunk_size: CHUNK,
-        key,
-    };
-    match call.open(parsed.path) {
-        Ok(input) => run_with(call, &parsed, &options, input),
-        Err(error) => call.fail(error, 2),
-    }
+    call.expect_redirected("the stream")?;
+    let file = parsed.file.fitted(call)?;
+    let key = key_of(call, parsed.secret)?;
+    run_with(call, &file, key)
 }

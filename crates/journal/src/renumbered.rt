@@ -4,12 +4,12 @@
 ghost use Rattle.std.specs.Prelude.{◌≡◌, ◌≤◌};
 ghost use Rattle.shared_core_base.specs.Version.{version_number};
 
-use crate::call::Call;
+use crate::call::{Call, INVALID};
 use crate::descriptors::{
     Description, SchemaArguments, read_description, read_numbering, schema_path,
 };
-use crate::fitting::{Misfit, NOT_BY_A_SET};
-use crate::parts::File;
+use crate::file::{File, FileOptions};
+use crate::fitting::Misfit;
 use command_line::{Decoding, Input, Progress, fail, input_size};
 use either::Either;
 use encoded_input::Encoding;
@@ -19,8 +19,9 @@ use std::io::{self, Cursor, Read};
 use std::process::ExitCode;
 use stream_renumbering::{Options, renumber};
 
-/// The status if a stream cannot be opened, or no set can be taken.
-const UNOPENED: u8 = 2;
+/// Why no version is found of files whose payloads are read by a descriptor set.
+const NOT_BY_A_SET: &str =
+    "--protocol auto reads payloads by the protocol's own description, and not by a descriptor set";
 
 /// What a stream is read from: a file or the standard input, or a stream that was made of it.
 pub type Source = Either<Input, Cursor<Vec<u8>>>;
@@ -65,30 +66,28 @@ impl Opened {
     }
 }
 
-/// The path of the set by which an input is read, as `schema_path` has it, if the version is given.
+/// The path of the set by which a file is read, as `schema_path` has it, if the version is given.
 /// If there is none for a reason, reports it, and the error is the status.
 pub fn set_path(
     call: &Call<'_>,
     schema: &SchemaArguments<'_>,
-    input: &str,
-    is_auto: bool,
+    file: &File<'_>,
 ) -> Result<Option<String>, ExitCode> {
-    let path = schema_path(call, schema, input)?;
-    if path.is_some() && is_auto {
-        return Err(call.fail(NOT_BY_A_SET, UNOPENED));
+    let path = schema_path(call, schema, file.path)?;
+    if path.is_some() && file.options.is_auto {
+        return Err(call.fail(NOT_BY_A_SET, INVALID));
     }
     Ok(path)
 }
 
-/// The table by which the payloads of an input are read: that of the set which the options or the variable name, or
+/// The table by which the payloads of a file are read: that of the set which the options or the variable name, or
 /// none. If there is none for a reason, reports it, and the error is the status.
 pub fn numbering_for(
     call: &Call<'_>,
     schema: &SchemaArguments<'_>,
-    input: &str,
-    is_auto: bool,
+    file: &File<'_>,
 ) -> Result<Option<Vec<Renumbering>>, ExitCode> {
-    let Some(path) = set_path(call, schema, input, is_auto)? else {
+    let Some(path) = set_path(call, schema, file)? else {
         return Ok(None);
     };
     let renames = schema.renames.as_slice();
@@ -100,10 +99,9 @@ pub fn numbering_for(
 pub fn description_for(
     call: &Call<'_>,
     schema: &SchemaArguments<'_>,
-    input: &str,
-    is_auto: bool,
+    file: &File<'_>,
 ) -> Result<Option<Description>, ExitCode> {
-    let Some(path) = set_path(call, schema, input, is_auto)? else {
+    let Some(path) = set_path(call, schema, file)? else {
         return Ok(None);
     };
     let description = read_description(call, path.as_str(), schema.renames.as_slice())?;
@@ -118,13 +116,13 @@ pub fn open_numbered(
     file: &File<'_>,
     numbering: Option<&[Renumbering]>,
 ) -> Result<Opened, ExitCode>
-    requires { 5 ≤ version_number file.now.version }
+    requires { 5 ≤ version_number file.now.options.version }
 {
     let Some(entries) = numbering else {
         return Ok(Opened {
-            source: Either::Left(open_input(call, file)?),
-            encoding: file.encoding,
-            limit: file.limit,
+            source: Either::Left(call.open(file.path)?),
+            encoding: file.options.encoding,
+            limit: file.options.limit,
             end: None,
         });
     };
@@ -138,20 +136,12 @@ pub fn open_both_ways(
     file: &File<'_>,
     entries: &[Renumbering],
 ) -> Result<(Opened, Vec<u8>), ExitCode>
-    requires { 5 ≤ version_number file.now.version }
+    requires { 5 ≤ version_number file.now.options.version }
 {
     let kept = Some(Vec::new(call.rt.alloc()));
     match renumbered(call, file, entries, kept)? {
         (stream, Some(kept)) => Ok((stream, kept)),
         (_, None) => Err(call.fail("out of memory", call.failure)),
-    }
-}
-
-/// Opens an input. If it cannot be opened, reports why, and the error is the status.
-fn open_input(call: &Call<'_>, file: &File<'_>) -> Result<Input, ExitCode> {
-    match call.open(file.path) {
-        Ok(input) => Ok(input),
-        Err(error) => Err(call.fail(error, UNOPENED)),
     }
 }
 
@@ -163,17 +153,23 @@ fn renumbered(
     entries: &[Renumbering],
     kept: Option<Vec<u8>>,
 ) -> Result<(Opened, Option<Vec<u8>>), ExitCode>
-    requires { 5 ≤ version_number file.now.version }
+    requires { 5 ≤ version_number file.now.options.version }
 {
+    let FileOptions {
+        version,
+        limit,
+        encoding,
+        ..
+    } = file.options;
     let options = Options {
-        version: file.version,
-        limit: file.limit,
+        version,
+        limit,
         entries,
     };
-    let input = open_input(call, file)?;
+    let input = call.open(file.path)?;
     let progress = Progress::beside_output(call.rt, call.name, input_size(&input));
     let mut input = Keeping {
-        reader: Decoding::new(input, file.path, file.encoding, &progress),
+        reader: Decoding::new(input, file.path, encoding, &progress),
         kept,
     };
     let mut stream = Vec::new(call.rt.alloc());

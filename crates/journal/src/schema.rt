@@ -50,21 +50,18 @@ fn end(
 }
 
 /// Parses the arguments, shows the set, and returns the status.
-pub fn run(call: &Call<'_>) -> ExitCode {
+pub fn run(call: &Call<'_>) -> Result<ExitCode, ExitCode> {
     let alloc = call.rt.alloc();
     let parsed = match parse_arguments(alloc, call.name, call.words) {
         Ok(parsed) => parsed,
-        Err(error) => return call.report(&error),
+        Err(error) => return Err(call.report(&error)),
     };
-    let set = match read_descriptors(call, parsed.path) {
-        Ok(set) => set,
-        Err(status) => return status,
-    };
+    let set = read_descriptors(call, parsed.path)?;
     let mut output = Pipe::new(call.rt.stdout());
     match write_schema(alloc, &set, parsed.renames.as_slice(), &mut output) {
-        Ok(()) => ExitCode::SUCCESS,
+        Ok(()) => Ok(ExitCode::SUCCESS),
         // the reader has closed the output, so nothing is reported
-        Err(SchemaError::Output) if output.is_broken() => ExitCode::from(call.failure),
-        Err(error) => end(call, &parsed, &set, error),
+        Err(SchemaError::Output) if output.is_broken() => Err(ExitCode::from(call.failure)),
+        Err(error) => Err(end(call, &parsed, &set, error)),
     }
 }

@@ -4,37 +4,27 @@ ghost use Rattle.std.specs.Prelude.{◌≤◌, IfOk};
 ghost use Rattle.shared_core_base.specs.Version.{version_number};
 
 use crate::beginning::{Beginning, Begun};
-use crate::call::Call;
+use crate::call::{Call, INVALID};
 use crate::definitions;
 use crate::descriptors::{SchemaArguments, schema_arguments};
 use crate::dump::Records;
-use crate::fitting::{Asked, version_of};
-use crate::parts::File;
+use crate::file::File;
 use crate::renumbered::{Opened, numbering_for, open_numbered};
 use clap::error::ErrorKind;
 use clap::{ArgMatches, Command, Error};
-use command_line::{Decoding, Pipe, Progress, encoding_of, is_auto, max_message_of, protocol_of};
-use encoded_input::Encoding;
+use command_line::{Decoding, Pipe, Progress};
 use shared_core_base::version::Version;
-use shared_core_renumber::Renumbering;
 use show_lines::{Filter, Options, Showing, Test};
 use std::alloc::Global;
 use std::process::ExitCode;
-use stream_lines::PrintError;
 
 /// The parsed arguments.
 #[derive(Drop)]
 struct Arguments<'a> {
-    /// The path of the stream, or `-` for the standard input.
-    path: &'a str,
+    /// The stream.
+    file: File<'a>,
     /// By what payloads are read.
     schema: SchemaArguments<'a>,
-    version: Version,
-    /// Whether the version is to be the newest that the stream fits.
-    is_auto: bool,
-    limit: u32,
-    /// How the file is written, if it is text.
-    encoding: Option<Encoding>,
     /// The indices of the first and the last item that have lines.
     from: u64,
     to: u64,
@@ -47,11 +37,11 @@ struct Arguments<'a> {
 impl<'a> Arguments<'a> {
     /// How the stream is shown, with a limit on the length of a payload.
     fn options(&self, limit: u32) -> Options<'_>
-        requires { 5 ≤ version_number self.now.version }
+        requires { 5 ≤ version_number self.now.file.options.version }
         ensures { 5 ≤ version_number result.version }
     {
         Options {
-            version: self.version,
+            version: self.file.options.version,
             limit,
             from: self.from,
             to: self.to,
@@ -59,19 +49,6 @@ impl<'a> Arguments<'a> {
             failures: self.failures,
             open: self.open || self.filter.open,
             words: self.filter.words.as_slice(),
-        }
-    }
-
-    /// The stream.
-    fn file(&self) -> File<'a>
-        requires { 5 ≤ version_number self.now.version }
-        ensures { 5 ≤ version_number result.version }
-    {
-        File {
-            path: self.path,
-            version: self.version,
-            limit: self.limit,
-            encoding: self.encoding,
         }
     }
 
@@ -94,11 +71,11 @@ fn parse_arguments<'a>(
     name: &'static str,
     words: &'a [String],
 ) -> Result<Arguments<'a>, Error>
-    ensures { IfOk result (λ parsed. 5 ≤ version_number parsed.version) }
+    ensures { IfOk result (λ parsed. 5 ≤ version_number parsed.file.options.version) }
 {
     let mut command = definitions::SHOW.command(alloc, name)?.no_binary_name(true);
     let matches = command.try_get_matches_from_mut(words)?;
-    let limit = max_message_of(&mut command, &matches)?;
+    let file = File::of(&mut command, &matches)?;
     let from = index_of(&mut command, &matches, "from", 0)?;
     let to = index_of(&mut command, &matches, "to", u64::MAX)?;
     let schema = schema_arguments(alloc, &mut command, &matches)?;
@@ -110,12 +87,8 @@ fn parse_arguments<'a>(
         }
     };
     Ok(Arguments {
-        path: matches.get_str("file").unwrap_or("-"),
+        file,
         schema,
-        version: protocol_of(&matches),
-        is_auto: is_auto(&matches),
-        limit,
-        encoding: encoding_of(&matches),
         from,
         to,
         commands: matches.get_flag("commands"),
@@ -157,8 +130,8 @@ fn end(call: &Call<'_>, version: Version, beginning: &Beginning, rest: (u128, u6
 }
 
 /// Shows a stream that is opened, and returns the status.
-fn run_parsed(call: &Call<'_>, parsed: &Arguments<'_>, opened: Opened) -> ExitCode
-    requires { 5 ≤ version_number parsed.now.version }
+fn run_with(call: &Call<'_>, parsed: &Arguments<'_>, opened: Opened) -> Result<ExitCode, ExitCode>
+    requires { 5 ≤ version_number parsed.now.file.options.version }
 {
     let options = parsed.options(opened.limit);
     let progress = Progress::beside_output(call.rt, call.name, opened.size());
@@ -170,7 +143,7 @@ fn run_parsed(call: &Call<'_>, parsed: &Arguments<'_>, opened: Opened) -> ExitCo
         ..
     } = opened;
     let mut input = Begun::new(
-        Decoding::new(source, parsed.path, encoding, &progress),
+        Decoding::new(source, parsed.file.path, encoding, &progress),
         &beginning,
     );
     let mut output = Pipe::new(call.rt.stdout());
@@ -184,50 +157,24 @@ fn run_parsed(call: &Call<'_>, parsed: &Arguments<'_>, opened: Opened) -> ExitCo
     match shown {
         Ok(found) => {
             let rest = (at.unwrap_or(found.end), found.rest);
-            end(call, options.version, &beginning, rest)
+            Ok(end(call, options.version, &beginning, rest))
         }
-        // the reader has closed the output, so nothing is reported
-        Err(PrintError::Output) if output.is_broken() => ExitCode::from(call.failure),
-        Err(error) => call.fail_reading(error, &progress),
-    }
-}
-
-/// Opens the stream, whose payloads are read by a table if there is one, shows it, and returns the status.
-fn run_by(call: &Call<'_>, parsed: &Arguments<'_>, numbering: Option<&[Renumbering]>) -> ExitCode
-    requires { 5 ≤ version_number parsed.now.version }
-{
-    match open_numbered(call, &parsed.file(), numbering) {
-        Ok(opened) => run_parsed(call, parsed, opened),
-        Err(status) => status,
+        Err(error) => Err(call.fail_printing(error, output.is_broken(), &progress)),
     }
 }
 
 /// Parses the arguments, shows the stream, and returns the status.
-pub fn run(call: &Call<'_>) -> ExitCode {
+pub fn run(call: &Call<'_>) -> Result<ExitCode, ExitCode> {
     let mut parsed = match parse_arguments(call.rt.alloc(), call.name, call.words) {
         Ok(parsed) => parsed,
-        Err(error) => return call.report(&error),
+        Err(error) => return Err(call.report(&error)),
     };
-    let numbering = match numbering_for(call, &parsed.schema, parsed.path, parsed.is_auto) {
-        Ok(numbering) => numbering,
-        Err(status) => return status,
-    };
+    let numbering = numbering_for(call, &parsed.schema, &parsed.file)?;
     if numbering.is_some() && parsed.counts_bytes() {
-        return call.fail(NOT_BY_BYTES, 2);
+        return Err(call.fail(NOT_BY_BYTES, INVALID));
     }
-    let asked = Asked {
-        version: parsed.version,
-        is_auto: parsed.is_auto,
-        limit: parsed.limit,
-        encoding: parsed.encoding,
-    };
-    parsed.version = match version_of(call, &asked, &[parsed.path]) {
-        Ok(version) => version,
-        Err(status) => return status,
-    };
-    run_by(
-        call,
-        &parsed,
-        numbering.as_ref().map(|entries| entries.as_slice()),
-    )
+    parsed.file = parsed.file.fitted(call)?;
+    let entries = numbering.as_ref().map(|entries| entries.as_slice());
+    let opened = open_numbered(call, &parsed.file, entries)?;
+    run_with(call, &parsed, opened)
 }

@@ -5,11 +5,10 @@ ghost use Rattle.shared_core_base.specs.Version.{version_number};
 
 use crate::definitions;
 use crate::descriptors::{SchemaArguments, schema_arguments};
+use crate::file::FileOptions;
 use clap::error::ErrorKind;
 use clap::{ArgMatches, Command, Error};
-use command_line::{ColorChoice, color_of, encoding_of, is_auto, max_message_of, protocol_of};
-use encoded_input::Encoding;
-use shared_core_base::version::Version;
+use command_line::{ColorChoice, color_of};
 use std::alloc::Global;
 
 /// How long values are shown, as `--values` says.
@@ -30,14 +29,8 @@ pub struct Arguments<'a> {
     pub recorded: &'a str,
     /// The path of the replayed journal, or `-` for the standard input.
     pub replayed: &'a str,
-    /// The version of the protocol of both journals.
-    pub version: Version,
-    /// Whether the version is to be the newest that both journals fit.
-    pub is_auto: bool,
-    /// The greatest length of a payload that is taken.
-    pub limit: u32,
-    /// How both files are written, if they are text.
-    pub encoding: Option<Encoding>,
+    /// How both are read.
+    pub options: FileOptions,
     /// Whether both are dumps.
     pub is_dump: bool,
     /// By what descriptor set the payloads of both are read.
@@ -66,7 +59,7 @@ pub fn parse_arguments<'a>(
     name: &'static str,
     words: &'a [String],
 ) -> Result<Arguments<'a>, Error>
-    ensures { IfOk result (λ parsed. 5 ≤ version_number parsed.version) }
+    ensures { IfOk result (λ parsed. 5 ≤ version_number parsed.options.version) }
 {
     let mut command = definitions::DIFF.command(alloc, name)?.no_binary_name(true);
     let matches = command.try_get_matches_from_mut(words)?;
@@ -79,7 +72,7 @@ fn arguments_of<'a>(
     command: &mut Command<'_>,
     matches: &ArgMatches<'a>,
 ) -> Result<Arguments<'a>, Error>
-    ensures { IfOk result (λ parsed. 5 ≤ version_number parsed.version) }
+    ensures { IfOk result (λ parsed. 5 ≤ version_number parsed.options.version) }
 {
     let (Some(recorded), Some(replayed)) = (
         matches.get_str("recorded"),
@@ -104,22 +97,19 @@ fn arguments_of<'a>(
             "--all prints what moved instead of the verdict, so --verdict cannot be there too",
         )?);
     }
+    let options = FileOptions::of(command, matches)?;
     let is_dump = matches.get_str("input") == Some("dump");
-    if is_dump && is_auto(matches) {
+    if is_dump && options.is_auto {
         return Err(command.error(
             ErrorKind::ArgumentConflict,
             "--protocol auto reads streams, and not dumps",
         )?);
     }
-    let limit = max_message_of(command, matches)?;
     let schema = schema_arguments(alloc, command, matches)?;
     Ok(Arguments {
         recorded,
         replayed,
-        version: protocol_of(matches),
-        is_auto: is_auto(matches),
-        limit,
-        encoding: encoding_of(matches),
+        options,
         is_dump,
         schema,
         is_all,

@@ -3,10 +3,10 @@
 ghost use Rattle.std.specs.Prelude.{◌≤◌};
 ghost use Rattle.shared_core_base.specs.Version.{version_number};
 
-use crate::call::Call;
+use crate::call::{Call, INVALID};
 use crate::diff::arguments::Arguments;
 use crate::diff::theirs::Given;
-use crate::parts::File;
+use crate::file::File;
 use crate::renumbered::{Opened, open_both_ways, open_numbered};
 use command_line::{fail, is_stdin_open};
 use make_lines::{MakeError, Maker};
@@ -14,9 +14,6 @@ use replay_bench::Side;
 use shared_core_codec::any_table::ProtocolSchemas;
 use shared_core_renumber::Renumbering;
 use std::process::ExitCode;
-
-/// The status if a file cannot be opened, or is not a dump.
-const UNOPENED: u8 = 2;
 
 /// The inputs of both journals.
 #[derive(Drop)]
@@ -49,51 +46,33 @@ pub fn closed_side(rt: &HostRuntime, parsed: &Arguments<'_>) -> Option<Side> {
 fn open_dump(call: &Call<'_>, file: &File<'_>) -> Result<Opened, ExitCode> {
     let alloc = call.rt.alloc();
     let path = file.path;
-    let mut input = match call.open(path) {
-        Ok(input) => input,
-        Err(error) => return Err(call.fail(error, UNOPENED)),
-    };
+    let mut input = call.open(path)?;
     let mut stream = Vec::new(alloc);
     let maker = Maker {
         alloc,
-        version: file.version,
+        version: file.options.version,
         messages: &ProtocolSchemas,
     };
     match maker.make(&mut input, &mut stream) {
-        Ok(()) => Ok(Opened::made(stream, file.limit)),
+        Ok(()) => Ok(Opened::made(stream, file.options.limit)),
         Err(MakeError::Line(number, error)) => Err(fail(
             call.rt,
             call.name,
             format_args!("{path}:{number}: {error}"),
-            UNOPENED,
+            INVALID,
         )),
-        Err(error) => Err(fail(
-            call.rt,
-            call.name,
-            format_args!("{path}: {error}"),
-            UNOPENED,
-        )),
-    }
-}
-
-/// The file of a journal's path.
-fn file_of<'p>(parsed: &Arguments<'_>, path: &'p str) -> File<'p>
-    requires { 5 ≤ version_number parsed.now.version }
-    ensures { 5 ≤ version_number result.version }
-{
-    File {
-        path,
-        version: parsed.version,
-        limit: parsed.limit,
-        encoding: parsed.encoding,
+        Err(error) => Err(fail(call.rt, call.name, format_args!("{path}: {error}"), INVALID)),
     }
 }
 
 /// Opens the journal of a path. The error is the status, after what is wrong was reported.
 fn open_one(call: &Call<'_>, parsed: &Arguments<'_>, path: &str) -> Result<Opened, ExitCode>
-    requires { 5 ≤ version_number parsed.now.version }
+    requires { 5 ≤ version_number parsed.now.options.version }
 {
-    let file = file_of(parsed, path);
+    let file = File {
+        path,
+        options: parsed.options,
+    };
     if parsed.is_dump {
         return open_dump(call, &file);
     }
@@ -102,7 +81,7 @@ fn open_one(call: &Call<'_>, parsed: &Arguments<'_>, path: &str) -> Result<Opene
 
 /// Opens both journals. The error is the status, after what is wrong was reported.
 pub fn open_both(call: &Call<'_>, parsed: &Arguments<'_>) -> Result<Inputs, ExitCode>
-    requires { 5 ≤ version_number parsed.now.version }
+    requires { 5 ≤ version_number parsed.now.options.version }
 {
     Ok(Inputs {
         recorded: open_one(call, parsed, parsed.recorded)?,
@@ -116,18 +95,19 @@ pub fn open_both_by(
     parsed: &Arguments<'_>,
     entries: &[Renumbering],
 ) -> Result<(Inputs, Given), ExitCode>
-    requires { 5 ≤ version_number parsed.now.version }
+    requires { 5 ≤ version_number parsed.now.options.version }
 {
-    let (recorded, recorded_given) = open_both_ways(
-        call,
-        &file_of(parsed, parsed.recorded),
-        entries,
-    )?;
-    let (replayed, replayed_given) = open_both_ways(
-        call,
-        &file_of(parsed, parsed.replayed),
-        entries,
-    )?;
+    let options = parsed.options;
+    let recorded = File {
+        path: parsed.recorded,
+        options,
+    };
+    let replayed = File {
+        path: parsed.replayed,
+        options,
+    };
+    let (recorded, recorded_given) = open_both_ways(call, &recorded, entries)?;
+    let (replayed, replayed_given) = open_both_ways(call, &replayed, entries)?;
     let inputs = Inputs { recorded, replayed };
     let given = Given {
         recorded: recorded_given,

@@ -6,29 +6,19 @@ ghost use Rattle.shared_core_base.specs.Version.{version_number};
 use crate::definitions;
 use crate::descriptors::{SchemaArguments, schema_arguments};
 use crate::dump::suggestions::unknown_type;
+use crate::file::File;
 use clap::error::ErrorKind;
 use clap::{ArgMatches, Command, Error};
-use command_line::{encoding_of, is_auto, max_message_of, protocol_of};
-use encoded_input::Encoding;
 use shared_core_base::header::MessageType;
-use shared_core_base::version::Version;
 use std::alloc::{AllocError, Global};
 
 /// The parsed arguments.
 #[derive(Drop)]
 pub struct Arguments<'a> {
-    /// The path of the stream, or `-` for the standard input.
-    pub path: &'a str,
+    /// The stream.
+    pub file: File<'a>,
     /// By what payloads are read.
     pub schema: SchemaArguments<'a>,
-    /// The version of the protocol.
-    pub version: Version,
-    /// Whether the version is to be the newest that the stream fits.
-    pub is_auto: bool,
-    /// The greatest length of a payload that is taken.
-    pub limit: u32,
-    /// How the file is written, if it is text.
-    pub encoding: Option<Encoding>,
     /// The codes of the selected types; none for all.
     pub codes: Vec<u16>,
     /// Whether payloads are printed.
@@ -79,7 +69,7 @@ pub fn parse_arguments<'a>(
     name: &'static str,
     words: &'a [String],
 ) -> Result<Arguments<'a>, Error>
-    ensures { IfOk result (λ parsed. 5 ≤ version_number parsed.version) }
+    ensures { IfOk result (λ parsed. 5 ≤ version_number parsed.file.options.version) }
 {
     let mut command = definitions::DUMP.command(alloc, name)?.no_binary_name(true);
     let matches = command.try_get_matches_from_mut(words)?;
@@ -92,18 +82,14 @@ fn arguments_of<'a>(
     command: &mut Command<'_>,
     matches: &ArgMatches<'a>,
 ) -> Result<Arguments<'a>, Error>
-    ensures { IfOk result (λ parsed. 5 ≤ version_number parsed.version) }
+    ensures { IfOk result (λ parsed. 5 ≤ version_number parsed.file.options.version) }
 {
     let codes = codes_of(alloc, command, matches)?;
-    let limit = max_message_of(command, matches)?;
+    let file = File::of(command, matches)?;
     let schema = schema_arguments(alloc, command, matches)?;
     Ok(Arguments {
-        path: matches.get_str("file").unwrap_or("-"),
+        file,
         schema,
-        version: protocol_of(matches),
-        is_auto: is_auto(matches),
-        limit,
-        encoding: encoding_of(matches),
         codes,
         payloads: !matches.get_flag("no-payload"),
         texts: matches.get_flag("text"),
