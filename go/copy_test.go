@@ -42,14 +42,14 @@ func TestBytesOfItemsThatDidNotCome(t *testing.T) {
 	proposal := must(NewMessage(8, CodeProposeRunCompletion, unhex(t, "088100")))(t)
 	for want, item := range map[string]Item{
 		"0005800000000003088100": proposal,
-		"0008000000000002":       UnknownCode{Version: 8, Code: 8, Word: 8<<48 | 2},
-		"00080000000000020003":   Skipped{Version: 9, Code: 8, Word: 8<<48 | 2, Payload: []byte{0, 3}},
+		"0008000000000002":       &UnknownCode{Version: 8, Code: 8, Word: 8<<48 | 2},
+		"00080000000000020003":   &Skipped{Version: 9, Code: 8, Word: 8<<48 | 2, Payload: []byte{0, 3}},
 	} {
 		if !bytes.Equal(item.Bytes(), unhex(t, want)) {
 			t.Errorf("%v is %x", item, item.Bytes())
 		}
 	}
-	none := Message{Version: 8, Code: 8}
+	none := &Message{Version: 8, Code: 8}
 	if bytes := none.Bytes(); bytes != nil {
 		t.Errorf("%x", bytes)
 	}
@@ -81,7 +81,7 @@ func TestSuspensionsOfEachVersion(t *testing.T) {
 		{9, v7, 6, flattened, nil},
 		{7, v7, 5, flattened, nil},
 	} {
-		message := Message{Version: c.came, Code: CodeSuspension, Payload: unhex(t, c.payload)}
+		message := &Message{Version: c.came, Code: CodeSuspension, Payload: unhex(t, c.payload)}
 		want := unhex(t, c.want)
 		frame, err := message.Frame(c.version)
 		if !bytes.Equal(frame, want) || !errors.Is(err, c.err) {

@@ -29,7 +29,8 @@ const (
 //
 // It reads into blocks of memory and never writes again what it has read: the payload of an item is a part of a block,
 // which is the caller's to keep or to change, and keeps its block in memory. Only an item that crosses the end of a
-// block is copied into the next.
+// block is copied into the next. Items are the caller's too. Messages that were read at once are one allocation, so
+// each of them keeps the others in memory.
 type Decoder struct {
 	reader  io.Reader
 	version int
@@ -37,6 +38,8 @@ type Decoder struct {
 	// them Next returned
 	found        [mostItems][itemNumbers]uint64
 	count, taken int
+	// messages has room for those of them that are messages and were not returned
+	messages []Message
 	// rest is what was read and is in no item yet; up to its capacity goes the room for more
 	rest []byte
 	// readErr is what the reader returned with the last bytes
@@ -164,7 +167,7 @@ func (d *Decoder) take() (Item, int64, error) {
 	}
 	numbers := &d.found[d.taken]
 	size := numbers[itemSize]
-	item, err := itemOf(d.version, numbers[:], d.rest[:size:size], positionAt(d.offset))
+	item, err := d.item(numbers, d.rest[:size:size])
 	if err != nil {
 		return nil, 0, &Error{"Decoder.Next", named(versionName, d.version), err}
 	}
@@ -180,6 +183,30 @@ func (d *Decoder) take() (Item, int64, error) {
 	return item, 0, err
 }
 
+// item returns the item that the numbers of the library say, and that has these bytes, at the offset.
+//
+// Messages that were found together are one allocation. Their bytes are in one block, which each of them keeps anyway,
+// so it keeps little more. Those of the next look may be in another block, and have an allocation of their own.
+func (d *Decoder) item(numbers *[itemNumbers]uint64, bytes []byte) (Item, error) {
+	code, at := uint16(numbers[itemCode]), positionAt(d.offset)
+	switch numbers[itemKind] {
+	case itemMessage:
+		if len(d.messages) == 0 {
+			d.messages = make([]Message, d.count-d.taken)
+		}
+		message := &d.messages[0]
+		d.messages = d.messages[1:]
+		message.receive(d.version, numbers, bytes, at)
+		return message, nil
+	case itemUnknownCode:
+		return &UnknownCode{d.version, code, numbers[itemWord], at}, nil
+	case itemSkipped:
+		payload := bytes[numbers[itemPayload]:]
+		return &Skipped{d.version, code, numbers[itemWord], payload, receivedAs(bytes), at}, nil
+	}
+	return nil, unexpected("kind of item", numbers[itemKind])
+}
+
 // look finds the items that the rest begins with, and returns how many bytes are missing at least if none is whole.
 func (d *Decoder) look() (int64, error) {
 	version, err := unsigned("Decoder.Next", versionName, d.version)
@@ -190,7 +217,7 @@ func (d *Decoder) look() (int64, error) {
 	if d.hasLimit {
 		limit = d.limit
 	}
-	d.count, d.taken = 0, 0
+	d.count, d.taken, d.messages = 0, 0, nil
 	result := journalItems(version, limit, d.rest, d.found[:])
 	if result > 0 {
 		d.count = int(result)

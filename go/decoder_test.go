@@ -49,9 +49,9 @@ func returns(count int, err error) func([]byte) (int, error) {
 func TestItemsHoweverTheyAreRead(t *testing.T) {
 	stream := unhex(t, input+"0008000000000000"+"00058000000000050801720178"+"0400000000000014"+"0a")
 	want := []Item{
-		came(t, Message{Version: 8, Code: CodeInputCommand}, input, 0),
-		UnknownCode{Version: 8, Code: 8, Word: 8 << 48, position: positionAt(17)},
-		came(t, Message{Version: 8, Code: CodeProposeRunCompletion, RequestedAck: true}, "00058000000000050801720178", 25),
+		came(t, &Message{Version: 8, Code: CodeInputCommand}, input, 0),
+		&UnknownCode{Version: 8, Code: 8, Word: 8 << 48, position: positionAt(17)},
+		came(t, &Message{Version: 8, Code: CodeProposeRunCompletion, RequestedAck: true}, "00058000000000050801720178", 25),
 	}
 	readers := map[string]func(io.Reader) io.Reader{
 		"whole":            func(reader io.Reader) io.Reader { return reader },
@@ -76,7 +76,7 @@ func TestItemsHoweverTheyAreRead(t *testing.T) {
 }
 
 // came is a message with the bytes that it came as, at an offset.
-func came(t *testing.T, message Message, digits string, offset int64) Message {
+func came(t *testing.T, message *Message, digits string, offset int64) *Message {
 	message.position = positionAt(offset)
 	message.came = receivedAs(unhex(t, digits))
 	message.Payload = message.came.bytes()[headerSize:]
@@ -87,7 +87,7 @@ func TestVersion9SkipsPayloads(t *testing.T) {
 	decoder := NewDecoder(bytes.NewReader(unhex(t, "00080000000000020003"+"000300000000")), 9)
 	items, err := all(decoder)
 	data := unhex(t, "00080000000000020003")
-	want := []Item{Skipped{9, 8, 8<<48 | 2, data[8:], receivedAs(data), positionAt(0)}}
+	want := []Item{&Skipped{9, 8, 8<<48 | 2, data[8:], receivedAs(data), positionAt(0)}}
 	if !reflect.DeepEqual(items, want) || !errors.Is(err, io.ErrUnexpectedEOF) || decoder.Rest() != 6 {
 		t.Errorf("%v, %v, %d", items, err, decoder.Rest())
 	}
@@ -220,13 +220,96 @@ func TestPayloadsAreKept(t *testing.T) {
 	}
 	var found []byte
 	for _, item := range items {
-		payload := item.(Message).Payload
+		payload := item.(*Message).Payload
 		found = append(found, payload...)
 		// what is appended to a payload is not in the next
 		_ = append(payload, "............"...)
 	}
 	if !bytes.Equal(found, want) {
 		t.Error("the payloads are others")
+	}
+}
+
+// Items that are found together stay as they were, whatever Next returns later, and whatever becomes of another one.
+func TestItemsStayAsTheyWere(t *testing.T) {
+	const count = 5 * mostItems
+	var stream []byte
+	for index := 0; index < count; index++ {
+		if index%7 == 6 {
+			stream = append(stream, unhex(t, "0008000000000000")...)
+		} else {
+			stream = append(append(stream, unhex(t, "fc01000000000002")...), byte(index), byte(index>>8))
+		}
+	}
+	for name, reader := range map[string]io.Reader{
+		"whole":        bytes.NewReader(stream),
+		"byte by byte": iotest.OneByteReader(bytes.NewReader(stream)),
+	} {
+		items, err := all(NewDecoder(reader, 8))
+		if len(items) != count || err != io.EOF {
+			t.Fatalf("%s: %d items, %v", name, len(items), err)
+		}
+		offset := int64(0)
+		for index, item := range items {
+			var want Item
+			switch item := item.(type) {
+			case *Message:
+				message := &Message{Version: 8, Code: 0xfc01}
+				want = came(t, message, fmt.Sprintf("fc01000000000002%02x%02x", byte(index), byte(index>>8)), offset)
+				offset += int64(len(item.Bytes()))
+			case *UnknownCode:
+				want = &UnknownCode{Version: 8, Code: 8, Word: 8 << 48, position: positionAt(offset)}
+				offset += headerSize
+			}
+			if !reflect.DeepEqual(item, want) {
+				t.Fatalf("%s: item %d is %+v, and not %+v", name, index, item, want)
+			}
+			if message, isMessage := item.(*Message); isMessage {
+				*message = Message{}
+			}
+		}
+	}
+}
+
+func TestMessagesFoundTogetherAreOneAllocation(t *testing.T) {
+	const count = 2000
+	stream := bytes.Repeat(unhex(t, "0003000000000000"), count)
+	found := testing.AllocsPerRun(10, func() {
+		decoder := NewDecoder(bytes.NewReader(stream), 8)
+		for i := 0; i < count; i++ {
+			if _, err := decoder.Next(); err != nil {
+				t.Fatal(err)
+			}
+		}
+	})
+	if found > count/20 {
+		t.Errorf("%v allocations for %d messages", found, count)
+	}
+	// there is room for no more messages than there may be
+	for _, whole := range []int{1, 2, mostItems, mostItems + 1} {
+		decoder := NewDecoder(bytes.NewReader(stream[:whole*headerSize]), 8)
+		must(decoder.Next())(t)
+		if want := min(whole, mostItems) - 1; cap(decoder.messages) != want {
+			t.Errorf("of %d messages, there is room for %d more, and not %d", whole, cap(decoder.messages), want)
+		}
+	}
+	// what is left of it is not for the messages of another block
+	first := unhex(t, "0003000000000000"+"0008000000000000"+"0008000000000000")
+	decoder := NewDecoder(&steps{gives(first, nil), gives(stream[:headerSize], nil)}, 8)
+	for _, want := range []int{2, 2, 2, 0} {
+		if item := must(decoder.Next())(t); cap(decoder.messages) != want {
+			t.Errorf("after %v there is room for %d messages, and not %d", item, cap(decoder.messages), want)
+		}
+	}
+}
+
+// An assertion of an item as a value is an error of the compiler, and no miss.
+func TestItemsArePointers(t *testing.T) {
+	item := reflect.TypeOf((*Item)(nil)).Elem()
+	for _, value := range []any{Message{}, UnknownCode{}, Skipped{}} {
+		if of := reflect.TypeOf(value); of.Implements(item) || !reflect.PointerTo(of).Implements(item) {
+			t.Errorf("whether %v is an item", of)
+		}
 	}
 }
 
@@ -239,7 +322,7 @@ func TestPayloadOfManyBlocks(t *testing.T) {
 		"half":  iotest.HalfReader(bytes.NewReader(stream)),
 	} {
 		items, err := all(NewDecoder(reader, 8))
-		if len(items) != 2 || err != io.EOF || !bytes.Equal(items[0].(Message).Payload, payload) {
+		if len(items) != 2 || err != io.EOF || !bytes.Equal(items[0].(*Message).Payload, payload) {
 			t.Errorf("%s: %d items, %v", name, len(items), err)
 		}
 	}
@@ -257,9 +340,9 @@ func TestPromisedBytesAreNotAllocated(t *testing.T) {
 }
 
 func TestItemOfLaterLibrary(t *testing.T) {
-	numbers := make([]uint64, itemNumbers)
+	var numbers [itemNumbers]uint64
 	numbers[itemKind] = itemSkipped + 1
-	if item, err := itemOf(8, numbers, nil, 0); item != nil || !errors.Is(err, ErrUnexpected) {
+	if item, err := NewDecoder(nil, 8).item(&numbers, nil); item != nil || !errors.Is(err, ErrUnexpected) {
 		t.Errorf("%v, %v", item, err)
 	}
 }
@@ -269,7 +352,7 @@ func TestMessage(t *testing.T) {
 	if len(items) != 5 || err != io.EOF {
 		t.Fatal(items, err)
 	}
-	call := items[2].(Message)
+	call := items[2].(*Message)
 	if call.Type() != "CallCommand" || !call.IsCommand() || call.IsNotification() {
 		t.Errorf("%s, %v, %v", call.Type(), call.IsCommand(), call.IsNotification())
 	}
@@ -298,11 +381,11 @@ func TestMessageOfItsVersion(t *testing.T) {
 		5: SchemaSuspensionMessageV6, 6: SchemaSuspensionMessageV6,
 		7: SchemaSuspensionMessage, 8: SchemaSuspensionMessage, 9: SchemaSuspensionMessage,
 	} {
-		if found := must(Message{Version: version, Code: CodeSuspension}.Schema())(t); found != schema {
+		if found := must((&Message{Version: version, Code: CodeSuspension}).Schema())(t); found != schema {
 			t.Errorf("at version %d the schema is %d", version, found)
 		}
 	}
-	proposal := Message{Version: 6, Code: CodeProposeRunCompletion, Payload: unhex(t, "0801720178")}
+	proposal := &Message{Version: 6, Code: CodeProposeRunCompletion, Payload: unhex(t, "0801720178")}
 	for version, frame := range map[int]string{6: "00050000000000050801720178", 7: "00058000000000050801720178"} {
 		if found := must(proposal.Frame(version))(t); !bytes.Equal(found, unhex(t, frame)) {
 			t.Errorf("at version %d the frame is %x", version, found)
@@ -313,18 +396,18 @@ func TestMessageOfItsVersion(t *testing.T) {
 func TestNewMessage(t *testing.T) {
 	payload := unhex(t, "0801720178")
 	for version, requestedAck := range map[int]bool{6: false, 7: true} {
-		want := Message{Version: version, Code: CodeProposeRunCompletion, Payload: payload, RequestedAck: requestedAck}
+		want := &Message{Version: version, Code: CodeProposeRunCompletion, Payload: payload, RequestedAck: requestedAck}
 		if found := must(NewMessage(version, CodeProposeRunCompletion, payload))(t); !reflect.DeepEqual(found, want) {
 			t.Errorf("%+v", found)
 		}
 	}
-	if message, err := NewMessage(8, 8, nil); !errors.Is(err, ErrUnknown) || !reflect.DeepEqual(message, Message{}) {
+	if message, err := NewMessage(8, 8, nil); !errors.Is(err, ErrUnknown) || message != nil {
 		t.Errorf("%+v, %v", message, err)
 	}
 }
 
 func TestMessageWithoutSchemaOrType(t *testing.T) {
-	entry := Message{Version: 8, Code: 0xfc01, Payload: []byte{0xff}}
+	entry := &Message{Version: 8, Code: 0xfc01, Payload: []byte{0xff}}
 	if entry.Type() != "CustomEntry(64513)" || entry.IsCommand() || entry.IsNotification() {
 		t.Errorf("%s, %v, %v", entry.Type(), entry.IsCommand(), entry.IsNotification())
 	}
@@ -333,7 +416,7 @@ func TestMessageWithoutSchemaOrType(t *testing.T) {
 	wantError(t, err, ErrUnknown, text)
 	_, err = entry.Canonical()
 	wantError(t, err, ErrUnknown, text)
-	none := Message{Version: 8, Code: 8}
+	none := &Message{Version: 8, Code: 8}
 	if none.Type() != "" || none.String() != "code 0x0008 0" {
 		t.Errorf("%q, %v", none.Type(), none)
 	}
@@ -344,7 +427,7 @@ func TestKindsOfMessages(t *testing.T) {
 		0x0000: {false, false}, 0x03ff: {false, false}, 0x0400: {true, false}, 0x7fff: {true, false},
 		0x8000: {false, true}, 0xfbff: {false, true}, 0xfc00: {false, false}, 0xffff: {false, false},
 	} {
-		message := Message{Version: 8, Code: code}
+		message := &Message{Version: 8, Code: code}
 		if message.IsCommand() != want[0] || message.IsNotification() != want[1] {
 			t.Errorf("code %#04x", code)
 		}

@@ -10,7 +10,7 @@
 //		} else if err != nil {
 //			return err
 //		}
-//		if message, ok := item.(pendratsoa.Message); ok {
+//		if message, ok := item.(*pendratsoa.Message); ok {
 //			fmt.Println(message.Type(), len(message.Payload))
 //		}
 //	}

@@ -27,7 +27,7 @@ func Example() {
 			log.Fatal(err)
 		}
 		fmt.Println(item)
-		if message, ok := item.(pendratsoa.Message); ok {
+		if message, ok := item.(*pendratsoa.Message); ok {
 			json, err := message.JSON()
 			fmt.Println(string(json), err)
 		}
@@ -51,7 +51,7 @@ func ExampleDecoder_chunks() {
 		if errors.Is(err, io.ErrUnexpectedEOF) {
 			fmt.Println("rest", decoder.Rest())
 		} else if err == nil {
-			fmt.Println(item.(pendratsoa.Message).Type(), "rest", decoder.Rest())
+			fmt.Println(item.(*pendratsoa.Message).Type(), "rest", decoder.Rest())
 		}
 	}
 	// Output:

@@ -54,7 +54,7 @@ type MessageRecord interface {
 // Record returns what the payload means: a pointer to a struct as SetStateCommandMessage, for a type switch. A custom
 // entry has no record: nil, without an error. The errors are those of Schema and Canonical; one of the payload is a
 // *MessageError. The function As returns the record of one type.
-func (m Message) Record() (Record, error) {
+func (m *Message) Record() (Record, error) {
 	schema, err := m.Schema()
 	if err != nil {
 		// what has a header and no schema is a custom entry
@@ -77,8 +77,8 @@ func (m Message) Record() (Record, error) {
 // As[*SetStateCommandMessage](item); of any other item false, and no error: its payload is not read. The errors are
 // those of Canonical; one of the payload is a *MessageError.
 func As[R Record](item Item) (record R, ok bool, err error) {
-	message, isMessage := item.(Message)
-	if !isMessage {
+	message, isMessage := item.(*Message)
+	if !isMessage || message == nil {
 		return record, false, nil
 	}
 	schema, err := message.Schema()
@@ -98,12 +98,12 @@ func As[R Record](item Item) (record R, ok bool, err error) {
 
 // NewMessageOf returns the message of a record at a version, whose type follows from the record. It requests an
 // acknowledgement if the header of its type does at this version. The errors are those of the record's Frame.
-func NewMessageOf(version int, record MessageRecord) (Message, error) {
+func NewMessageOf(version int, record MessageRecord) (*Message, error) {
 	frame, err := record.Frame(version)
 	if err != nil {
-		return Message{}, err
+		return nil, err
 	}
-	return Message{
+	return &Message{
 		Version: version, Code: binary.BigEndian.Uint16(frame), Payload: frame[headerSize:len(frame):len(frame)],
 		// the flag is the high bit of the third byte
 		RequestedAck: frame[2]&0x80 != 0,

@@ -151,7 +151,7 @@ func describe(t *testing.T, stream []byte) string {
 		t.Error(err)
 	}
 	for _, item := range items {
-		message := item.(Message)
+		message := item.(*Message)
 		json, err := message.JSON()
 		if err != nil {
 			t.Error(err)

@@ -7,7 +7,7 @@ import (
 	"unsafe"
 )
 
-// An Item is what a stream consists of: a Message, an UnknownCode or a Skipped. Its String is a line of a listing.
+// An Item is what a stream consists of: a *Message, an *UnknownCode or a *Skipped. Its String is a line of a listing.
 type Item interface {
 	fmt.Stringer
 	// WriteTo writes the item as received.
@@ -56,9 +56,9 @@ type Skipped struct {
 	position position
 }
 
-func (Message) isItem()     {}
-func (UnknownCode) isItem() {}
-func (Skipped) isItem()     {}
+func (*Message) isItem()     {}
+func (*UnknownCode) isItem() {}
+func (*Skipped) isItem()     {}
 
 // A received is a message as it was received: its first byte, or nil of one that was not, and the size of its payload.
 // A slice of it would make each item a quarter larger.
@@ -101,23 +101,23 @@ func (p position) offset() int64 {
 }
 
 // Offset returns where the message begins in its stream, in bytes; -1 of one that did not come in a stream.
-func (m Message) Offset() int64 {
+func (m *Message) Offset() int64 {
 	return m.position.offset()
 }
 
 // Offset returns where the eight bytes begin in their stream, in bytes; -1 if they did not come in a stream.
-func (u UnknownCode) Offset() int64 {
+func (u *UnknownCode) Offset() int64 {
 	return u.position.offset()
 }
 
 // Offset returns where the message begins in its stream, in bytes; -1 of one that did not come in a stream.
-func (s Skipped) Offset() int64 {
+func (s *Skipped) Offset() int64 {
 	return s.position.offset()
 }
 
 // String returns the name of the type and the length of the payload in bytes, as "InputCommand 9", with " ack" if the
 // header requests an acknowledgement.
-func (m Message) String() string {
+func (m *Message) String() string {
 	name := m.Type()
 	if name == "" {
 		name = codeText(m.Code)
@@ -130,23 +130,23 @@ func (m Message) String() string {
 }
 
 // String returns the code, as "unknown 0x8".
-func (u UnknownCode) String() string {
+func (u *UnknownCode) String() string {
 	return fmt.Sprintf("unknown %#x", u.Code)
 }
 
 // String returns the code and the length of the payload in bytes, as "skipped 0x8 2".
-func (s Skipped) String() string {
+func (s *Skipped) String() string {
 	return fmt.Sprintf("skipped %#x %d", s.Code, len(s.Payload))
 }
 
 // Bytes returns the message as received, whatever was set in it since. Of one that did not come in a stream they are
 // its payload as it is after the header of its type, and nil if its version, its code or the length has no header.
-func (m Message) Bytes() []byte {
+func (m *Message) Bytes() []byte {
 	bytes, _ := m.bytes()
 	return bytes
 }
 
-func (m Message) bytes() ([]byte, error) {
+func (m *Message) bytes() ([]byte, error) {
 	if bytes := m.came.bytes(); bytes != nil {
 		return bytes, nil
 	}
@@ -158,12 +158,12 @@ func (m Message) bytes() ([]byte, error) {
 }
 
 // Bytes returns the eight bytes.
-func (u UnknownCode) Bytes() []byte {
+func (u *UnknownCode) Bytes() []byte {
 	return wordBytes(u.Word, nil)
 }
 
 // Bytes returns the message as received, or its payload after its word if it did not come in a stream.
-func (s Skipped) Bytes() []byte {
+func (s *Skipped) Bytes() []byte {
 	if bytes := s.came.bytes(); bytes != nil {
 		return bytes
 	}
@@ -172,7 +172,7 @@ func (s Skipped) Bytes() []byte {
 
 // WriteTo writes the message as received, as Bytes returns it. Of one that did not come in a stream, the errors are
 // also those of Header.
-func (m Message) WriteTo(writer io.Writer) (int64, error) {
+func (m *Message) WriteTo(writer io.Writer) (int64, error) {
 	bytes, err := m.bytes()
 	if err != nil {
 		return 0, err
@@ -181,12 +181,12 @@ func (m Message) WriteTo(writer io.Writer) (int64, error) {
 }
 
 // WriteTo writes the eight bytes.
-func (u UnknownCode) WriteTo(writer io.Writer) (int64, error) {
+func (u *UnknownCode) WriteTo(writer io.Writer) (int64, error) {
 	return writeAll(writer, u.Bytes())
 }
 
 // WriteTo writes the message as received, as Bytes returns it.
-func (s Skipped) WriteTo(writer io.Writer) (int64, error) {
+func (s *Skipped) WriteTo(writer io.Writer) (int64, error) {
 	return writeAll(writer, s.Bytes())
 }
 
@@ -204,54 +204,54 @@ func writeAll(writer io.Writer, bytes []byte) (int64, error) {
 
 // NewMessage returns the message of a type with a payload, which is taken as it is. It requests an acknowledgement if
 // the header of its type does at this version. The errors are those of Header.
-func NewMessage(version int, code uint16, payload []byte) (Message, error) {
+func NewMessage(version int, code uint16, payload []byte) (*Message, error) {
 	header, err := Header(version, code, len(payload))
 	if err != nil {
-		return Message{}, err
+		return nil, err
 	}
 	// the flag is the high bit of the third byte
-	return Message{Version: version, Code: code, Payload: payload, RequestedAck: header[2]&0x80 != 0}, nil
+	return &Message{Version: version, Code: code, Payload: payload, RequestedAck: header[2]&0x80 != 0}, nil
 }
 
 // MessageFromJSON returns the message of a named type that a JSON text means. Its payload is canonical, and it requests
 // an acknowledgement if the header of its type does at this version. The errors are those of Schema and FromJSON.
-func MessageFromJSON(version int, code uint16, json []byte) (Message, error) {
+func MessageFromJSON(version int, code uint16, json []byte) (*Message, error) {
 	schema, err := Schema(version, code)
 	if err != nil {
-		return Message{}, err
+		return nil, err
 	}
 	payload, err := FromJSON(schema, json)
 	if err != nil {
-		return Message{}, err
+		return nil, err
 	}
 	return NewMessage(version, code, payload)
 }
 
 // Type returns the name of the message's type, as "SleepCommand", or "CustomEntry(64513)" of a custom entry. It is
 // empty if no type has the code, which no message of a stream has.
-func (m Message) Type() string {
+func (m *Message) Type() string {
 	name, _ := TypeName(m.Code)
 	return name
 }
 
 // Schema returns the number of the schema of the payload. A custom entry has none: ErrUnknown.
-func (m Message) Schema() (int, error) {
+func (m *Message) Schema() (int, error) {
 	return Schema(m.Version, m.Code)
 }
 
 // IsCommand returns whether the message is a command. A custom entry counts by its code.
-func (m Message) IsCommand() bool {
+func (m *Message) IsCommand() bool {
 	return firstCommand <= m.Code && m.Code < firstNotification
 }
 
 // IsNotification returns whether the message is a notification. A custom entry counts by its code.
-func (m Message) IsNotification() bool {
+func (m *Message) IsNotification() bool {
 	return firstNotification <= m.Code && m.Code < endOfNotifications
 }
 
 // JSON returns the JSON of what the payload means. The errors are those of Schema and ToJSON; one of the payload is a
 // *MessageError.
-func (m Message) JSON() ([]byte, error) {
+func (m *Message) JSON() ([]byte, error) {
 	schema, err := m.Schema()
 	if err != nil {
 		return nil, err
@@ -262,7 +262,7 @@ func (m Message) JSON() ([]byte, error) {
 
 // Canonical returns the canonical encoding of the payload. The errors are those of Schema and Canonical; one of the
 // payload is a *MessageError.
-func (m Message) Canonical() ([]byte, error) {
+func (m *Message) Canonical() ([]byte, error) {
 	schema, err := m.Schema()
 	if err != nil {
 		return nil, err
@@ -275,18 +275,18 @@ func (m Message) Canonical() ([]byte, error) {
 // The errors are those of the function Frame, and ErrUnknown for a version that cannot have the payload: a suspension
 // before version 7 has no frame from 7 on, and one since then has a frame at each. An error of the payload is a
 // *MessageError.
-func (m Message) Frame(version int) ([]byte, error) {
+func (m *Message) Frame(version int) ([]byte, error) {
 	frame, err := m.appendFrame("Frame", nil, version)
 	return frame[:len(frame):len(frame)], err
 }
 
 // AppendFrame appends the frame that Frame returns, and returns the extended slice, as append does. With an error,
 // which is one of those of Frame, it returns the slice as it was.
-func (m Message) AppendFrame(dst []byte, version int) ([]byte, error) {
+func (m *Message) AppendFrame(dst []byte, version int) ([]byte, error) {
 	return m.appendFrame("AppendFrame", dst, version)
 }
 
-func (m Message) appendFrame(call string, dst []byte, version int) ([]byte, error) {
+func (m *Message) appendFrame(call string, dst []byte, version int) ([]byte, error) {
 	schema, isEarlier := earlierSchema(m.Version, m.Code)
 	var err error
 	if isEarlier {
@@ -298,7 +298,7 @@ func (m Message) appendFrame(call string, dst []byte, version int) ([]byte, erro
 }
 
 // WriteFrame writes the frame that Frame returns. The errors are those of Frame and of the writer.
-func (m Message) WriteFrame(writer io.Writer, version int) error {
+func (m *Message) WriteFrame(writer io.Writer, version int) error {
 	frame, err := m.Frame(version)
 	if err != nil {
 		return err
@@ -309,13 +309,13 @@ func (m Message) WriteFrame(writer io.Writer, version int) error {
 
 // Notification returns the id and the result of the message, if it is a notification. The errors are those of
 // ReadNotification; one of the payload is a *MessageError.
-func (m Message) Notification() (Notification, error) {
+func (m *Message) Notification() (Notification, error) {
 	notification, err := ReadNotification(m.Code, m.Payload)
 	return notification, m.located(err)
 }
 
 // located returns an error of the payload with the type and the offset of the message, and any other as it is.
-func (m Message) located(err error) error {
+func (m *Message) located(err error) error {
 	failed, isError := err.(*Error)
 	if !isError {
 		return err
@@ -327,17 +327,9 @@ func (m Message) located(err error) error {
 	return err
 }
 
-// itemOf returns the item of a version that the numbers of the library say, and that has these bytes, at its position.
-func itemOf(version int, numbers []uint64, bytes []byte, at position) (Item, error) {
-	code := uint16(numbers[itemCode])
-	payload := bytes[numbers[itemPayload]:]
-	switch numbers[itemKind] {
-	case itemMessage:
-		return Message{version, code, numbers[itemRequestedAck] != 0, payload, receivedAs(bytes), at}, nil
-	case itemUnknownCode:
-		return UnknownCode{version, code, numbers[itemWord], at}, nil
-	case itemSkipped:
-		return Skipped{version, code, numbers[itemWord], payload, receivedAs(bytes), at}, nil
-	}
-	return nil, unexpected("kind of item", numbers[itemKind])
+// receive makes the message that of a version that the numbers of the library say, and that has these bytes, at its
+// position.
+func (m *Message) receive(version int, numbers *[itemNumbers]uint64, bytes []byte, at position) {
+	m.Version, m.Code, m.RequestedAck = version, uint16(numbers[itemCode]), numbers[itemRequestedAck] != 0
+	m.Payload, m.came, m.position = bytes[numbers[itemPayload]:], receivedAs(bytes), at
 }

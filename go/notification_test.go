@@ -7,7 +7,7 @@ import (
 )
 
 func TestCompletion(t *testing.T) {
-	message := Message{Version: 8, Code: CodeCallCompletionNotification, Payload: unhex(t, "08022a040a026869")}
+	message := &Message{Version: 8, Code: CodeCallCompletionNotification, Payload: unhex(t, "08022a040a026869")}
 	want := Notification{IDKind: CompletionID, Number: 2, ResultKind: ResultValue, Result: unhex(t, "0a026869")}
 	if found := must(message.Notification())(t); !reflect.DeepEqual(found, want) {
 		t.Errorf("%+v", found)

@@ -262,7 +262,7 @@ func firstMalformed(call string, table []renumbering, version int, stream []byte
 		if missing > 0 || err != nil {
 			return err
 		}
-		if message, isMessage := item.(Message); isMessage {
+		if message, isMessage := item.(*Message); isMessage {
 			if payload, _, err = appendMessageBy(call, payload[:0], table, message); err != nil {
 				return err
 			}
@@ -272,7 +272,7 @@ func firstMalformed(call string, table []renumbering, version int, stream []byte
 
 // appendMessageBy appends the payload of a message by a table, and returns whether the message has a schema: a custom
 // entry has none.
-func appendMessageBy(call string, dst []byte, table []renumbering, message Message) ([]byte, bool, error) {
+func appendMessageBy(call string, dst []byte, table []renumbering, message *Message) ([]byte, bool, error) {
 	schema, err := message.Schema()
 	if err != nil {
 		return dst, false, nil
@@ -281,9 +281,9 @@ func appendMessageBy(call string, dst []byte, table []renumbering, message Messa
 	return dst, true, message.located(err)
 }
 
-// read returns the item of a decoder; of a message the payload is at the numbers of the protocol.
+// read returns the item of a decoder; a message gets its payload at the numbers of the protocol.
 func (n *Numbering) read(item Item) (Item, error) {
-	message, isMessage := item.(Message)
+	message, isMessage := item.(*Message)
 	if !isMessage {
 		return item, nil
 	}
@@ -295,5 +295,5 @@ func (n *Numbering) read(item Item) (Item, error) {
 		return item, nil
 	}
 	message.Payload = payload[:len(payload):len(payload)]
-	return message, nil
+	return item, nil
 }

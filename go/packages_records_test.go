@@ -145,8 +145,9 @@ func encodeCase(t *testing.T, words []string) string {
 	version := must(strconv.Atoi(words[0]))(t)
 	frame, err := record.Frame(version)
 	message, other := NewMessageOf(version, record)
-	if fmt.Sprint(other) != fmt.Sprint(err) || err == nil && !bytes.Equal(message.Bytes(), frame) {
-		t.Errorf("%x, %v", message.Bytes(), other)
+	if fmt.Sprint(other) != fmt.Sprint(err) || (message == nil) != (err != nil) ||
+		message != nil && !bytes.Equal(message.Bytes(), frame) {
+		t.Errorf("%v, %v", message, other)
 	}
 	var refused *FieldError
 	switch {
@@ -163,8 +164,11 @@ func encodeCase(t *testing.T, words []string) string {
 func messageCase(t *testing.T, words []string) string {
 	record := newRecord(must(SchemaNamed(words[1]))(t)).(MessageRecord)
 	message, err := NewMessageOf(must(strconv.Atoi(words[0]))(t), record)
-	if errors.Is(err, ErrUnknown) {
+	switch {
+	case errors.Is(err, ErrUnknown):
 		return "unknown"
+	case err != nil:
+		return err.Error()
 	}
 	return message.String()
 }
@@ -240,7 +244,7 @@ func wordOfField(t *testing.T, value any) (member, word string) {
 func jsonCase(t *testing.T, words []string) string {
 	version := must(strconv.Atoi(words[0]))(t)
 	code, err := TypeCode(words[1])
-	var message Message
+	var message *Message
 	if err == nil {
 		message, err = MessageFromJSON(version, code, bytesOf(t, words[2]))
 	}

@@ -147,7 +147,7 @@ func sameItems(t *testing.T, numbering *Numbering, version int, stream, read []b
 		if item.String() != own[i].String() {
 			t.Errorf("%x: %v, and not %v", stream, item, own[i])
 		}
-		if message, isMessage := item.(Message); isMessage && !bytes.Equal(message.Payload, own[i].(Message).Payload) {
+		if message, isMessage := item.(*Message); isMessage && !bytes.Equal(message.Payload, own[i].(*Message).Payload) {
 			t.Errorf("%x: %x", stream, message.Payload)
 		}
 		copied = append(copied, item.Bytes()...)
@@ -254,17 +254,17 @@ func itemsOf(t *testing.T, version string, word string) []Item {
 }
 
 // The calls that read the payload of a message.
-var readCalls = map[string]func(message Message) error{
-	"json":         func(message Message) error { _, err := message.JSON(); return err },
-	"canonical":    func(message Message) error { _, err := message.Canonical(); return err },
-	"frame":        func(message Message) error { _, err := message.Frame(message.Version); return err },
-	"notification": func(message Message) error { _, err := message.Notification(); return err },
+var readCalls = map[string]func(message *Message) error{
+	"json":         func(message *Message) error { _, err := message.JSON(); return err },
+	"canonical":    func(message *Message) error { _, err := message.Canonical(); return err },
+	"frame":        func(message *Message) error { _, err := message.Frame(message.Version); return err },
+	"notification": func(message *Message) error { _, err := message.Notification(); return err },
 }
 
 func readCase(t *testing.T, words []string) string {
 	var results []string
 	for _, item := range itemsOf(t, words[1], words[2]) {
-		message, isMessage := item.(Message)
+		message, isMessage := item.(*Message)
 		switch {
 		case !isMessage:
 			results = append(results, "none")
@@ -283,7 +283,7 @@ func readCase(t *testing.T, words []string) string {
 }
 
 // outcomeOf returns what an error of a message is; one of its payload tells which message it is of.
-func outcomeOf(t *testing.T, message Message, err error) string {
+func outcomeOf(t *testing.T, message *Message, err error) string {
 	if err == nil {
 		return "ok"
 	}
@@ -309,7 +309,7 @@ func outcomeOf(t *testing.T, message Message, err error) string {
 func asCall[R Record](t *testing.T, item Item) string {
 	record, isRecord, err := As[R](item)
 	if err != nil {
-		return outcomeOf(t, item.(Message), err)
+		return outcomeOf(t, item.(*Message), err)
 	}
 	if !isRecord {
 		return "none"
@@ -463,7 +463,7 @@ func nameCase(t *testing.T, words []string) string {
 }
 
 func TestErrorsOfAMessageThatDidNotCome(t *testing.T) {
-	message := Message{Version: 8, Code: CodeSetStateCommand, Payload: unhex(t, "0a0561")}
+	message := &Message{Version: 8, Code: CodeSetStateCommand, Payload: unhex(t, "0a0561")}
 	_, err := message.JSON()
 	var of *MessageError
 	if !errors.As(err, &of) || of.Offset != -1 || of.Code != CodeSetStateCommand || of.Type != "SetStateCommand" {
@@ -473,7 +473,7 @@ func TestErrorsOfAMessageThatDidNotCome(t *testing.T) {
 	if err.Error() != text {
 		t.Error(err)
 	}
-	if items := []Item{message, UnknownCode{}, Skipped{}}; items[0].Offset() != -1 || items[1].Offset() != -1 ||
+	if items := []Item{message, &UnknownCode{}, &Skipped{}}; items[0].Offset() != -1 || items[1].Offset() != -1 ||
 		items[2].Offset() != -1 {
 		t.Error("an item that did not come has an offset")
 	}

@@ -25,7 +25,7 @@ func TestRecordsOfAStream(t *testing.T) {
 		if err == io.EOF {
 			break
 		}
-		message := item.(Message)
+		message := item.(*Message)
 		record := must(message.Record())(t)
 		found[reflect.TypeOf(record).Elem().Name()] = true
 		switch record := record.(type) {
@@ -98,12 +98,12 @@ func TestFieldsThatCannotBeEncoded(t *testing.T) {
 	if err := record.UnmarshalBinary([]byte{0x0a}); !errors.Is(err, ErrMalformed) {
 		t.Errorf("%v", err)
 	}
-	for _, message := range []Message{{Version: 8, Code: 8}, {Version: 4, Code: 0xfc01}} {
+	for _, message := range []*Message{{Version: 8, Code: 8}, {Version: 4, Code: 0xfc01}} {
 		if record, err := message.Record(); record != nil || !errors.Is(err, ErrUnknown) {
 			t.Errorf("%v, %v", record, err)
 		}
 	}
-	malformed := Message{Version: 8, Code: CodeSetStateCommand, Payload: []byte{0x0a}}
+	malformed := &Message{Version: 8, Code: CodeSetStateCommand, Payload: []byte{0x0a}}
 	if record, err := malformed.Record(); record != nil || !errors.Is(err, ErrMalformed) {
 		t.Errorf("%v, %v", record, err)
 	}
@@ -125,7 +125,7 @@ func TestCustomEntryHasNoRecord(t *testing.T) {
 			} else if err != nil {
 				t.Fatal(err)
 			}
-			switch record := must(item.(Message).Record())(t).(type) {
+			switch record := must(item.(*Message).Record())(t).(type) {
 			case *SetStateCommandMessage:
 				states++
 			case nil:
@@ -141,9 +141,9 @@ func TestCustomEntryHasNoRecord(t *testing.T) {
 }
 
 func TestRecordOfOneType(t *testing.T) {
-	state := Message{Version: 8, Code: CodeSetStateCommand, Payload: unhex(t, "0a0161")}
-	malformed := Message{Version: 8, Code: CodeSetStateCommand, Payload: unhex(t, "0a")}
-	entry := Message{Version: 8, Code: 0xfc01, Payload: unhex(t, "0a")}
+	state := &Message{Version: 8, Code: CodeSetStateCommand, Payload: unhex(t, "0a0161")}
+	malformed := &Message{Version: 8, Code: CodeSetStateCommand, Payload: unhex(t, "0a")}
+	entry := &Message{Version: 8, Code: 0xfc01, Payload: unhex(t, "0a")}
 	command, ok, err := As[*SetStateCommandMessage](state)
 	if !ok || err != nil || string(command.Key) != "a" {
 		t.Errorf("%v, %v, %v", command, ok, err)
@@ -152,7 +152,8 @@ func TestRecordOfOneType(t *testing.T) {
 		t.Errorf("%v, %v, %v", command, ok, err)
 	}
 	// the payload of another type is not read
-	for _, item := range []Item{malformed, entry, UnknownCode{Version: 8, Code: 8}, Message{Version: 4}} {
+	others := []Item{malformed, entry, &UnknownCode{Version: 8, Code: 8}, &Message{Version: 4}, (*Message)(nil), nil}
+	for _, item := range others {
 		if found, ok, err := As[*ErrorMessage](item); found != nil || ok || err != nil {
 			t.Errorf("%v: %v, %v, %v", item, found, ok, err)
 		}
@@ -162,7 +163,7 @@ func TestRecordOfOneType(t *testing.T) {
 	}
 	// a suspension has the record of its version
 	for version, isEarlier := range map[int]bool{6: true, 7: false} {
-		item := Message{Version: version, Code: CodeSuspension}
+		item := &Message{Version: version, Code: CodeSuspension}
 		_, earlier, _ := As[*SuspensionMessageV6](item)
 		_, later, _ := As[*SuspensionMessage](item)
 		if earlier != isEarlier || later == isEarlier {

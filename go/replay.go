@@ -102,7 +102,8 @@ func (r *Replay) Check(item Item) (*Mismatch, error) {
 			return nil, err
 		}
 	}
-	if message, isMessage := item.(Message); isMessage && r.next[replayReplayedOffset] != r.numbers[replayReplayedOffset] {
+	message, isMessage := item.(*Message)
+	if isMessage && r.next[replayReplayedOffset] != r.numbers[replayReplayedOffset] {
 		r.next[replayReplayedOffset] += message.came.more(payload)
 	}
 	r.numbers = r.next
@@ -112,25 +113,26 @@ func (r *Replay) Check(item Item) (*Mismatch, error) {
 // Expected returns the command that comes next in the recording, which is not taken, and whether there is one. Its
 // Offset is that in the recording, its payload a part of it, and its record has the name or the key of a command that
 // has one. After a mismatch it is the command at the index of that.
-func (r *Replay) Expected() (Message, bool, error) {
+func (r *Replay) Expected() (*Message, bool, error) {
 	result := journalReplayExpected(r.recorded, &r.numbers, &r.command)
 	if result < 0 {
-		return Message{}, false, r.refusal("Replay.Expected", result)
+		return nil, false, r.refusal("Replay.Expected", result)
 	}
 	if result == 0 {
-		return Message{}, false, nil
+		return nil, false, nil
 	}
 	begin, size := r.command[commandOffset], r.command[commandSize]
 	bytes := r.recorded[begin : begin+size : begin+size]
 	if missing := journalNext(uint32(r.version), bytes, &r.item); missing < 0 {
-		return Message{}, false, r.refusal("Replay.Expected", missing)
+		return nil, false, r.refusal("Replay.Expected", missing)
 	}
-	item, err := itemOf(r.version, r.item[:], bytes, positionAt(int64(begin)))
-	if err != nil {
-		return Message{}, false, &Error{"Replay.Expected", named(versionName, r.version), err}
+	if kind := r.item[itemKind]; kind != itemMessage {
+		err := unexpected("kind of item", kind)
+		return nil, false, &Error{"Replay.Expected", named(versionName, r.version), err}
 	}
-	command, isMessage := item.(Message)
-	return command, isMessage, nil
+	command := new(Message)
+	command.receive(r.version, &r.item, bytes, positionAt(int64(begin)))
+	return command, true, nil
 }
 
 // Finish says that the replay ended. It returns nil if nothing is left of the recording, or a mismatch was reported.
@@ -217,15 +219,21 @@ func changedFields(call string, code uint16, recorded, replayed []byte) ([]Chang
 	}
 }
 
-// partsOf returns the code and the payload of an item, and whether it is one.
+// partsOf returns the code and the payload of an item, and whether it is one, and not nil.
 func partsOf(item Item) (code uint16, payload []byte, isItem bool) {
 	switch item := item.(type) {
-	case Message:
-		return item.Code, item.Payload, true
-	case UnknownCode:
-		return item.Code, nil, true
-	case Skipped:
-		return item.Code, item.Payload, true
+	case *Message:
+		if item != nil {
+			return item.Code, item.Payload, true
+		}
+	case *UnknownCode:
+		if item != nil {
+			return item.Code, nil, true
+		}
+	case *Skipped:
+		if item != nil {
+			return item.Code, item.Payload, true
+		}
 	}
 	return 0, nil, false
 }

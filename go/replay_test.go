@@ -59,10 +59,10 @@ func itemsIn(version int, stream []byte) []Item {
 }
 
 // commandsIn returns the commands of a stream that are compared.
-func commandsIn(version int, stream []byte) []Message {
-	var commands []Message
+func commandsIn(version int, stream []byte) []*Message {
+	var commands []*Message
 	for _, item := range itemsIn(version, stream) {
-		message, isMessage := item.(Message)
+		message, isMessage := item.(*Message)
 		if isMessage && message.IsCommand() && !strings.HasPrefix(message.Type(), "CustomEntry") {
 			commands = append(commands, message)
 		}
@@ -122,7 +122,7 @@ func min(first, second int) int {
 }
 
 // wantExpected fails unless a replay expects the first of these commands, or none.
-func wantExpected(t *testing.T, replay *Replay, commands []Message) {
+func wantExpected(t *testing.T, replay *Replay, commands []*Message) {
 	t.Helper()
 	found, isThere, err := replay.Expected()
 	if err != nil || isThere != (len(commands) > 0) {
@@ -139,7 +139,7 @@ func wantFields(t *testing.T, mismatch *Mismatch, recorded, replayed []byte) {
 	if mismatch.Kind == VerdictHeaderMismatch {
 		code := uint16(recorded[mismatch.RecordedOffset])<<8 | uint16(recorded[mismatch.RecordedOffset+1])
 		payload := func(stream []byte, offset int64) []byte {
-			return itemsIn(8, stream[offset:])[0].(Message).Payload
+			return itemsIn(8, stream[offset:])[0].(*Message).Payload
 		}
 		first, second := payload(recorded, mismatch.RecordedOffset), payload(replayed, mismatch.ReplayedOffset)
 		want = must(Difference(code, first, second))(t)
@@ -183,8 +183,11 @@ func TestReplayArguments(t *testing.T) {
 		wantError(t, err, ErrUnknown, text)
 	}
 	replay := must(NewReplay(8, nil, Ignored{}))(t)
-	_, err := replay.Check(nil)
-	wantError(t, err, ErrUnknown, "pendratsoa: Replay.Check: a nil item: unknown, or not of the kind that the call is for")
+	text := "pendratsoa: Replay.Check: a nil item: unknown, or not of the kind that the call is for"
+	for _, item := range []Item{nil, (*Message)(nil), (*UnknownCode)(nil), (*Skipped)(nil)} {
+		_, err := replay.Check(item)
+		wantError(t, err, ErrUnknown, text)
+	}
 }
 
 func TestReplayOfLaterLibrary(t *testing.T) {

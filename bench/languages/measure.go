@@ -197,13 +197,13 @@ func measureStreams(name string, of peer, payload []byte) {
 	}
 	stream := bytes.Repeat(frame, frames)
 	show(name, "items", func() {
-		each(stream, func(item pendratsoa.Item) { sum += len(item.(pendratsoa.Message).Payload) })
+		each(stream, func(item pendratsoa.Item) { sum += len(item.(*pendratsoa.Message).Payload) })
 	}, func() {
 		eachPeer(stream, func(item peerItem) { sum += len(item.payload) })
 	}, frames)
 	show(name, "items-read", func() {
 		each(stream, func(item pendratsoa.Item) {
-			record, err := item.(pendratsoa.Message).Record()
+			record, err := item.(*pendratsoa.Message).Record()
 			check(err)
 			sum += of.read(record)
 		})

@@ -89,7 +89,7 @@ func check(replay *pendratsoa.Replay, decoder *pendratsoa.Decoder, output io.Wri
 		if mismatch, err := replay.Check(item); mismatch != nil || err != nil {
 			return mismatch, err
 		}
-		if command, isMessage := item.(pendratsoa.Message); isMessage && replay.Index() > index {
+		if command, isMessage := item.(*pendratsoa.Message); isMessage && replay.Index() > index {
 			fmt.Fprintf(output, "same %s at offset %d\n", command.Type(), command.Offset())
 		}
 	}
