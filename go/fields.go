@@ -52,8 +52,9 @@ type MessageRecord interface {
 }
 
 // Record returns what the payload means: a pointer to a struct as SetStateCommandMessage, for a type switch. A custom
-// entry has no record: nil, without an error. The errors are those of Schema and Canonical; one of the payload is a
-// *MessageError. The function As returns the record of one type.
+// entry has no record: nil, without an error. Bytes of it may be parts of the payload, which are not to be written
+// into. The errors are those of Schema and Canonical; one of the payload is a *MessageError. The function As returns
+// the record of one type.
 func (m *Message) Record() (Record, error) {
 	schema, err := m.Schema()
 	if err != nil {
@@ -74,8 +75,9 @@ func (m *Message) Record() (Record, error) {
 }
 
 // As returns the record of an item, and true, if it is a message of the type of that record, as in
-// As[*SetStateCommandMessage](item); of any other item false, and no error: its payload is not read. The errors are
-// those of Canonical; one of the payload is a *MessageError.
+// As[*SetStateCommandMessage](item); of any other item false, and no error: its payload is not read. Bytes of the
+// record may be parts of the payload, which are not to be written into. The errors are those of Canonical; one of the
+// payload is a *MessageError.
 func As[R Record](item Item) (record R, ok bool, err error) {
 	message, isMessage := item.(*Message)
 	if !isMessage || message == nil {

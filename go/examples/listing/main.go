@@ -42,7 +42,9 @@ func list(input io.Reader, version int, output io.Writer) error {
 	decoder := pendratsoa.NewDecoder(input, version)
 	for {
 		item, err := decoder.Next()
-		if err == io.EOF || errors.Is(err, io.ErrUnexpectedEOF) {
+		// a reader may itself return io.ErrUnexpectedEOF
+		var incomplete *pendratsoa.IncompleteError
+		if err == io.EOF || errors.As(err, &incomplete) {
 			break
 		} else if err != nil {
 			return err

@@ -54,9 +54,10 @@ func proxy(version, address string) error {
 func passOn(decoder *pendratsoa.Decoder, version int, target io.Writer) error {
 	for {
 		item, err := decoder.Next()
+		var incomplete *pendratsoa.IncompleteError
 		if err == io.EOF {
 			return nil
-		} else if errors.Is(err, io.ErrUnexpectedEOF) {
+		} else if errors.As(err, &incomplete) {
 			if _, failed := target.Write(decoder.Trailing()); failed != nil {
 				return failed
 			}
