@@ -23,7 +23,7 @@ use Rattle.stream_lines.specs.declared.error.PrintError.{PrintError}
 use Rattle.stream_lines.specs.declared.error.PrintError.TheVariants.{Input, Output, OutOfMemory, TooLong}
 use Rattle.stream_lines.specs.declared.error.PrintError.TheVariants.{MessageTooLong}
 use Rattle.shared_core_stream.specs.declared.encoding.limit_error.MessageTooLong.{MessageTooLong as Longer}
-use Rattle.shared_core_stream.specs.Unread.{Unread}
+use Rattle.shared_core_stream.specs.Unread.{fresh, Unread}
 use Rattle.shared_core_stream.specs.Limits.{after_item, offset_after, payload_length, too_long_at, TakesWithin}
 use Rattle.shared_core_io.specs.Reading.{with_more}
 use Rattle.stream_lines.specs.Printing.{item_size, items_size, lines, trouble_at, first_trouble, ArePrinted}
@@ -166,6 +166,11 @@ moved version limit offset bytes rest size long =
     { version = version; bytes = rest; limit = limit; offset = o; rejected = None })
     (omega (arith, long))
 
+-- what is held before anything is read
+pub began : (version : Version) (limit offset : ℕ) (state : Unread) → offset ≡ 0 → state ≡ fresh version limit → state ≡
+    holding version limit offset state.bytes
+began version limit offset state at nothing = rw (at, nothing) refl
+
 -- what is held after more was read
 pub filled : (version : Version) (limit offset : ℕ) (old new : Unread) (read : List ℕ) → old ≡ holding version limit
     offset old.bytes → new ≡ with_more old read → new ≡ holding version limit offset (old.bytes ++ read)
@@ -194,6 +199,17 @@ abbrev pub HasAdded : (ℕ → ℕ → Item → List ℕ) → (Item → Option T
 HasAdded line trouble version limit at found text bytes longer offset noted longest state = (rest : List ℕ)
     × Added line trouble version limit at found text bytes offset noted longest rest
     × IsAfter version limit longer offset rest state
+
+-- the same where the text was empty, and this was held
+pub added_here : (line : ℕ → ℕ → Item → List ℕ) (trouble : Item → Option Trouble) (version : Version) (limit at : ℕ)
+    (found : Option (ℕ × Trouble)) (text bytes : List ℕ) (longer : Option Longer) (offset : ℕ)
+    (noted : Option (ℕ × Trouble)) (longest : List ℕ) (state from : Unread) → from ≡ holding version limit at bytes →
+    text ≡ [] → HasAdded line trouble from.version from.limit at found text from.bytes longer offset noted longest state
+    → HasAdded line trouble version limit at found [] bytes longer offset noted longest state
+added_here line trouble version limit at found text bytes longer offset noted longest state from here none added =
+    subst (λ (t : List ℕ). HasAdded line trouble version limit at found t bytes longer offset noted longest state) none
+    (subst (λ (held : Unread). HasAdded line trouble held.version held.limit at found text held.bytes longer offset
+    noted longest state) here added)
 
 -- an item is taken of what is held
 pub takes : (version : Version) (limit offset : ℕ) (old new : Unread) (item : Item) → old ≡ holding version limit
@@ -334,7 +350,7 @@ module _ (line : ℕ → ℕ → Item → List ℕ) (last : ℕ → List ℕ →
         );
       }
 
-  pub starts : GoesOn line trouble version limit first start first start 0 [] None
+  starts : GoesOn line trouble version limit first start first start 0 [] None
   starts = record {
     read = [];
     items = [];
@@ -345,6 +361,10 @@ module _ (line : ℕ → ℕ → Item → List ℕ) (last : ℕ → List ℕ →
     noted = refl;
     within = (λ k item below. absurd (omega (arith, below)), refl);
   }
+
+  pub starts_at : (offset : ℕ) (pending : List ℕ) (found : Option (ℕ × Trouble)) → offset ≡ 0 → pending ≡ [] → found ≡
+      None → GoesOn line trouble version limit first start first start offset pending found
+  starts_at offset pending found at none no_trouble = rw (at, none, no_trouble) starts
 
   -- the message after these items is longer than the limit
   printed_long : (stream rest : List ℕ) (items : List Item) (left : Option (List ℕ)) (longer : Longer) → IsItemsThen

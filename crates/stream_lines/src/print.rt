@@ -13,6 +13,7 @@ ghost use Rattle.std.specs.Io.KnownBytes.{Appends, Consumes};
 ghost use Rattle.std.specs.Option.{option_or};
 ghost use Rattle.shared_core_base.specs.Version.{version_number};
 ghost use Rattle.shared_core_stream.specs.Limits.{offset_after};
+ghost use Rattle.shared_core_stream.specs.Unread.{fresh};
 ghost use Rattle.shared_core_io.specs.Buffered.{held_in};
 ghost use Rattle.stream_lines.specs.Printing.{item_size, trouble_at, ArePrinted, IsLack, IsLongIn};
 ghost use Rattle.stream_lines.specs.Steps.{Added, IsAfter};
@@ -67,42 +68,80 @@ pub fn print_lines<P: LinePrinter, R: Read, W: Write>(
         (R.remaining input.new) }
 {
     let alloc = reading.alloc;
-    let mut items = ItemBuffer::new(alloc, reading.version, reading.limit, reading.chunk);
-    let mut scratch = printer.scratch(alloc);
-    let mut lines = Lines {
+    let items = ItemBuffer::new(alloc, reading.version, reading.limit, reading.chunk);
+    let scratch = printer.scratch(alloc);
+    let lines = Lines {
         text: Vec::new(alloc),
         offset: 0,
         trouble: None,
     };
-    for _ in 0..u64::MAX {
-        match items.fill(input) {
-            Ok(true) => {}
-            Ok(false) => {
-                lines.text.clear();
-                let pending = items.decoder();
-                let rest = Rest {
-                    offset: lines.offset,
-                    pending,
-                };
-                printer.print_rest(rest, &mut lines.text)?;
-                write_whole(output, lines.text.as_slice())?;
-                return Ok(Report {
-                    trouble: lines.trouble,
-                    end: lines.offset,
-                    rest: pending.pending(),
-                });
+    let mut printing = Printing {
+        items,
+        scratch,
+        lines,
+    };
+    printing.print_all(printer, input, output)
+}
+
+/// What a printing has while it goes on. `print_lines` owns it, and has one place where it is dropped.
+#[derive(Drop)]
+struct Printing<S> {
+    items: ItemBuffer,
+    scratch: S,
+    lines: Lines,
+}
+
+impl<S> Printing<S> {
+    /// Does what `print_lines` says, where nothing is read yet.
+    fn print_all<P: LinePrinter<Scratch = S>, R: Read, W: Write>(
+        &mut self,
+        printer: &P,
+        input: &mut R,
+        output: &mut W,
+    ) -> Result<Report, PrintError>
+        requires nothing { held_in self.old.items
+            ≡ fresh self.old.items.decoder.version self.old.items.decoder.limit }
+        requires start { self.old.lines.offset ≡ 0 }
+        requires no_trouble { self.old.lines.trouble ≡ None }
+        ensures { (read : List ℕ) × (written : List ℕ)
+            × Consumes (R.remaining input.old) (R.remaining input.new) read
+            × Appends (W.contents output.old) (W.contents output.new) written
+            × ArePrinted (P.item_line printer.now) (P.rest_line printer.now)
+            (P.is_long printer.now) (P.item_trouble printer.now) self.old.items.decoder.version
+            self.old.items.decoder.limit result read written (R.remaining input.new) }
+    {
+        for _ in 0..u64::MAX {
+            match self.items.fill(input) {
+                Ok(true) => {}
+                Ok(false) => {
+                    self.lines.text.clear();
+                    let pending = self.items.decoder();
+                    let rest = Rest {
+                        offset: self.lines.offset,
+                        pending,
+                    };
+                    printer.print_rest(rest, &mut self.lines.text)?;
+                    write_whole(output, self.lines.text.as_slice())?;
+                    return Ok(Report {
+                        trouble: self.lines.trouble,
+                        end: self.lines.offset,
+                        rest: pending.pending(),
+                    });
+                }
+                Err(ReadError::Failed(_)) => return Err(PrintError::Input),
+                Err(_) => return Err(PrintError::OutOfMemory),
             }
-            Err(ReadError::Failed(_)) => return Err(PrintError::Input),
-            Err(_) => return Err(PrintError::OutOfMemory),
+            self.lines.text.clear();
+            let longer = self
+                .lines
+                .add_held(printer, &mut self.items, &mut self.scratch)?;
+            write_whole(output, self.lines.text.as_slice())?;
+            if let Some(message) = longer {
+                return Err(PrintError::MessageTooLong(message));
+            }
         }
-        lines.text.clear();
-        let longer = lines.add_held(printer, &mut items, &mut scratch)?;
-        write_whole(output, lines.text.as_slice())?;
-        if let Some(message) = longer {
-            return Err(PrintError::MessageTooLong(message));
-        }
+        Err(PrintError::Input)
     }
-    Err(PrintError::Input)
 }
 
 /// The lines of items, and what all items so far have given.
