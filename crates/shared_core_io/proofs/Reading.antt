@@ -1,14 +1,15 @@
 -- Reading items from a reader.
 use Rattle.std.proofs.Common.{◌≡◌, ◌∙◌, ℕ, ◌+◌, ◌-◌, ◌<◌, ◌≤◌, List, [], ◌∷◌, ◌++◌, length, ap, sym, refl}
 use Rattle.std.proofs.Common.{Option, Some, None, Result, Ok, Err}
-use Rattle.std.proofs.Common.{append_assoc, append-nil, length-append, arith, subst}
+use Rattle.std.proofs.Common.{append_assoc, append-nil, length-append, take, drop, arith, subst}
 use Rattle.std.proofs.lemmas.Bool.{le-ltb}
+use Rattle.std.proofs.lemmas.List.{take-append-drop}
 use Rattle.std.proofs.lemmas.Option.{none-some}
 use Rattle.std.specs.Io.KnownBytes.{IsAtEnd}
 use Rattle.shared_core_base.specs.declared.version.Version.{Version}
 use Rattle.bytes.specs.Filled.{Filled}
 use Rattle.shared_core_stream.specs.Items.{front_word, NoItemBegins, TakesItem}
-use Rattle.shared_core_stream.specs.Limits.{ReturnsWithin, after_rejection, rejection}
+use Rattle.shared_core_stream.specs.Limits.{ReturnsWithin, rejection}
 use Rattle.shared_core_stream.specs.Unread.{Unread}
 use Rattle.shared_core_stream.specs.Limits.{offset_after}
 use Rattle.shared_core_stream.specs.declared.encoding.item.Item.{Item}
@@ -176,6 +177,71 @@ few_held decoder chunk buffer short small few = omega (
   length-append decoder.bytes (chunk ++ buffer.items),
   length-append chunk buffer.items,
 )
+
+-- nothing was read
+pub none_read : (state : Unread) → state ≡ with_more state []
+none_read state = ap (λ (bytes : List ℕ). record state { bytes = bytes }) (sym (append-nil state.bytes))
+
+-- what was read is outside the decoder, which stays
+pub read_outside : (old new : Unread) (outside kept read : List ℕ) → new ≡ old → kept ≡ outside ++ read → with_more new
+    kept ≡ with_more (with_more old outside) read
+read_outside old new outside kept read same is =
+    ap (λ (state : Unread). with_more state kept) same ∙ ap (λ (bytes : List ℕ). with_more old bytes) is
+    ∙ ap (λ (bytes : List ℕ). record old { bytes = bytes }) (sym (append_assoc old.bytes outside read))
+
+-- a chunk was pushed, and the rest stays outside
+pub pushed : (old new : Unread) (chunk rest left kept : List ℕ) → new ≡ with_more old chunk → left ≡ [] → kept ≡ rest →
+    with_more new (left ++ kept) ≡ with_more old (chunk ++ rest)
+pushed old new chunk rest left kept is none same =
+    ap (λ (state : Unread). with_more state (left ++ kept)) is
+    ∙ ap (λ (bytes : List ℕ). with_more (with_more old chunk) (bytes ++ kept)) none
+    ∙ ap (λ (bytes : List ℕ). with_more (with_more old chunk) bytes) same
+    ∙ ap (λ (bytes : List ℕ). record old { bytes = bytes }) (append_assoc old.bytes chunk rest)
+
+-- a chunk that has bytes is more than was there
+pub longer : (old next new : Unread) (chunk : List ℕ) → next ≡ old → new ≡ with_more next chunk → 0 < length chunk →
+    length old.bytes < length new.bytes
+longer old next new chunk same is some =
+    omega (
+      arith,
+      some,
+      ap (λ (state : Unread). length state.bytes) same,
+      ap (λ (state : Unread). length state.bytes) is,
+      length-append next.bytes chunk,
+    )
+
+-- what was read is after what was outside the decoder
+pub read_after : (chunk rest kept left read : List ℕ) → kept ≡ chunk → left ≡ rest ++ read → kept ++ left ≡
+    (chunk ++ rest) ++ read
+read_after chunk rest kept left read same is =
+    ap (λ (bytes : List ℕ). bytes ++ left) same ∙ ap (λ (bytes : List ℕ). chunk ++ bytes) is
+    ∙ sym (append_assoc chunk rest read)
+
+-- where no chunk was held, a front of what the buffer holds is one
+pub cut_off : (chunk all kept left : List ℕ) (count : ℕ) → length chunk ≡ 0 → kept ≡ take count all → left ≡
+    drop count all → kept ++ left ≡ chunk ++ all
+cut_off [] all kept left count none front back =
+    ap (λ (bytes : List ℕ). bytes ++ left) front ∙ ap (λ (bytes : List ℕ). take count all ++ bytes) back
+    ∙ take-append-drop count all
+cut_off (byte ∷ chunk) all kept left count none front back = absurd (omega (arith, none))
+
+-- an error of a read of what the buffer holds
+pub buffer_lost : (chunk rest kept left : List ℕ) (error : ReadError) → kept ≡ chunk → LosesNothing None rest left error
+    → LosesNothing None (chunk ++ rest) (kept ++ left) error
+buffer_lost chunk rest kept left (Failed reason) same nothing =
+    (rw same (ap (λ (bytes : List ℕ). chunk ++ bytes) nothing.0), nothing.1)
+buffer_lost chunk rest kept left (TooLong message) same nothing = absurd (none-some message nothing.0)
+buffer_lost chunk rest kept left (Truncated count) same nothing = absurd nothing
+buffer_lost chunk rest kept left OutOfMemory same nothing = tt
+
+-- an error of a read of what is outside the decoder, which stays
+pub outside_lost : (rejected : Option MessageTooLong) (old new : Unread) (outside kept : List ℕ) (error : ReadError) →
+    new ≡ old → LosesNothing None outside kept error → LosesNothing rejected (with_more old outside)
+    (with_more new kept) error
+outside_lost rejected old new outside kept (Failed reason) same nothing = (rw (same, nothing.0) refl, nothing.1)
+outside_lost rejected old new outside kept (TooLong message) same nothing = absurd (none-some message nothing.0)
+outside_lost rejected old new outside kept (Truncated count) same nothing = absurd nothing
+outside_lost rejected old new outside kept OutOfMemory same nothing = tt
 
 -- the same where what was there is what was held first and what was read since
 module _ (first : Unread) (read : List ℕ) (old new : Unread) (outside kept : List ℕ)

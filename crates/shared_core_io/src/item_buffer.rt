@@ -222,7 +222,7 @@ impl ItemBuffer {
         ensures error { IfErr result (λ error. error ≡ OutOfMemory) }
     {
         if self.chunk.is_empty() {
-            self.chunk = self.buffer.freeze_to(self.buffer.len())?;
+            self.cut_chunk()?;
         }
         self.push()
     }
@@ -265,8 +265,21 @@ impl ItemBuffer {
         if !self.read(reader)? {
             return Ok(false);
         }
-        self.chunk = self.buffer.freeze_to(self.buffer.len())?;
+        self.cut_chunk()?;
         Ok(true)
+    }
+
+    /// Takes what the buffer holds as the chunk, where none is held.
+    fn cut_chunk(&mut self) -> Result<(), ReadError>
+        requires none { length self.old.chunk ≡ 0 }
+        ensures cut { self.new.chunk ++ self.new.buffer.items ≡ self.old.chunk ++ self.old.buffer.items }
+        ensures chunk { OnOk result (self.new.chunk ≡ self.old.buffer.items) }
+        ensures rest { OnOk result (self.new.buffer.items ≡ []) }
+        ensures error { IfErr result (λ error. error ≡ OutOfMemory) }
+        ensures decoder { self.new.decoder ≡ self.old.decoder }
+    {
+        self.chunk = self.buffer.freeze_to(self.buffer.len())?;
+        Ok(())
     }
 
     /// Reads once, if the buffer is empty. Returns whether the stream goes on.
