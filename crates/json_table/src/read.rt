@@ -36,7 +36,9 @@ pub fn read_value<'a>(
     ensures invalid { result ≡ Err Error.Invalid → value depth reader.old ≡ None }
     ensures never { (result ≢ Err Error.TooLong) × (result ≢ Err Error.DuplicateKey) }
 {
-    let token = reader.next().ok_or(Error::Invalid)?;
+    let Some(token) = reader.next() else {
+        return Err(Error::Invalid);
+    };
     match token {
         Token::String(text) => push(entries, Entry::String(text)),
         Token::Number(text) => push(entries, Entry::Number(text)),

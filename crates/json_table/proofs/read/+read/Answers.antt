@@ -23,29 +23,29 @@ use Rattle.json_table.proofs.Closing.{closed, long}
 use Rattle.json_table.proofs.Lengths.{length-items_entries, length-members_entries}
 use Rattle.json_table.proofs.read.+read.Goals as goal
 
-pub read_value-returns-in_err-token-clause-invalid : goal.read_value-returns-in_err-token-clause-invalid
-read_value-returns-in_err-token-clause-invalid t c invalid =
+pub read_value-returns-in_default-clause-invalid : goal.read_value-returns-in_default-clause-invalid
+read_value-returns-in_default-clause-invalid t c invalid =
     let empty : c.args.reader.now ≡ [] = grind arith in
     ap (value c.args.depth) empty ∙ value_is c.args.depth []
 
 pub read_value-returns-then-depth-eq0-clause-invalid : goal.read_value-returns-then-depth-eq0-clause-invalid
 unfolding value
 read_value-returns-then-depth-eq0-clause-invalid t c never =
-    let first : c.args.reader.now ≡ token_of c.in_ok-token.token ∷ c.next.new.self = grind arith in
+    let first : c.args.reader.now ≡ token_of c.in-Some.token ∷ c.next.new.self = grind arith in
     let none : c.args.depth ≡ 0 = omega arith in
     ap₂ value none (first ∙ ap (λ k. token_of k ∷ c.next.new.self) c.in-BeginArray.is)
 
 pub read_value-returns-then-depth-eq0-2-clause-invalid : goal.read_value-returns-then-depth-eq0-2-clause-invalid
 unfolding value
 read_value-returns-then-depth-eq0-2-clause-invalid t c never =
-    let first : c.args.reader.now ≡ token_of c.in_ok-token.token ∷ c.next.new.self = grind arith in
+    let first : c.args.reader.now ≡ token_of c.in-Some.token ∷ c.next.new.self = grind arith in
     let none : c.args.depth ≡ 0 = omega arith in
     ap₂ value none (first ∙ ap (λ k. token_of k ∷ c.next.new.self) c.in-BeginObject.is)
 
 pub read_value-returns-in-String-clause-ok : goal.read_value-returns-in-String-clause-ok
 unfolding value_entries
 read_value-returns-in-String-clause-ok t c =
-    let first : c.args.reader.now ≡ token_of c.in_ok-token.token ∷ c.next.new.self = grind arith in
+    let first : c.args.reader.now ≡ token_of c.in-Some.token ∷ c.next.new.self = grind arith in
     let is : c.args.reader.now ≡ Token.string c.in-String.text.now ∷ c.next.new.self = first
     ∙ ap (λ k. token_of k ∷ c.next.new.self) c.in-String.is in
     on_ok_weaker c.push.result
@@ -59,7 +59,7 @@ read_value-returns-in-String-clause-ok t c =
 pub read_value-returns-in-Number-clause-ok : goal.read_value-returns-in-Number-clause-ok
 unfolding value_entries
 read_value-returns-in-Number-clause-ok t c =
-    let first : c.args.reader.now ≡ token_of c.in_ok-token.token ∷ c.next.new.self = grind arith in
+    let first : c.args.reader.now ≡ token_of c.in-Some.token ∷ c.next.new.self = grind arith in
     let is : c.args.reader.now ≡ Token.number c.in-Number.text.now ∷ c.next.new.self = first
     ∙ ap (λ k. token_of k ∷ c.next.new.self) c.in-Number.is in
     on_ok_weaker c.push-in-Number.result
@@ -73,7 +73,7 @@ read_value-returns-in-Number-clause-ok t c =
 pub read_value-returns-in-Bool-clause-ok : goal.read_value-returns-in-Bool-clause-ok
 unfolding value_entries
 read_value-returns-in-Bool-clause-ok t c =
-    let first : c.args.reader.now ≡ token_of c.in_ok-token.token ∷ c.next.new.self = grind arith in
+    let first : c.args.reader.now ≡ token_of c.in-Some.token ∷ c.next.new.self = grind arith in
     let is : c.args.reader.now ≡ Token.boolean c.in-Bool.b ∷ c.next.new.self = first
     ∙ ap (λ k. token_of k ∷ c.next.new.self) c.in-Bool.is in
     on_ok_weaker c.push-in-Bool.result
@@ -88,7 +88,7 @@ read_value-returns-in-Bool-clause-ok t c =
 pub read_value-returns-in-Null-clause-ok : goal.read_value-returns-in-Null-clause-ok
 unfolding value_entries
 read_value-returns-in-Null-clause-ok t c =
-    let first : c.args.reader.now ≡ token_of c.in_ok-token.token ∷ c.next.new.self = grind arith in
+    let first : c.args.reader.now ≡ token_of c.in-Some.token ∷ c.next.new.self = grind arith in
     let is : c.args.reader.now ≡ Token.null ∷ c.next.new.self = first ∙ ap (λ k. token_of k ∷ c.next.new.self)
     c.in-Null.is in
     on_ok_weaker c.push-in-Null.result
@@ -102,7 +102,7 @@ read_value-returns-in-Null-clause-ok t c =
 
 pub read_value-returns-else-depth-eq0-clause-ok : goal.read_value-returns-else-depth-eq0-clause-ok
 read_value-returns-else-depth-eq0-clause-ok t c =
-    let first : c.args.reader.now ≡ token_of c.in_ok-token.token ∷ c.next.new.self = grind arith in
+    let first : c.args.reader.now ≡ token_of c.in-Some.token ∷ c.next.new.self = grind arith in
     let opened = ap (value c.args.depth) (first ∙ ap (λ k. token_of k ∷ c.next.new.self) c.in-BeginArray.is)
     ∙ value-begin_array c.args.depth c.next.new.self (omega arith) in
     on_ok_weaker c.read_array.result (λ done. (json.array done.0, opened ∙ ap (parse_map json.array) done.1, done.2))
@@ -110,7 +110,7 @@ read_value-returns-else-depth-eq0-clause-ok t c =
 
 pub read_value-returns-else-depth-eq0-clause-invalid : goal.read_value-returns-else-depth-eq0-clause-invalid
 read_value-returns-else-depth-eq0-clause-invalid t c invalid =
-    let first : c.args.reader.now ≡ token_of c.in_ok-token.token ∷ c.next.new.self = grind arith in
+    let first : c.args.reader.now ≡ token_of c.in-Some.token ∷ c.next.new.self = grind arith in
     let opened = ap (value c.args.depth) (first ∙ ap (λ k. token_of k ∷ c.next.new.self) c.in-BeginArray.is)
     ∙ value-begin_array c.args.depth c.next.new.self (omega arith) in
     let failed : items (value (c.args.depth - 1)) (length c.next.new.self) c.next.new.self ≡ None = grind arith in
@@ -118,7 +118,7 @@ read_value-returns-else-depth-eq0-clause-invalid t c invalid =
 
 pub read_value-returns-else-depth-eq0-2-clause-ok : goal.read_value-returns-else-depth-eq0-2-clause-ok
 read_value-returns-else-depth-eq0-2-clause-ok t c =
-    let first : c.args.reader.now ≡ token_of c.in_ok-token.token ∷ c.next.new.self = grind arith in
+    let first : c.args.reader.now ≡ token_of c.in-Some.token ∷ c.next.new.self = grind arith in
     let opened = ap (value c.args.depth) (first ∙ ap (λ k. token_of k ∷ c.next.new.self) c.in-BeginObject.is)
     ∙ value-begin_object c.args.depth c.next.new.self (omega arith) in
     on_ok_weaker c.read_object.result (λ done. (json.object done.0, opened ∙ ap (parse_map json.object) done.1, done.2))
@@ -126,7 +126,7 @@ read_value-returns-else-depth-eq0-2-clause-ok t c =
 
 pub read_value-returns-else-depth-eq0-2-clause-invalid : goal.read_value-returns-else-depth-eq0-2-clause-invalid
 read_value-returns-else-depth-eq0-2-clause-invalid t c invalid =
-    let first : c.args.reader.now ≡ token_of c.in_ok-token.token ∷ c.next.new.self = grind arith in
+    let first : c.args.reader.now ≡ token_of c.in-Some.token ∷ c.next.new.self = grind arith in
     let opened = ap (value c.args.depth) (first ∙ ap (λ k. token_of k ∷ c.next.new.self) c.in-BeginObject.is)
     ∙ value-begin_object c.args.depth c.next.new.self (omega arith) in
     let failed : members (value (c.args.depth - 1)) (length c.next.new.self) c.next.new.self ≡ None = grind arith in
@@ -134,7 +134,7 @@ read_value-returns-else-depth-eq0-2-clause-invalid t c invalid =
 
 pub read_value-returns-in-EndObject-clause-invalid : goal.read_value-returns-in-EndObject-clause-invalid
 read_value-returns-in-EndObject-clause-invalid t c invalid =
-    let first : c.args.reader.now ≡ token_of c.in_ok-token.token ∷ c.next.new.self = grind arith in
+    let first : c.args.reader.now ≡ token_of c.in-Some.token ∷ c.next.new.self = grind arith in
     rw (value_is c.args.depth c.args.reader.now, first) (grind arith)
 
 pub read_array-loop-reader-init : goal.read_array-loop-reader-init
