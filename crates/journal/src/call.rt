@@ -2,8 +2,9 @@
 //!
 //! Where a function here or of a subcommand has a status as its error, what is wrong was reported before.
 
-use clap::Error;
-use command_line::{Input, Progress, fail, note, note_terminal, open, report};
+ghost use Rattle.std.specs.Prelude.{IfOk};
+
+use command_line::{FromMatches, Input, Progress, fail, note, note_terminal, open, parse, report};
 use std::fmt::Display;
 use std::io::IsTerminal;
 use std::process::ExitCode;
@@ -17,7 +18,7 @@ pub const INVALID: u8 = 2;
 pub struct Call<'a> {
     pub rt: &'a HostRuntime,
     /// How it is called, as `journal dump`: messages begin with it, and the usage shows it.
-    pub name: &'static str,
+    pub name: &'a str,
     /// Its arguments.
     pub words: &'a [String],
     /// The status if an allocation, the input or the output fails.
@@ -25,9 +26,15 @@ pub struct Call<'a> {
 }
 
 impl<'a> Call<'a> {
-    /// Prints what is wrong with the arguments, or the help or the version that they request, and returns the status.
-    pub fn report(&self, error: &Error) -> ExitCode {
-        report(self.rt, self.name, error, self.failure)
+    /// Parses the arguments, and returns what is read of them. Otherwise prints what is wrong with them, or the help or
+    /// the version that they request.
+    pub fn parse<T: FromMatches<'a>>(&self) -> Result<T, ExitCode>
+        ensures { IfOk result T.is_valid }
+    {
+        match parse(self.rt.alloc(), self.name, self.words) {
+            Ok(parsed) => Ok(parsed),
+            Err(error) => Err(report(self.rt, self.name, &error, self.failure)),
+        }
     }
 
     /// Fails if the output is a terminal, which takes some bytes of `what` as commands.

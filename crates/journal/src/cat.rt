@@ -1,14 +1,14 @@
 //! Joins journals to one stream: the items of each file, one after the other, without the start messages of the later
 //! ones.
 
-ghost use Rattle.std.specs.Prelude.{◌≤◌, IfOk};
+ghost use Rattle.std.specs.Prelude.{◌≤◌};
 ghost use Rattle.shared_core_base.specs.Version.{version_number};
 
 use crate::call::Call;
 use crate::definitions;
 use crate::file::{File, FileOptions};
-use clap::Error;
-use command_line::Pipe;
+use clap::{ArgMatches, Command, Error};
+use command_line::{FromMatches, Pipe};
 use shared_core::encoding::RawMessage;
 use std::alloc::{AllocError, Global};
 use std::process::ExitCode;
@@ -22,22 +22,25 @@ struct Arguments<'a> {
     options: FileOptions,
 }
 
-/// Parses the arguments. The error is an invalid argument, or a request for the help or the version.
-fn parse_arguments<'a>(
-    alloc: Global,
-    name: &'static str,
-    words: &'a [String],
-) -> Result<Arguments<'a>, Error>
-    ensures { IfOk result (λ parsed. 5 ≤ version_number parsed.options.version) }
-{
-    let mut command = definitions::CAT.command(alloc, name)?.no_binary_name(true);
-    let matches = command.try_get_matches_from_mut(words)?;
-    let options = FileOptions::of(&mut command, &matches)?;
-    let mut paths = Vec::new(alloc);
-    for path in matches.get_strs("file").unwrap_or(&[]) {
-        paths.push(*path)?;
+impl<'a> FromMatches<'a> for Arguments<'a> {
+    ghost is_valid = { λ parsed. 5 ≤ version_number parsed.options.version };
+
+    fn command(alloc: Global, name: &'a str) -> Result<Command<'a>, AllocError> {
+        definitions::CAT.command(alloc, name)
     }
-    Ok(Arguments { paths, options })
+
+    fn from_matches(
+        alloc: Global,
+        command: &mut Command<'a>,
+        matches: &ArgMatches<'a>,
+    ) -> Result<Arguments<'a>, Error> {
+        let options = FileOptions::of(command, matches)?;
+        let mut paths = Vec::new(alloc);
+        for path in matches.get_strs("file").unwrap_or(&[]) {
+            paths.push(*path)?;
+        }
+        Ok(Arguments { paths, options })
+    }
 }
 
 /// What is written of the files.
@@ -101,10 +104,7 @@ fn write(call: &Call<'_>, parsed: &Arguments<'_>, joined: &Joined) -> Result<(),
 
 /// Parses the arguments, joins the files, and returns the status.
 pub fn run(call: &Call<'_>) -> Result<ExitCode, ExitCode> {
-    let mut parsed = match parse_arguments(call.rt.alloc(), call.name, call.words) {
-        Ok(parsed) => parsed,
-        Err(error) => return Err(call.report(&error)),
-    };
+    let mut parsed: Arguments<'_> = call.parse()?;
     call.expect_redirected("the stream")?;
     parsed.options = parsed.options.fitted(call, parsed.paths.as_slice())?;
     let joined = join(call, &parsed)?;

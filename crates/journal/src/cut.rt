@@ -1,7 +1,7 @@
 //! Writes a part of a journal as a stream: what comes before its first command, and the commands of a range with all
 //! that is between them.
 
-ghost use Rattle.std.specs.Prelude.{◌≤◌, IfOk};
+ghost use Rattle.std.specs.Prelude.{◌≤◌};
 ghost use Rattle.shared_core_base.specs.Version.{version_number};
 
 use crate::call::Call;
@@ -10,8 +10,8 @@ use crate::file::File;
 use crate::parts::LACKING;
 use clap::error::ErrorKind;
 use clap::{ArgMatches, Command, Error};
-use command_line::{Pipe, fail};
-use std::alloc::Global;
+use command_line::{FromMatches, Pipe, fail};
+use std::alloc::{AllocError, Global};
 use std::process::ExitCode;
 use stream_parts::{Located, Range};
 
@@ -58,19 +58,22 @@ fn range_of(command: &mut Command<'_>, matches: &ArgMatches<'_>) -> Result<Range
     })
 }
 
-/// Parses the arguments. The error is an invalid argument, or a request for the help or the version.
-fn parse_arguments<'a>(
-    alloc: Global,
-    name: &'static str,
-    words: &'a [String],
-) -> Result<Arguments<'a>, Error>
-    ensures { IfOk result (λ parsed. 5 ≤ version_number parsed.file.options.version) }
-{
-    let mut command = definitions::CUT.command(alloc, name)?.no_binary_name(true);
-    let matches = command.try_get_matches_from_mut(words)?;
-    let file = File::of(&mut command, &matches)?;
-    let range = range_of(&mut command, &matches)?;
-    Ok(Arguments { file, range })
+impl<'a> FromMatches<'a> for Arguments<'a> {
+    ghost is_valid = { λ parsed. 5 ≤ version_number parsed.file.options.version };
+
+    fn command(alloc: Global, name: &'a str) -> Result<Command<'a>, AllocError> {
+        definitions::CUT.command(alloc, name)
+    }
+
+    fn from_matches(
+        alloc: Global,
+        command: &mut Command<'a>,
+        matches: &ArgMatches<'a>,
+    ) -> Result<Arguments<'a>, Error> {
+        let file = File::of(command, matches)?;
+        let range = range_of(command, matches)?;
+        Ok(Arguments { file, range })
+    }
 }
 
 /// Reports that the journal lacks a command of the range, and returns the status.
@@ -123,10 +126,7 @@ fn write(call: &Call<'_>, file: &File<'_>, located: &Located) -> Result<(), Exit
 
 /// Parses the arguments, writes the part, and returns the status.
 pub fn run(call: &Call<'_>) -> Result<ExitCode, ExitCode> {
-    let parsed = match parse_arguments(call.rt.alloc(), call.name, call.words) {
-        Ok(parsed) => parsed,
-        Err(error) => return Err(call.report(&error)),
-    };
+    let parsed: Arguments<'_> = call.parse()?;
     call.expect_redirected("the stream")?;
     let file = parsed.file.fitted(call)?;
     let located = file.locate(call, parsed.range)?;

@@ -1,6 +1,6 @@
 //! Describes streams, files or the standard input: some lines about each.
 
-ghost use Rattle.std.specs.Prelude.{◌≤◌, IfOk};
+ghost use Rattle.std.specs.Prelude.{◌≤◌};
 ghost use Rattle.shared_core_base.specs.Version.{version_number};
 
 use crate::beginning::{Beginning, Begun};
@@ -9,8 +9,8 @@ use crate::definitions;
 use crate::dump::Records;
 use crate::file::{File, FileOptions};
 use crate::fitting::all_fitting;
-use clap::Error;
-use command_line::{Decoding, Input, Pipe, Progress, fail, input_size};
+use clap::{ArgMatches, Command, Error};
+use command_line::{Decoding, FromMatches, Input, Pipe, Progress, fail, input_size};
 use shared_core_base::version::Version;
 use std::alloc::{AllocError, Global};
 use std::process::ExitCode;
@@ -31,24 +31,25 @@ struct Arguments<'a> {
     options: FileOptions,
 }
 
-/// Parses the arguments. The error is an invalid argument, or a request for the help or the version.
-fn parse_arguments<'a>(
-    alloc: Global,
-    name: &'static str,
-    words: &'a [String],
-) -> Result<Arguments<'a>, Error>
-    ensures { IfOk result (λ parsed. 5 ≤ version_number parsed.options.version) }
-{
-    let mut command = definitions::DESCRIBE
-        .command(alloc, name)?
-        .no_binary_name(true);
-    let matches = command.try_get_matches_from_mut(words)?;
-    let options = FileOptions::of(&mut command, &matches)?;
-    let mut paths = Vec::new(alloc);
-    for path in matches.get_strs("file").unwrap_or(&["-"]) {
-        paths.push(*path)?;
+impl<'a> FromMatches<'a> for Arguments<'a> {
+    ghost is_valid = { λ parsed. 5 ≤ version_number parsed.options.version };
+
+    fn command(alloc: Global, name: &'a str) -> Result<Command<'a>, AllocError> {
+        definitions::DESCRIBE.command(alloc, name)
     }
-    Ok(Arguments { paths, options })
+
+    fn from_matches(
+        alloc: Global,
+        command: &mut Command<'a>,
+        matches: &ArgMatches<'a>,
+    ) -> Result<Arguments<'a>, Error> {
+        let options = FileOptions::of(command, matches)?;
+        let mut paths = Vec::new(alloc);
+        for path in matches.get_strs("file").unwrap_or(&["-"]) {
+            paths.push(*path)?;
+        }
+        Ok(Arguments { paths, options })
+    }
 }
 
 /// How the description of a stream ended, after what is wrong was reported.
@@ -207,8 +208,6 @@ fn describe_all(call: &Call<'_>, parsed: &Arguments<'_>) -> ExitCode
 
 /// Parses the arguments, describes the streams, and returns the status.
 pub fn run(call: &Call<'_>) -> Result<ExitCode, ExitCode> {
-    match parse_arguments(call.rt.alloc(), call.name, call.words) {
-        Ok(parsed) => Ok(describe_all(call, &parsed)),
-        Err(error) => Err(call.report(&error)),
-    }
+    let parsed: Arguments<'_> = call.parse()?;
+    Ok(describe_all(call, &parsed))
 }

@@ -11,7 +11,7 @@ mod theirs;
 use crate::beginning::{Beginning, Begun};
 use crate::call::Call;
 use crate::descriptors::Description;
-use crate::diff::arguments::{Arguments, ValuesChoice, parse_arguments};
+use crate::diff::arguments::{Arguments, ValuesChoice};
 use crate::diff::inputs::{Inputs, closed_side, open_both, open_both_by};
 use crate::diff::their_lines::{Shown, their_json, their_text};
 use crate::diff::theirs::{TheirDifference, Unread, their_difference};
@@ -206,10 +206,7 @@ fn run_parsed<'a>(
 
 /// Parses the arguments, compares the journals, and returns the status.
 pub fn run(call: &Call<'_>) -> Result<ExitCode, ExitCode> {
-    let mut parsed = match parse_arguments(call.rt.alloc(), call.name, call.words) {
-        Ok(parsed) => parsed,
-        Err(error) => return Err(call.report(&error)),
-    };
+    let mut parsed: Arguments<'_> = call.parse()?;
     if let Some(side) = closed_side(call.rt, &parsed) {
         return Err(call.fail(ReaderError::Read(side), call.failure));
     }

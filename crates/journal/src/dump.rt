@@ -10,7 +10,7 @@ mod suggestions;
 use crate::beginning::{Beginning, Begun};
 use crate::call::Call;
 use crate::descriptors::read_messages;
-use crate::dump::arguments::{Arguments, parse_arguments};
+use crate::dump::arguments::Arguments;
 pub use crate::dump::canonical::Records;
 use crate::file::FileOptions;
 use crate::renumbered::set_path;
@@ -120,10 +120,7 @@ fn run_by<M: MessageTable>(
 
 /// Parses the arguments, dumps the stream, and returns the status.
 pub fn run(call: &Call<'_>) -> Result<ExitCode, ExitCode> {
-    let mut parsed = match parse_arguments(call.rt.alloc(), call.name, call.words) {
-        Ok(parsed) => parsed,
-        Err(error) => return Err(call.report(&error)),
-    };
+    let mut parsed: Arguments<'_> = call.parse()?;
     if let Some(path) = set_path(call, &parsed.schema, &parsed.file)? {
         let messages = read_messages(call, path.as_str(), parsed.schema.renames.as_slice())?;
         return run_by(call, &parsed, &messages.table());

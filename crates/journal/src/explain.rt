@@ -1,16 +1,16 @@
 //! Explains the bytes of a stream, a file or the standard input.
 
-ghost use Rattle.std.specs.Prelude.{◌≤◌, IfOk};
+ghost use Rattle.std.specs.Prelude.{◌≤◌};
 ghost use Rattle.shared_core_base.specs.Version.{version_number};
 
 use crate::call::Call;
 use crate::definitions;
 use crate::file::{File, FileOptions};
-use clap::Error;
 use clap::error::ErrorKind;
-use command_line::{Decoding, Pipe, Progress, fail, input_size};
+use clap::{ArgMatches, Command, Error};
+use command_line::{Decoding, FromMatches, Pipe, Progress, fail, input_size};
 use explain_lines::{Options, explain};
-use std::alloc::Global;
+use std::alloc::{AllocError, Global};
 use std::process::ExitCode;
 use stream_lines::Report;
 
@@ -31,29 +31,30 @@ struct Arguments<'a> {
     raw: bool,
 }
 
-/// Parses the arguments. The error is an invalid argument, or a request for the help or the version.
-fn parse_arguments<'a>(
-    alloc: Global,
-    name: &'static str,
-    words: &'a [String],
-) -> Result<Arguments<'a>, Error>
-    ensures { IfOk result (λ parsed. 5 ≤ version_number parsed.file.options.version) }
-{
-    let mut command = definitions::EXPLAIN
-        .command(alloc, name)?
-        .no_binary_name(true);
-    let matches = command.try_get_matches_from_mut(words)?;
-    let file = File::of(&mut command, &matches)?;
-    let at = match matches.get_str("at").map(|text| text.parse()) {
-        None => None,
-        Some(Ok(offset)) => Some(offset),
-        Some(Err(_)) => return Err(command.error(ErrorKind::InvalidValue, NO_OFFSET)?),
-    };
-    Ok(Arguments {
-        file,
-        at,
-        raw: matches.get_flag("raw"),
-    })
+impl<'a> FromMatches<'a> for Arguments<'a> {
+    ghost is_valid = { λ parsed. 5 ≤ version_number parsed.file.options.version };
+
+    fn command(alloc: Global, name: &'a str) -> Result<Command<'a>, AllocError> {
+        definitions::EXPLAIN.command(alloc, name)
+    }
+
+    fn from_matches(
+        alloc: Global,
+        command: &mut Command<'a>,
+        matches: &ArgMatches<'a>,
+    ) -> Result<Arguments<'a>, Error> {
+        let file = File::of(command, matches)?;
+        let at = match matches.get_str("at").map(|text| text.parse()) {
+            None => None,
+            Some(Ok(offset)) => Some(offset),
+            Some(Err(_)) => return Err(command.error(ErrorKind::InvalidValue, NO_OFFSET)?),
+        };
+        Ok(Arguments {
+            file,
+            at,
+            raw: matches.get_flag("raw"),
+        })
+    }
 }
 
 /// Reports an offset at which the stream has no byte, and returns the status.
@@ -99,10 +100,7 @@ fn run_with(call: &Call<'_>, parsed: &Arguments<'_>) -> Result<ExitCode, ExitCod
 
 /// Parses the arguments, explains the stream, and returns the status.
 pub fn run(call: &Call<'_>) -> Result<ExitCode, ExitCode> {
-    let mut parsed = match parse_arguments(call.rt.alloc(), call.name, call.words) {
-        Ok(parsed) => parsed,
-        Err(error) => return Err(call.report(&error)),
-    };
+    let mut parsed: Arguments<'_> = call.parse()?;
     parsed.file = parsed.file.fitted(call)?;
     run_with(call, &parsed)
 }

@@ -1,6 +1,6 @@
 //! Writes a field of an item of a stream, a file or the standard input.
 
-ghost use Rattle.std.specs.Prelude.{◌≤◌, IfOk};
+ghost use Rattle.std.specs.Prelude.{◌≤◌};
 ghost use Rattle.shared_core_base.specs.Version.{version_number};
 
 use crate::beginning::{Beginning, Begun};
@@ -13,7 +13,7 @@ use crate::renumbered::{Opened, numbering_for, open_numbered};
 use crate::similar::push_similar;
 use clap::error::ErrorKind;
 use clap::{ArgMatches, Command, Error};
-use command_line::{Decoding, Pipe, Progress, fail};
+use command_line::{Decoding, FromMatches, Pipe, Progress, fail};
 use field_paths::{Answer, Request, get};
 use shared_core_json::names::names_of;
 use std::alloc::{AllocError, Global};
@@ -39,25 +39,28 @@ struct Arguments<'a> {
     path: &'a str,
 }
 
-/// Parses the arguments. The error is an invalid argument, or a request for the help or the version.
-fn parse_arguments<'a>(
-    alloc: Global,
-    name: &'static str,
-    words: &'a [String],
-) -> Result<Arguments<'a>, Error>
-    ensures { IfOk result (λ parsed. 5 ≤ version_number parsed.file.options.version) }
-{
-    let mut command = definitions::GET.command(alloc, name)?.no_binary_name(true);
-    let matches = command.try_get_matches_from_mut(words)?;
-    let file = File::of(&mut command, &matches)?;
-    let index = index_of(&mut command, &matches)?;
-    let schema = schema_arguments(alloc, &mut command, &matches)?;
-    Ok(Arguments {
-        file,
-        schema,
-        index,
-        path: matches.get_str("path").unwrap_or(""),
-    })
+impl<'a> FromMatches<'a> for Arguments<'a> {
+    ghost is_valid = { λ parsed. 5 ≤ version_number parsed.file.options.version };
+
+    fn command(alloc: Global, name: &'a str) -> Result<Command<'a>, AllocError> {
+        definitions::GET.command(alloc, name)
+    }
+
+    fn from_matches(
+        alloc: Global,
+        command: &mut Command<'a>,
+        matches: &ArgMatches<'a>,
+    ) -> Result<Arguments<'a>, Error> {
+        let file = File::of(command, matches)?;
+        let index = index_of(command, matches)?;
+        let schema = schema_arguments(alloc, command, matches)?;
+        Ok(Arguments {
+            file,
+            schema,
+            index,
+            path: matches.get_str("path").unwrap_or(""),
+        })
+    }
 }
 
 /// The index of the item.
@@ -186,10 +189,7 @@ fn run_with(call: &Call<'_>, parsed: &Arguments<'_>, opened: Opened) -> Result<E
 
 /// Parses the arguments, writes the field, and returns the status.
 pub fn run(call: &Call<'_>) -> Result<ExitCode, ExitCode> {
-    let mut parsed = match parse_arguments(call.rt.alloc(), call.name, call.words) {
-        Ok(parsed) => parsed,
-        Err(error) => return Err(call.report(&error)),
-    };
+    let mut parsed: Arguments<'_> = call.parse()?;
     call.expect_redirected("a field")?;
     let numbering = numbering_for(call, &parsed.schema, &parsed.file)?;
     parsed.file = parsed.file.fitted(call)?;

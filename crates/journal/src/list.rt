@@ -1,6 +1,6 @@
 //! Lists a stream, a file or the standard input: one line for each of its items.
 
-ghost use Rattle.std.specs.Prelude.{◌≤◌, IfOk};
+ghost use Rattle.std.specs.Prelude.{◌≤◌};
 ghost use Rattle.shared_core_base.specs.Version.{version_number};
 
 use crate::beginning::{Beginning, Begun};
@@ -9,11 +9,11 @@ use crate::definitions;
 use crate::descriptors::{SchemaArguments, TypeName, read_type_names, schema_arguments};
 use crate::file::{File, FileOptions};
 use crate::renumbered::set_path;
-use clap::Error;
-use command_line::{Decoding, Input, Pipe, Progress, input_size};
+use clap::{ArgMatches, Command, Error};
+use command_line::{Decoding, FromMatches, Input, Pipe, Progress, input_size};
 use list_lines::{Options, OtherName, list};
 use shared_core_base::version::Version;
-use std::alloc::Global;
+use std::alloc::{AllocError, Global};
 use std::process::ExitCode;
 use stream_lines::Report;
 
@@ -29,19 +29,22 @@ struct Arguments<'a> {
     schema: SchemaArguments<'a>,
 }
 
-/// Parses the arguments. The error is an invalid argument, or a request for the help or the version.
-fn parse_arguments<'a>(
-    alloc: Global,
-    name: &'static str,
-    words: &'a [String],
-) -> Result<Arguments<'a>, Error>
-    ensures { IfOk result (λ parsed. 5 ≤ version_number parsed.file.options.version) }
-{
-    let mut command = definitions::LIST.command(alloc, name)?.no_binary_name(true);
-    let matches = command.try_get_matches_from_mut(words)?;
-    let file = File::of(&mut command, &matches)?;
-    let schema = schema_arguments(alloc, &mut command, &matches)?;
-    Ok(Arguments { file, schema })
+impl<'a> FromMatches<'a> for Arguments<'a> {
+    ghost is_valid = { λ parsed. 5 ≤ version_number parsed.file.options.version };
+
+    fn command(alloc: Global, name: &'a str) -> Result<Command<'a>, AllocError> {
+        definitions::LIST.command(alloc, name)
+    }
+
+    fn from_matches(
+        alloc: Global,
+        command: &mut Command<'a>,
+        matches: &ArgMatches<'a>,
+    ) -> Result<Arguments<'a>, Error> {
+        let file = File::of(command, matches)?;
+        let schema = schema_arguments(alloc, command, matches)?;
+        Ok(Arguments { file, schema })
+    }
 }
 
 /// Reports that nothing before the trailing bytes is an item, and returns the status.
@@ -120,10 +123,7 @@ fn run_with(
 
 /// Parses the arguments, lists the stream, and returns the status.
 pub fn run(call: &Call<'_>) -> Result<ExitCode, ExitCode> {
-    let parsed = match parse_arguments(call.rt.alloc(), call.name, call.words) {
-        Ok(parsed) => parsed,
-        Err(error) => return Err(call.report(&error)),
-    };
+    let parsed: Arguments<'_> = call.parse()?;
     let names = names_for(call, &parsed)?;
     let file = parsed.file.fitted(call)?;
     let input = call.open(file.path)?;

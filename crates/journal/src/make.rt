@@ -5,14 +5,14 @@ use crate::definitions;
 use crate::descriptors::{
     SchemaArguments, fail_descriptors, fail_schema, read_descriptors, schema_arguments, schema_path,
 };
-use clap::Error;
-use command_line::{Pipe, Progress, Watched, fail, input_size, protocol_of};
+use clap::{ArgMatches, Command, Error};
+use command_line::{FromMatches, Pipe, Progress, Watched, fail, input_size, protocol_of};
 use descriptor_set::readable_table_of;
 use make_lines::{LineTable, MakeError, Maker, OtherLines};
 use schema_lines::schemas_of;
 use shared_core_base::version::Version;
 use shared_core_codec::any_table::ProtocolSchemas;
-use std::alloc::Global;
+use std::alloc::{AllocError, Global};
 use std::io::Stdout;
 use std::process::ExitCode;
 
@@ -27,20 +27,23 @@ struct Arguments<'a> {
     version: Version,
 }
 
-/// Parses the arguments. The error is an invalid argument, or a request for the help or the version.
-fn parse_arguments<'a>(
-    alloc: Global,
-    name: &'static str,
-    words: &'a [String],
-) -> Result<Arguments<'a>, Error> {
-    let mut command = definitions::MAKE.command(alloc, name)?.no_binary_name(true);
-    let matches = command.try_get_matches_from_mut(words)?;
-    let schema = schema_arguments(alloc, &mut command, &matches)?;
-    Ok(Arguments {
-        path: matches.get_str("file").unwrap_or("-"),
-        schema,
-        version: protocol_of(&matches),
-    })
+impl<'a> FromMatches<'a> for Arguments<'a> {
+    fn command(alloc: Global, name: &'a str) -> Result<Command<'a>, AllocError> {
+        definitions::MAKE.command(alloc, name)
+    }
+
+    fn from_matches(
+        alloc: Global,
+        command: &mut Command<'a>,
+        matches: &ArgMatches<'a>,
+    ) -> Result<Arguments<'a>, Error> {
+        let schema = schema_arguments(alloc, command, matches)?;
+        Ok(Arguments {
+            path: matches.get_str("file").unwrap_or("-"),
+            schema,
+            version: protocol_of(matches),
+        })
+    }
 }
 
 /// Reports how the run ended, unless the reader of the output has closed it, and returns the status.
@@ -108,10 +111,7 @@ fn run_by_set(call: &Call<'_>, parsed: &Arguments<'_>, path: &str) -> Result<Exi
 
 /// Parses the arguments, makes the stream, and returns the status.
 pub fn run(call: &Call<'_>) -> Result<ExitCode, ExitCode> {
-    let parsed = match parse_arguments(call.rt.alloc(), call.name, call.words) {
-        Ok(parsed) => parsed,
-        Err(error) => return Err(call.report(&error)),
-    };
+    let parsed: Arguments<'_> = call.parse()?;
     call.expect_redirected("the stream")?;
     match schema_path(call, &parsed.schema, parsed.path)? {
         Some(path) => run_by_set(call, &parsed, path.as_str()),

@@ -1,15 +1,15 @@
 //! Writes a stream with its contents replaced, so that it can be shown to others.
 
-ghost use Rattle.std.specs.Prelude.{◌≤◌, IfOk};
+ghost use Rattle.std.specs.Prelude.{◌≤◌};
 ghost use Rattle.shared_core_base.specs.Version.{version_number};
 
 use crate::beginning::{Beginning, Begun};
 use crate::call::{Call, INVALID};
 use crate::definitions;
 use crate::file::{File, FileOptions};
-use clap::Error;
-use command_line::{Decoding, Pipe, Progress, fail, input_size};
-use std::alloc::Global;
+use clap::{ArgMatches, Command, Error};
+use command_line::{Decoding, FromMatches, Pipe, Progress, fail, input_size};
+use std::alloc::{AllocError, Global};
 use std::io::Read;
 use std::process::ExitCode;
 use std::{fs, io};
@@ -30,22 +30,23 @@ struct Arguments<'a> {
     secret: Option<&'a str>,
 }
 
-/// Parses the arguments. The error is an invalid argument, or a request for the help or the version.
-fn parse_arguments<'a>(
-    alloc: Global,
-    name: &'static str,
-    words: &'a [String],
-) -> Result<Arguments<'a>, Error>
-    ensures { IfOk result (λ parsed. 5 ≤ version_number parsed.file.options.version) }
-{
-    let mut command = definitions::REDACT
-        .command(alloc, name)?
-        .no_binary_name(true);
-    let matches = command.try_get_matches_from_mut(words)?;
-    Ok(Arguments {
-        file: File::of(&mut command, &matches)?,
-        secret: matches.get_str("key"),
-    })
+impl<'a> FromMatches<'a> for Arguments<'a> {
+    ghost is_valid = { λ parsed. 5 ≤ version_number parsed.file.options.version };
+
+    fn command(alloc: Global, name: &'a str) -> Result<Command<'a>, AllocError> {
+        definitions::REDACT.command(alloc, name)
+    }
+
+    fn from_matches(
+        alloc: Global,
+        command: &mut Command<'a>,
+        matches: &ArgMatches<'a>,
+    ) -> Result<Arguments<'a>, Error> {
+        Ok(Arguments {
+            file: File::of(command, matches)?,
+            secret: matches.get_str("key"),
+        })
+    }
 }
 
 /// A key of random bytes that are not kept.
@@ -105,10 +106,7 @@ fn run_with(call: &Call<'_>, file: &File<'_>, key: Key) -> Result<ExitCode, Exit
 
 /// Parses the arguments, writes the stream, and returns the status.
 pub fn run(call: &Call<'_>) -> Result<ExitCode, ExitCode> {
-    let parsed = match parse_arguments(call.rt.alloc(), call.name, call.words) {
-        Ok(parsed) => parsed,
-        Err(error) => return Err(call.report(&error)),
-    };
+    let parsed: Arguments<'_> = call.parse()?;
     call.expect_redirected("the stream")?;
     let file = parsed.file.fitted(call)?;
     let key = key_of(call, parsed.secret)?;

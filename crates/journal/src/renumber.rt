@@ -1,6 +1,6 @@
 //! Writes a stream at the protocol's own field numbers, from those of a descriptor set, or back.
 
-ghost use Rattle.std.specs.Prelude.{◌≤◌, IfOk};
+ghost use Rattle.std.specs.Prelude.{◌≤◌};
 ghost use Rattle.shared_core_base.specs.Version.{version_number};
 
 use crate::beginning::{Beginning, Begun};
@@ -8,12 +8,12 @@ use crate::call::{Call, INVALID};
 use crate::definitions;
 use crate::descriptors::{SchemaArguments, read_numbering, schema_arguments, schema_path};
 use crate::file::{File, FileOptions};
-use clap::Error;
-use command_line::{Decoding, Pipe, Progress, input_size};
+use clap::{ArgMatches, Command, Error};
+use command_line::{Decoding, FromMatches, Pipe, Progress, input_size};
 use schema_lines::Direction;
 use shared_core_base::version::Version;
 use shared_core_renumber::Renumbering;
-use std::alloc::Global;
+use std::alloc::{AllocError, Global};
 use std::process::ExitCode;
 use stream_lines::Report;
 use stream_renumbering::{Options, renumber};
@@ -32,29 +32,30 @@ struct Arguments<'a> {
     direction: Direction,
 }
 
-/// Parses the arguments. The error is an invalid argument, or a request for the help or the version.
-fn parse_arguments<'a>(
-    alloc: Global,
-    name: &'static str,
-    words: &'a [String],
-) -> Result<Arguments<'a>, Error>
-    ensures { IfOk result (λ parsed. 5 ≤ version_number parsed.file.options.version) }
-{
-    let mut command = definitions::RENUMBER
-        .command(alloc, name)?
-        .no_binary_name(true);
-    let matches = command.try_get_matches_from_mut(words)?;
-    let file = File::of(&mut command, &matches)?;
-    let schema = schema_arguments(alloc, &mut command, &matches)?;
-    Ok(Arguments {
-        file,
-        schema,
-        direction: if matches.get_flag("back") {
-            Direction::Writing
-        } else {
-            Direction::Reading
-        },
-    })
+impl<'a> FromMatches<'a> for Arguments<'a> {
+    ghost is_valid = { λ parsed. 5 ≤ version_number parsed.file.options.version };
+
+    fn command(alloc: Global, name: &'a str) -> Result<Command<'a>, AllocError> {
+        definitions::RENUMBER.command(alloc, name)
+    }
+
+    fn from_matches(
+        alloc: Global,
+        command: &mut Command<'a>,
+        matches: &ArgMatches<'a>,
+    ) -> Result<Arguments<'a>, Error> {
+        let file = File::of(command, matches)?;
+        let schema = schema_arguments(alloc, command, matches)?;
+        Ok(Arguments {
+            file,
+            schema,
+            direction: if matches.get_flag("back") {
+                Direction::Writing
+            } else {
+                Direction::Reading
+            },
+        })
+    }
 }
 
 /// Reports the first payload that has no other numbers and the trailing bytes, and returns the status.
@@ -111,10 +112,7 @@ fn numbering_of(call: &Call<'_>, parsed: &Arguments<'_>) -> Result<Vec<Renumberi
 
 /// Parses the arguments, writes the stream, and returns the status.
 pub fn run(call: &Call<'_>) -> Result<ExitCode, ExitCode> {
-    let parsed = match parse_arguments(call.rt.alloc(), call.name, call.words) {
-        Ok(parsed) => parsed,
-        Err(error) => return Err(call.report(&error)),
-    };
+    let parsed: Arguments<'_> = call.parse()?;
     call.expect_redirected("the stream")?;
     let entries = numbering_of(call, &parsed)?;
     run_with(call, &parsed.file, entries.as_slice())

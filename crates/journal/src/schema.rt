@@ -4,11 +4,11 @@
 use crate::call::Call;
 use crate::definitions;
 use crate::descriptors::{fail_descriptors, fail_schema, read_descriptors, renames_of};
-use clap::Error;
-use command_line::Pipe;
+use clap::{ArgMatches, Command, Error};
+use command_line::{FromMatches, Pipe};
 use descriptor_set::DescriptorSet;
 use schema_lines::{Rename, SchemaError, write_schema};
-use std::alloc::Global;
+use std::alloc::{AllocError, Global};
 use std::process::ExitCode;
 
 /// The parsed arguments.
@@ -20,20 +20,21 @@ struct Arguments<'a> {
     renames: Vec<Rename<'a>>,
 }
 
-/// Parses the arguments. The error is an invalid argument, or a request for the help or the version.
-fn parse_arguments<'a>(
-    alloc: Global,
-    name: &'static str,
-    words: &'a [String],
-) -> Result<Arguments<'a>, Error> {
-    let mut command = definitions::SCHEMA
-        .command(alloc, name)?
-        .no_binary_name(true);
-    let matches = command.try_get_matches_from_mut(words)?;
-    Ok(Arguments {
-        path: matches.get_str("file").unwrap_or("-"),
-        renames: renames_of(alloc, &mut command, &matches)?,
-    })
+impl<'a> FromMatches<'a> for Arguments<'a> {
+    fn command(alloc: Global, name: &'a str) -> Result<Command<'a>, AllocError> {
+        definitions::SCHEMA.command(alloc, name)
+    }
+
+    fn from_matches(
+        alloc: Global,
+        command: &mut Command<'a>,
+        matches: &ArgMatches<'a>,
+    ) -> Result<Arguments<'a>, Error> {
+        Ok(Arguments {
+            path: matches.get_str("file").unwrap_or("-"),
+            renames: renames_of(alloc, command, matches)?,
+        })
+    }
 }
 
 /// Reports why there is no table, and returns the status.
@@ -52,10 +53,7 @@ fn end(
 /// Parses the arguments, shows the set, and returns the status.
 pub fn run(call: &Call<'_>) -> Result<ExitCode, ExitCode> {
     let alloc = call.rt.alloc();
-    let parsed = match parse_arguments(alloc, call.name, call.words) {
-        Ok(parsed) => parsed,
-        Err(error) => return Err(call.report(&error)),
-    };
+    let parsed: Arguments<'_> = call.parse()?;
     let set = read_descriptors(call, parsed.path)?;
     let mut output = Pipe::new(call.rt.stdout());
     match write_schema(alloc, &set, parsed.renames.as_slice(), &mut output) {

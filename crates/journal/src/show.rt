@@ -1,6 +1,6 @@
 //! Shows a stream, a file or the standard input: a readable line for each of its items.
 
-ghost use Rattle.std.specs.Prelude.{◌≤◌, IfOk};
+ghost use Rattle.std.specs.Prelude.{◌≤◌};
 ghost use Rattle.shared_core_base.specs.Version.{version_number};
 
 use crate::beginning::{Beginning, Begun};
@@ -12,10 +12,10 @@ use crate::file::File;
 use crate::renumbered::{Opened, numbering_for, open_numbered};
 use clap::error::ErrorKind;
 use clap::{ArgMatches, Command, Error};
-use command_line::{Decoding, Pipe, Progress};
+use command_line::{Decoding, FromMatches, Pipe, Progress};
 use shared_core_base::version::Version;
 use show_lines::{Filter, Options, Showing, Test};
-use std::alloc::Global;
+use std::alloc::{AllocError, Global};
 use std::process::ExitCode;
 
 /// The parsed arguments.
@@ -65,37 +65,40 @@ impl<'a> Arguments<'a> {
 const NOT_BY_BYTES: &str =
     "--where: size: and offset: count bytes at the protocol's own numbers, and not by a descriptor set";
 
-/// Parses the arguments. The error is an invalid argument, or a request for the help or the version.
-fn parse_arguments<'a>(
-    alloc: Global,
-    name: &'static str,
-    words: &'a [String],
-) -> Result<Arguments<'a>, Error>
-    ensures { IfOk result (λ parsed. 5 ≤ version_number parsed.file.options.version) }
-{
-    let mut command = definitions::SHOW.command(alloc, name)?.no_binary_name(true);
-    let matches = command.try_get_matches_from_mut(words)?;
-    let file = File::of(&mut command, &matches)?;
-    let from = index_of(&mut command, &matches, "from", 0)?;
-    let to = index_of(&mut command, &matches, "to", u64::MAX)?;
-    let schema = schema_arguments(alloc, &mut command, &matches)?;
-    let filter = match Filter::parse(alloc, matches.get_str("where").unwrap_or("")) {
-        Ok(filter) => filter,
-        Err(error) => {
-            let why = format!(in alloc; "--where: {error}")?;
-            return Err(command.error(ErrorKind::InvalidValue, why.as_str())?);
-        }
-    };
-    Ok(Arguments {
-        file,
-        schema,
-        from,
-        to,
-        commands: matches.get_flag("commands"),
-        failures: matches.get_flag("failures"),
-        open: matches.get_flag("open"),
-        filter,
-    })
+impl<'a> FromMatches<'a> for Arguments<'a> {
+    ghost is_valid = { λ parsed. 5 ≤ version_number parsed.file.options.version };
+
+    fn command(alloc: Global, name: &'a str) -> Result<Command<'a>, AllocError> {
+        definitions::SHOW.command(alloc, name)
+    }
+
+    fn from_matches(
+        alloc: Global,
+        command: &mut Command<'a>,
+        matches: &ArgMatches<'a>,
+    ) -> Result<Arguments<'a>, Error> {
+        let file = File::of(command, matches)?;
+        let from = index_of(command, matches, "from", 0)?;
+        let to = index_of(command, matches, "to", u64::MAX)?;
+        let schema = schema_arguments(alloc, command, matches)?;
+        let filter = match Filter::parse(alloc, matches.get_str("where").unwrap_or("")) {
+            Ok(filter) => filter,
+            Err(error) => {
+                let why = format!(in alloc; "--where: {error}")?;
+                return Err(command.error(ErrorKind::InvalidValue, why.as_str())?);
+            }
+        };
+        Ok(Arguments {
+            file,
+            schema,
+            from,
+            to,
+            commands: matches.get_flag("commands"),
+            failures: matches.get_flag("failures"),
+            open: matches.get_flag("open"),
+            filter,
+        })
+    }
 }
 
 /// The index of an item that an option has, or this one without the option.
@@ -165,10 +168,7 @@ fn run_with(call: &Call<'_>, parsed: &Arguments<'_>, opened: Opened) -> Result<E
 
 /// Parses the arguments, shows the stream, and returns the status.
 pub fn run(call: &Call<'_>) -> Result<ExitCode, ExitCode> {
-    let mut parsed = match parse_arguments(call.rt.alloc(), call.name, call.words) {
-        Ok(parsed) => parsed,
-        Err(error) => return Err(call.report(&error)),
-    };
+    let mut parsed: Arguments<'_> = call.parse()?;
     let numbering = numbering_for(call, &parsed.schema, &parsed.file)?;
     if numbering.is_some() && parsed.counts_bytes() {
         return Err(call.fail(NOT_BY_BYTES, INVALID));

@@ -5,11 +5,11 @@ ghost use Rattle.journal_list.specs.Options.{IsAccepted};
 
 use crate::definitions;
 use crate::options::options;
-use clap::Error;
 use clap::error::ErrorKind;
-use command_line::{max_message_of, protocol_of};
+use clap::{ArgMatches, Command, Error};
+use command_line::{FromMatches, max_message_of, parse, protocol_of};
 use shared_core_base::version::Version;
-use std::alloc::Global;
+use std::alloc::{AllocError, Global};
 
 /// The parsed command line.
 #[derive(Clone, Copy, Drop)]
@@ -75,46 +75,67 @@ fn read_words(words: &[String]) -> Option<Words>
     })
 }
 
-/// Parses the arguments, the program's name first. The error is an invalid argument, or a request for the help or the
-/// version.
-pub fn parse_arguments<'a>(alloc: Global, arguments: &'a [String]) -> Result<Arguments<'a>, Error>
-    ensures { IfOk result (λ parsed. IsAccepted parsed.version parsed.chunk_size) }
+/// Reads the operands. `None` if they are others than `read_words` takes.
+fn read_operands(alloc: Global, matches: &ArgMatches<'_>) -> Result<Option<Words>, AllocError>
+    ensures { IfOk result (λ read. IfSome read (λ found. IsAccepted found.version found.chunk_size)) }
 {
-    let mut command = definitions::LIST.command(alloc, "journal_list")?;
-    let matches = command.try_get_matches_from_mut(arguments)?;
     let mut words = Vec::new(alloc);
     for id in ["file", "bytes", "v9"] {
         if let Some(word) = matches.get_str(id) {
             words.push(String::from_str(alloc, word)?)?;
         }
     }
-    let Some(found) = read_words(words.as_slice()) else {
-        return Err(command.error(
-            ErrorKind::InvalidValue,
-            "after FILE come BYTES, from 1 to 65536, and v9, or one of them, or neither",
-        )?);
-    };
-    if found.version == Version::V9 && matches.contains_id("protocol") {
-        return Err(command.error(
-            ErrorKind::ArgumentConflict,
-            "the version is said by v9 or by --protocol, and not by both",
-        )?);
+    Ok(read_words(words.as_slice()))
+}
+
+impl<'a> FromMatches<'a> for Arguments<'a> {
+    ghost is_valid = { λ parsed. IsAccepted parsed.version parsed.chunk_size };
+
+    fn command(alloc: Global, name: &'a str) -> Result<Command<'a>, AllocError> {
+        definitions::LIST.command(alloc, name)
     }
-    let limit = max_message_of(&mut command, &matches)?;
-    let version = if found.version == Version::V9 {
-        found.version
-    } else {
-        protocol_of(&matches)
-    };
-    let path = if found.has_path {
-        matches.get_str("file")
-    } else {
-        None
-    };
-    Ok(Arguments {
-        path: path.unwrap_or("-"),
-        version,
-        chunk_size: found.chunk_size,
-        limit,
-    })
+
+    fn from_matches(
+        alloc: Global,
+        command: &mut Command<'a>,
+        matches: &ArgMatches<'a>,
+    ) -> Result<Arguments<'a>, Error> {
+        let Some(found) = read_operands(alloc, matches)? else {
+            return Err(command.error(
+                ErrorKind::InvalidValue,
+                "after FILE come BYTES, from 1 to 65536, and v9, or one of them, or neither",
+            )?);
+        };
+        if found.version == Version::V9 && matches.contains_id("protocol") {
+            return Err(command.error(
+                ErrorKind::ArgumentConflict,
+                "the version is said by v9 or by --protocol, and not by both",
+            )?);
+        }
+        let limit = max_message_of(command, matches)?;
+        let version = if found.version == Version::V9 {
+            found.version
+        } else {
+            protocol_of(matches)
+        };
+        let path = if found.has_path {
+            matches.get_str("file")
+        } else {
+            None
+        };
+        Ok(Arguments {
+            path: path.unwrap_or("-"),
+            version,
+            chunk_size: found.chunk_size,
+            limit,
+        })
+    }
+}
+
+/// Parses the arguments after the program's name. The error is an invalid argument, or a request for the help or the
+/// version.
+pub fn parse_arguments<'a>(alloc: Global, words: &'a [String]) -> Result<Arguments<'a>, Error>
+    ensures { IfOk result (λ parsed. IsAccepted parsed.version parsed.chunk_size) }
+{
+    parse(alloc, "journal_list", words)
 }

@@ -79,7 +79,7 @@ fn main(rt: HostRuntime) -> ExitCode {
         return run_words(&rt, words);
     }
     let is_bare = are_bare(words);
-    let parsed = match parse_arguments(rt.alloc(), arguments.as_slice()) {
+    let parsed = match parse_arguments(rt.alloc(), words) {
         Ok(parsed) => parsed,
         Err(error) if is_bare && error.kind() != ErrorKind::OutOfMemory => {
             return end_early(&rt, Outcome::Rejected);

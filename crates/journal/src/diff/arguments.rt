@@ -8,8 +8,8 @@ use crate::descriptors::{SchemaArguments, schema_arguments};
 use crate::file::FileOptions;
 use clap::error::ErrorKind;
 use clap::{ArgMatches, Command, Error};
-use command_line::{ColorChoice, color_of};
-use std::alloc::Global;
+use command_line::{ColorChoice, FromMatches, color_of};
+use std::alloc::{AllocError, Global};
 
 /// How long values are shown, as `--values` says.
 #[derive(Debug, Clone, Copy, PartialEq, Eq, Drop)]
@@ -53,17 +53,20 @@ pub struct Arguments<'a> {
     pub color: ColorChoice,
 }
 
-/// Parses the arguments. The error is an invalid argument, or a request for the help or the version.
-pub fn parse_arguments<'a>(
-    alloc: Global,
-    name: &'static str,
-    words: &'a [String],
-) -> Result<Arguments<'a>, Error>
-    ensures { IfOk result (λ parsed. 5 ≤ version_number parsed.options.version) }
-{
-    let mut command = definitions::DIFF.command(alloc, name)?.no_binary_name(true);
-    let matches = command.try_get_matches_from_mut(words)?;
-    arguments_of(alloc, &mut command, &matches)
+impl<'a> FromMatches<'a> for Arguments<'a> {
+    ghost is_valid = { λ parsed. 5 ≤ version_number parsed.options.version };
+
+    fn command(alloc: Global, name: &'a str) -> Result<Command<'a>, AllocError> {
+        definitions::DIFF.command(alloc, name)
+    }
+
+    fn from_matches(
+        alloc: Global,
+        command: &mut Command<'a>,
+        matches: &ArgMatches<'a>,
+    ) -> Result<Arguments<'a>, Error> {
+        arguments_of(alloc, command, matches)
+    }
 }
 
 /// The arguments by what was found of them.

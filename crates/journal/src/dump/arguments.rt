@@ -9,6 +9,7 @@ use crate::dump::suggestions::unknown_type;
 use crate::file::File;
 use clap::error::ErrorKind;
 use clap::{ArgMatches, Command, Error};
+use command_line::FromMatches;
 use shared_core_base::header::MessageType;
 use std::alloc::{AllocError, Global};
 
@@ -63,17 +64,20 @@ fn code_within(name: &str) -> Option<u16> {
     digits.parse().ok()
 }
 
-/// Parses the arguments. The error is an invalid argument, or a request for the help or the version.
-pub fn parse_arguments<'a>(
-    alloc: Global,
-    name: &'static str,
-    words: &'a [String],
-) -> Result<Arguments<'a>, Error>
-    ensures { IfOk result (λ parsed. 5 ≤ version_number parsed.file.options.version) }
-{
-    let mut command = definitions::DUMP.command(alloc, name)?.no_binary_name(true);
-    let matches = command.try_get_matches_from_mut(words)?;
-    arguments_of(alloc, &mut command, &matches)
+impl<'a> FromMatches<'a> for Arguments<'a> {
+    ghost is_valid = { λ parsed. 5 ≤ version_number parsed.file.options.version };
+
+    fn command(alloc: Global, name: &'a str) -> Result<Command<'a>, AllocError> {
+        definitions::DUMP.command(alloc, name)
+    }
+
+    fn from_matches(
+        alloc: Global,
+        command: &mut Command<'a>,
+        matches: &ArgMatches<'a>,
+    ) -> Result<Arguments<'a>, Error> {
+        arguments_of(alloc, command, matches)
+    }
 }
 
 /// The arguments by what was found of them.
