@@ -5,7 +5,7 @@
 ghost use Rattle.std.specs.Prelude.{IfOk};
 
 use command_line::{FromMatches, Input, Progress, fail, note, note_terminal, open, parse, report};
-use std::fmt::Display;
+use std::fmt::{self, Display};
 use std::io::IsTerminal;
 use std::process::ExitCode;
 use stream_lines::{PrintError, Trouble};
@@ -93,30 +93,57 @@ impl<'a> Call<'a> {
 
     /// Reports what is wrong with the item at an offset.
     pub fn report_trouble(&self, offset: u128, trouble: Trouble) {
-        match trouble {
-            Trouble::UnknownCode(code) => note(
-                self.rt,
-                self.name,
-                format_args!("offset {offset}: unknown protocol.message code 0x{code:x}"),
-            ),
-            Trouble::Malformed(ty) => {
-                let name = ty.debug_name();
-                note(
-                    self.rt,
-                    self.name,
-                    format_args!("offset {offset}: the payload of {name} is not well-formed"),
-                );
-            }
-        }
+        self.note(TroubleAt { offset, trouble });
     }
 
     /// Reports how many bytes are at an offset, after the last whole item.
     pub fn report_rest(&self, offset: u128, count: u64) {
+        self.note(RestAt { offset, count });
+    }
+}
+
+/// What is wrong with the item at an offset.
+#[derive(Clone, Copy, Drop)]
+pub struct TroubleAt {
+    pub offset: u128,
+    pub trouble: Trouble,
+}
+
+impl fmt::Display for TroubleAt {
+    fn fmt<W: fmt::Write>(&self, f: &mut fmt::Formatter<W>) -> fmt::Result {
+        let offset = self.offset;
+        match self.trouble {
+            Trouble::UnknownCode(code) => {
+                write!(
+                    f,
+                    "offset {offset}: unknown protocol.message code 0x{code:x}"
+                )
+            }
+            Trouble::Malformed(ty) => {
+                let name = ty.debug_name();
+                write!(
+                    f,
+                    "offset {offset}: the payload of {name} is not well-formed"
+                )
+            }
+        }
+    }
+}
+
+/// How many bytes are at an offset, after the last whole item.
+#[derive(Clone, Copy, Drop)]
+pub struct RestAt {
+    pub offset: u128,
+    pub count: u64,
+}
+
+impl fmt::Display for RestAt {
+    fn fmt<W: fmt::Write>(&self, f: &mut fmt::Formatter<W>) -> fmt::Result {
+        let (offset, count) = (self.offset, self.count);
         let bytes = if count == 1 { "byte" } else { "bytes" };
-        note(
-            self.rt,
-            self.name,
-            format_args!("offset {offset}: {count} {bytes} after the last whole item"),
-        );
+        write!(
+            f,
+            "offset {offset}: {count} {bytes} after the last whole item"
+        )
     }
 }

@@ -8,7 +8,7 @@ mod canonical;
 mod suggestions;
 
 use crate::beginning::{Beginning, Begun};
-use crate::call::Call;
+use crate::call::{Call, RestAt};
 use crate::descriptors::read_messages;
 use crate::dump::arguments::Arguments;
 pub use crate::dump::canonical::Records;
@@ -46,20 +46,18 @@ fn end(call: &Call<'_>, options: &Options<'_>, beginning: &Beginning, found: &Re
 
 /// Reports the trailing bytes.
 fn report_rest(call: &Call<'_>, options: &Options<'_>, found: &Report) {
-    let (offset, count) = (found.end, found.rest);
-    let bytes = if count == 1 { "byte" } else { "bytes" };
+    let rest = RestAt {
+        offset: found.end,
+        count: found.rest,
+    };
     let is_shown = options.rest && options.payloads;
-    let is_cut = is_shown && count > MOST_SHOWN && call.rt.stdout().is_terminal();
+    let is_cut = is_shown && rest.count > MOST_SHOWN && call.rt.stdout().is_terminal();
     let shown = if is_cut {
         ", not shown on a terminal"
     } else {
         ""
     };
-    note(
-        call.rt,
-        call.name,
-        format_args!("offset {offset}: {count} {bytes} after the last whole item{shown}"),
-    );
+    note(call.rt, call.name, format_args!("{rest}{shown}"));
 }
 
 /// Dumps the stream, whose payloads are read by a table, and returns the status.

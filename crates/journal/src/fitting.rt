@@ -3,13 +3,13 @@
 ghost use Rattle.std.specs.Prelude.{◌≤◌, IfOk};
 ghost use Rattle.shared_core_base.specs.Version.{version_number};
 
-use crate::call::{Call, INVALID};
+use crate::call::{Call, INVALID, RestAt, TroubleAt};
 use crate::file::{File, FileOptions};
 use command_line::{Decoding, Progress, fail, input_size, note};
 use shared_core_base::version::Version;
 use std::fmt;
 use std::process::ExitCode;
-use stream_lines::{Report, Trouble};
+use stream_lines::Report;
 use stream_versions::{Options, check, fits};
 
 /// The number of bytes that are read at a time.
@@ -26,27 +26,15 @@ pub struct Misfit<'p> {
 impl<'p> fmt::Display for Misfit<'p> {
     fn fmt<W: fmt::Write>(&self, f: &mut fmt::Formatter<W>) -> fmt::Result {
         let path = self.path;
+        let (offset, count) = (self.found.end, self.found.rest);
         match self.found.trouble {
-            Some((offset, Trouble::UnknownCode(code))) => {
-                write!(
-                    f,
-                    "{path}: offset {offset}: unknown protocol.message code 0x{code:x}"
-                )
-            }
-            Some((offset, Trouble::Malformed(ty))) => {
-                let name = ty.debug_name();
-                write!(
-                    f,
-                    "{path}: offset {offset}: the payload of {name} is not well-formed"
-                )
+            Some((offset, trouble)) => {
+                let found = TroubleAt { offset, trouble };
+                write!(f, "{path}: {found}")
             }
             None => {
-                let (offset, count) = (self.found.end, self.found.rest);
-                let bytes = if count == 1 { "byte" } else { "bytes" };
-                write!(
-                    f,
-                    "{path}: offset {offset}: {count} {bytes} after the last whole item"
-                )
+                let rest = RestAt { offset, count };
+                write!(f, "{path}: {rest}")
             }
         }
     }

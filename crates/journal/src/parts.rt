@@ -6,7 +6,7 @@ ghost use Rattle.shared_core_base.specs.Version.{version_number};
 mod announcing;
 
 use crate::beginning::{Beginning, Begun};
-use crate::call::Call;
+use crate::call::{Call, RestAt};
 use crate::file::{File, FileOptions};
 use crate::parts::announcing::announcing;
 use command_line::{Decoding, Pipe, Progress, fail, input_size, note};
@@ -73,14 +73,8 @@ impl<'a> File<'a> {
         };
         let (offset, count) = (located.all.size, located.rest);
         if count > 0 {
-            let bytes = if count == 1 { "byte" } else { "bytes" };
-            note(
-                call.rt,
-                call.name,
-                format_args!(
-                    "{path}: offset {offset}: {count} {bytes} after the last whole item, left out"
-                ),
-            );
+            let rest = RestAt { offset, count };
+            note(call.rt, call.name, format_args!("{path}: {rest}, left out"));
         }
         if count > 0 && offset == 0 {
             beginning.report_no_message(call, self.options.version);
