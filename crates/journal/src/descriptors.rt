@@ -262,22 +262,23 @@ fn made_of<T: Drop>(
 /// Reads a set of a file, or of the standard input if the path is `-`. If there is none, reports why, and the error is
 /// the status.
 pub fn read_descriptors(call: &Call<'_>, path: &str) -> Result<DescriptorSet, ExitCode> {
-    let alloc = call.rt.alloc();
     let input = call.open(path)?;
-    let bytes = match read(alloc, input) {
-        Ok(bytes) => bytes,
-        Err(error) => {
-            return Err(fail(
-                call.rt,
-                call.name,
-                format_args!("{path}: {error}"),
-                call.failure,
-            ));
-        }
-    };
-    match read_set(alloc, bytes.as_slice()) {
+    match read(call.rt.alloc(), input) {
+        Ok(bytes) => descriptors_in(call, path, bytes.as_slice()),
+        Err(error) => Err(fail(
+            call.rt,
+            call.name,
+            format_args!("{path}: {error}"),
+            call.failure,
+        )),
+    }
+}
+
+/// The set in the bytes of a file. If there is none, reports why, and the error is the status.
+fn descriptors_in(call: &Call<'_>, path: &str, bytes: &[u8]) -> Result<DescriptorSet, ExitCode> {
+    match read_set(call.rt.alloc(), bytes) {
         Ok(set) => Ok(set),
-        Err(DescriptorError::Malformed(_)) if is_proto(bytes.as_slice()) => Err(fail(
+        Err(DescriptorError::Malformed(_)) if is_proto(bytes) => Err(fail(
             call.rt,
             call.name,
             format_args!(

@@ -97,9 +97,14 @@ fn why_lacking(alloc: Global, schema: u32, path: &str) -> Result<String, AllocEr
         names.push(field.1)?;
     }
     let mut text = format!(in alloc; "no field of it has the name '{name}'")?;
-    if push_similar(alloc, &mut text, name, names.as_slice())? {
-        return Ok(text);
+    if !push_similar(alloc, &mut text, name, names.as_slice())? {
+        push_names(&mut text, names.as_slice())?;
     }
+    Ok(text)
+}
+
+/// Appends the names of all fields.
+fn push_names(text: &mut String, names: &[&str]) -> Result<(), AllocError> {
     for (index, name) in names.iter().enumerate() {
         text.push_str(if index == 0 {
             "; its fields are "
@@ -108,7 +113,7 @@ fn why_lacking(alloc: Global, schema: u32, path: &str) -> Result<String, AllocEr
         })?;
         text.push_str(*name)?;
     }
-    Ok(text)
+    Ok(())
 }
 
 /// Reports that an item has no field that a path leads to, and returns the status.

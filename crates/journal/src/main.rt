@@ -28,8 +28,8 @@ mod subcommand;
 
 use crate::call::Call;
 use crate::subcommand::{Asked, Subcommand, program};
-use clap::Error;
 use clap::error::ErrorKind;
+use clap::{Command, Error};
 use command_line::{ArgumentsError, fail, read_arguments, report};
 use std::alloc::Global;
 use std::env::Env;
@@ -73,6 +73,11 @@ fn run(call: &Call<'_>, subcommand: Subcommand) -> Result<ExitCode, ExitCode> {
 /// version.
 fn why_none(alloc: Global, arguments: &[String]) -> Result<Error, Error> {
     let mut command = program(alloc, PROGRAM)?;
+    why_rejected(&mut command, arguments)
+}
+
+/// Why a command has no subcommand for the arguments, or their request for the help or the version.
+fn why_rejected<'a>(command: &mut Command<'a>, arguments: &'a [String]) -> Result<Error, Error> {
     command.try_get_matches_from_mut(arguments)?;
     // its definition has the subcommands that are looked for before this
     Ok(command.error(ErrorKind::MissingSubcommand, "a subcommand comes first")?)

@@ -86,7 +86,20 @@ pub fn their_json(alloc: Global, found: &TheirDifference) -> Result<Vec<u8>, All
     };
     let mut text = Vec::new(alloc);
     plain.push_found(&mut text, found)?;
+    let text = str::from_utf8(text.as_slice()).unwrap_or("");
     let mut out = Writer::new(Vec::new(alloc));
+    write_difference(&mut out, found, text)?;
+    let mut line = out.into_inner();
+    line.extend_from_slice(b"\n")?;
+    Ok(line)
+}
+
+/// Writes the object of a difference, which has this text.
+fn write_difference(
+    out: &mut Writer,
+    found: &TheirDifference,
+    text: &str,
+) -> Result<(), AllocError> {
     out.begin_object()?;
     out.key("verdict")?;
     out.string("schemaMismatch")?;
@@ -97,17 +110,14 @@ pub fn their_json(alloc: Global, found: &TheirDifference) -> Result<Vec<u8>, All
     out.key("replayedAt")?;
     out.u64(found.replayed_at)?;
     out.key("text")?;
-    out.string(str::from_utf8(text.as_slice()).unwrap_or(""))?;
+    out.string(text)?;
     out.key("fields")?;
     out.begin_array()?;
     for field in &found.fields {
-        write_field(&mut out, field)?;
+        write_field(out, field)?;
     }
     out.end_array()?;
-    out.end_object()?;
-    let mut line = out.into_inner();
-    line.extend_from_slice(b"\n")?;
-    Ok(line)
+    out.end_object()
 }
 
 /// Writes the object of a field.

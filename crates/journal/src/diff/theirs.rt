@@ -161,43 +161,84 @@ pub fn their_difference(
 ) -> Result<Option<TheirDifference>, Unread>
     requires { 5 ≤ version_number version }
 {
-    let mut recorded = Commands::new(alloc, version, given.recorded.as_slice());
-    let mut replayed = Commands::new(alloc, version, given.replayed.as_slice());
+    let mut journals = BothCommands {
+        recorded: Commands::new(alloc, version, given.recorded.as_slice()),
+        replayed: Commands::new(alloc, version, given.replayed.as_slice()),
+    };
     for index in 0..u64::MAX {
-        let Some((one, recorded_at)) = recorded.next_command()? else {
+        let Some(pair) = journals.next_pair()? else {
             return Ok(None);
         };
-        let Some((other, replayed_at)) = replayed.next_command()? else {
-            return Ok(None);
-        };
-        let ty = one.ty();
-        if ty != other.ty() {
-            return Ok(None);
-        }
-        let pair = Pair {
+        let at = Place {
             alloc,
             version,
             description,
             index,
-            ty,
+            ty: pair.ty,
         };
-        let fields = pair.fields(one.payload(), other.payload())?;
+        let fields = at.fields(pair.recorded.payload(), pair.replayed.payload())?;
         if !fields.is_empty() {
-            return Ok(Some(TheirDifference {
-                index,
-                ty,
-                recorded_at,
-                replayed_at,
-                fields,
-            }));
+            return Ok(Some(pair.with_fields(index, fields)));
         }
     }
     Ok(None)
 }
 
-/// Two commands of one type at one index.
+/// The commands of two journals.
+#[derive(Drop)]
+struct BothCommands<'a> {
+    recorded: Commands<'a>,
+    replayed: Commands<'a>,
+}
+
+impl<'a> BothCommands<'a> {
+    /// The next commands, or `None` if they have two types, or one journal has no further one.
+    fn next_pair(&mut self) -> Result<Option<Pair>, AllocError> {
+        let Some((recorded, recorded_at)) = self.recorded.next_command()? else {
+            return Ok(None);
+        };
+        let Some((replayed, replayed_at)) = self.replayed.next_command()? else {
+            return Ok(None);
+        };
+        let ty = recorded.ty();
+        let is_one_type = ty == replayed.ty();
+        let pair = Pair {
+            ty,
+            recorded,
+            recorded_at,
+            replayed,
+            replayed_at,
+        };
+        Ok(is_one_type.then_some(pair))
+    }
+}
+
+/// Two commands of one type, with their offsets in the journals, in bytes.
+#[derive(Drop)]
+struct Pair {
+    ty: MessageType,
+    recorded: RawMessage,
+    recorded_at: u64,
+    replayed: RawMessage,
+    replayed_at: u64,
+}
+
+impl Pair {
+    /// The difference of the two at an index, which is in these fields.
+    fn with_fields(&self, index: u64, fields: Vec<TheirField>) -> TheirDifference {
+        TheirDifference {
+            index,
+            ty: self.ty,
+            recorded_at: self.recorded_at,
+            replayed_at: self.replayed_at,
+            fields,
+        }
+    }
+}
+
+/// Where two commands of one type are compared, and by what.
 #[derive(Clone, Copy)]
-struct Pair<'a> {
+struct Place<'a> {
     alloc: Global,
     version: Version,
     description: &'a Description,
@@ -205,7 +246,7 @@ struct Pair<'a> {
     ty: MessageType,
 }
 
-impl<'a> Pair<'a> {
+impl<'a> Place<'a> {
     /// The fields that only the set has, in which both differ.
     fn fields(&self, recorded: &Bytes, replayed: &Bytes) -> Result<Vec<TheirField>, Unread> {
         if recorded == replayed && self.is_canonical(recorded) {
@@ -230,21 +271,33 @@ impl<'a> Pair<'a> {
     /// The values of the fields that only the set has in the payload of a side, by their paths. If the set has no
     /// message for it, that is its bytes.
     fn values(&self, side: Side, payload: &Bytes) -> Result<Vec<PathValue>, Unread> {
-        let alloc = self.alloc;
+        let mut values = Values {
+            alloc: self.alloc,
+            numbering: self.description.numbering.as_slice(),
+            values: Vec::new(self.alloc),
+        };
+        self.push_values(side, payload, &mut values)?;
+        values
+            .values
+            .sort_by(|one, other| one.path.cmp(&other.path))?;
+        Ok(values.values)
+    }
+
+    /// Appends these values.
+    fn push_values(
+        &self,
+        side: Side,
+        payload: &Bytes,
+        values: &mut Values<'_>,
+    ) -> Result<(), Unread> {
         let messages = self.description.messages.table();
-        let mut canonical = Vec::new(alloc);
         let typed = TypedPayload {
             version: self.version,
             ty: self.ty,
             bytes: payload,
         };
-        let found = messages.canonical_of(alloc, typed, &mut canonical);
-        let mut values = Values {
-            alloc,
-            numbering: self.description.numbering.as_slice(),
-            values: Vec::new(alloc),
-        };
-        match found {
+        let mut canonical = Vec::new(self.alloc);
+        match messages.canonical_of(self.alloc, typed, &mut canonical) {
             Ok(Some(schema)) => {
                 let table = messages.table();
                 if let Some(read) = CanonicalPayload::check_in(
@@ -267,10 +320,7 @@ impl<'a> Pair<'a> {
             Err(JsonError::TooLong) => return Err(Unread::TooLong),
             Err(JsonError::OutOfMemory) => return Err(Unread::OutOfMemory),
         }
-        values
-            .values
-            .sort_by(|one, other| one.path.cmp(&other.path))?;
-        Ok(values.values)
+        Ok(())
     }
 }
 
