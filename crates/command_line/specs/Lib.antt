@@ -5,3 +5,4 @@ pub mod Protocol
 pub mod Colors
 pub mod Input
 pub mod Decoding
+pub mod Parsing

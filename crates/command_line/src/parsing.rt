@@ -1,17 +1,18 @@
 //! Arguments that are parsed.
 
-ghost use Rattle.std.specs.Prelude.{IfOk};
+ghost use Rattle.std.specs.Prelude.{IfOk, map, string_bytes};
+ghost use Rattle.clap.specs.Matches.{found_of};
+ghost use Rattle.clap.specs.Simple.{app_of};
+ghost use Rattle.clap.specs.declared.parser.matches.Found.{Found};
+ghost use Rattle.command_line.specs.Parsing.{without_name, IsReadOf};
 
 use clap::{ArgMatches, Command, Error};
-use std::alloc::{AllocError, Global};
+use std::alloc::Global;
 
 /// What a program reads of its parsed arguments.
 pub trait FromMatches<'a>: Sized {
-    /// What is true of it.
-    ghost is_valid: { Self → Type 0 } = { λ parsed. Unit {0} };
-
-    /// The command that parses them, by this name.
-    fn command(alloc: Global, name: &'a str) -> Result<Command<'a>, AllocError>;
+    /// It is what these values say.
+    ghost is_read: { Found → Self → Type 0 } = { λ found parsed. Unit {0} };
 
     /// Reads it. The error is an invalid argument.
     fn from_matches(
@@ -19,19 +20,20 @@ pub trait FromMatches<'a>: Sized {
         command: &mut Command<'a>,
         matches: &ArgMatches<'a>,
     ) -> Result<Self, Error>
-        ensures { IfOk result is_valid };
+        ensures { IfOk result (is_read (found_of matches.now)) };
 }
 
-/// Parses the words after a program's name, and returns what is read of them. The error is an invalid argument, or a
-/// request for the help or the version.
+/// Parses the words after a program's name by a command, and returns what is read of them. The error is an invalid
+/// argument, or a request for the help or the version.
 pub fn parse<'a, T: FromMatches<'a>>(
     alloc: Global,
-    name: &'a str,
+    command: Command<'a>,
     words: &'a [String],
 ) -> Result<T, Error>
-    ensures { IfOk result T.is_valid }
+    ensures { IfOk result (IsReadOf T.is_read (without_name (app_of command.entry))
+        (map string_bytes words.entry.now)) }
 {
-    let mut command = T::command(alloc, name)?.no_binary_name(true);
+    let mut command = command.no_binary_name(true);
     parse_by(alloc, &mut command, words)
 }
 
@@ -41,7 +43,7 @@ fn parse_by<'a, T: FromMatches<'a>>(
     command: &mut Command<'a>,
     words: &'a [String],
 ) -> Result<T, Error>
-    ensures { IfOk result T.is_valid }
+    ensures { IfOk result (IsReadOf T.is_read (app_of command.old) (map string_bytes words.entry.now)) }
 {
     let matches = command.try_get_matches_from_mut(words)?;
     T::from_matches(alloc, command, &matches)

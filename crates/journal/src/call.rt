@@ -2,9 +2,16 @@
 //!
 //! Where a function here or of a subcommand has a status as its error, what is wrong was reported before.
 
-ghost use Rattle.std.specs.Prelude.{IfOk};
+ghost use Rattle.std.specs.Prelude.{◌≡◌, IfOk, map, string_bytes};
+ghost use Rattle.clap.specs.Simple.{app_of};
+ghost use Rattle.replay_bench.specs.declared.faults.FaultReason.TheVariants.{Rest};
+ghost use Rattle.command_line.specs.Parsing.{without_name, IsReadOf};
 
-use command_line::{FromMatches, Input, Progress, fail, note, note_terminal, open, parse, report};
+use clap::Command;
+use command_line::{
+    Definition, FromMatches, Input, Progress, fail, note, note_terminal, open, parse, report,
+};
+use replay_bench::{Fault, FaultReason};
 use std::fmt::{self, Display};
 use std::io::IsTerminal;
 use std::process::ExitCode;
@@ -26,12 +33,21 @@ pub struct Call<'a> {
 }
 
 impl<'a> Call<'a> {
-    /// Parses the arguments, and returns what is read of them. Otherwise prints what is wrong with them, or the help or
-    /// the version that they request.
-    pub fn parse<T: FromMatches<'a>>(&self) -> Result<T, ExitCode>
-        ensures { IfOk result T.is_valid }
+    /// The command that parses its arguments. The error is the status, after a failed allocation was reported.
+    pub fn command(&self, definition: &Definition) -> Result<Command<'a>, ExitCode> {
+        match definition.command(self.rt.alloc(), self.name) {
+            Ok(command) => Ok(command),
+            Err(_) => Err(self.fail("out of memory", self.failure)),
+        }
+    }
+
+    /// Parses the arguments by a command, and returns what is read of them. Otherwise prints what is wrong with them,
+    /// or the help or the version that they request, and returns the status.
+    pub fn parse<T: FromMatches<'a>>(&self, command: Command<'a>) -> Result<T, ExitCode>
+        ensures { IfOk result (IsReadOf T.is_read (without_name (app_of command.entry))
+            (map string_bytes self.entry.now.words.now)) }
     {
-        match parse(self.rt.alloc(), self.name, self.words) {
+        match parse(self.rt.alloc(), command, self.words) {
             Ok(parsed) => Ok(parsed),
             Err(error) => Err(report(self.rt, self.name, &error, self.failure)),
         }
@@ -98,7 +114,7 @@ impl<'a> Call<'a> {
 
     /// Reports how many bytes are at an offset, after the last whole item.
     pub fn report_rest(&self, offset: u128, count: u64) {
-        self.note(RestAt { offset, count });
+        self.note(rest_at(offset, count));
     }
 }
 
@@ -110,40 +126,35 @@ pub struct TroubleAt {
 }
 
 impl fmt::Display for TroubleAt {
+    ghost use Rattle.std.specs.Prelude.{Some};
+    ghost use Rattle.journal.specs.Troubles.{trouble_at_text};
+
+    ghost output = { λ at. Some (trouble_at_text at) };
+
     fn fmt<W: fmt::Write>(&self, f: &mut fmt::Formatter<W>) -> fmt::Result {
         let offset = self.offset;
-        match self.trouble {
+        match &self.trouble {
             Trouble::UnknownCode(code) => {
                 write!(
                     f,
                     "offset {offset}: unknown protocol.message code 0x{code:x}"
                 )
             }
-            Trouble::Malformed(ty) => {
-                let name = ty.debug_name();
-                write!(
-                    f,
-                    "offset {offset}: the payload of {name} is not well-formed"
-                )
-            }
+            Trouble::Malformed(ty) => write!(
+                f,
+                "offset {offset}: the payload of {} is not well-formed",
+                ty.debug_name()
+            ),
         }
     }
 }
 
 /// How many bytes are at an offset, after the last whole item.
-#[derive(Clone, Copy, Drop)]
-pub struct RestAt {
-    pub offset: u128,
-    pub count: u64,
-}
-
-impl fmt::Display for RestAt {
-    fn fmt<W: fmt::Write>(&self, f: &mut fmt::Formatter<W>) -> fmt::Result {
-        let (offset, count) = (self.offset, self.count);
-        let bytes = if count == 1 { "byte" } else { "bytes" };
-        write!(
-            f,
-            "offset {offset}: {count} {bytes} after the last whole item"
-        )
+pub fn rest_at(offset: u128, count: u64) -> Fault
+    ensures { (result.offset ≡ offset) × (result.reason ≡ Rest count) }
+{
+    Fault {
+        offset,
+        reason: FaultReason::Rest(count),
     }
 }

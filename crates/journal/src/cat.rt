@@ -6,42 +6,12 @@ ghost use Rattle.shared_core_base.specs.Version.{version_number};
 
 use crate::call::Call;
 use crate::definitions;
-use crate::file::{File, FileOptions};
-use clap::{ArgMatches, Command, Error};
-use command_line::{FromMatches, Pipe};
+use crate::file::{File, Files};
+use command_line::Pipe;
 use shared_core::encoding::RawMessage;
-use std::alloc::{AllocError, Global};
+use std::alloc::AllocError;
 use std::process::ExitCode;
 use stream_parts::{Part, Range};
-
-/// The parsed arguments.
-#[derive(Drop)]
-struct Arguments<'a> {
-    /// The paths of the files.
-    paths: Vec<&'a str>,
-    options: FileOptions,
-}
-
-impl<'a> FromMatches<'a> for Arguments<'a> {
-    ghost is_valid = { λ parsed. 5 ≤ version_number parsed.options.version };
-
-    fn command(alloc: Global, name: &'a str) -> Result<Command<'a>, AllocError> {
-        definitions::CAT.command(alloc, name)
-    }
-
-    fn from_matches(
-        alloc: Global,
-        command: &mut Command<'a>,
-        matches: &ArgMatches<'a>,
-    ) -> Result<Arguments<'a>, Error> {
-        let options = FileOptions::of(command, matches)?;
-        let mut paths = Vec::new(alloc);
-        for path in matches.get_strs("file").unwrap_or(&[]) {
-            paths.push(*path)?;
-        }
-        Ok(Arguments { paths, options })
-    }
-}
 
 /// What is written of the files.
 #[derive(Drop)]
@@ -55,7 +25,7 @@ struct Joined {
 }
 
 /// Reads the items of all files. The error is the status.
-fn join(call: &Call<'_>, parsed: &Arguments<'_>) -> Result<Joined, ExitCode>
+fn join(call: &Call<'_>, parsed: &Files<'_>) -> Result<Joined, ExitCode>
     requires { 5 ≤ version_number parsed.now.options.version }
 {
     let mut joined = Joined {
@@ -81,7 +51,7 @@ fn join(call: &Call<'_>, parsed: &Arguments<'_>) -> Result<Joined, ExitCode>
 }
 
 /// Writes the start message of the first file, and the other items of all. The error is the status.
-fn write(call: &Call<'_>, parsed: &Arguments<'_>, joined: &Joined) -> Result<(), ExitCode>
+fn write(call: &Call<'_>, parsed: &Files<'_>, joined: &Joined) -> Result<(), ExitCode>
     requires { 5 ≤ version_number parsed.now.options.version }
 {
     let mut output = Pipe::new(call.rt.stdout());
@@ -104,7 +74,7 @@ fn write(call: &Call<'_>, parsed: &Arguments<'_>, joined: &Joined) -> Result<(),
 
 /// Parses the arguments, joins the files, and returns the status.
 pub fn run(call: &Call<'_>) -> Result<ExitCode, ExitCode> {
-    let mut parsed: Arguments<'_> = call.parse()?;
+    let mut parsed: Files<'_> = call.parse(call.command(&definitions::CAT)?)?;
     call.expect_redirected("the stream")?;
     parsed.options = parsed.options.fitted(call, parsed.paths.as_slice())?;
     let joined = join(call, &parsed)?;

@@ -3,6 +3,7 @@
 
 ghost use Rattle.std.specs.Prelude.{◌≤◌};
 ghost use Rattle.shared_core_base.specs.Version.{version_number};
+ghost use Rattle.journal.specs.Files.{IsFileOf};
 
 use crate::call::Call;
 use crate::definitions;
@@ -11,7 +12,7 @@ use crate::parts::LACKING;
 use clap::error::ErrorKind;
 use clap::{ArgMatches, Command, Error};
 use command_line::{FromMatches, Pipe, fail};
-use std::alloc::{AllocError, Global};
+use std::alloc::Global;
 use std::process::ExitCode;
 use stream_parts::{Located, Range};
 
@@ -59,11 +60,7 @@ fn range_of(command: &mut Command<'_>, matches: &ArgMatches<'_>) -> Result<Range
 }
 
 impl<'a> FromMatches<'a> for Arguments<'a> {
-    ghost is_valid = { λ parsed. 5 ≤ version_number parsed.file.options.version };
-
-    fn command(alloc: Global, name: &'a str) -> Result<Command<'a>, AllocError> {
-        definitions::CUT.command(alloc, name)
-    }
+    ghost is_read = { λ found parsed. IsFileOf found parsed.file };
 
     fn from_matches(
         alloc: Global,
@@ -126,7 +123,7 @@ fn write(call: &Call<'_>, file: &File<'_>, located: &Located) -> Result<(), Exit
 
 /// Parses the arguments, writes the part, and returns the status.
 pub fn run(call: &Call<'_>) -> Result<ExitCode, ExitCode> {
-    let parsed: Arguments<'_> = call.parse()?;
+    let parsed: Arguments<'_> = call.parse(call.command(&definitions::CUT)?)?;
     call.expect_redirected("the stream")?;
     let file = parsed.file.fitted(call)?;
     let located = file.locate(call, parsed.range)?;

@@ -22,36 +22,6 @@ use terminal_text::{Escapes, push_escaped};
 /// The number of bytes that are read at a time.
 const CHUNK: usize = 65536;
 
-/// The parsed arguments.
-#[derive(Drop)]
-struct Arguments<'a> {
-    /// The paths of the streams; `-` is the standard input.
-    paths: Vec<&'a str>,
-    /// How each of them is read, at a version of its own if that is to be found.
-    options: FileOptions,
-}
-
-impl<'a> FromMatches<'a> for Arguments<'a> {
-    ghost is_valid = { λ parsed. 5 ≤ version_number parsed.options.version };
-
-    fn command(alloc: Global, name: &'a str) -> Result<Command<'a>, AllocError> {
-        definitions::DESCRIBE.command(alloc, name)
-    }
-
-    fn from_matches(
-        alloc: Global,
-        command: &mut Command<'a>,
-        matches: &ArgMatches<'a>,
-    ) -> Result<Arguments<'a>, Error> {
-        let options = FileOptions::of(command, matches)?;
-        let mut paths = Vec::new(alloc);
-        for path in matches.get_strs("file").unwrap_or(&["-"]) {
-            paths.push(*path)?;
-        }
-        Ok(Arguments { paths, options })
-    }
-}
-
 /// How the description of a stream ended, after what is wrong was reported.
 enum Ended {
     /// It is written.
@@ -175,7 +145,7 @@ fn describe_fitting(call: &Call<'_>, file: &File<'_>) -> Ended {
 
 /// Describes the streams, and returns the status: 0, or that of the last stream that has another one. Where the output
 /// fails, it is the last.
-fn describe_all(call: &Call<'_>, parsed: &Arguments<'_>) -> ExitCode
+fn describe_all(call: &Call<'_>, parsed: &Files<'_>) -> ExitCode
     requires { 5 ≤ version_number parsed.now.options.version }
 {
     let options = parsed.options;
@@ -208,6 +178,6 @@ fn describe_all(call: &Call<'_>, parsed: &Arguments<'_>) -> ExitCode
 
 /// Parses the arguments, describes the streams, and returns the status.
 pub fn run(call: &Call<'_>) -> Result<ExitCode, ExitCode> {
-    let parsed: Arguments<'_> = call.parse()?;
+    let parsed: Files<'_> = call.parse(call.command(&definitions::DESCRIBE)?)?;
     Ok(describe_all(call, &parsed))
 }

@@ -10,6 +10,7 @@ mod theirs;
 
 use crate::beginning::{Beginning, Begun};
 use crate::call::Call;
+use crate::definitions;
 use crate::descriptors::Description;
 use crate::diff::arguments::{Arguments, ValuesChoice};
 use crate::diff::inputs::{Inputs, closed_side, open_both, open_both_by};
@@ -206,7 +207,7 @@ fn run_parsed<'a>(
 
 /// Parses the arguments, compares the journals, and returns the status.
 pub fn run(call: &Call<'_>) -> Result<ExitCode, ExitCode> {
-    let mut parsed: Arguments<'_> = call.parse()?;
+    let mut parsed: Arguments<'_> = call.parse(call.command(&definitions::DIFF)?)?;
     if let Some(side) = closed_side(call.rt, &parsed) {
         return Err(call.fail(ReaderError::Read(side), call.failure));
     }

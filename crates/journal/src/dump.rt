@@ -8,7 +8,8 @@ mod canonical;
 mod suggestions;
 
 use crate::beginning::{Beginning, Begun};
-use crate::call::{Call, RestAt};
+use crate::call::{Call, rest_at};
+use crate::definitions;
 use crate::descriptors::read_messages;
 use crate::dump::arguments::Arguments;
 pub use crate::dump::canonical::Records;
@@ -46,12 +47,9 @@ fn end(call: &Call<'_>, options: &Options<'_>, beginning: &Beginning, found: &Re
 
 /// Reports the trailing bytes.
 fn report_rest(call: &Call<'_>, options: &Options<'_>, found: &Report) {
-    let rest = RestAt {
-        offset: found.end,
-        count: found.rest,
-    };
+    let rest = rest_at(found.end, found.rest);
     let is_shown = options.rest && options.payloads;
-    let is_cut = is_shown && rest.count > MOST_SHOWN && call.rt.stdout().is_terminal();
+    let is_cut = is_shown && found.rest > MOST_SHOWN && call.rt.stdout().is_terminal();
     let shown = if is_cut {
         ", not shown on a terminal"
     } else {
@@ -118,7 +116,7 @@ fn run_by<M: MessageTable>(
 
 /// Parses the arguments, dumps the stream, and returns the status.
 pub fn run(call: &Call<'_>) -> Result<ExitCode, ExitCode> {
-    let mut parsed: Arguments<'_> = call.parse()?;
+    let mut parsed: Arguments<'_> = call.parse(call.command(&definitions::DUMP)?)?;
     if let Some(path) = set_path(call, &parsed.schema, &parsed.file)? {
         let messages = read_messages(call, path.as_str(), parsed.schema.renames.as_slice())?;
         return run_by(call, &parsed, &messages.table());

@@ -2,6 +2,7 @@
 
 ghost use Rattle.std.specs.Prelude.{◌≤◌};
 ghost use Rattle.shared_core_base.specs.Version.{version_number};
+ghost use Rattle.journal.specs.Files.{IsFileOf};
 
 use crate::call::Call;
 use crate::definitions;
@@ -10,7 +11,7 @@ use clap::error::ErrorKind;
 use clap::{ArgMatches, Command, Error};
 use command_line::{Decoding, FromMatches, Pipe, Progress, fail, input_size};
 use explain_lines::{Options, explain};
-use std::alloc::{AllocError, Global};
+use std::alloc::Global;
 use std::process::ExitCode;
 use stream_lines::Report;
 
@@ -32,11 +33,7 @@ struct Arguments<'a> {
 }
 
 impl<'a> FromMatches<'a> for Arguments<'a> {
-    ghost is_valid = { λ parsed. 5 ≤ version_number parsed.file.options.version };
-
-    fn command(alloc: Global, name: &'a str) -> Result<Command<'a>, AllocError> {
-        definitions::EXPLAIN.command(alloc, name)
-    }
+    ghost is_read = { λ found parsed. IsFileOf found parsed.file };
 
     fn from_matches(
         alloc: Global,
@@ -100,7 +97,7 @@ fn run_with(call: &Call<'_>, parsed: &Arguments<'_>) -> Result<ExitCode, ExitCod
 
 /// Parses the arguments, explains the stream, and returns the status.
 pub fn run(call: &Call<'_>) -> Result<ExitCode, ExitCode> {
-    let mut parsed: Arguments<'_> = call.parse()?;
+    let mut parsed: Arguments<'_> = call.parse(call.command(&definitions::EXPLAIN)?)?;
     parsed.file = parsed.file.fitted(call)?;
     run_with(call, &parsed)
 }

@@ -1,13 +1,18 @@
 //! The files that a call reads, and how they are read.
 
 ghost use Rattle.std.specs.Prelude.{◌≤◌, IfOk};
+ghost use Rattle.clap.specs.Matches.{found_of};
 ghost use Rattle.shared_core_base.specs.Version.{version_number};
+ghost use Rattle.journal.specs.Files.{AreFilesOf, IsFileOf};
 
 use crate::call::{Call, INVALID};
 use clap::{ArgMatches, Command, Error};
-use command_line::{Input, encoding_of, fail, input_size, is_auto, max_message_of, protocol_of};
+use command_line::{
+    FromMatches, Input, encoding_of, fail, input_size, is_auto, max_message_of, protocol_of,
+};
 use encoded_input::Encoding;
 use shared_core_base::version::Version;
+use std::alloc::Global;
 use std::process::ExitCode;
 
 /// How files are read, as `--protocol`, `--max-message` and `--input` say.
@@ -49,7 +54,7 @@ pub struct File<'a> {
 impl<'a> File<'a> {
     /// That of the arguments, the standard input without a path. The error is as of `FileOptions::of`.
     pub fn of(command: &mut Command<'_>, matches: &ArgMatches<'a>) -> Result<File<'a>, Error>
-        ensures { IfOk result (λ file. 5 ≤ version_number file.options.version) }
+        ensures { IfOk result (IsFileOf (found_of matches.now)) }
     {
         let options = FileOptions::of(command, matches)?;
         Ok(File {
@@ -72,5 +77,30 @@ impl<'a> File<'a> {
             format_args!("{path}: no file, and it is read twice"),
             INVALID,
         ))
+    }
+}
+
+/// Files that are read one after the other.
+#[derive(Drop)]
+pub struct Files<'a> {
+    /// Their paths, or `-` for the standard input.
+    pub paths: Vec<&'a str>,
+    /// How each of them is read.
+    pub options: FileOptions,
+}
+
+impl<'a> FromMatches<'a> for Files<'a> {
+    ghost is_read = { AreFilesOf };
+
+    /// Those of the arguments, the standard input without a path.
+    fn from_matches(
+        alloc: Global,
+        command: &mut Command<'a>,
+        matches: &ArgMatches<'a>,
+    ) -> Result<Files<'a>, Error> {
+        let options = FileOptions::of(command, matches)?;
+        let mut paths = Vec::new(alloc);
+        paths.extend_from_slice(matches.get_strs("file").unwrap_or(&["-"]))?;
+        Ok(Files { paths, options })
     }
 }

@@ -3,7 +3,7 @@
 ghost use Rattle.std.specs.Prelude.{◌≤◌, IfOk};
 ghost use Rattle.shared_core_base.specs.Version.{version_number};
 
-use crate::call::{Call, INVALID, RestAt, TroubleAt};
+use crate::call::{Call, INVALID, TroubleAt, rest_at};
 use crate::file::{File, FileOptions};
 use command_line::{Decoding, Progress, fail, input_size, note};
 use shared_core_base::version::Version;
@@ -33,7 +33,7 @@ impl<'p> fmt::Display for Misfit<'p> {
                 write!(f, "{path}: {found}")
             }
             None => {
-                let rest = RestAt { offset, count };
+                let rest = rest_at(offset, count);
                 write!(f, "{path}: {rest}")
             }
         }

@@ -2,6 +2,7 @@
 
 ghost use Rattle.std.specs.Prelude.{◌≤◌};
 ghost use Rattle.shared_core_base.specs.Version.{version_number};
+ghost use Rattle.journal.specs.Files.{IsFileOf};
 
 use crate::beginning::{Beginning, Begun};
 use crate::call::Call;
@@ -40,11 +41,7 @@ struct Arguments<'a> {
 }
 
 impl<'a> FromMatches<'a> for Arguments<'a> {
-    ghost is_valid = { λ parsed. 5 ≤ version_number parsed.file.options.version };
-
-    fn command(alloc: Global, name: &'a str) -> Result<Command<'a>, AllocError> {
-        definitions::GET.command(alloc, name)
-    }
+    ghost is_read = { λ found parsed. IsFileOf found parsed.file };
 
     fn from_matches(
         alloc: Global,
@@ -194,7 +191,7 @@ fn run_with(call: &Call<'_>, parsed: &Arguments<'_>, opened: Opened) -> Result<E
 
 /// Parses the arguments, writes the field, and returns the status.
 pub fn run(call: &Call<'_>) -> Result<ExitCode, ExitCode> {
-    let mut parsed: Arguments<'_> = call.parse()?;
+    let mut parsed: Arguments<'_> = call.parse(call.command(&definitions::GET)?)?;
     call.expect_redirected("a field")?;
     let numbering = numbering_for(call, &parsed.schema, &parsed.file)?;
     parsed.file = parsed.file.fitted(call)?;

@@ -2,6 +2,7 @@
 
 ghost use Rattle.std.specs.Prelude.{◌≤◌};
 ghost use Rattle.shared_core_base.specs.Version.{version_number};
+ghost use Rattle.journal.specs.Files.{IsFileOf};
 
 use crate::beginning::{Beginning, Begun};
 use crate::call::Call;
@@ -13,7 +14,7 @@ use clap::{ArgMatches, Command, Error};
 use command_line::{Decoding, FromMatches, Input, Pipe, Progress, input_size};
 use list_lines::{Options, OtherName, list};
 use shared_core_base::version::Version;
-use std::alloc::{AllocError, Global};
+use std::alloc::Global;
 use std::process::ExitCode;
 use stream_lines::Report;
 
@@ -30,11 +31,7 @@ struct Arguments<'a> {
 }
 
 impl<'a> FromMatches<'a> for Arguments<'a> {
-    ghost is_valid = { λ parsed. 5 ≤ version_number parsed.file.options.version };
-
-    fn command(alloc: Global, name: &'a str) -> Result<Command<'a>, AllocError> {
-        definitions::LIST.command(alloc, name)
-    }
+    ghost is_read = { λ found parsed. IsFileOf found parsed.file };
 
     fn from_matches(
         alloc: Global,
@@ -123,7 +120,7 @@ fn run_with(
 
 /// Parses the arguments, lists the stream, and returns the status.
 pub fn run(call: &Call<'_>) -> Result<ExitCode, ExitCode> {
-    let parsed: Arguments<'_> = call.parse()?;
+    let parsed: Arguments<'_> = call.parse(call.command(&definitions::LIST)?)?;
     let names = names_for(call, &parsed)?;
     let file = parsed.file.fitted(call)?;
     let input = call.open(file.path)?;

@@ -12,7 +12,7 @@ use make_lines::{LineTable, MakeError, Maker, OtherLines};
 use schema_lines::schemas_of;
 use shared_core_base::version::Version;
 use shared_core_codec::any_table::ProtocolSchemas;
-use std::alloc::{AllocError, Global};
+use std::alloc::Global;
 use std::io::Stdout;
 use std::process::ExitCode;
 
@@ -28,10 +28,6 @@ struct Arguments<'a> {
 }
 
 impl<'a> FromMatches<'a> for Arguments<'a> {
-    fn command(alloc: Global, name: &'a str) -> Result<Command<'a>, AllocError> {
-        definitions::MAKE.command(alloc, name)
-    }
-
     fn from_matches(
         alloc: Global,
         command: &mut Command<'a>,
@@ -111,7 +107,7 @@ fn run_by_set(call: &Call<'_>, parsed: &Arguments<'_>, path: &str) -> Result<Exi
 
 /// Parses the arguments, makes the stream, and returns the status.
 pub fn run(call: &Call<'_>) -> Result<ExitCode, ExitCode> {
-    let parsed: Arguments<'_> = call.parse()?;
+    let parsed: Arguments<'_> = call.parse(call.command(&definitions::MAKE)?)?;
     call.expect_redirected("the stream")?;
     match schema_path(call, &parsed.schema, parsed.path)? {
         Some(path) => run_by_set(call, &parsed, path.as_str()),

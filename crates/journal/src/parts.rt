@@ -6,7 +6,7 @@ ghost use Rattle.shared_core_base.specs.Version.{version_number};
 mod announcing;
 
 use crate::beginning::{Beginning, Begun};
-use crate::call::{Call, RestAt};
+use crate::call::{Call, rest_at};
 use crate::file::{File, FileOptions};
 use crate::parts::announcing::announcing;
 use command_line::{Decoding, Pipe, Progress, fail, input_size, note};
@@ -73,7 +73,7 @@ impl<'a> File<'a> {
         };
         let (offset, count) = (located.all.size, located.rest);
         if count > 0 {
-            let rest = RestAt { offset, count };
+            let rest = rest_at(offset, count);
             note(call.rt, call.name, format_args!("{path}: {rest}, left out"));
         }
         if count > 0 && offset == 0 {

@@ -2,6 +2,7 @@
 
 ghost use Rattle.std.specs.Prelude.{◌≤◌};
 ghost use Rattle.shared_core_base.specs.Version.{version_number};
+ghost use Rattle.journal.specs.Files.{IsFileOf};
 
 use crate::beginning::{Beginning, Begun};
 use crate::call::{Call, INVALID};
@@ -9,7 +10,7 @@ use crate::definitions;
 use crate::file::{File, FileOptions};
 use clap::{ArgMatches, Command, Error};
 use command_line::{Decoding, FromMatches, Pipe, Progress, fail, input_size};
-use std::alloc::{AllocError, Global};
+use std::alloc::Global;
 use std::io::Read;
 use std::process::ExitCode;
 use std::{fs, io};
@@ -31,11 +32,7 @@ struct Arguments<'a> {
 }
 
 impl<'a> FromMatches<'a> for Arguments<'a> {
-    ghost is_valid = { λ parsed. 5 ≤ version_number parsed.file.options.version };
-
-    fn command(alloc: Global, name: &'a str) -> Result<Command<'a>, AllocError> {
-        definitions::REDACT.command(alloc, name)
-    }
+    ghost is_read = { λ found parsed. IsFileOf found parsed.file };
 
     fn from_matches(
         alloc: Global,
@@ -106,7 +103,7 @@ fn run_with(call: &Call<'_>, file: &File<'_>, key: Key) -> Result<ExitCode, Exit
 
 /// Parses the arguments, writes the stream, and returns the status.
 pub fn run(call: &Call<'_>) -> Result<ExitCode, ExitCode> {
-    let parsed: Arguments<'_> = call.parse()?;
+    let parsed: Arguments<'_> = call.parse(call.command(&definitions::REDACT)?)?;
     call.expect_redirected("the stream")?;
     let file = parsed.file.fitted(call)?;
     let key = key_of(call, parsed.secret)?;

@@ -2,6 +2,7 @@
 
 ghost use Rattle.std.specs.Prelude.{◌≤◌};
 ghost use Rattle.shared_core_base.specs.Version.{version_number};
+ghost use Rattle.journal.specs.Files.{IsFileOf};
 
 use crate::beginning::{Beginning, Begun};
 use crate::call::{Call, INVALID};
@@ -13,7 +14,7 @@ use command_line::{Decoding, FromMatches, Pipe, Progress, input_size};
 use schema_lines::Direction;
 use shared_core_base::version::Version;
 use shared_core_renumber::Renumbering;
-use std::alloc::{AllocError, Global};
+use std::alloc::Global;
 use std::process::ExitCode;
 use stream_lines::Report;
 use stream_renumbering::{Options, renumber};
@@ -33,11 +34,7 @@ struct Arguments<'a> {
 }
 
 impl<'a> FromMatches<'a> for Arguments<'a> {
-    ghost is_valid = { λ parsed. 5 ≤ version_number parsed.file.options.version };
-
-    fn command(alloc: Global, name: &'a str) -> Result<Command<'a>, AllocError> {
-        definitions::RENUMBER.command(alloc, name)
-    }
+    ghost is_read = { λ found parsed. IsFileOf found parsed.file };
 
     fn from_matches(
         alloc: Global,
@@ -112,7 +109,7 @@ fn numbering_of(call: &Call<'_>, parsed: &Arguments<'_>) -> Result<Vec<Renumberi
 
 /// Parses the arguments, writes the stream, and returns the status.
 pub fn run(call: &Call<'_>) -> Result<ExitCode, ExitCode> {
-    let parsed: Arguments<'_> = call.parse()?;
+    let parsed: Arguments<'_> = call.parse(call.command(&definitions::RENUMBER)?)?;
     call.expect_redirected("the stream")?;
     let entries = numbering_of(call, &parsed)?;
     run_with(call, &parsed.file, entries.as_slice())

@@ -8,7 +8,7 @@ use clap::{ArgMatches, Command, Error};
 use command_line::{FromMatches, Pipe};
 use descriptor_set::DescriptorSet;
 use schema_lines::{Rename, SchemaError, write_schema};
-use std::alloc::{AllocError, Global};
+use std::alloc::Global;
 use std::process::ExitCode;
 
 /// The parsed arguments.
@@ -21,10 +21,6 @@ struct Arguments<'a> {
 }
 
 impl<'a> FromMatches<'a> for Arguments<'a> {
-    fn command(alloc: Global, name: &'a str) -> Result<Command<'a>, AllocError> {
-        definitions::SCHEMA.command(alloc, name)
-    }
-
     fn from_matches(
         alloc: Global,
         command: &mut Command<'a>,
@@ -53,7 +49,7 @@ fn end(
 /// Parses the arguments, shows the set, and returns the status.
 pub fn run(call: &Call<'_>) -> Result<ExitCode, ExitCode> {
     let alloc = call.rt.alloc();
-    let parsed: Arguments<'_> = call.parse()?;
+    let parsed: Arguments<'_> = call.parse(call.command(&definitions::SCHEMA)?)?;
     let set = read_descriptors(call, parsed.path)?;
     let mut output = Pipe::new(call.rt.stdout());
     match write_schema(alloc, &set, parsed.renames.as_slice(), &mut output) {

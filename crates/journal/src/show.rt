@@ -2,6 +2,7 @@
 
 ghost use Rattle.std.specs.Prelude.{◌≤◌};
 ghost use Rattle.shared_core_base.specs.Version.{version_number};
+ghost use Rattle.journal.specs.Files.{IsFileOf};
 
 use crate::beginning::{Beginning, Begun};
 use crate::call::{Call, INVALID};
@@ -15,7 +16,7 @@ use clap::{ArgMatches, Command, Error};
 use command_line::{Decoding, FromMatches, Pipe, Progress};
 use shared_core_base::version::Version;
 use show_lines::{Filter, Options, Showing, Test};
-use std::alloc::{AllocError, Global};
+use std::alloc::Global;
 use std::process::ExitCode;
 
 /// The parsed arguments.
@@ -66,11 +67,7 @@ const NOT_BY_BYTES: &str =
     "--where: size: and offset: count bytes at the protocol's own numbers, and not by a descriptor set";
 
 impl<'a> FromMatches<'a> for Arguments<'a> {
-    ghost is_valid = { λ parsed. 5 ≤ version_number parsed.file.options.version };
-
-    fn command(alloc: Global, name: &'a str) -> Result<Command<'a>, AllocError> {
-        definitions::SHOW.command(alloc, name)
-    }
+    ghost is_read = { λ found parsed. IsFileOf found parsed.file };
 
     fn from_matches(
         alloc: Global,
@@ -168,7 +165,7 @@ fn run_with(call: &Call<'_>, parsed: &Arguments<'_>, opened: Opened) -> Result<E
 
 /// Parses the arguments, shows the stream, and returns the status.
 pub fn run(call: &Call<'_>) -> Result<ExitCode, ExitCode> {
-    let mut parsed: Arguments<'_> = call.parse()?;
+    let mut parsed: Arguments<'_> = call.parse(call.command(&definitions::SHOW)?)?;
     let numbering = numbering_for(call, &parsed.schema, &parsed.file)?;
     if numbering.is_some() && parsed.counts_bytes() {
         return Err(call.fail(NOT_BY_BYTES, INVALID));

@@ -3,8 +3,8 @@
 ghost use Rattle.std.specs.Prelude.{IfOk, IfSome};
 ghost use Rattle.journal_list.specs.Options.{IsAccepted};
 
-use crate::definitions;
 use crate::options::options;
+use crate::{PROGRAM, definitions};
 use clap::error::ErrorKind;
 use clap::{ArgMatches, Command, Error};
 use command_line::{FromMatches, max_message_of, parse, protocol_of};
@@ -89,11 +89,7 @@ fn read_operands(alloc: Global, matches: &ArgMatches<'_>) -> Result<Option<Words
 }
 
 impl<'a> FromMatches<'a> for Arguments<'a> {
-    ghost is_valid = { λ parsed. IsAccepted parsed.version parsed.chunk_size };
-
-    fn command(alloc: Global, name: &'a str) -> Result<Command<'a>, AllocError> {
-        definitions::LIST.command(alloc, name)
-    }
+    ghost is_read = { λ found parsed. IsAccepted parsed.version parsed.chunk_size };
 
     fn from_matches(
         alloc: Global,
@@ -137,5 +133,6 @@ impl<'a> FromMatches<'a> for Arguments<'a> {
 pub fn parse_arguments<'a>(alloc: Global, words: &'a [String]) -> Result<Arguments<'a>, Error>
     ensures { IfOk result (λ parsed. IsAccepted parsed.version parsed.chunk_size) }
 {
-    parse(alloc, "journal_list", words)
+    let command = definitions::LIST.command(alloc, PROGRAM)?;
+    parse(alloc, command, words)
 }

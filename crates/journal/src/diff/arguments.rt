@@ -1,15 +1,15 @@
 //! Parsing the arguments.
 
-ghost use Rattle.std.specs.Prelude.{◌≤◌, IfOk};
-ghost use Rattle.shared_core_base.specs.Version.{version_number};
+ghost use Rattle.std.specs.Prelude.{IfOk};
+ghost use Rattle.clap.specs.Matches.{found_of};
+ghost use Rattle.journal.specs.Files.{AreBothOf};
 
-use crate::definitions;
 use crate::descriptors::{SchemaArguments, schema_arguments};
 use crate::file::FileOptions;
 use clap::error::ErrorKind;
 use clap::{ArgMatches, Command, Error};
 use command_line::{ColorChoice, FromMatches, color_of};
-use std::alloc::{AllocError, Global};
+use std::alloc::Global;
 
 /// How long values are shown, as `--values` says.
 #[derive(Debug, Clone, Copy, PartialEq, Eq, Drop)]
@@ -54,11 +54,7 @@ pub struct Arguments<'a> {
 }
 
 impl<'a> FromMatches<'a> for Arguments<'a> {
-    ghost is_valid = { λ parsed. 5 ≤ version_number parsed.options.version };
-
-    fn command(alloc: Global, name: &'a str) -> Result<Command<'a>, AllocError> {
-        definitions::DIFF.command(alloc, name)
-    }
+    ghost is_read = { AreBothOf };
 
     fn from_matches(
         alloc: Global,
@@ -75,7 +71,7 @@ fn arguments_of<'a>(
     command: &mut Command<'_>,
     matches: &ArgMatches<'a>,
 ) -> Result<Arguments<'a>, Error>
-    ensures { IfOk result (λ parsed. 5 ≤ version_number parsed.options.version) }
+    ensures { IfOk result (AreBothOf (found_of matches.now)) }
 {
     let (Some(recorded), Some(replayed)) = (
         matches.get_str("recorded"),

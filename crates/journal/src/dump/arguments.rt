@@ -1,9 +1,9 @@
 //! Parsing the arguments.
 
-ghost use Rattle.std.specs.Prelude.{◌≤◌, IfOk};
-ghost use Rattle.shared_core_base.specs.Version.{version_number};
+ghost use Rattle.std.specs.Prelude.{IfOk};
+ghost use Rattle.clap.specs.Matches.{found_of};
+ghost use Rattle.journal.specs.Files.{IsFileOf};
 
-use crate::definitions;
 use crate::descriptors::{SchemaArguments, schema_arguments};
 use crate::dump::suggestions::unknown_type;
 use crate::file::File;
@@ -65,11 +65,7 @@ fn code_within(name: &str) -> Option<u16> {
 }
 
 impl<'a> FromMatches<'a> for Arguments<'a> {
-    ghost is_valid = { λ parsed. 5 ≤ version_number parsed.file.options.version };
-
-    fn command(alloc: Global, name: &'a str) -> Result<Command<'a>, AllocError> {
-        definitions::DUMP.command(alloc, name)
-    }
+    ghost is_read = { λ found parsed. IsFileOf found parsed.file };
 
     fn from_matches(
         alloc: Global,
@@ -86,7 +82,7 @@ fn arguments_of<'a>(
     command: &mut Command<'_>,
     matches: &ArgMatches<'a>,
 ) -> Result<Arguments<'a>, Error>
-    ensures { IfOk result (λ parsed. 5 ≤ version_number parsed.file.options.version) }
+    ensures { IfOk result (λ parsed. IsFileOf (found_of matches.now) parsed.file) }
 {
     let codes = codes_of(alloc, command, matches)?;
     let file = File::of(command, matches)?;
