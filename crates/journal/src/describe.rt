@@ -3,16 +3,17 @@
 ghost use Rattle.std.specs.Prelude.{◌≤◌};
 ghost use Rattle.shared_core_base.specs.Version.{version_number};
 
-use crate::beginning::{Beginning, Begun};
+use crate::beginning::Beginning;
 use crate::call::Call;
 use crate::definitions;
 use crate::dump::Records;
-use crate::file::{File, FileOptions};
+use crate::file::{File, Files};
 use crate::fitting::all_fitting;
-use clap::{ArgMatches, Command, Error};
-use command_line::{Decoding, FromMatches, Input, Pipe, Progress, fail, input_size};
+use crate::opened::Print;
+use command_line::{Pipe, fail};
 use shared_core_base::version::Version;
 use std::alloc::{AllocError, Global};
+use std::io::{Read, Write};
 use std::process::ExitCode;
 use stream_lines::output::write_whole;
 use stream_lines::{PrintError, Report};
@@ -22,60 +23,30 @@ use terminal_text::{Escapes, push_escaped};
 /// The number of bytes that are read at a time.
 const CHUNK: usize = 65536;
 
-/// How the description of a stream ended, after what is wrong was reported.
-enum Ended {
-    /// It is written.
-    Whole,
-    /// The input, an allocation or the output failed.
-    Failed(ExitCode),
-    /// The reader has closed the output.
-    Closed,
-}
+impl Print for Options {
+    type Found = Report;
 
-/// Reports the trailing bytes.
-fn report_rest(call: &Call<'_>, version: Version, beginning: &Beginning, found: &Report) {
-    let (offset, count) = (found.end, found.rest);
-    if count == 0 {
-        return;
-    }
-    call.report_rest(offset, count);
-    if offset == 0 {
-        beginning.report_no_message(call, version);
-    }
-}
+    ghost is_ready = { λ options. (5 ≤ version_number options.version) × (1 ≤ options.chunk_size)
+        × (options.chunk_size ≤ 65536) };
 
-/// Describes the input of a file.
-fn describe_input(call: &Call<'_>, file: &File<'_>, input: Input) -> Ended
-    requires { 5 ≤ version_number file.now.options.version }
-{
-    let FileOptions {
-        version,
-        limit,
-        encoding,
-        ..
-    } = file.options;
-    let options = Options {
-        version,
-        limit,
-        chunk_size: CHUNK,
-    };
-    let progress = Progress::beside_output(call.rt, call.name, input_size(&input));
-    let beginning = Beginning::new();
-    let mut input = Begun::new(
-        Decoding::new(input, file.path, encoding, &progress),
-        &beginning,
-    );
-    let mut output = Pipe::new(call.rt.stdout());
-    let described = describe(call.rt.alloc(), &options, &Records, &mut input, &mut output);
-    progress.clear();
-    match described {
-        Ok(found) => {
-            report_rest(call, version, &beginning, &found);
-            Ended::Whole
+    fn print<R: Read, W: Write>(
+        &self,
+        call: &Call<'_>,
+        input: &mut R,
+        output: &mut W,
+    ) -> Result<Report, PrintError> {
+        describe(call.rt.alloc(), self, &Records, input, output)
+    }
+
+    /// Reports the trailing bytes.
+    fn end(&self, call: &Call<'_>, beginning: &Beginning, found: Report) -> ExitCode {
+        if found.rest > 0 {
+            call.report_rest(found.end, found.rest);
+            if found.end == 0 {
+                beginning.report_no_message(call, self.version);
+            }
         }
-        // the reader has closed the output, so nothing is reported
-        Err(PrintError::Output) if output.is_broken() => Ended::Closed,
-        Err(error) => Ended::Failed(call.fail_reading(error, &progress)),
+        ExitCode::SUCCESS
     }
 }
 
@@ -91,93 +62,81 @@ fn heading(alloc: Global, path: &str, is_first: bool) -> Result<String, AllocErr
     Ok(text)
 }
 
-/// Writes a text, a line or more.
-fn write_text(call: &Call<'_>, text: &str) -> Ended {
+/// Writes a text, a line or more. The error is the status, after what is wrong was reported.
+fn write_text(call: &Call<'_>, text: &str) -> Result<(), ExitCode> {
     let mut output = Pipe::new(call.rt.stdout());
     match write_whole(&mut output, text.as_bytes()) {
-        Ok(()) => Ended::Whole,
-        Err(_) if output.is_broken() => Ended::Closed,
-        Err(error) => Ended::Failed(fail(call.rt, call.name, error, call.failure)),
+        Ok(()) => Ok(()),
+        // the reader has closed the output, so nothing is reported
+        Err(_) if output.is_broken() => Err(ExitCode::from(call.failure)),
+        Err(error) => Err(fail(call.rt, call.name, error, call.failure)),
     }
 }
 
 /// Writes a heading.
-fn write_heading(call: &Call<'_>, path: &str, is_first: bool) -> Ended {
+fn write_heading(call: &Call<'_>, path: &str, is_first: bool) -> Result<(), ExitCode> {
     match heading(call.rt.alloc(), path, is_first) {
         Ok(text) => write_text(call, text.as_str()),
-        Err(error) => Ended::Failed(fail(call.rt, call.name, error, call.failure)),
+        Err(error) => Err(fail(call.rt, call.name, error, call.failure)),
     }
 }
 
 /// Writes which versions a stream fits.
-fn write_fits(call: &Call<'_>, numbers: &str) -> Ended {
+fn write_fits(call: &Call<'_>, numbers: &str) -> Result<(), ExitCode> {
     match format!(in call.rt.alloc(); "fits: {numbers}\n") {
         Ok(text) => write_text(call, text.as_str()),
-        Err(error) => Ended::Failed(fail(call.rt, call.name, error, call.failure)),
+        Err(error) => Err(fail(call.rt, call.name, error, call.failure)),
     }
 }
 
-/// Describes the stream of a file.
-fn describe_file(call: &Call<'_>, file: &File<'_>) -> Ended
+/// Describes the stream of a file at a version.
+fn describe_at(call: &Call<'_>, file: &File<'_>, version: Version) -> Result<ExitCode, ExitCode>
+    requires { 5 ≤ version_number version }
+{
+    let options = Options {
+        version,
+        limit: file.options.limit,
+        chunk_size: CHUNK,
+    };
+    file.open(call)?.print(call, file.path, &options)
+}
+
+/// Describes the stream of a file. If its version is to be found, it is the newest that the stream fits, and a line
+/// before has all of these.
+fn describe_file(call: &Call<'_>, file: &File<'_>) -> Result<ExitCode, ExitCode>
     requires { 5 ≤ version_number file.now.options.version }
 {
-    match call.open(file.path) {
-        Ok(input) => describe_input(call, file, input),
-        Err(status) => Ended::Failed(status),
+    if !file.options.is_auto {
+        return describe_at(call, file, file.options.version);
     }
-}
-
-/// Describes the stream of a file, after which versions it fits, by the newest of these.
-fn describe_fitting(call: &Call<'_>, file: &File<'_>) -> Ended {
-    let (version, numbers) = match all_fitting(call, file) {
-        Ok(found) => found,
-        Err(status) => return Ended::Failed(status),
-    };
-    let options = FileOptions {
-        version,
-        ..file.options
-    };
-    match write_fits(call, numbers) {
-        Ended::Whole => describe_file(call, &File { options, ..*file }),
-        ended => ended,
-    }
+    let (version, numbers) = all_fitting(call, file)?;
+    write_fits(call, numbers)?;
+    describe_at(call, file, version)
 }
 
 /// Describes the streams, and returns the status: 0, or that of the last stream that has another one. Where the output
-/// fails, it is the last.
-fn describe_all(call: &Call<'_>, parsed: &Files<'_>) -> ExitCode
-    requires { 5 ≤ version_number parsed.now.options.version }
+/// fails, the next heading does so too, and its status is the last.
+fn describe_all(call: &Call<'_>, files: &Files<'_>) -> Result<ExitCode, ExitCode>
+    requires { 5 ≤ version_number files.now.options.version }
 {
-    let options = parsed.options;
     let mut status = ExitCode::SUCCESS;
-    for (index, path) in parsed.paths.iter().enumerate() {
-        if parsed.paths.len() > 1 {
-            match write_heading(call, *path, index == 0) {
-                Ended::Whole => {}
-                Ended::Failed(failed) => return failed,
-                Ended::Closed => return ExitCode::from(call.failure),
-            }
+    for (index, path) in files.paths.iter().enumerate() {
+        if files.paths.len() > 1 {
+            write_heading(call, *path, index == 0)?;
         }
         let file = File {
             path: *path,
-            options,
+            options: files.options,
         };
-        let ended = if options.is_auto {
-            describe_fitting(call, &file)
-        } else {
-            describe_file(call, &file)
-        };
-        match ended {
-            Ended::Whole => {}
-            Ended::Failed(failed) => status = failed,
-            Ended::Closed => return ExitCode::from(call.failure),
+        if let Err(failed) = describe_file(call, &file) {
+            status = failed;
         }
     }
-    status
+    Ok(status)
 }
 
 /// Parses the arguments, describes the streams, and returns the status.
 pub fn run(call: &Call<'_>) -> Result<ExitCode, ExitCode> {
-    let parsed: Files<'_> = call.parse(call.command(&definitions::DESCRIBE)?)?;
-    Ok(describe_all(call, &parsed))
+    let files: Files<'_> = call.parse(call.command(&definitions::DESCRIBE)?)?;
+    describe_all(call, &files)
 }

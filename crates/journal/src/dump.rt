@@ -7,42 +7,64 @@ mod arguments;
 mod canonical;
 mod suggestions;
 
-use crate::beginning::{Beginning, Begun};
+use crate::beginning::Beginning;
 use crate::call::{Call, rest_at};
 use crate::definitions;
 use crate::descriptors::read_messages;
 use crate::dump::arguments::Arguments;
 pub use crate::dump::canonical::Records;
-use crate::file::FileOptions;
+use crate::opened::Print;
 use crate::renumbered::set_path;
-use command_line::{Decoding, Pipe, Progress, input_size, note};
+use command_line::note;
 use dump_lines::{Dumping, MOST_SHOWN, MessageTable, Options, ProtocolTable};
-use std::io::IsTerminal;
+use std::io::{IsTerminal, Read, Write};
 use std::process::ExitCode;
-use stream_lines::Report;
+use stream_lines::{PrintError, Report};
 use terminal_text::{Escapes, Escaping};
 
 /// The status of `--strict` if something is wrong with the stream.
 const UNFIT: u8 = 2;
 
-/// Reports the first error of the stream and the trailing bytes, and returns the status.
-fn end(call: &Call<'_>, options: &Options<'_>, beginning: &Beginning, found: &Report) -> ExitCode {
-    if let Some((offset, trouble)) = found.trouble {
-        call.report_trouble(offset, trouble);
-    }
-    if found.rest > 0 {
-        report_rest(call, options, found);
-        if found.end == 0 {
-            beginning.report_no_message(call, options.version);
-            if !options.strict {
-                call.note("it is dumped all the same; with --strict the status is 2");
-            }
+impl<'a, M: MessageTable> Print for Dumping<'a, M> {
+    type Found = Report;
+
+    ghost is_ready = { λ dumping. 5 ≤ version_number dumping.options.version };
+
+    fn print<R: Read, W: Write>(
+        &self,
+        call: &Call<'_>,
+        input: &mut R,
+        output: &mut W,
+    ) -> Result<Report, PrintError> {
+        let is_terminal = call.rt.stdout().is_terminal();
+        let mut output = Escaping::new(call.rt.alloc(), output, Escapes::Json, is_terminal);
+        if is_terminal {
+            self.dump_on_terminal(input, &mut output)
+        } else {
+            self.dump(input, &mut output)
         }
     }
-    if options.strict && (found.trouble.is_some() || found.rest > 0) {
-        return ExitCode::from(UNFIT);
+
+    /// Reports the first error of the stream and the trailing bytes.
+    fn end(&self, call: &Call<'_>, beginning: &Beginning, found: Report) -> ExitCode {
+        let options = &self.options;
+        if let Some((offset, trouble)) = found.trouble {
+            call.report_trouble(offset, trouble);
+        }
+        if found.rest > 0 {
+            report_rest(call, options, &found);
+            if found.end == 0 {
+                beginning.report_no_message(call, options.version);
+                if !options.strict {
+                    call.note("it is dumped all the same; with --strict the status is 2");
+                }
+            }
+        }
+        if options.strict && (found.trouble.is_some() || found.rest > 0) {
+            return ExitCode::from(UNFIT);
+        }
+        ExitCode::SUCCESS
     }
-    ExitCode::SUCCESS
 }
 
 /// Reports the trailing bytes.
@@ -66,52 +88,23 @@ fn run_by<M: MessageTable>(
 ) -> Result<ExitCode, ExitCode>
     requires { 5 ≤ version_number parsed.now.file.options.version }
 {
-    let FileOptions {
-        version,
-        limit,
-        encoding,
-        ..
-    } = parsed.file.options;
-    let options = Options {
-        version,
-        limit,
-        codes: parsed.codes.as_slice(),
-        payloads: parsed.payloads,
-        texts: parsed.texts,
-        pretty: parsed.pretty,
-        // a user who selects messages goes on with what is in them
-        rest: parsed.codes.is_empty(),
-        strict: parsed.strict,
-    };
-    let input = call.open(parsed.file.path)?;
-    let progress = Progress::beside_output(call.rt, call.name, input_size(&input));
-    let beginning = Beginning::new();
-    let mut input = Begun::new(
-        Decoding::new(input, parsed.file.path, encoding, &progress),
-        &beginning,
-    );
-    let is_terminal = call.rt.stdout().is_terminal();
-    let mut output = Pipe::new(Escaping::new(
-        call.rt.alloc(),
-        call.rt.stdout(),
-        Escapes::Json,
-        is_terminal,
-    ));
+    let file = &parsed.file;
     let dumping = Dumping {
         alloc: call.rt.alloc(),
-        options,
+        options: Options {
+            version: file.options.version,
+            limit: file.options.limit,
+            codes: parsed.codes.as_slice(),
+            payloads: parsed.payloads,
+            texts: parsed.texts,
+            pretty: parsed.pretty,
+            // a user who selects messages goes on with what is in them
+            rest: parsed.codes.is_empty(),
+            strict: parsed.strict,
+        },
         messages,
     };
-    let dumped = if is_terminal {
-        dumping.dump_on_terminal(&mut input, &mut output)
-    } else {
-        dumping.dump(&mut input, &mut output)
-    };
-    progress.clear();
-    match dumped {
-        Ok(found) => Ok(end(call, &options, &beginning, &found)),
-        Err(error) => Err(call.fail_printing(error, output.is_broken(), &progress)),
-    }
+    file.open(call)?.print(call, file.path, &dumping)
 }
 
 /// Parses the arguments, dumps the stream, and returns the status.

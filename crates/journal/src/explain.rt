@@ -4,16 +4,19 @@ ghost use Rattle.std.specs.Prelude.{◌≤◌};
 ghost use Rattle.shared_core_base.specs.Version.{version_number};
 ghost use Rattle.journal.specs.Files.{IsFileOf};
 
+use crate::beginning::Beginning;
 use crate::call::Call;
 use crate::definitions;
-use crate::file::{File, FileOptions};
+use crate::file::File;
+use crate::opened::Print;
 use clap::error::ErrorKind;
 use clap::{ArgMatches, Command, Error};
-use command_line::{Decoding, FromMatches, Pipe, Progress, fail, input_size};
+use command_line::{FromMatches, fail};
 use explain_lines::{Options, explain};
 use std::alloc::Global;
+use std::io::{Read, Write};
 use std::process::ExitCode;
-use stream_lines::Report;
+use stream_lines::{PrintError, Report};
 
 /// The status if the stream has no byte at the offset.
 const LACKING: u8 = 1;
@@ -54,50 +57,43 @@ impl<'a> FromMatches<'a> for Arguments<'a> {
     }
 }
 
-/// Reports an offset at which the stream has no byte, and returns the status.
-fn end(call: &Call<'_>, options: &Options, found: &Report) -> ExitCode {
-    let Some(at) = options.at else {
-        return ExitCode::SUCCESS;
-    };
-    let size = found.end.saturating_add(u128::from(found.rest));
-    if u128::from(at) < size {
-        return ExitCode::SUCCESS;
-    }
-    let why = format_args!("no byte at {at}: the stream has {size}");
-    fail(call.rt, call.name, why, LACKING)
-}
+impl Print for Options {
+    type Found = Report;
 
-/// Explains the stream, and returns the status.
-fn run_with(call: &Call<'_>, parsed: &Arguments<'_>) -> Result<ExitCode, ExitCode>
-    requires { 5 ≤ version_number parsed.now.file.options.version }
-{
-    let FileOptions {
-        version,
-        limit,
-        encoding,
-        ..
-    } = parsed.file.options;
-    let options = Options {
-        version,
-        limit,
-        at: parsed.at,
-        raw: parsed.raw,
-    };
-    let input = call.open(parsed.file.path)?;
-    let progress = Progress::beside_output(call.rt, call.name, input_size(&input));
-    let mut input = Decoding::new(input, parsed.file.path, encoding, &progress);
-    let mut output = Pipe::new(call.rt.stdout());
-    let explained = explain(call.rt.alloc(), &options, &mut input, &mut output);
-    progress.clear();
-    match explained {
-        Ok(found) => Ok(end(call, &options, &found)),
-        Err(error) => Err(call.fail_printing(error, output.is_broken(), &progress)),
+    ghost is_ready = { λ options. 5 ≤ version_number options.version };
+
+    fn print<R: Read, W: Write>(
+        &self,
+        call: &Call<'_>,
+        input: &mut R,
+        output: &mut W,
+    ) -> Result<Report, PrintError> {
+        explain(call.rt.alloc(), self, input, output)
+    }
+
+    /// Reports an offset at which the stream has no byte.
+    fn end(&self, call: &Call<'_>, _beginning: &Beginning, found: Report) -> ExitCode {
+        let Some(at) = self.at else {
+            return ExitCode::SUCCESS;
+        };
+        let size = found.end.saturating_add(u128::from(found.rest));
+        if u128::from(at) < size {
+            return ExitCode::SUCCESS;
+        }
+        let why = format_args!("no byte at {at}: the stream has {size}");
+        fail(call.rt, call.name, why, LACKING)
     }
 }
 
 /// Parses the arguments, explains the stream, and returns the status.
 pub fn run(call: &Call<'_>) -> Result<ExitCode, ExitCode> {
-    let mut parsed: Arguments<'_> = call.parse(call.command(&definitions::EXPLAIN)?)?;
-    parsed.file = parsed.file.fitted(call)?;
-    run_with(call, &parsed)
+    let parsed: Arguments<'_> = call.parse(call.command(&definitions::EXPLAIN)?)?;
+    let file = parsed.file.fitted(call)?;
+    let options = Options {
+        version: file.options.version,
+        limit: file.options.limit,
+        at: parsed.at,
+        raw: parsed.raw,
+    };
+    file.open(call)?.print(call, file.path, &options)
 }

@@ -62,16 +62,9 @@ fn report_of(call: &Call<'_>, file: &File<'_>) -> Result<Report, ExitCode>
     progress.clear();
     match checked {
         Ok(report) => Ok(report),
-        // it was reported what is wrong with the input
-        Err(_) if progress.has_reported() => Err(ExitCode::from(call.failure)),
         Err(error) => {
             let path = file.path;
-            Err(fail(
-                call.rt,
-                call.name,
-                format_args!("{path}: {error}"),
-                call.failure,
-            ))
+            Err(call.fail_reading(format_args!("{path}: {error}"), &progress))
         }
     }
 }

@@ -4,21 +4,24 @@ ghost use Rattle.std.specs.Prelude.{◌≤◌};
 ghost use Rattle.shared_core_base.specs.Version.{version_number};
 ghost use Rattle.journal.specs.Files.{IsFileOf};
 
-use crate::beginning::{Beginning, Begun};
+use crate::beginning::Beginning;
 use crate::call::Call;
 use crate::definitions;
 use crate::descriptors::{SchemaArguments, schema_arguments};
 use crate::dump::Records;
 use crate::file::File;
-use crate::renumbered::{Opened, numbering_for, open_numbered};
+use crate::opened::Print;
+use crate::renumbered::{numbering_for, open_numbered};
 use crate::similar::push_similar;
 use clap::error::ErrorKind;
 use clap::{ArgMatches, Command, Error};
-use command_line::{Decoding, FromMatches, Pipe, Progress, fail};
+use command_line::{FromMatches, fail};
 use field_paths::{Answer, Request, get};
 use shared_core_json::names::names_of;
 use std::alloc::{AllocError, Global};
+use std::io::{Read, Write};
 use std::process::ExitCode;
+use stream_lines::PrintError;
 use stream_visits::Options;
 
 /// The number of bytes that are read at a time.
@@ -127,65 +130,48 @@ fn end_lacking(call: &Call<'_>, index: u64, schema: u32, rest: &[u8]) -> ExitCod
     }
 }
 
-/// Reports what there is not, if that is so, and returns the status.
-fn end(
-    call: &Call<'_>,
-    parsed: &Arguments<'_>,
-    beginning: &Beginning,
-    answer: Answer<'_>,
-) -> ExitCode {
-    let index = parsed.index;
-    let why = match answer {
-        Answer::Written => return ExitCode::SUCCESS,
-        Answer::NoItem => {
-            if index == 0 {
-                beginning.report_no_message(call, parsed.file.options.version);
-            }
-            return fail(
-                call.rt,
-                call.name,
-                format_args!("no item {index}: the stream ends before it"),
-                LACKING,
-            );
-        }
-        Answer::Lacking(schema, rest) => return end_lacking(call, index, schema, rest),
-        Answer::Opaque => "its type is unknown, or it is a custom entry",
-        Answer::Malformed => "it is malformed",
-        Answer::NoMessage(_) => "the path goes on after a field that is no message",
-    };
-    fail(
-        call.rt,
-        call.name,
-        format_args!("item {index}: {why}"),
-        LACKING,
-    )
-}
+impl<'q> Print for Request<'q> {
+    type Found = Answer<'q>;
 
-/// Writes the field of a stream that is opened, and returns the status.
-fn run_with(call: &Call<'_>, parsed: &Arguments<'_>, opened: Opened) -> Result<ExitCode, ExitCode>
-    requires { 5 ≤ version_number parsed.now.file.options.version }
-{
-    let request = Request {
-        options: Options {
-            version: parsed.file.options.version,
-            limit: opened.limit,
-            chunk_size: CHUNK,
-        },
-        index: parsed.index,
-        path: parsed.path.as_bytes(),
-    };
-    let progress = Progress::beside_output(call.rt, call.name, opened.size());
-    let beginning = Beginning::new();
-    let mut input = Begun::new(
-        Decoding::new(opened.source, parsed.file.path, opened.encoding, &progress),
-        &beginning,
-    );
-    let mut output = Pipe::new(call.rt.stdout());
-    let got = get(call.rt.alloc(), &request, &Records, &mut input, &mut output);
-    progress.clear();
-    match got {
-        Ok(answer) => Ok(end(call, parsed, &beginning, answer)),
-        Err(error) => Err(call.fail_printing(error, output.is_broken(), &progress)),
+    ghost is_ready = { λ request. (5 ≤ version_number request.options.version) × (1 ≤ request.options.chunk_size)
+        × (request.options.chunk_size ≤ 65536) };
+
+    fn print<R: Read, W: Write>(
+        &self,
+        call: &Call<'_>,
+        input: &mut R,
+        output: &mut W,
+    ) -> Result<Answer<'q>, PrintError> {
+        get(call.rt.alloc(), self, &Records, input, output)
+    }
+
+    /// Reports what there is not, if that is so.
+    fn end(&self, call: &Call<'_>, beginning: &Beginning, answer: Answer<'q>) -> ExitCode {
+        let index = self.index;
+        let why = match answer {
+            Answer::Written => return ExitCode::SUCCESS,
+            Answer::NoItem => {
+                if index == 0 {
+                    beginning.report_no_message(call, self.options.version);
+                }
+                return fail(
+                    call.rt,
+                    call.name,
+                    format_args!("no item {index}: the stream ends before it"),
+                    LACKING,
+                );
+            }
+            Answer::Lacking(schema, rest) => return end_lacking(call, index, schema, rest),
+            Answer::Opaque => "its type is unknown, or it is a custom entry",
+            Answer::Malformed => "it is malformed",
+            Answer::NoMessage(_) => "the path goes on after a field that is no message",
+        };
+        fail(
+            call.rt,
+            call.name,
+            format_args!("item {index}: {why}"),
+            LACKING,
+        )
     }
 }
 
@@ -197,5 +183,14 @@ pub fn run(call: &Call<'_>) -> Result<ExitCode, ExitCode> {
     parsed.file = parsed.file.fitted(call)?;
     let entries = numbering.as_ref().map(|entries| entries.as_slice());
     let opened = open_numbered(call, &parsed.file, entries)?;
-    run_with(call, &parsed, opened)
+    let request = Request {
+        options: Options {
+            version: parsed.file.options.version,
+            limit: opened.limit,
+            chunk_size: CHUNK,
+        },
+        index: parsed.index,
+        path: parsed.path.as_bytes(),
+    };
+    opened.print(call, parsed.file.path, &request)
 }

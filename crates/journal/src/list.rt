@@ -4,19 +4,20 @@ ghost use Rattle.std.specs.Prelude.{◌≤◌};
 ghost use Rattle.shared_core_base.specs.Version.{version_number};
 ghost use Rattle.journal.specs.Files.{IsFileOf};
 
-use crate::beginning::{Beginning, Begun};
+use crate::beginning::Beginning;
 use crate::call::Call;
 use crate::definitions;
 use crate::descriptors::{SchemaArguments, TypeName, read_type_names, schema_arguments};
-use crate::file::{File, FileOptions};
+use crate::file::File;
+use crate::opened::Print;
 use crate::renumbered::set_path;
 use clap::{ArgMatches, Command, Error};
-use command_line::{Decoding, FromMatches, Input, Pipe, Progress, input_size};
+use command_line::FromMatches;
 use list_lines::{Options, OtherName, list};
-use shared_core_base::version::Version;
 use std::alloc::Global;
+use std::io::{Read, Write};
 use std::process::ExitCode;
-use stream_lines::Report;
+use stream_lines::{PrintError, Report};
 
 /// The number of bytes that are read at a time.
 const CHUNK: usize = 65536;
@@ -44,12 +45,28 @@ impl<'a> FromMatches<'a> for Arguments<'a> {
     }
 }
 
-/// Reports that nothing before the trailing bytes is an item, and returns the status.
-fn end(call: &Call<'_>, version: Version, beginning: &Beginning, found: &Report) -> ExitCode {
-    if found.rest > 0 && found.end == 0 {
-        beginning.report_no_message(call, version);
+impl<'n> Print for Options<'n> {
+    type Found = Report;
+
+    ghost is_ready = { λ options. (5 ≤ version_number options.version) × (1 ≤ options.chunk_size)
+        × (options.chunk_size ≤ 65536) };
+
+    fn print<R: Read, W: Write>(
+        &self,
+        call: &Call<'_>,
+        input: &mut R,
+        output: &mut W,
+    ) -> Result<Report, PrintError> {
+        list(call.rt.alloc(), self, input, output)
     }
-    ExitCode::SUCCESS
+
+    /// Reports that nothing before the trailing bytes is an item.
+    fn end(&self, call: &Call<'_>, beginning: &Beginning, found: Report) -> ExitCode {
+        if found.rest > 0 && found.end == 0 {
+            beginning.report_no_message(call, self.version);
+        }
+        ExitCode::SUCCESS
+    }
 }
 
 /// The names of the types that only the set has which the options or the variable name. The error is the status.
@@ -60,15 +77,11 @@ fn names_for(call: &Call<'_>, parsed: &Arguments<'_>) -> Result<Vec<TypeName>, E
     }
 }
 
-/// Lists the input with the names of some types, and returns the status.
-fn run_named(
-    call: &Call<'_>,
-    file: &File<'_>,
-    found: &[TypeName],
-    input: Input,
-) -> Result<ExitCode, ExitCode>
+/// Lists the file with the names of some types, and returns the status.
+fn run_with(call: &Call<'_>, file: &File<'_>, found: &[TypeName]) -> Result<ExitCode, ExitCode>
     requires { 5 ≤ version_number file.now.options.version }
 {
+    let opened = file.open(call)?;
     let mut names = Vec::new(call.rt.alloc());
     for one in found {
         let named = OtherName {
@@ -79,43 +92,13 @@ fn run_named(
             return Err(call.fail("out of memory", call.failure));
         }
     }
-    run_with(call, file, names.as_slice(), input)
-}
-
-/// Lists the input, and returns the status.
-fn run_with(
-    call: &Call<'_>,
-    file: &File<'_>,
-    names: &[OtherName<'_>],
-    input: Input,
-) -> Result<ExitCode, ExitCode>
-    requires { 5 ≤ version_number file.now.options.version }
-{
-    let FileOptions {
-        version,
-        limit,
-        encoding,
-        ..
-    } = file.options;
     let options = Options {
-        version,
-        limit,
+        version: file.options.version,
+        limit: file.options.limit,
         chunk_size: CHUNK,
-        names,
+        names: names.as_slice(),
     };
-    let progress = Progress::beside_output(call.rt, call.name, input_size(&input));
-    let beginning = Beginning::new();
-    let mut input = Begun::new(
-        Decoding::new(input, file.path, encoding, &progress),
-        &beginning,
-    );
-    let mut output = Pipe::new(call.rt.stdout());
-    let listed = list(call.rt.alloc(), &options, &mut input, &mut output);
-    progress.clear();
-    match listed {
-        Ok(found) => Ok(end(call, version, &beginning, &found)),
-        Err(error) => Err(call.fail_printing(error, output.is_broken(), &progress)),
-    }
+    opened.print(call, file.path, &options)
 }
 
 /// Parses the arguments, lists the stream, and returns the status.
@@ -123,6 +106,5 @@ pub fn run(call: &Call<'_>) -> Result<ExitCode, ExitCode> {
     let parsed: Arguments<'_> = call.parse(call.command(&definitions::LIST)?)?;
     let names = names_for(call, &parsed)?;
     let file = parsed.file.fitted(call)?;
-    let input = call.open(file.path)?;
-    run_named(call, &file, names.as_slice(), input)
+    run_with(call, &file, names.as_slice())
 }

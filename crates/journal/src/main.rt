@@ -17,6 +17,7 @@ mod fitting;
 mod get;
 mod list;
 mod make;
+mod opened;
 mod parts;
 mod redact;
 mod renumber;

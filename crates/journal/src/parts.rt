@@ -121,14 +121,7 @@ impl<'a> File<'a> {
         match copied {
             Ok(()) => Ok(()),
             Err(CopyError::Output) => Err(fail_output(call, output)),
-            // it was reported what is wrong with the input
-            Err(_) if progress.has_reported() => Err(ExitCode::from(call.failure)),
-            Err(error) => Err(fail(
-                call.rt,
-                call.name,
-                format_args!("{path}: {error}"),
-                call.failure,
-            )),
+            Err(error) => Err(call.fail_reading(format_args!("{path}: {error}"), &progress)),
         }
     }
 }

@@ -4,16 +4,18 @@ ghost use Rattle.std.specs.Prelude.{◌≤◌};
 ghost use Rattle.shared_core_base.specs.Version.{version_number};
 ghost use Rattle.journal.specs.Files.{IsFileOf};
 
-use crate::beginning::{Beginning, Begun};
+use crate::beginning::Beginning;
 use crate::call::{Call, INVALID};
 use crate::definitions;
-use crate::file::{File, FileOptions};
+use crate::file::File;
+use crate::opened::Print;
 use clap::{ArgMatches, Command, Error};
-use command_line::{Decoding, FromMatches, Pipe, Progress, fail, input_size};
+use command_line::{FromMatches, fail};
 use std::alloc::Global;
-use std::io::Read;
+use std::io::{Read, Write};
 use std::process::ExitCode;
 use std::{fs, io};
+use stream_lines::{PrintError, Report};
 use stream_redaction::{Key, Options, redact};
 
 /// The number of bytes that are read at a time.
@@ -69,35 +71,24 @@ fn key_of(call: &Call<'_>, secret: Option<&str>) -> Result<Key, ExitCode> {
     }
 }
 
-/// Writes a stream with its contents replaced, and returns the status.
-fn run_with(call: &Call<'_>, file: &File<'_>, key: Key) -> Result<ExitCode, ExitCode>
-    requires { 5 ≤ version_number file.now.options.version }
-{
-    let FileOptions {
-        version,
-        limit,
-        encoding,
-        ..
-    } = file.options;
-    let options = Options {
-        version,
-        limit,
-        chunk_size: CHUNK,
-        key,
-    };
-    let input = call.open(file.path)?;
-    let progress = Progress::beside_output(call.rt, call.name, input_size(&input));
-    let beginning = Beginning::new();
-    let mut input = Begun::new(
-        Decoding::new(input, file.path, encoding, &progress),
-        &beginning,
-    );
-    let mut output = Pipe::new(call.rt.stdout());
-    let written = redact(call.rt.alloc(), &options, &mut input, &mut output);
-    progress.clear();
-    match written {
-        Ok(found) => Ok(beginning.end_written(call, version, &found)),
-        Err(error) => Err(call.fail_printing(error, output.is_broken(), &progress)),
+impl Print for Options {
+    type Found = Report;
+
+    ghost is_ready = { λ options. (5 ≤ version_number options.version) × (1 ≤ options.chunk_size)
+        × (options.chunk_size ≤ 65536) };
+
+    fn print<R: Read, W: Write>(
+        &self,
+        call: &Call<'_>,
+        input: &mut R,
+        output: &mut W,
+    ) -> Result<Report, PrintError> {
+        redact(call.rt.alloc(), self, input, output)
+    }
+
+    /// Reports the trailing bytes.
+    fn end(&self, call: &Call<'_>, beginning: &Beginning, found: Report) -> ExitCode {
+        beginning.end_written(call, self.version, &found)
     }
 }
 
@@ -106,6 +97,11 @@ pub fn run(call: &Call<'_>) -> Result<ExitCode, ExitCode> {
     let parsed: Arguments<'_> = call.parse(call.command(&definitions::REDACT)?)?;
     call.expect_redirected("the stream")?;
     let file = parsed.file.fitted(call)?;
-    let key = key_of(call, parsed.secret)?;
-    run_with(call, &file, key)
+    let options = Options {
+        version: file.options.version,
+        limit: file.options.limit,
+        chunk_size: CHUNK,
+        key: key_of(call, parsed.secret)?,
+    };
+    file.open(call)?.print(call, file.path, &options)
 }

@@ -4,19 +4,20 @@ ghost use Rattle.std.specs.Prelude.{◌≤◌};
 ghost use Rattle.shared_core_base.specs.Version.{version_number};
 ghost use Rattle.journal.specs.Files.{IsFileOf};
 
-use crate::beginning::{Beginning, Begun};
+use crate::beginning::Beginning;
 use crate::call::{Call, INVALID};
 use crate::definitions;
 use crate::descriptors::{SchemaArguments, read_numbering, schema_arguments, schema_path};
-use crate::file::{File, FileOptions};
+use crate::file::File;
+use crate::opened::Print;
 use clap::{ArgMatches, Command, Error};
-use command_line::{Decoding, FromMatches, Pipe, Progress, input_size};
+use command_line::FromMatches;
 use schema_lines::Direction;
-use shared_core_base::version::Version;
 use shared_core_renumber::Renumbering;
 use std::alloc::Global;
+use std::io::{Read, Write};
 use std::process::ExitCode;
-use stream_lines::Report;
+use stream_lines::{PrintError, Report};
 use stream_renumbering::{Options, renumber};
 
 /// The status if a payload has no other numbers.
@@ -55,46 +56,30 @@ impl<'a> FromMatches<'a> for Arguments<'a> {
     }
 }
 
-/// Reports the first payload that has no other numbers and the trailing bytes, and returns the status.
-fn end(call: &Call<'_>, version: Version, beginning: &Beginning, found: &Report) -> ExitCode {
-    if let Some((offset, trouble)) = found.trouble {
-        call.report_trouble(offset, trouble);
-    }
-    let status = beginning.end_written(call, version, found);
-    if found.trouble.is_some() {
-        return ExitCode::from(MALFORMED);
-    }
-    status
-}
+impl<'e> Print for Options<'e> {
+    type Found = Report;
 
-/// Writes the stream by a table, and returns the status.
-fn run_with(call: &Call<'_>, file: &File<'_>, entries: &[Renumbering]) -> Result<ExitCode, ExitCode>
-    requires { 5 ≤ version_number file.now.options.version }
-{
-    let FileOptions {
-        version,
-        limit,
-        encoding,
-        ..
-    } = file.options;
-    let options = Options {
-        version,
-        limit,
-        entries,
-    };
-    let input = call.open(file.path)?;
-    let progress = Progress::beside_output(call.rt, call.name, input_size(&input));
-    let beginning = Beginning::new();
-    let mut input = Begun::new(
-        Decoding::new(input, file.path, encoding, &progress),
-        &beginning,
-    );
-    let mut output = Pipe::new(call.rt.stdout());
-    let written = renumber(call.rt.alloc(), &options, &mut input, &mut output);
-    progress.clear();
-    match written {
-        Ok(found) => Ok(end(call, version, &beginning, &found)),
-        Err(error) => Err(call.fail_printing(error, output.is_broken(), &progress)),
+    ghost is_ready = { λ options. 5 ≤ version_number options.version };
+
+    fn print<R: Read, W: Write>(
+        &self,
+        call: &Call<'_>,
+        input: &mut R,
+        output: &mut W,
+    ) -> Result<Report, PrintError> {
+        renumber(call.rt.alloc(), self, input, output)
+    }
+
+    /// Reports the first payload that has no other numbers and the trailing bytes.
+    fn end(&self, call: &Call<'_>, beginning: &Beginning, found: Report) -> ExitCode {
+        if let Some((offset, trouble)) = found.trouble {
+            call.report_trouble(offset, trouble);
+        }
+        let status = beginning.end_written(call, self.version, &found);
+        if found.trouble.is_some() {
+            return ExitCode::from(MALFORMED);
+        }
+        status
     }
 }
 
@@ -112,5 +97,11 @@ pub fn run(call: &Call<'_>) -> Result<ExitCode, ExitCode> {
     let parsed: Arguments<'_> = call.parse(call.command(&definitions::RENUMBER)?)?;
     call.expect_redirected("the stream")?;
     let entries = numbering_of(call, &parsed)?;
-    run_with(call, &parsed.file, entries.as_slice())
+    let file = &parsed.file;
+    let options = Options {
+        version: file.options.version,
+        limit: file.options.limit,
+        entries: entries.as_slice(),
+    };
+    file.open(call)?.print(call, file.path, &options)
 }

@@ -10,61 +10,17 @@ use crate::descriptors::{
 };
 use crate::file::{File, FileOptions};
 use crate::fitting::Misfit;
-use command_line::{Decoding, Input, Progress, fail, input_size};
-use either::Either;
-use encoded_input::Encoding;
+use crate::opened::Opened;
+use command_line::{Decoding, Progress, input_size};
 use schema_lines::Direction;
 use shared_core_renumber::Renumbering;
-use std::io::{self, Cursor, Read};
+use std::io::{self, Read};
 use std::process::ExitCode;
 use stream_renumbering::{Options, renumber};
 
 /// Why no version is found of files whose payloads are read by a descriptor set.
 const NOT_BY_A_SET: &str =
     "--protocol auto reads payloads by the protocol's own description, and not by a descriptor set";
-
-/// What a stream is read from: a file or the standard input, or a stream that was made of it.
-pub type Source = Either<Input, Cursor<Vec<u8>>>;
-
-/// A stream that is opened.
-#[derive(Drop)]
-pub struct Opened {
-    pub source: Source,
-    /// How it is written, if it is text.
-    pub encoding: Option<Encoding>,
-    /// The greatest length of a payload that is taken of it.
-    pub limit: u32,
-    /// Where the trailing bytes of the file begin, if its payloads had other numbers.
-    pub end: Option<u128>,
-}
-
-impl Opened {
-    /// A stream that was made of a whole file.
-    pub fn made(stream: Vec<u8>, limit: u32) -> Opened {
-        Opened {
-            source: Either::Right(Cursor::new(stream)),
-            encoding: None,
-            limit,
-            end: None,
-        }
-    }
-
-    /// The bytes of a stream that was made; none of another one.
-    pub fn bytes(&self) -> &[u8] {
-        match &self.source {
-            Either::Left(_) => &[],
-            Either::Right(stream) => stream.get_ref().as_slice(),
-        }
-    }
-
-    /// Its size in bytes, if it has one.
-    pub fn size(&self) -> Option<u64> {
-        match &self.source {
-            Either::Left(input) => input_size(input),
-            Either::Right(stream) => u64::try_from(stream.get_ref().len()).ok(),
-        }
-    }
-}
 
 /// The path of the set by which a file is read, as `schema_path` has it, if the version is given.
 /// If there is none for a reason, reports it, and the error is the status.
@@ -119,12 +75,7 @@ pub fn open_numbered(
     requires { 5 ≤ version_number file.now.options.version }
 {
     let Some(entries) = numbering else {
-        return Ok(Opened {
-            source: Either::Left(call.open(file.path)?),
-            encoding: file.options.encoding,
-            limit: file.options.limit,
-            end: None,
-        });
+        return file.open(call);
     };
     let (stream, _) = renumbered(call, file, entries, None)?;
     Ok(stream)
@@ -186,14 +137,7 @@ fn renumbered(
             opened.end = Some(found.end);
             Ok((opened, input.kept))
         }
-        // it was reported what is wrong with the input
-        Err(_) if progress.has_reported() => Err(ExitCode::from(call.failure)),
-        Err(error) => Err(fail(
-            call.rt,
-            call.name,
-            format_args!("{path}: {error}"),
-            call.failure,
-        )),
+        Err(error) => Err(call.fail_reading(format_args!("{path}: {error}"), &progress)),
     }
 }
 

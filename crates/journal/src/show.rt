@@ -4,20 +4,22 @@ ghost use Rattle.std.specs.Prelude.{◌≤◌};
 ghost use Rattle.shared_core_base.specs.Version.{version_number};
 ghost use Rattle.journal.specs.Files.{IsFileOf};
 
-use crate::beginning::{Beginning, Begun};
+use crate::beginning::Beginning;
 use crate::call::{Call, INVALID};
 use crate::definitions;
 use crate::descriptors::{SchemaArguments, schema_arguments};
 use crate::dump::Records;
 use crate::file::File;
-use crate::renumbered::{Opened, numbering_for, open_numbered};
+use crate::opened::Print;
+use crate::renumbered::{numbering_for, open_numbered};
 use clap::error::ErrorKind;
 use clap::{ArgMatches, Command, Error};
-use command_line::{Decoding, FromMatches, Pipe, Progress};
-use shared_core_base::version::Version;
+use command_line::FromMatches;
 use show_lines::{Filter, Options, Showing, Test};
 use std::alloc::Global;
+use std::io::{Read, Write};
 use std::process::ExitCode;
+use stream_lines::{PrintError, Report};
 
 /// The parsed arguments.
 #[derive(Drop)]
@@ -117,49 +119,41 @@ fn index_of(
     }
 }
 
-/// Reports the trailing bytes, which begin at an offset of the file, and returns the status.
-fn end(call: &Call<'_>, version: Version, beginning: &Beginning, rest: (u128, u64)) -> ExitCode {
-    let (offset, count) = rest;
-    if count > 0 {
-        call.report_rest(offset, count);
-        if offset == 0 {
-            beginning.report_no_message(call, version);
-        }
-    }
-    ExitCode::SUCCESS
+/// How a stream is shown, and where the trailing bytes of the file begin, if that is not where those of the stream do.
+struct Shown<'a> {
+    options: Options<'a>,
+    end: Option<u128>,
 }
 
-/// Shows a stream that is opened, and returns the status.
-fn run_with(call: &Call<'_>, parsed: &Arguments<'_>, opened: Opened) -> Result<ExitCode, ExitCode>
-    requires { 5 ≤ version_number parsed.now.file.options.version }
-{
-    let options = parsed.options(opened.limit);
-    let progress = Progress::beside_output(call.rt, call.name, opened.size());
-    let beginning = Beginning::new();
-    let Opened {
-        source,
-        encoding,
-        end: at,
-        ..
-    } = opened;
-    let mut input = Begun::new(
-        Decoding::new(source, parsed.file.path, encoding, &progress),
-        &beginning,
-    );
-    let mut output = Pipe::new(call.rt.stdout());
-    let showing = Showing {
-        alloc: call.rt.alloc(),
-        options: &options,
-        canonicalizer: &Records,
-    };
-    let shown = showing.show(&mut input, &mut output);
-    progress.clear();
-    match shown {
-        Ok(found) => {
-            let rest = (at.unwrap_or(found.end), found.rest);
-            Ok(end(call, options.version, &beginning, rest))
+impl<'a> Print for Shown<'a> {
+    type Found = Report;
+
+    ghost is_ready = { λ shown. 5 ≤ version_number shown.options.version };
+
+    fn print<R: Read, W: Write>(
+        &self,
+        call: &Call<'_>,
+        input: &mut R,
+        output: &mut W,
+    ) -> Result<Report, PrintError> {
+        let showing = Showing {
+            alloc: call.rt.alloc(),
+            options: &self.options,
+            canonicalizer: &Records,
+        };
+        showing.show(input, output)
+    }
+
+    /// Reports the trailing bytes.
+    fn end(&self, call: &Call<'_>, beginning: &Beginning, found: Report) -> ExitCode {
+        let offset = self.end.unwrap_or(found.end);
+        if found.rest > 0 {
+            call.report_rest(offset, found.rest);
+            if offset == 0 {
+                beginning.report_no_message(call, self.options.version);
+            }
         }
-        Err(error) => Err(call.fail_printing(error, output.is_broken(), &progress)),
+        ExitCode::SUCCESS
     }
 }
 
@@ -173,5 +167,9 @@ pub fn run(call: &Call<'_>) -> Result<ExitCode, ExitCode> {
     parsed.file = parsed.file.fitted(call)?;
     let entries = numbering.as_ref().map(|entries| entries.as_slice());
     let opened = open_numbered(call, &parsed.file, entries)?;
-    run_with(call, &parsed, opened)
+    let shown = Shown {
+        options: parsed.options(opened.limit),
+        end: opened.end,
+    };
+    opened.print(call, parsed.file.path, &shown)
 }
