@@ -15,7 +15,7 @@ pub type Source = Either<Input, Cursor<Vec<u8>>>;
 
 /// What is printed of a stream.
 pub trait Print {
-    /// What there is to report of it afterwards.
+    /// What is reported of it afterwards.
     type Found: Drop;
 
     /// It can be called: its version is a supported one, say.
