@@ -1,10 +1,13 @@
 -- Items that are found at the front of bytes, and their numbers.
-use Rattle.std.proofs.Common.{◌≡◌, ℕ, ◌+◌, ◌-◌, ◌≤◌, Bool, true, false, List, [], ◌∷◌, ◌++◌, length, take, drop, Option}
-use Rattle.std.proofs.Common.{Some, None, refl, sym, ap, ◌∙◌, arith, length-append, length-drop}
+use Rattle.std.proofs.Common.{◌≡◌, ℕ, ◌+◌, ◌-◌, ◌/◌, ◌^◌, ◌≤◌, Bool, true, false, List, [], ◌∷◌, ◌++◌, length, take}
+use Rattle.std.proofs.Common.{drop, Option, Some, None, refl, sym, ap, ◌∙◌, arith, length-append, length-drop}
 use Rattle.std.proofs.lemmas.List.{length-take-le}
 use Rattle.shared_core_base.specs.declared.message_header.MessageHeader.{MessageHeader}
+use Rattle.shared_core_base.specs.declared.header.MessageType.{MessageType}
 use Rattle.shared_core_base.specs.declared.version.Version.{Version}
-use Rattle.shared_core_base.specs.MessageHeader.{header_of}
+use Rattle.shared_core_base.specs.MessageHeader.{header_of, word_code}
+use Rattle.shared_core_base.specs.MessageType.{type_of}
+use Rattle.shared_core_base.proofs.Types.{code_of_type}
 use Rattle.shared_core_stream.specs.declared.encoding.item_ref.ItemRef.{ItemRef}
 use Rattle.shared_core_stream.specs.Borrowed.{IsAtFront, IsMissing, item_borrowed, missing_bytes}
 use Rattle.shared_core_stream.specs.Items.{front_word, skips_unknown_messages, body_length, item_of}
@@ -38,6 +41,21 @@ payload_fills version word body long = by_header (header_of word) refl
             (item_payload (item_of version word body)) ≡ length body
         by_version true skips = rw (untyped, skips) refl
         by_version false skips = let none = rw (untyped, skips) at long in rw (untyped, skips) (sym none)
+
+-- the code of an item is that of its word
+item_has_code : (version : Version) (word : ℕ) (body : List ℕ) → item_code (item_of version word body) ≡ word_code word
+unfolding item_of header_of
+item_has_code version word body = by_type (type_of (word_code word)) refl
+  where
+    by_type : (found : Option MessageType) → type_of (word_code word) ≡ found → item_code (item_of version word body)
+        ≡ word_code word
+    by_type (Some ty) typed = rw typed (code_of_type (word_code word) ty typed)
+    by_type None untyped = by_version (skips_unknown_messages version) refl
+      where
+        by_version : (skips : Bool) → skips_unknown_messages version ≡ skips → item_code (item_of version word body)
+            ≡ word_code word
+        by_version true skips = rw (untyped, skips) refl
+        by_version false skips = rw (untyped, skips) refl
 
 -- the numbers that are written are those of the item at the front
 module _ (version : Version) (bytes : List ℕ) (item : ItemRef) (rest : List ℕ) (is : IsAtFront version bytes item rest)
@@ -75,11 +93,18 @@ module _ (version : Version) (bytes : List ℕ) (item : ItemRef) (rest : List �
         (drop 8 is.taken.0) long in
         omega (arith, filled, long, is.taken.1.whole)
 
+    same : front_word bytes ≡ front_word is.taken.0
+    same = ap front_word is.taken.2 ∙ front_word_more is.taken.0 rest (omega (arith, is.taken.1.whole))
+
+    -- the word of the item at the front has its code
+    pub code_is : item_code (item_borrowed item) ≡ item.word / 2 ^ 48
+    code_is =
+        ap item_code is.taken.1.means ∙ item_has_code version (front_word is.taken.0) (drop 8 is.taken.0)
+        ∙ ap word_code (sym (is.word_is ∙ same))
+
     none_missing : 0 ≡ missing_bytes version bytes
     unfolding first
     none_missing =
-        let same : front_word bytes ≡ front_word is.taken.0 = ap front_word is.taken.2 ∙ front_word_more is.taken.0 rest
-        (omega (arith, is.taken.1.whole)) in
         let fits : 8 + body_length version (front_word bytes) ≤ length bytes = omega
         (arith, ap (body_length version) same, bytes_are, whole) in
         grind (arith, fits)

@@ -1,6 +1,6 @@
 //! The items of a stream, as numbers.
 
-ghost use Rattle.std.specs.Prelude.{◌≡◌, ◌+◌, ◌∷◌, [], length};
+ghost use Rattle.std.specs.Prelude.{◌≡◌, ◌+◌, ◌/◌, ◌^◌, ◌∷◌, [], length};
 ghost use Rattle.shared_core_stream.specs.Borrowed.{item_borrowed};
 ghost use Rattle.journal_c_api.specs.Items.{FindsItem, WritesItems, WritesNext, WritesNextWithin};
 ghost use Rattle.journal_c_api.specs.Items.{borrowed_entry, item_ack, item_code, item_kind};
@@ -129,8 +129,9 @@ fn write_item(version: Version, bytes: &[u8], item: &mut [u64]) -> usize
     }
 }
 
-/// The numbers of an item.
+/// The numbers of an item that is at the front of its bytes.
 fn numbers_of(item: &ItemRef<'_>) -> [u64; ITEM_NUMBERS]
+    requires { item_code (item_borrowed item.now) ≡ item.now.word / 2 ^ 48 }
     ensures { result ≡ item_kind (item_borrowed item.now) ∷ item.now.word ∷ item_code (item_borrowed item.now)
         ∷ item_ack (item_borrowed item.now) ∷ (8 + length item.now.payload.now) ∷ 8 ∷ [] }
 {
@@ -146,23 +147,21 @@ fn numbers_of(item: &ItemRef<'_>) -> [u64; ITEM_NUMBERS]
 }
 
 impl ItemEntry {
-    /// The entry of an item that is at the front of its bytes.
+    /// The entry of an item that is at the front of its bytes, so that its first number has its code: to look up the
+    /// code of its type takes longer.
     fn of(item: &ItemRef<'_>) -> ItemEntry
+        requires { item_code (item_borrowed item.now) ≡ item.now.word / 2 ^ 48 }
         ensures { result ≡ borrowed_entry item.now }
     {
-        let (kind, code, asks_ack) = match item.kind {
-            ItemKind::Message(header) => (
-                MESSAGE,
-                u16::from(header.message_type()),
-                header.requested_ack().unwrap_or(false),
-            ),
-            ItemKind::Unknown(code) => (UNKNOWN_CODE, code, false),
-            ItemKind::Skipped(code) => (SKIPPED, code, false),
+        let (kind, asks_ack) = match item.kind {
+            ItemKind::Message(header) => (MESSAGE, header.requested_ack().unwrap_or(false)),
+            ItemKind::Unknown(_) => (UNKNOWN_CODE, false),
+            ItemKind::Skipped(_) => (SKIPPED, false),
         };
         ItemEntry {
             kind,
             word: item.word,
-            code: u64::from(code),
+            code: item.word >> 48,
             requested_ack: u64::from(asks_ack),
             size: item.size(),
             payload: MessageHeader::SIZE as u64,

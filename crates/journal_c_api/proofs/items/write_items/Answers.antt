@@ -1,6 +1,12 @@
 use Rattle.std.proofs.Common.{◌-◌, ◌++◌, ap, arith, drop, length, slice_set, sym, ◌∙◌}
+use Rattle.journal_c_api.proofs.FoundItems.{code_is}
 use Rattle.journal_c_api.proofs.ListedItems.{one_listed, within_anywhere}
 use Rattle.journal_c_api.proofs.items.write_items.Goals as goal
+
+pub of-requires : goal.of-requires
+of-requires c =
+    let found = c.loop-count.found in
+    code_is found.version found.rest.now c.in-Some-next.item c.next.new.self.rest.now c.in-Some-next.ensures.steps.4
 
 pub loop-count-preserved : goal.loop-count-preserved
 loop-count-preserved c =

@@ -1,7 +1,12 @@
 use Rattle.std.proofs.Common.{◌≡◌, ◌-◌, ap, ◌∙◌, arith, length}
 use Rattle.journal_c_api.specs.Outcomes.{written_over}
-use Rattle.journal_c_api.proofs.FoundItems.{item_found}
+use Rattle.journal_c_api.proofs.FoundItems.{code_is, item_found}
 use Rattle.journal_c_api.proofs.items.write_next_within.Goals as goal
+
+pub numbers_of-requires : goal.numbers_of-requires
+numbers_of-requires c =
+    let start = c.with_limit-items.result in
+    code_is start.version start.rest.now c.in-Some.found c.next.new.self.rest.now c.in-Some.ensures.steps.4
 
 pub returns-in-Some : goal.returns-in-Some
 returns-in-Some c =
