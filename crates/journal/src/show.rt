@@ -120,6 +120,7 @@ fn index_of(
 }
 
 /// How a stream is shown, and where the trailing bytes of the file begin, if that is not where those of the stream do.
+#[derive(Drop)]
 struct Shown<'a> {
     options: Options<'a>,
     end: Option<u128>,
