@@ -87,17 +87,8 @@ def built(crate: str, machine: Machine, kit: pathlib.Path, file: pathlib.Path) -
 def compiled(crate: str, kit: pathlib.Path, file: pathlib.Path, target: list[str | pathlib.Path],
              folder: pathlib.Path | None = None) -> str:
     """The same by the words that say for which target, of the sources of the crate or of another folder."""
-    listed = crates.uses()
-    words: list[str | pathlib.Path] = [kit / "bin/rattle", "build", "--crate-name", crate]
-    words += ["src/main.rt"] if crate in PROGRAMS else ["src/lib.rt", "--crate-type", "staticlib"]
-    for name in ["std", *listed[crate]]:
-        # what is not a crate of this repository is one of the toolchain's
-        words += ["--extern", f"{name}={(rlib(name) if name in listed else kit / 'rlibs') / name}.rlib"]
-    for place_of in [kit / "rlibs", *map(rlib, below(crate))]:
-        words += ["-L", f"dependency={place_of}"]
-    words += ["--antt-project", kit / "rattle/logic/antt-project.json", "--logic-built", kit / "logic_built"]
-    words += ["--incremental", "out/incremental", "--jobs", "2", "--links", f"{crate}=", "--backend", "llvm"]
-    words += [*target, "-o", file]
+    words = [kit / "bin/rattle", "build", *crates.read_over_libraries(crate, ROOT, kit)]
+    words += ["--incremental", "out/incremental", "--jobs", "2", "--backend", "llvm", *target, "-o", file]
     file.parent.mkdir(parents=True, exist_ok=True)
     return run(words, folder or ROOT / "crates" / crate)
 

@@ -8,8 +8,8 @@
 set -u
 cd "$(dirname "$0")/.." || exit 1
 
-all='layout table calls pages words generated description reference tests run list streams inputs show describe get'
-all="$all explain redact schema renumber diff dump make shown failures journal terminal waiting sweep wasm view"
+all='layout planted table calls pages words generated description reference tests run list streams inputs show describe'
+all="$all get explain redact schema renumber diff dump make shown failures journal terminal waiting sweep wasm view"
 all="$all conformance wireshark install package files c soak json python node rust go ruby refusals prost"
 before_release='arm64 release'
 

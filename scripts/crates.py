@@ -23,14 +23,15 @@ def crate_of(program: str) -> str:
     return "journal" if program in LINKS else program
 
 
+def lines() -> dict[str, str]:
+    """The line of each crate in crates.txt, 'NAME [WORD..]: CRATE..'."""
+    listed = (ROOT / "crates.txt").read_text().splitlines()
+    return {line.split()[0].rstrip(":"): line for line in listed if line and not line.startswith("#")}
+
+
 def uses() -> dict[str, list[str]]:
-    """The crates that each crate names, some of them the toolchain's; a line is 'NAME [WORD..]: CRATE..'."""
-    listed = {}
-    for line in (ROOT / "crates.txt").read_text().splitlines():
-        head, colon, words = line.partition(":")
-        if colon and not line.startswith("#"):
-            listed[head.split()[0]] = words.split()
-    return listed
+    """The crates that each crate names, some of them the toolchain's."""
+    return {name: line.partition(":")[2].split() for name, line in lines().items()}
 
 
 def with_below(crates: collections.abc.Iterable[str]) -> list[str]:
@@ -56,6 +57,23 @@ def with_above(crates: collections.abc.Iterable[str]) -> list[str]:
     for crate in found:
         found += [user for user, names in listed.items() if crate in names and user not in found]
     return found
+
+
+def read_over_libraries(crate: str, top: pathlib.Path, kit: pathlib.Path) -> list[str | pathlib.Path]:
+    """The words by which the prover reads a crate over the libraries that are proved in the checkout at top."""
+    listed = uses()
+    is_program = (top / "crates" / crate / "src/main.rt").exists()
+    words: list[str | pathlib.Path] = ["--crate-name", crate, "src/main.rt" if is_program else "src/lib.rt"]
+    words += ["--crate-type", "staticlib"] if "staticlib" in lines()[crate].partition(":")[0].split() else []
+    for name in ["std", *listed[crate]]:
+        # what is not a crate of this repository is one of the toolchain's
+        folder = top / "crates" / name / "out/rlib" if name in listed else kit / "rlibs"
+        words += ["--extern", f"{name}={folder / name}.rlib"]
+    below = [top / "crates" / name / "out/rlib" for name in with_below([crate]) if name != crate]
+    for folder in [kit / "rlibs", *below]:
+        words += ["-L", f"dependency={folder}"]
+    words += ["--antt-project", kit / "rattle/logic/antt-project.json", "--logic-built", kit / "logic_built"]
+    return [*words, "--links", f"{crate}="]
 
 
 def is_up_to_date(file: pathlib.Path, crate: str) -> bool:

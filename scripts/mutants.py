@@ -1,14 +1,16 @@
 #!/usr/bin/env python3
-"""scripts/mutants.sh [--above] [CRATE | CRATE/NAME ..]
+"""scripts/mutants.sh [--above] [--singly] [CRATE | CRATE/NAME ..]
 
 Tries mutants: edits of crates/CRATE/mutants/ and crates/CRATE/must-fail/ that plant a bug, each of which the prover
 has to reject: those of the crates that are named, with --above also of all crates that use them, or only these mutants;
 with no name, of all crates. The gate tries only must-fail/, since a mutant takes seconds to a minute.
 
-It works on a copy of crates/ in a temporary folder (below TMPDIR, or /tmp), by rt ci with the mutants as its edits that
-must fail, so nothing in crates/ changes and other checks can run meanwhile. What rt ci has proved on this machine is
-not proved again; what is not proved yet of a crate and of those below it is first. Several crates are tried at once,
-each in up to 3 GB of memory. A line for each mutant, once all are through:
+It works on a copy of crates/ in a temporary folder (below TMPDIR, or /tmp), so nothing in crates/ changes and other
+checks can run meanwhile. What rt ci has proved on this machine is not proved again; what is not proved yet of a crate
+and of those below it is first. Several crates are tried at once, each in up to 4 GB of memory.
+
+Mutants of different functions of a crate are tried in one check (scripts/together.py). What that does not decide, and
+with --singly all, is tried by rt ci, with the mutants as its edits that must fail. A line for each mutant:
 
   refused CRATE/NAME: the first error that the prover gave, which should name the function that the mutant changes
   let through CRATE/NAME: the crate is still proved, so a contract promises too little
@@ -25,6 +27,7 @@ from __future__ import annotations
 
 import argparse
 import collections.abc
+import concurrent.futures
 import datetime
 import os
 import pathlib
@@ -37,6 +40,8 @@ import tempfile
 import typing
 
 import crates
+import linked
+import together
 
 # The folders of a crate that have mutants.
 FOLDERS = ("must-fail", "mutants")
@@ -53,8 +58,12 @@ VERDICTS = (
     ("", "cannot be applied"),
 )
 
-# The last lines of a log that is shown.
+# The last lines of a log that is shown, and how much of what the prover says of a mutant.
 LOG_LINES = 20
+WIDTH = 160
+
+# What a check takes at most, in bytes.
+MEMORY = 4 << 30
 
 # Which mutants were refused over which commit, and when: after a comment one line per mutant, sorted.
 TRIED = pathlib.Path("docs/mutants.tried")
@@ -82,6 +91,7 @@ def parse_arguments(words: list[str]) -> argparse.Namespace:
     parser = Parser(prog="mutants.sh", add_help=False, allow_abbrev=False)
     parser.add_argument("--help", action="store_true")
     parser.add_argument("--above", action="store_true")
+    parser.add_argument("--singly", action="store_true")
     parser.add_argument("words", nargs="*")
     arguments = parser.parse_args(words)
     for word in arguments.words:
@@ -119,51 +129,90 @@ def told(names: list[str], log: str) -> list[str]:
     return [*verdicts, *missing, *(said[-LOG_LINES:] if missing else [])]
 
 
-def copy_crates(tree: pathlib.Path) -> None:
-    """Copies the crates without their mutants."""
-    (tree / "crates").mkdir(parents=True)
-    for file in ("crates.txt", "HANDLES"):
-        shutil.copy2(file, tree)
-    for crate in filter(pathlib.Path.is_dir, pathlib.Path("crates").iterdir()):
+def copy_crates(tree: pathlib.Path, names: collections.abc.Iterable[str]) -> None:
+    """Copies these crates, and what they depend on, without their mutants."""
+    tree.mkdir()
+    shutil.copy2("HANDLES", tree)
+    copied, lines = crates.with_below(names), crates.lines()
+    (tree / "crates.txt").write_text("".join(f"{lines[name]}\n" for name in copied))
+    for name in copied:
+        crate = pathlib.Path("crates", name)
         shutil.copytree(crate, tree / crate, ignore=shutil.ignore_patterns("out", *FOLDERS))
 
 
-def copy_mutants(tree: pathlib.Path, crate: str, name: str) -> None:
-    """Copies mutants into the folder whose edits rt ci tries; the name may be '*'."""
-    target = tree / "crates" / crate / "must-fail"
-    target.mkdir(exist_ok=True)
+def mutant_files(crate: str, name: str) -> list[pathlib.Path]:
+    """The files of mutants of a crate; the name may be '*'."""
     found = [file for folder in FOLDERS for file in pathlib.Path("crates", crate, folder).glob(f"{name}.edit")]
     if not found:
         raise Stop(f"no such mutant: {crate}/{name}", 2)
-    for file in found:
-        other = file.parent.parent / FOLDERS[0] / file.name
-        if file != other and other.exists():
-            raise Stop(f"two mutants have one name: {file}, {other}", 1)
-        shutil.copy2(file, target)
+    if len({file.name for file in found}) != len(found):
+        raise Stop(f"two mutants of {crate} have one name, in {' and '.join(FOLDERS)}", 1)
+    return sorted(found, key=lambda file: file.stem)
 
 
-def copied_mutants(tree: pathlib.Path) -> list[str]:
-    """The mutants that are tried, each as CRATE/NAME."""
-    return sorted(f"{file.parts[-3]}/{file.stem}" for file in (tree / "crates").glob("*/must-fail/*.edit"))
+class Trial:
+    """Mutants that are tried in a temporary folder, and the commands that run for them."""
 
+    def __init__(self, room: pathlib.Path):
+        self.room = room
+        self.tree = room / "tree"
+        self.running: set[subprocess.Popen[str]] = set()
+        self.is_ended = False
 
-def run_gate(tree: pathlib.Path, names: list[str]) -> str:
-    """What rt ci says of these crates in the copy; it is ended where this script is."""
-    process = subprocess.Popen(
-        ["rt", "ci", *names],
-        cwd=tree,
-        env={**os.environ, "TMPDIR": str(tree.parent)},
-        stdin=subprocess.DEVNULL,
-        stdout=subprocess.PIPE,
-        stderr=subprocess.STDOUT,
-        text=True,
-        errors="replace",
-    )
-    try:
-        return process.communicate()[0]
-    finally:
-        process.terminate()
-        process.wait()
+    def run(self, words: collections.abc.Sequence[str | pathlib.Path], folder: pathlib.Path) -> str:
+        """What a command prints."""
+        if self.is_ended:
+            return ""
+        process = subprocess.Popen(
+            words,
+            cwd=folder,
+            env={**os.environ, "TMPDIR": str(self.room)},
+            stdin=subprocess.DEVNULL,
+            stdout=subprocess.PIPE,
+            stderr=subprocess.STDOUT,
+            text=True,
+            errors="replace",
+        )
+        self.running.add(process)
+        try:
+            return process.communicate()[0]
+        finally:
+            self.running.discard(process)
+            process.terminate()
+            process.wait()
+
+    def end(self) -> None:
+        """Ends what runs; nothing more begins."""
+        self.is_ended = True
+        for process in list(self.running):
+            process.terminate()
+
+    def prove(self, names: list[str]) -> None:
+        """Proves these crates and those below them, in a copy, unless rt ci has proved them on this machine."""
+        copy_crates(self.tree, names)
+        log = self.run(["rt", "ci"], self.tree)
+        if not re.fullmatch(r"\d+ passed, 0 failed", log.splitlines()[-1] if log else ""):
+            raise Stop("the crates are not proved:\n" + "\n".join(log.splitlines()[-LOG_LINES:]), 1)
+
+    def try_together(self, crate: str, files: list[pathlib.Path]) -> list[str]:
+        """Tries mutants of a crate in few checks, and returns the lines of those that are refused."""
+        kit = linked.toolchain()
+        with tempfile.TemporaryDirectory(dir=self.room, ignore_cleanup_errors=True) as room:
+            folder = pathlib.Path(room, crate)
+            shutil.copytree(self.tree / "crates" / crate, folder, ignore=shutil.ignore_patterns("out"))
+            words = [str(kit / "bin/rattle"), "check", *crates.read_over_libraries(crate, self.tree, kit)]
+            words += ["--incremental", pathlib.Path(room, "kept")]
+            refused = together.try_together(folder, files, lambda asked: self.run([*words, *asked], folder))
+        return [f"refused {crate}/{name}: {why[:WIDTH]}" for name, why in refused.items()]
+
+    def try_singly(self, mutants: dict[str, list[pathlib.Path]]) -> list[str]:
+        """Tries each mutant of these crates in a check of its own, by rt ci, and returns the lines."""
+        for crate, files in mutants.items():
+            (self.tree / "crates" / crate / FOLDERS[0]).mkdir()
+            for file in files:
+                shutil.copy2(file, self.tree / "crates" / crate / FOLDERS[0])
+        names = [f"{crate}/{file.stem}" for crate, files in mutants.items() for file in files]
+        return told(names, self.run(["rt", "ci", *mutants], self.tree))
 
 
 def is_mutant(name: str) -> bool:
@@ -210,17 +259,44 @@ def note_tried(verdicts: list[str], commit: str | None) -> None:
     TRIED.write_text(with_tried(text, verdicts, commit, date, is_mutant), encoding="utf-8")
 
 
-def try_mutants(room: pathlib.Path, words: list[str]) -> int:
+def checks_at_once() -> int:
+    """How many checks run at the same time."""
+    memory = os.sysconf("SC_PAGE_SIZE") * os.sysconf("SC_PHYS_PAGES")
+    return max(1, min(len(os.sched_getaffinity(0)), memory // MEMORY))
+
+
+def lines_of(trial: Trial, mutants: dict[str, list[pathlib.Path]], is_singly: bool) -> collections.abc.Iterator[str]:
+    """The lines of these mutants, as they come."""
+    left = dict(mutants)
+    trial.prove(list(mutants))
+    with concurrent.futures.ThreadPoolExecutor(checks_at_once()) as executor:
+        try:
+            trials = {executor.submit(trial.try_together, *item): item for item in mutants.items() if not is_singly}
+            for future in concurrent.futures.as_completed(trials):
+                crate, files = trials[future]
+                lines = future.result()
+                yield from lines
+                refused = {line.split()[1].rstrip(":") for line in lines}
+                left[crate] = [file for file in files if f"{crate}/{file.stem}" not in refused]
+        finally:
+            trial.end()
+            executor.shutdown(cancel_futures=True)
+    trial.is_ended = False
+    if left := {crate: files for crate, files in left.items() if files}:
+        yield from trial.try_singly(left)
+
+
+def try_mutants(room: pathlib.Path, words: list[str], is_singly: bool) -> int:
     """Tries these mutants, prints the lines and the tally, and returns the status."""
     commit = clean_commit()
-    tree = room / "tree"
-    copy_crates(tree)
+    mutants: dict[str, list[pathlib.Path]] = {}
     for word in words:
         crate, _, name = word.partition("/")
-        copy_mutants(tree, crate, name or "*")
-    names = list(dict.fromkeys(word.partition("/")[0] for word in words))
-    lines = told(copied_mutants(tree), run_gate(tree, names))
-    print(*lines, sep="\n")
+        mutants.setdefault(crate, []).extend(mutant_files(crate, name or "*"))
+    lines = []
+    for line in lines_of(Trial(room), mutants, is_singly):
+        print(line, flush=True)
+        lines.append(line)
     note_tried(lines, commit)
     passed = sum(line.startswith("refused ") for line in lines)
     failed = sum(not line.startswith((" ", "refused ")) for line in lines)
@@ -241,7 +317,7 @@ def main(words: list[str]) -> int:
         if arguments.above:
             names = list(filter(has_mutants, crates.with_above(names)))
         with tempfile.TemporaryDirectory(ignore_cleanup_errors=True) as room:
-            return try_mutants(pathlib.Path(room), names)
+            return try_mutants(pathlib.Path(room), names, arguments.singly)
     except Stop as stop:
         print(f"mutants.sh: {stop}", file=sys.stderr)
         return stop.status

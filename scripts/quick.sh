@@ -37,7 +37,7 @@ counted() {
 
 # two at a time
 sh scripts/checks/tests.sh "$@" > "$work/tests" 2>&1 &
-for check in layout table calls pages words generated description; do
+for check in layout planted table calls pages words generated description; do
   if [ -e "scripts/checks/$check.py" ]; then
     python3 -B "scripts/checks/$check.py"
   else

@@ -1,0 +1,264 @@
+#!/usr/bin/env python3
+"""How mutants are tried together: which function each changes, and what the prover's lines say of it.
+
+It needs no prover: what a check prints is given.
+"""
+from __future__ import annotations
+
+import collections.abc
+import pathlib
+import re
+import tempfile
+import unittest
+
+import checks  # noqa: F401 (it finds the modules of scripts/)
+import functions
+import tally
+import together
+
+LIB = pathlib.PurePath("lib.rt")
+POINT = pathlib.PurePath("shapes/point.rt")
+LISTS = pathlib.PurePath("lists.rt")
+
+SOURCES = functions.Sources(
+    {
+        LIB: """\
+mod lists;
+mod shapes;
+
+/// The first.
+pub fn first(many: &[u8]) -> u8
+    ensures { result ≡ record {
+      one = 1;
+    } }
+{
+    one()
+}
+
+const ONE: u8 = 1;
+
+fn one() -> u8 {
+    ONE
+}
+
+#[cycle(parity)]
+fn even(n: u8) -> bool {
+    odd(n - 1)
+}
+
+#[cycle(parity)]
+fn odd(n: u8) -> bool {
+    even(n - 1)
+}
+""",
+        POINT: """\
+pub struct Point<'a> {
+    x: &'a u8,
+}
+
+impl<'a> Point<'a> {
+    pub fn x(&self) -> u8 {
+        self.of_x().map(|x| x + 2)
+    }
+}
+
+impl<'a, R: Read + Copy> From<R> for Point<'a> {
+    fn from(reader: R) -> Point<'a> {
+        reader.next()
+    }
+}
+
+pub trait Shape {
+    fn size(&self) -> u8
+        requires { size self.now ≤ 3 };
+
+    fn twice(&self) -> u8 {
+        2 * self.size()
+    }
+}
+""",
+        LISTS: """\
+use crate::shapes::point::Point;
+
+impl Point<'_> {
+    fn of_list() -> u8 {
+        7
+    }
+}
+
+impl Extract for Vec<(String, u16)> {
+    fn extract(&self) -> u8 {
+        8
+    }
+}
+
+impl fmt::Display
+    for Point<'_>
+{
+    fn fmt(&self) -> u8 {
+        9
+    }
+}
+""",
+    }
+)
+
+# What the prover prints of a mutated function that fails, one that waits, one whose goal is in a proof file, and one
+# with a closure.
+LOG = """\
+./proofs/kept/Answers.antt:7:5: error: `returns`: expected type `◌≡◌`
+./proofs/named/Answers.antt:7:5: error: `returns`: `c.gone` is not in scope
+struct a::kept::Kept: proved
+note: src/place.rt:204:1: it is not proved that what the function ensures holds when it returns (`returns-in-Hex`)
+note: a goal may be false even if its line does not say so
+fn a::fails: no proof: expected answers in ./proofs/fails/Answers.antt; `search` did not prove `returns-in-Hex`
+fn a::waits: no proof: it calls `a::fails`, which is not proved
+fn a::kept: not proved; it calls `a::fails`, which is not proved
+fn a::named: not proved
+fn a::holds: proved
+fn a::fn::holds::map: proved
+fn a::fn::bad::map: no proof: `search` did not prove `returns`
+fn a::bad: no proof: it calls `a::fn::bad::map`, which is not proved
+only=7 proved=1
+"""
+
+
+def function(*path: str) -> functions.Function:
+    """A function of the crate's root, or a method of a type there."""
+    return functions.Function(0, 0, (), "".join(path[:-1]), path[-1], "")
+
+
+class FunctionsTest(unittest.TestCase):
+    def path_at(self, file: pathlib.PurePath, text: str) -> str | None:
+        found = SOURCES.function_at(file, text)
+        return "::".join(found.path) if found else None
+
+    def test_functions(self) -> None:
+        self.assertEqual(self.path_at(LIB, "    one()"), "first")
+        self.assertEqual(self.path_at(LIB, "one = 1;"), "first")
+        self.assertEqual(self.path_at(LIB, "    ONE"), "one")
+        self.assertIsNone(self.path_at(LIB, "const ONE"), "a constant")
+        self.assertIsNone(self.path_at(LIB, "n - 1"), "a text that is there twice")
+        self.assertIsNone(self.path_at(pathlib.PurePath("gone.rt"), "n"), "another file")
+
+    def test_methods(self) -> None:
+        self.assertEqual(self.path_at(POINT, "x + 2"), "shapes::point::Point::x")
+        self.assertEqual(self.path_at(POINT, "reader.next()"), "shapes::point::PointFrom::from")
+        self.assertEqual(self.path_at(POINT, "2 * self"), "shapes::point::Shape::twice")
+        self.assertEqual(self.path_at(POINT, "≤ 3"), "shapes::point::Shape::size")
+        self.assertEqual(self.path_at(LISTS, "7"), "shapes::point::Point::of_list", "by the module of the type")
+        self.assertEqual(self.path_at(LISTS, "    8"), "lists::VecTuple2StringU16Extract::extract")
+        self.assertEqual(self.path_at(LISTS, "9"), "lists::PointDisplay::fmt")
+
+    def test_closure(self) -> None:
+        x = SOURCES.function_at(POINT, "x + 2")
+        assert x
+        self.assertTrue(x.is_named(("shapes", "point", "fn", "Point", "x", "map")))
+        self.assertFalse(x.is_named(("shapes", "point", "fn", "Point", "y", "map")))
+
+    def test_cycle(self) -> None:
+        pair = [SOURCES.function_at(LIB, text) for text in ("    odd(n - 1)", "    even(n - 1)")]
+        self.assertEqual([found and found.proof for found in pair], ["parity", "parity"])
+
+
+class ReportTest(unittest.TestCase):
+    def test_results(self) -> None:
+        report = together.Report(LOG)
+        self.assertTrue(report.is_whole)
+        found = {name: report.result(function(name)) for name in ("fails", "waits", "kept", "named", "holds", "bad")}
+        self.assertEqual({name: how for name, (how, _) in found.items()}, {
+            "fails": "refused", "waits": "open", "kept": "refused", "named": "open", "holds": "proved",
+            "bad": "refused",
+        })
+        self.assertIn("src/place.rt:204:1", found["fails"][1])
+        self.assertIn("./proofs/kept/", found["kept"][1])
+        self.assertEqual(report.result(function("gone")), ("open", ""))
+
+    def test_others(self) -> None:
+        failing = [function(name) for name in ("fails", "kept", "bad")]
+        self.assertFalse(together.Report(LOG).has_others(failing))
+        self.assertTrue(together.Report(LOG).has_others(failing[1:]))
+
+
+class TrialTest(unittest.TestCase):
+    """A crate of four functions, each with a body that is its name, and what a prover would print of it."""
+
+    BODIES = ("a", "b", "c", "d")
+
+    def setUp(self) -> None:
+        room = tempfile.TemporaryDirectory()
+        self.addCleanup(room.cleanup)
+        self.folder = pathlib.Path(room.name)
+        (self.folder / "src").mkdir()
+        self.source = self.folder / "src/lib.rt"
+        self.source.write_text("".join(f"fn {name}() {{\n    is_{name}\n}}\n\n" for name in self.BODIES))
+        self.asked: list[list[str]] = []
+
+    def edit(self, name: str, of: str, body: str) -> pathlib.Path:
+        file = self.folder / f"{name}.edit"
+        file.write_text(f"file: src/lib.rt\nold: is_{of}\nnew: {body}\n")
+        return file
+
+    def check(self, words: list[str]) -> str:
+        """A prover that refuses `wrong`, reads no `unread`, knows no `hidden`, and whose b calls a."""
+        asked = words[1::2]
+        self.asked.append(asked)
+        bodies = dict(re.findall(r"fn (\w)\(\) \{\n    (\w+)", self.source.read_text()))
+        if "unread" in bodies.values():
+            return "error[unknown-name]"
+        hidden = [name for name in asked if bodies[name] == "hidden"]
+        if hidden:
+            return f"rattle: error: `x` has no function `{hidden[0]}`: help: write the name"
+        lines = []
+        for name in asked:
+            if name == "b" and bodies["a"] != "is_a" and bodies["b"] != "wrong":
+                lines.append("fn x::b: no proof: it calls `x::a`, which is not proved")
+            elif bodies[name] == "wrong":
+                lines.append(f"fn x::{name}: no proof: `search` did not prove `returns`")
+            else:
+                lines.append(f"fn x::{name}: proved")
+            if bodies[name] == "spreads":
+                lines.append("fn x::other: no proof: `search` did not prove `returns`")
+        return "\n".join([*lines, f"only={len(asked)} proved=0"])
+
+    def refused(self, *files: pathlib.Path) -> collections.abc.KeysView[str]:
+        before = self.source.read_text()
+        found = together.try_together(self.folder, files, self.check)
+        self.assertEqual(self.source.read_text(), before)
+        return found.keys()
+
+    def test_one_check(self) -> None:
+        mutants = [self.edit(f"m_{name}", name, "wrong") for name in self.BODIES]
+        self.assertEqual(self.refused(*mutants), {"m_a", "m_b", "m_c", "m_d"})
+        self.assertEqual(self.asked, [["a", "b", "c", "d"]])
+
+    def test_turns(self) -> None:
+        mutants = [self.edit("m", "a", "wrong"), self.edit("n", "a", "wrong"), self.edit("o", "c", "wrong")]
+        self.assertEqual(self.refused(*mutants), {"m", "n", "o"})
+        self.assertEqual(self.asked, [["a", "c"], ["a"]])
+
+    def test_let_through(self) -> None:
+        self.assertEqual(self.refused(self.edit("m", "a", "wrong"), self.edit("n", "c", "right")), {"m"})
+
+    def test_waits(self) -> None:
+        self.assertEqual(self.refused(self.edit("m", "a", "wrong"), self.edit("n", "b", "right")), {"m"})
+        self.assertEqual(self.asked, [["a", "b"], ["b"]])
+
+    def test_unread(self) -> None:
+        mutants = [self.edit(f"m_{name}", name, "wrong") for name in "abc"] + [self.edit("n", "d", "unread")]
+        self.assertEqual(self.refused(*mutants), {"m_a", "m_b", "m_c"})
+
+    def test_unknown(self) -> None:
+        self.assertEqual(self.refused(self.edit("m", "a", "wrong"), self.edit("n", "c", "hidden")), {"m"})
+        self.assertEqual(self.asked, [["a", "c"], ["a"]])
+
+    def test_another_function_fails(self) -> None:
+        self.assertEqual(self.refused(self.edit("m", "a", "wrong"), self.edit("n", "c", "spreads")), set())
+
+    def test_no_function(self) -> None:
+        self.assertEqual(self.refused(self.edit("m", "a()", "wrong")), set())
+        self.assertEqual(self.asked, [])
+
+
+if __name__ == "__main__":
+    tally.tell()
