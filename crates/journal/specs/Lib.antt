@@ -1,3 +1,4 @@
 pub mod Files
+pub mod Opened
 pub mod Subcommands
 pub mod Troubles

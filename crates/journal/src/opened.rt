@@ -1,5 +1,10 @@
 //! Streams that are opened, and printed: one is read to its end, and what is made of it is written to the output.
 
+ghost use Rattle.std.specs.Prelude.{◌≡◌, IfOk, IfSome, unwrap_or, length, []};
+ghost use Rattle.std.specs.Io.Cursor.{cursor_position};
+ghost use Rattle.either.specs.Either.{ForRight};
+ghost use Rattle.journal.specs.Opened.{made_bytes, IsOpenedBy, IsReadBy};
+
 use crate::beginning::{Beginning, Begun};
 use crate::call::Call;
 use crate::file::File;
@@ -48,7 +53,11 @@ pub struct Opened {
 
 impl Opened {
     /// A stream that was made of a whole file.
-    pub fn made(stream: Vec<u8>, limit: u32) -> Opened {
+    pub fn made(stream: Vec<u8>, limit: u32) -> Opened
+        ensures bytes { made_bytes result ≡ Some stream.items }
+        ensures start { ForRight result.source (λ made. cursor_position made ≡ 0) }
+        ensures options { IsReadBy None limit result }
+    {
         Opened {
             source: Either::Right(Cursor::new(stream)),
             encoding: None,
@@ -58,7 +67,9 @@ impl Opened {
     }
 
     /// The bytes of a stream that was made; none of another one.
-    pub fn bytes(&self) -> &[u8] {
+    pub fn bytes(&self) -> &[u8]
+        ensures { result.now ≡ unwrap_or (made_bytes self.now) [] }
+    {
         match &self.source {
             Either::Left(_) => &[],
             Either::Right(stream) => stream.get_ref().as_slice(),
@@ -66,7 +77,9 @@ impl Opened {
     }
 
     /// Its size in bytes, if it has one.
-    pub fn size(&self) -> Option<u64> {
+    pub fn size(&self) -> Option<u64>
+        ensures { IfSome (made_bytes self.now) (λ bytes. result ≡ Some (length bytes)) }
+    {
         match &self.source {
             Either::Left(input) => input_size(input),
             Either::Right(stream) => u64::try_from(stream.get_ref().len()).ok(),
@@ -101,7 +114,9 @@ impl Opened {
 
 impl<'a> File<'a> {
     /// Opens the file. The error is the status, after it was reported why it cannot be opened.
-    pub fn open(&self, call: &Call<'_>) -> Result<Opened, ExitCode> {
+    pub fn open(&self, call: &Call<'_>) -> Result<Opened, ExitCode>
+        ensures { IfOk result (IsOpenedBy self.now.options) }
+    {
         Ok(Opened {
             source: Either::Left(call.open(self.path)?),
             encoding: self.options.encoding,
