@@ -1,5 +1,6 @@
--- The names of the subcommands.
-use Rattle.std.specs.Prelude.{List, ℕ, codes}
+-- The names of the subcommands, and what is known of how one is asked for.
+use Rattle.std.specs.Prelude.{◌&&◌, ◌++◌, List, ℕ, Bool, true, false, if◌then◌else◌, codes}
+use Rattle.journal.specs.declared.subcommand.Asked.{Asked}
 use Rattle.journal.specs.declared.subcommand.Subcommand.{Subcommand}
 use Rattle.journal.specs.declared.subcommand.Subcommand.TheVariants.{List as Listing, Dump, Make, Diff, Show, Cut, Cat}
 use Rattle.journal.specs.declared.subcommand.Subcommand.TheVariants.{Schema, Redact, Describe, Get, Explain, Renumber}
@@ -19,3 +20,25 @@ subcommand_name Describe = codes "describe"
 subcommand_name Get = codes "get"
 subcommand_name Explain = codes "explain"
 subcommand_name Renumber = codes "renumber"
+
+-- Whether a program of its own is called as the subcommand.
+abbrev pub has_program : Subcommand → Bool
+has_program Dump = true
+has_program Make = true
+has_program Diff = true
+has_program Show = true
+has_program subcommand = false
+
+-- How the subcommand is called: as its program, or as an argument of the whole one.
+abbrev pub call_name : Asked → List ℕ
+call_name asked =
+    (if asked.is_program && has_program asked.subcommand then codes "journal_" else codes "journal ")
+    ++ subcommand_name asked.subcommand
+
+-- The status of a failure: 2 where 1 says something else, as that two journals differ.
+abbrev pub failure_status : Subcommand → ℕ
+failure_status Make = 2
+failure_status Diff = 2
+failure_status Cut = 2
+failure_status Cat = 2
+failure_status subcommand = 1

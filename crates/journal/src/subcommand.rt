@@ -54,9 +54,9 @@ pub enum Subcommand {
 }
 
 impl Subcommand {
-    ghost use Rattle.std.specs.Prelude.{◌≡◌, IfSome, IsNone};
+    ghost use Rattle.std.specs.Prelude.{◌≡◌, IfSome, IsNone, true};
     ghost use Rattle.journal.specs.declared.subcommand.Subcommand.{Subcommand as AnySubcommand};
-    ghost use Rattle.journal.specs.Subcommands.{subcommand_name};
+    ghost use Rattle.journal.specs.Subcommands.{failure_status, has_program, subcommand_name};
 
     /// The subcommand of this name, if there is one.
     fn named(name: &str) -> Option<Subcommand>
@@ -130,7 +130,9 @@ impl Subcommand {
 
     /// The subcommand that the program of this path is: that whose name is after `journal_` in the last component.
     /// `journal_list` is another program, and the newer ones have no such name.
-    fn of_program(path: &str) -> Option<Subcommand> {
+    fn of_program(path: &str) -> Option<Subcommand>
+        ensures { IfSome result (λ found. has_program found ≡ true) }
+    {
         let name = match path.rsplit_once('/') {
             Some((_, name)) => name,
             None => path,
@@ -144,7 +146,9 @@ impl Subcommand {
     }
 
     /// The status if an allocation, the input or the output fails.
-    pub fn failure(self) -> u8 {
+    pub fn failure(self) -> u8
+        ensures { result ≡ failure_status self }
+    {
         match self {
             Subcommand::List | Subcommand::Dump | Subcommand::Show | Subcommand::Schema => 1,
             Subcommand::Redact | Subcommand::Describe | Subcommand::Get => 1,
@@ -163,8 +167,18 @@ pub struct Asked {
 }
 
 impl Asked {
+    ghost use Rattle.std.specs.Prelude.{◌≡◌, IfSome, IsNone, MatchOption, true, false, if◌then◌else◌};
+    ghost use Rattle.journal.specs.declared.subcommand.Subcommand.{Subcommand as AnySubcommand};
+    ghost use Rattle.journal.specs.Subcommands.{call_name, has_program, subcommand_name};
+
     /// What the program's path and its first argument ask for. A path that says a subcommand comes before the argument.
-    pub fn of(path: Option<&str>, word: Option<&str>) -> Option<Asked> {
+    pub fn of(path: Option<&str>, word: Option<&str>) -> Option<Asked>
+        ensures program { IfSome result (λ asked. asked.is_program ≡ true → has_program asked.subcommand ≡ true) }
+        ensures word { IfSome result (λ asked. asked.is_program ≡ false
+            → MatchOption word.entry ⊥ (λ word. word.now ≡ subcommand_name asked.subcommand)) }
+        ensures none { IsNone result
+            → IfSome word.entry (λ word. (other : AnySubcommand) → word.now ≡ subcommand_name other → ⊥) }
+    {
         if let Some(subcommand) = path.and_then(Subcommand::of_program) {
             return Some(Asked {
                 subcommand,
@@ -179,7 +193,9 @@ impl Asked {
     }
 
     /// How it is called, as messages and the usage show it.
-    pub fn name(self) -> &'static str {
+    pub fn name(self) -> &'static str
+        ensures { result.now ≡ call_name self }
+    {
         match (self.subcommand, self.is_program) {
             (Subcommand::List, _) => "journal list",
             (Subcommand::Dump, true) => "journal_dump",
@@ -202,7 +218,9 @@ impl Asked {
     }
 
     /// How many arguments come before its own.
-    pub fn place(self) -> usize {
+    pub fn place(self) -> usize
+        ensures { result ≡ (if self.is_program then 1 else 2) }
+    {
         if self.is_program { 1 } else { 2 }
     }
 }
