@@ -1,8 +1,9 @@
 //! Streams whose payloads have the field numbers of a descriptor set: such a stream is written again in memory with the
 //! protocol's own, and then read as any other.
 
-ghost use Rattle.std.specs.Prelude.{◌≡◌, ◌≤◌};
+ghost use Rattle.std.specs.Prelude.{◌≡◌, ◌≤◌, IfOk, IsSome};
 ghost use Rattle.shared_core_base.specs.Version.{version_number};
+ghost use Rattle.journal.specs.Opened.{IsOpenedBy, IsRenumbered};
 
 use crate::call::{Call, INVALID};
 use crate::descriptors::{
@@ -73,6 +74,8 @@ pub fn open_numbered(
     numbering: Option<&[Renumbering]>,
 ) -> Result<Opened, ExitCode>
     requires { 5 ≤ version_number file.now.options.version }
+    ensures as_it_is { numbering.entry ≡ None → IfOk result (IsOpenedBy file.now.options) }
+    ensures renumbered { IsSome numbering.entry → IfOk result IsRenumbered }
 {
     let Some(entries) = numbering else {
         return file.open(call);
@@ -88,6 +91,7 @@ pub fn open_both_ways(
     entries: &[Renumbering],
 ) -> Result<(Opened, Vec<u8>), ExitCode>
     requires { 5 ≤ version_number file.now.options.version }
+    ensures { IfOk result (λ both. IsRenumbered both.0) }
 {
     let kept = Some(Vec::new(call.rt.alloc()));
     match renumbered(call, file, entries, kept)? {
@@ -105,6 +109,7 @@ fn renumbered(
     kept: Option<Vec<u8>>,
 ) -> Result<(Opened, Option<Vec<u8>>), ExitCode>
     requires { 5 ≤ version_number file.now.options.version }
+    ensures { IfOk result (λ both. IsRenumbered both.0) }
 {
     let FileOptions {
         version,

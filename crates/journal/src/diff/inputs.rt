@@ -1,7 +1,10 @@
 //! The two inputs.
 
-ghost use Rattle.std.specs.Prelude.{◌≤◌};
+ghost use Rattle.std.specs.Prelude.{◌≡◌, ◌≤◌, ◌+◌, ◌^◌, true, false, length, codes};
+ghost use Rattle.std.specs.Prelude.{IfOk, IfSome, MatchOption};
+ghost use Rattle.replay_bench.specs.declared.verdicts.Side.TheVariants.{Recorded, Replayed};
 ghost use Rattle.shared_core_base.specs.Version.{version_number};
+ghost use Rattle.journal.specs.Opened.{made_bytes, IsMadeBy, IsOpenedBy, IsRenumbered, IsSoOfBoth};
 
 use crate::call::{Call, INVALID};
 use crate::diff::arguments::Arguments;
@@ -25,14 +28,21 @@ pub struct Inputs {
 
 impl Inputs {
     /// The size of both, in bytes, if they are files that have one, or dumps.
-    pub fn size(&self) -> Option<u64> {
+    pub fn size(&self) -> Option<u64>
+        ensures { IfSome (made_bytes self.now.recorded) (λ recorded. IfSome (made_bytes self.now.replayed)
+            (λ replayed. let size = length recorded + length replayed in
+            MatchOption result (2 ^ 64 ≤ size) (λ found. found ≡ size))) }
+    {
         self.recorded.size()?.checked_add(self.replayed.size()?)
     }
 }
 
 /// The journal that is to come from the standard input, if that is closed. The other journal's file would take its
 /// place.
-pub fn closed_side(rt: &HostRuntime, parsed: &Arguments<'_>) -> Option<Side> {
+pub fn closed_side(rt: &HostRuntime, parsed: &Arguments<'_>) -> Option<Side>
+    ensures recorded { result ≡ Some Recorded → parsed.now.recorded.now ≡ codes "-" }
+    ensures replayed { result ≡ Some Replayed → parsed.now.replayed.now ≡ codes "-" }
+{
     let side = if parsed.recorded == "-" {
         Side::Recorded
     } else if parsed.replayed == "-" {
@@ -44,7 +54,9 @@ pub fn closed_side(rt: &HostRuntime, parsed: &Arguments<'_>) -> Option<Side> {
 }
 
 /// Opens a dump, and makes the stream that its lines mean. The error is the status, after what is wrong was reported.
-fn open_dump(call: &Call<'_>, file: &File<'_>) -> Result<Opened, ExitCode> {
+fn open_dump(call: &Call<'_>, file: &File<'_>) -> Result<Opened, ExitCode>
+    ensures { IfOk result (IsMadeBy file.now.options) }
+{
     let alloc = call.rt.alloc();
     let path = file.path;
     let mut input = call.open(path)?;
@@ -69,6 +81,8 @@ fn open_dump(call: &Call<'_>, file: &File<'_>) -> Result<Opened, ExitCode> {
 /// Opens the journal of a path. The error is the status, after what is wrong was reported.
 fn open_one(call: &Call<'_>, parsed: &Arguments<'_>, path: &str) -> Result<Opened, ExitCode>
     requires { 5 ≤ version_number parsed.now.options.version }
+    ensures dump { parsed.now.is_dump ≡ true → IfOk result (IsMadeBy parsed.now.options) }
+    ensures stream { parsed.now.is_dump ≡ false → IfOk result (IsOpenedBy parsed.now.options) }
 {
     let file = File {
         path,
@@ -83,6 +97,8 @@ fn open_one(call: &Call<'_>, parsed: &Arguments<'_>, path: &str) -> Result<Opene
 /// Opens both journals. The error is the status, after what is wrong was reported.
 pub fn open_both(call: &Call<'_>, parsed: &Arguments<'_>) -> Result<Inputs, ExitCode>
     requires { 5 ≤ version_number parsed.now.options.version }
+    ensures dumps { parsed.now.is_dump ≡ true → IfOk result (IsSoOfBoth (IsMadeBy parsed.now.options)) }
+    ensures streams { parsed.now.is_dump ≡ false → IfOk result (IsSoOfBoth (IsOpenedBy parsed.now.options)) }
 {
     Ok(Inputs {
         recorded: open_one(call, parsed, parsed.recorded)?,
@@ -97,6 +113,7 @@ pub fn open_both_by(
     entries: &[Renumbering],
 ) -> Result<(Inputs, Given), ExitCode>
     requires { 5 ≤ version_number parsed.now.options.version }
+    ensures { IfOk result (λ both. IsSoOfBoth IsRenumbered both.0) }
 {
     let options = parsed.options;
     let recorded = File {
