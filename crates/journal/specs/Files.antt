@@ -1,9 +1,10 @@
 -- What is found of the files that a call reads.
-use Rattle.std.specs.Prelude.{◌≡◌, ◌≤◌, ℕ, List, [], ◌∷◌, codes, map, option_map, unwrap_or, Some}
+use Rattle.std.specs.Prelude.{◌≡◌, ◌≤◌, ℕ, List, [], ◌∷◌, codes, map, option_map, unwrap_or, Some, false}
 use Rattle.clap.specs.Matches.{first_value, matched_of, raw_values}
 use Rattle.clap.specs.declared.parser.matches.Found.{Found}
 use Rattle.shared_core_base.specs.Version.{version_number}
 use Rattle.journal.specs.declared.file.File.{File}
+use Rattle.journal.specs.declared.file.FileOptions.{FileOptions}
 use Rattle.journal.specs.declared.file.Files.{Files}
 use Rattle.journal.specs.declared.diff.arguments.Arguments.{Arguments}
 
@@ -23,6 +24,12 @@ IsFileOf found file = (file.path.now ≡ path_of found) × (5 ≤ version_number
 abbrev pub AreFilesOf : Found → Files → Type 0
 AreFilesOf found files =
     (map (λ path. path.now) files.paths.items ≡ paths_of found) × (5 ≤ version_number files.options.version)
+
+-- The second options read files as the first ones ask for it: only the version may be another one, and only where the
+-- newest is asked for.
+abbrev pub AreFittedTo : FileOptions → FileOptions → Type 0
+AreFittedTo asked fitted =
+    (fitted ≡ record asked { version = fitted.version }) × (asked.is_auto ≡ false → fitted ≡ asked)
 
 -- The arguments of a comparison have the two journals that are found, which are read at a version that there is.
 abbrev pub AreBothOf : Found → Arguments → Type 0

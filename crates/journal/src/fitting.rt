@@ -1,7 +1,8 @@
 //! The version of files that are read by `--protocol auto`: the newest one that all of them fit.
 
-ghost use Rattle.std.specs.Prelude.{◌≤◌, IfOk};
+ghost use Rattle.std.specs.Prelude.{◌≡◌, ◌≤◌, IfOk};
 ghost use Rattle.shared_core_base.specs.Version.{version_number};
+ghost use Rattle.journal.specs.Files.{AreFittedTo};
 
 use crate::call::{Call, INVALID, TroubleAt, rest_at};
 use crate::file::{File, FileOptions};
@@ -98,7 +99,7 @@ fn misfit_of<'p>(
 /// Says which version is taken, and returns it.
 fn taken(call: &Call<'_>, version: Version) -> Version
     requires { 5 ≤ version_number version }
-    ensures { 5 ≤ version_number result }
+    ensures { result ≡ version }
 {
     let number = version.number();
     note(call.rt, call.name, format_args!("read as version {number}"));
@@ -111,7 +112,8 @@ impl FileOptions {
     /// is the status, after it was reported why no version fits, or what else is wrong.
     pub fn fitted(&self, call: &Call<'_>, paths: &[&str]) -> Result<FileOptions, ExitCode>
         requires { 5 ≤ version_number self.now.version }
-        ensures { IfOk result (λ options. 5 ≤ version_number options.version) }
+        ensures version { IfOk result (λ options. 5 ≤ version_number options.version) }
+        ensures kept { IfOk result (AreFittedTo self.now) }
     {
         if !self.is_auto {
             return Ok(*self);
@@ -125,7 +127,9 @@ impl<'a> File<'a> {
     /// The file, as `FileOptions::fitted` has it read.
     pub fn fitted(&self, call: &Call<'_>) -> Result<File<'a>, ExitCode>
         requires { 5 ≤ version_number self.now.options.version }
-        ensures { IfOk result (λ file. 5 ≤ version_number file.options.version) }
+        ensures version { IfOk result (λ file. 5 ≤ version_number file.options.version) }
+        ensures path { IfOk result (λ file. file.path.now ≡ self.now.path.now) }
+        ensures kept { IfOk result (λ file. AreFittedTo self.now.options file.options) }
     {
         let options = self.options.fitted(call, &[self.path])?;
         Ok(File { options, ..*self })
