@@ -1,4 +1,5 @@
 pub mod Files
+pub mod Indices
 pub mod Opened
 pub mod Subcommands
 pub mod Troubles

@@ -1,9 +1,11 @@
 //! Writes a part of a journal as a stream: what comes before its first command, and the commands of a range with all
 //! that is between them.
 
-ghost use Rattle.std.specs.Prelude.{◌≤◌};
+ghost use Rattle.std.specs.Prelude.{◌≤◌, IfOk};
+ghost use Rattle.clap.specs.Matches.{first_value, found_of};
 ghost use Rattle.shared_core_base.specs.Version.{version_number};
 ghost use Rattle.journal.specs.Files.{IsFileOf};
+ghost use Rattle.journal.specs.Indices.{IsIndexOf, IsRangeOf};
 
 use crate::call::Call;
 use crate::definitions;
@@ -28,7 +30,9 @@ fn index_of(
     command: &mut Command<'_>,
     matches: &ArgMatches<'_>,
     option: &str,
-) -> Result<Option<u64>, Error> {
+) -> Result<Option<u64>, Error>
+    ensures { IfOk result (IsIndexOf (first_value (found_of matches.now) option.now)) }
+{
     let Some(text) = matches.get_str(option) else {
         return Ok(None);
     };
@@ -42,7 +46,9 @@ fn index_of(
 }
 
 /// The range from the first command to the last one, both of them in it.
-fn range_of(command: &mut Command<'_>, matches: &ArgMatches<'_>) -> Result<Range, Error> {
+fn range_of(command: &mut Command<'_>, matches: &ArgMatches<'_>) -> Result<Range, Error>
+    ensures { IfOk result (IsRangeOf (found_of matches.now)) }
+{
     let from = index_of(command, matches, "from")?.unwrap_or(0);
     let Some(to) = index_of(command, matches, "to")? else {
         return Ok(Range {
@@ -60,7 +66,7 @@ fn range_of(command: &mut Command<'_>, matches: &ArgMatches<'_>) -> Result<Range
 }
 
 impl<'a> FromMatches<'a> for Arguments<'a> {
-    ghost is_read = { λ found parsed. IsFileOf found parsed.file };
+    ghost is_read = { λ found parsed. IsFileOf found parsed.file × IsRangeOf found parsed.range };
 
     fn from_matches(
         alloc: Global,

@@ -1,8 +1,10 @@
 //! Writes a field of an item of a stream, a file or the standard input.
 
-ghost use Rattle.std.specs.Prelude.{◌≤◌};
+ghost use Rattle.std.specs.Prelude.{◌≤◌, IfOk, Some, codes};
+ghost use Rattle.clap.specs.Matches.{first_value, found_of};
 ghost use Rattle.shared_core_base.specs.Version.{version_number};
 ghost use Rattle.journal.specs.Files.{IsFileOf};
+ghost use Rattle.journal.specs.Indices.{IsIndexOf};
 
 use crate::beginning::Beginning;
 use crate::call::Call;
@@ -44,7 +46,8 @@ struct Arguments<'a> {
 }
 
 impl<'a> FromMatches<'a> for Arguments<'a> {
-    ghost is_read = { λ found parsed. IsFileOf found parsed.file };
+    ghost is_read = { λ found parsed. IsFileOf found parsed.file
+        × IsIndexOf (first_value found (codes "item")) (Some parsed.index) };
 
     fn from_matches(
         alloc: Global,
@@ -64,7 +67,9 @@ impl<'a> FromMatches<'a> for Arguments<'a> {
 }
 
 /// The index of the item.
-fn index_of(command: &mut Command<'_>, matches: &ArgMatches<'_>) -> Result<u64, Error> {
+fn index_of(command: &mut Command<'_>, matches: &ArgMatches<'_>) -> Result<u64, Error>
+    ensures { IfOk result (λ index. IsIndexOf (first_value (found_of matches.now) (codes "item")) (Some index)) }
+{
     match matches.get_str("item").unwrap_or("").parse() {
         Ok(index) => Ok(index),
         Err(_) => Err(command.error(

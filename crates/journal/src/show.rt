@@ -1,8 +1,10 @@
 //! Shows a stream, a file or the standard input: a readable line for each of its items.
 
-ghost use Rattle.std.specs.Prelude.{◌≤◌};
+ghost use Rattle.std.specs.Prelude.{◌≤◌, ◌-◌, ◌^◌, IfOk, codes};
+ghost use Rattle.clap.specs.Matches.{first_value, found_of};
 ghost use Rattle.shared_core_base.specs.Version.{version_number};
 ghost use Rattle.journal.specs.Files.{IsFileOf};
+ghost use Rattle.journal.specs.Indices.{IsIndexOr};
 
 use crate::beginning::Beginning;
 use crate::call::{Call, INVALID};
@@ -69,7 +71,9 @@ const NOT_BY_BYTES: &str =
     "--where: size: and offset: count bytes at the protocol's own numbers, and not by a descriptor set";
 
 impl<'a> FromMatches<'a> for Arguments<'a> {
-    ghost is_read = { λ found parsed. IsFileOf found parsed.file };
+    ghost is_read = { λ found parsed. IsFileOf found parsed.file
+        × IsIndexOr 0 (first_value found (codes "from")) parsed.from
+        × IsIndexOr (2 ^ 64 - 1) (first_value found (codes "to")) parsed.to };
 
     fn from_matches(
         alloc: Global,
@@ -106,7 +110,9 @@ fn index_of(
     matches: &ArgMatches<'_>,
     name: &str,
     default: u64,
-) -> Result<u64, Error> {
+) -> Result<u64, Error>
+    ensures { IfOk result (IsIndexOr default (first_value (found_of matches.now) name.now)) }
+{
     let Some(text) = matches.get_str(name) else {
         return Ok(default);
     };
