@@ -1,3 +1,4 @@
+pub mod Comparisons
 pub mod Files
 pub mod Indices
 pub mod Opened

@@ -1,7 +1,9 @@
 //! Compares two journals, one of them possibly the standard input, and prints where they differ.
 
-ghost use Rattle.std.specs.Prelude.{◌≤◌};
+ghost use Rattle.std.specs.Prelude.{◌≡◌, ◌≢◌, ◌≤◌, codes};
 ghost use Rattle.shared_core_base.specs.Version.{version_number};
+ghost use Rattle.replay_bench.specs.Verdicts.{stopped_index};
+ghost use Rattle.journal.specs.Comparisons.{prints_all, shortens, AreNamesOf, IsComparisonOf, IsFormOf};
 
 mod arguments;
 mod inputs;
@@ -87,13 +89,17 @@ fn end_without(
 
 /// Whether what moved is written, and not only the verdict: where the arguments do not say it, a terminal shows what
 /// moved, and a pipe, a file or a line of JSON has the verdict.
-fn is_all(parsed: &Arguments<'_>, is_terminal: bool) -> bool {
+fn is_all(parsed: &Arguments<'_>, is_terminal: bool) -> bool
+    ensures { result ≡ prints_all parsed.now is_terminal }
+{
     parsed.is_all || (is_terminal && !parsed.is_verdict && !parsed.is_json)
 }
 
 /// Whether long values are shown around their difference. The verdict's text is that of the library's error, so it is
 /// only shortened on request.
-fn is_short(parsed: &Arguments<'_>, is_terminal: bool) -> bool {
+fn is_short(parsed: &Arguments<'_>, is_terminal: bool) -> bool
+    ensures { result ≡ shortens parsed.now is_terminal }
+{
     match parsed.values {
         ValuesChoice::Auto => is_terminal && is_all(parsed, is_terminal),
         ValuesChoice::Short => true,
@@ -102,7 +108,9 @@ fn is_short(parsed: &Arguments<'_>, is_terminal: bool) -> bool {
 }
 
 /// What is compared.
-fn comparison_of(parsed: &Arguments<'_>) -> ComparisonOptions {
+fn comparison_of(parsed: &Arguments<'_>) -> ComparisonOptions
+    ensures { IsComparisonOf parsed.now result }
+{
     ComparisonOptions {
         ignored: Ignored {
             payloads: parsed.ignore_payloads,
@@ -113,7 +121,12 @@ fn comparison_of(parsed: &Arguments<'_>) -> ComparisonOptions {
 }
 
 /// What is compared, and what is written of it, to a terminal or not. A terminal shows the names of the journals too.
-fn options_of<'a>(call: &Call<'_>, parsed: &Arguments<'a>, is_terminal: bool) -> DiffOptions<'a> {
+fn options_of<'a>(call: &Call<'_>, parsed: &Arguments<'a>, is_terminal: bool) -> DiffOptions<'a>
+    ensures compared { IsComparisonOf parsed.now result.comparison }
+    ensures form { IsFormOf parsed.now is_terminal result.form }
+    ensures all { result.is_all ≡ prints_all parsed.now is_terminal }
+    ensures names { AreNamesOf parsed.now is_terminal result.names }
+{
     let look = Look {
         is_escaped: is_terminal,
         is_colored: has_color(call.rt, parsed.color),
@@ -224,7 +237,11 @@ pub fn run(call: &Call<'_>) -> Result<ExitCode, ExitCode> {
 }
 
 /// The journal that comes from the standard input, or else the recorded one.
-fn standard_input<'a>(parsed: &Arguments<'a>) -> File<'a> {
+fn standard_input<'a>(parsed: &Arguments<'a>) -> File<'a>
+    ensures replayed { parsed.now.replayed.now ≡ codes "-" → result.path.now ≡ codes "-" }
+    ensures recorded { parsed.now.replayed.now ≢ codes "-" → result.path.now ≡ parsed.now.recorded.now }
+    ensures options { result.options ≡ parsed.now.options }
+{
     let path = if parsed.replayed == "-" {
         parsed.replayed
     } else {
@@ -292,7 +309,9 @@ fn compared_beyond(
 }
 
 /// How many commands are the same at the beginning of both journals.
-fn same_count(verdict: &Verdict) -> u64 {
+fn same_count(verdict: &Verdict) -> u64
+    ensures { result ≡ stopped_index verdict.now }
+{
     match verdict {
         Verdict::Same(count) | Verdict::RecordedEnded(count) | Verdict::ReplayedEnded(count) => {
             *count

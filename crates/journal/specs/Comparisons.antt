@@ -1,0 +1,42 @@
+-- What the arguments of a comparison say of it, and of what is printed.
+use Rattle.std.specs.Prelude.{◌≡◌, Bool, true, false, not, ◌&&◌, ◌||◌, Option, MatchOption}
+use Rattle.diff_lines.specs.declared.heading.Names.{Names}
+use Rattle.diff_lines.specs.declared.journals.Form.{Form}
+use Rattle.diff_lines.specs.declared.journals.Form.TheVariants.{Text, Json}
+use Rattle.replay_bench.specs.declared.journals.ComparisonOptions.{ComparisonOptions}
+use Rattle.journal.specs.declared.diff.arguments.Arguments.{Arguments}
+use Rattle.journal.specs.declared.diff.arguments.ValuesChoice.{ValuesChoice}
+use Rattle.journal.specs.declared.diff.arguments.ValuesChoice.TheVariants.{Auto, Short, Whole}
+
+-- The journals are compared as the arguments say.
+abbrev pub IsComparisonOf : Arguments → ComparisonOptions → Type 0
+IsComparisonOf parsed options =
+    (options.ignored.payloads ≡ parsed.ignore_payloads) × (options.ignored.ids ≡ parsed.ignore_ids)
+    × (options.is_strict ≡ parsed.is_strict)
+
+-- Whether what moved is printed: if that is asked for, or to a terminal, unless the verdict or a line of JSON is.
+abbrev pub prints_all : Arguments → Bool → Bool
+prints_all parsed is_terminal = parsed.is_all || (is_terminal && (not parsed.is_verdict && not parsed.is_json))
+
+-- Whether values are shortened by a choice, where this is so if nothing is chosen.
+abbrev pub shortens_by : ValuesChoice → Bool → Bool
+shortens_by Auto otherwise = otherwise
+shortens_by Short otherwise = true
+shortens_by Whole otherwise = false
+
+-- Whether values are shortened: by choice, or what moved to a terminal.
+abbrev pub shortens : Arguments → Bool → Bool
+shortens parsed is_terminal = shortens_by parsed.values (is_terminal && prints_all parsed is_terminal)
+
+-- The result is JSON if that is asked for, and otherwise a text, escaped for a terminal. What its colors depend on too
+-- is not known.
+abbrev pub IsFormOf : Arguments → Bool → Form → Type 0
+IsFormOf parsed is_terminal Json = parsed.is_json ≡ true
+IsFormOf parsed is_terminal (Text look) =
+    (parsed.is_json ≡ false) × (look.is_escaped ≡ is_terminal) × (look.is_short ≡ shortens parsed is_terminal)
+
+-- The journals are named to a terminal only, by their paths.
+abbrev pub AreNamesOf : Arguments → Bool → Option Names → Type 0
+AreNamesOf parsed is_terminal names =
+    MatchOption names (is_terminal ≡ false) (λ names. (is_terminal ≡ true)
+    × (names.recorded.now ≡ parsed.recorded.now) × (names.replayed.now ≡ parsed.replayed.now))
