@@ -54,7 +54,7 @@ def parts_of(text: str) -> list[str]:
 
 
 def spelled(name: str, parameters: set[str]) -> str:
-    """How the prover spells a type or a trait in the name of an impl: without parameters and marks."""
+    """What the prover makes of a type or a trait in the name of an impl: its words, without parameters and marks."""
     if name.startswith("("):
         parts = parts_of(name[1:-1])
         return f"Tuple{len(parts)}" + "".join(spelled(part, parameters) for part in parts)

@@ -200,7 +200,7 @@ class TrialTest(unittest.TestCase):
         return file
 
     def check(self, words: list[str]) -> str:
-        """A prover that refuses `wrong`, reads no `unread`, knows no `hidden`, and whose b calls a."""
+        """A prover that rejects `wrong`, reads no `unread` and knows no `hidden`; b calls a."""
         asked = words[1::2]
         self.asked.append(asked)
         bodies = dict(re.findall(r"fn (\w)\(\) \{\n    (\w+)", self.source.read_text()))
