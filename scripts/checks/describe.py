@@ -103,9 +103,9 @@ AUTO = (
 NONE = (
     ("list -", "-: no file, and it is read twice", 2),
     ("list cut_short", f"no version fits: 9: {CUT}; 7 and 8: {CUT}; 5 and 6: {CUT}", 2),
-    ("describe both", "no version fits: 9: both: offset 11: the payload of Suspension is not well-formed; "
-     "7 and 8: both: offset 11: the payload of Suspension is not well-formed; "
-     "5 and 6: both: offset 0: the payload of Suspension is not well-formed", 2),
+    ("describe both", "no version fits: 9: both: offset 11: malformed payload of Suspension; "
+     "7 and 8: both: offset 11: malformed payload of Suspension; "
+     "5 and 6: both: offset 0: malformed payload of Suspension", 2),
     ("diff recorded nothing", "nothing: No such file or directory (os error 2)", 2),
     ("list --max-message 8 recorded",
      "recorded: InputCommand at offset 0: 9 bytes of payload, more than the limit of 8", 1),

@@ -37,7 +37,7 @@ PROPOSED = (
 )
 CUSTOM = '{"offset":13,"type":"CustomEntry(64513)","code":64513,"length":0'
 CUT = "offset 21: 8 bytes after the last whole item"
-CODE = "offset 0: unknown protocol.message code 0x8"
+CODE = "offset 0: unknown header 0x8"
 
 # With --text bytes that are UTF-8 are texts.
 TEXTS = START.replace('"a2V5"', '{"text":"key"}') + INPUT.replace('"aW5wdXQ="', '{"text":"input"}') + STATE + REST
@@ -53,7 +53,7 @@ OF_V6 = (
     '"waitingNamedSignals":["té5","té6"]}}\n'
 )
 MALFORMED = '{"offset":30,"type":"End","code":3,"length":1,"malformed":true,"bytes":"Cg=="}\n{"offset":39,"rest":0}\n'
-IS_MALFORMED = "offset 30: the payload of End is not well-formed"
+IS_MALFORMED = "offset 30: malformed payload of End"
 
 # Headers that are not the ones which would be written by what their lines say, and at the end a byte in no item.
 ODD = (

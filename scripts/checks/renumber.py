@@ -24,7 +24,7 @@ from programs import STREAMS, Program
 MALFORMED = schema.frame_of(0x0401, b"\x22\5\x8a\1\1")
 AROUND = [schema.frame_of(0x0402, payload) for payload in (b"\xc0\1\7", b"\xc0\1\x08")]
 OWN = [schema.frame_of(0x0402, payload) for payload in (b"\x58\7", b"\x58\x08")]
-WRONG = "offset 11: the payload of OutputCommand is not well-formed\n"
+WRONG = "offset 11: malformed payload of OutputCommand\n"
 
 
 class Renumbering:

@@ -672,7 +672,7 @@ def not_dumped(check: checks.Check, program: Program) -> None:
     """A payload that is malformed by a set's message, and files that are not sets."""
     malformed = frame_of(0x0401, b"\x0a\1"), f"--schema {check.work}/other.set"
     line = '{"offset":0,"type":"OutputCommand","code":1025,"length":2,"malformed":true,"bytes":"CgE="}\n'
-    said = "journal dump: offset 0: the payload of OutputCommand is not well-formed\n"
+    said = "journal dump: offset 0: malformed payload of OutputCommand\n"
     program.ends(f"dump --strict {malformed[1]}", f'{line}{{"offset":10,"rest":0}}\n', said, 2, given=malformed[0])
     text = check.work / "theirs.proto"
     text.write_text(HEAD)

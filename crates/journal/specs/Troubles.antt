@@ -1,15 +1,10 @@
--- The text of what is wrong with an item.
-use Rattle.std.specs.Prelude.{ℕ, ◌++◌, List, codes, decimal}
-use Rattle.shared_core_base.specs.MessageType.{debug_name_of, unknown_type_text}
+-- What is wrong with an item, as a fault of its stream.
+use Rattle.replay_bench.specs.declared.faults.FaultReason.{FaultReason}
+use Rattle.replay_bench.specs.declared.faults.FaultReason.TheVariants.{UnknownHeader, Malformed}
 use Rattle.stream_lines.specs.declared.report.Trouble.{Trouble}
-use Rattle.stream_lines.specs.declared.report.Trouble.TheVariants.{UnknownCode, Malformed}
-use Rattle.journal.specs.declared.call.TroubleAt.{TroubleAt}
+use Rattle.stream_lines.specs.declared.report.Trouble.TheVariants.{UnknownCode, Malformed as MalformedPayload}
 
--- What is wrong with an item.
-abbrev pub trouble_text : Trouble → List ℕ
-trouble_text (UnknownCode code) = unknown_type_text code
-trouble_text (Malformed ty) = codes "the payload of " ++ (debug_name_of ty ++ codes " is not well-formed")
-
--- The same after the offset of the item.
-abbrev pub trouble_at_text : TroubleAt → List ℕ
-trouble_at_text at = codes "offset " ++ (decimal at.offset ++ (codes ": " ++ trouble_text at.trouble))
+-- What is wrong with an item, in the words of a comparison.
+abbrev pub reason_of : Trouble → FaultReason
+reason_of (UnknownCode code) = UnknownHeader code
+reason_of (MalformedPayload ty) = Malformed ty

@@ -6,13 +6,14 @@ ghost use Rattle.std.specs.Prelude.{◌≡◌, IfOk, map, string_bytes};
 ghost use Rattle.clap.specs.Simple.{app_of};
 ghost use Rattle.replay_bench.specs.declared.faults.FaultReason.TheVariants.{Rest};
 ghost use Rattle.command_line.specs.Parsing.{without_name, IsReadOf};
+ghost use Rattle.journal.specs.Troubles.{reason_of};
 
 use clap::Command;
 use command_line::{
     Definition, FromMatches, Input, Progress, fail, note, note_terminal, open, parse, report,
 };
 use replay_bench::{Fault, FaultReason};
-use std::fmt::{self, Display};
+use std::fmt::Display;
 use std::io::IsTerminal;
 use std::process::ExitCode;
 use stream_lines::{PrintError, Trouble};
@@ -109,7 +110,7 @@ impl<'a> Call<'a> {
 
     /// Reports what is wrong with the item at an offset.
     pub fn report_trouble(&self, offset: u128, trouble: Trouble) {
-        self.note(TroubleAt { offset, trouble });
+        self.note(trouble_at(offset, trouble));
     }
 
     /// Reports how many bytes are at an offset, after the last whole item.
@@ -119,34 +120,14 @@ impl<'a> Call<'a> {
 }
 
 /// What is wrong with the item at an offset.
-#[derive(Clone, Copy, Drop)]
-pub struct TroubleAt {
-    pub offset: u128,
-    pub trouble: Trouble,
-}
-
-impl fmt::Display for TroubleAt {
-    ghost use Rattle.std.specs.Prelude.{Some};
-    ghost use Rattle.journal.specs.Troubles.{trouble_at_text};
-
-    ghost output = { λ at. Some (trouble_at_text at) };
-
-    fn fmt<W: fmt::Write>(&self, f: &mut fmt::Formatter<W>) -> fmt::Result {
-        let offset = self.offset;
-        match &self.trouble {
-            Trouble::UnknownCode(code) => {
-                write!(
-                    f,
-                    "offset {offset}: unknown protocol.message code 0x{code:x}"
-                )
-            }
-            Trouble::Malformed(ty) => write!(
-                f,
-                "offset {offset}: the payload of {} is not well-formed",
-                ty.debug_name()
-            ),
-        }
-    }
+pub fn trouble_at(offset: u128, trouble: Trouble) -> Fault
+    ensures { (result.offset ≡ offset) × (result.reason ≡ reason_of trouble) }
+{
+    let reason = match trouble {
+        Trouble::UnknownCode(code) => FaultReason::UnknownHeader(code),
+        Trouble::Malformed(ty) => FaultReason::Malformed(ty),
+    };
+    Fault { offset, reason }
 }
 
 /// How many bytes are at an offset, after the last whole item.

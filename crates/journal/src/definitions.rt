@@ -19,7 +19,7 @@ const INPUT: Argument = Argument {
 const MAX_MESSAGE: Argument = Argument {
     name: "max-message",
     form: Form::Option("SIZE"),
-    help: "Ends with an error at a message whose payload has\nmore than this number of bytes, as 4096 or 1MB",
+    help: "Ends with an error at a message whose payload has\nmore than this number of bytes, as 4096 or 1MiB",
     values: Values::Any,
     default: None,
     is_repeated: false,
@@ -64,6 +64,17 @@ const SCHEMA_OF_DUMP: Argument = Argument {
     name: "schema",
     form: Form::Option("FILE"),
     help: "Reads payloads by the messages of this descriptor\nset, which protoc -o writes; the default is\n$PENDRATSOA_SCHEMA",
+    values: Values::Any,
+    default: None,
+    is_repeated: false,
+    is_required: false,
+    may_begin_with_hyphen: false,
+};
+
+const STRICT: Argument = Argument {
+    name: "strict",
+    form: Form::Flag,
+    help: "Treats unknown headers, malformed payloads and\ntrailing bytes as errors",
     values: Values::Any,
     default: None,
     is_repeated: false,
@@ -178,16 +189,7 @@ pub static DUMP: Definition = Definition {
         PROTOCOL,
         RENAME,
         SCHEMA_OF_DUMP,
-        Argument {
-            name: "strict",
-            form: Form::Flag,
-            help: "Treats unknown codes, malformed payloads and\ntrailing bytes as errors",
-            values: Values::Any,
-            default: None,
-            is_repeated: false,
-            is_required: false,
-            may_begin_with_hyphen: false,
-        },
+        STRICT,
         Argument {
             name: "text",
             form: Form::Flag,
@@ -216,7 +218,7 @@ pub static DUMP: Definition = Definition {
 pub static MAKE: Definition = Definition {
     version: VERSION,
     about: "Makes a stream of JSON, one object per item.",
-    after_help: "Examples:\n  journal dump FILE | jq -c 'select(.type != \"Start\")' | journal make > edited\n  journal make lines.jsonl > made",
+    after_help: "A line is a message of a type, as {\"type\":\"End\",\"message\":{}}, or a code with\nits bytes in base64, as {\"code\":64513,\"bytes\":\"/wABAg==\"}.\n\nExamples:\n  journal dump FILE | jq -c 'select(.type != \"Start\")' | journal make > edited\n  journal make lines.jsonl > made",
     arguments: &[
         PROTOCOL_OF_MAKE,
         RENAME,
@@ -312,16 +314,7 @@ pub static DIFF: Definition = Definition {
         MAX_MESSAGE,
         RENAME,
         SCHEMA_OF_DUMP,
-        Argument {
-            name: "strict",
-            form: Form::Flag,
-            help: "Treats unknown headers, malformed payloads and\ntrailing bytes as errors",
-            values: Values::Any,
-            default: None,
-            is_repeated: false,
-            is_required: false,
-            may_begin_with_hyphen: false,
-        },
+        STRICT,
         Argument {
             name: "json",
             form: Form::Flag,

@@ -4,7 +4,7 @@ ghost use Rattle.std.specs.Prelude.{◌≡◌, ◌≤◌, IfOk};
 ghost use Rattle.shared_core_base.specs.Version.{version_number};
 ghost use Rattle.journal.specs.Files.{AreFittedTo};
 
-use crate::call::{Call, INVALID, TroubleAt, rest_at};
+use crate::call::{Call, INVALID, rest_at, trouble_at};
 use crate::file::{File, FileOptions};
 use command_line::{Decoding, Progress, fail, input_size, note};
 use shared_core_base::version::Version;
@@ -30,7 +30,7 @@ impl<'p> fmt::Display for Misfit<'p> {
         let (offset, count) = (self.found.end, self.found.rest);
         match self.found.trouble {
             Some((offset, trouble)) => {
-                let found = TroubleAt { offset, trouble };
+                let found = trouble_at(offset, trouble);
                 write!(f, "{path}: {found}")
             }
             None => {

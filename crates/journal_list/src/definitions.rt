@@ -14,7 +14,7 @@ pub static LIST: Definition = Definition {
         Argument {
             name: "max-message",
             form: Form::Option("SIZE"),
-            help: "Ends with an error at a message whose payload has\nmore than this number of bytes, as 4096 or 1MB",
+            help: "Ends with an error at a message whose payload has\nmore than this number of bytes, as 4096 or 1MiB",
             values: Values::Any,
             default: None,
             is_repeated: false,
