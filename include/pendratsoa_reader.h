@@ -6,6 +6,7 @@
  *
  *     struct journal_reader reader = journal_reader_of(8, 1048576);
  *     struct journal_reader_item item;
+ *     struct journal_reader_rest rest;
  *     int64_t result = 0;
  *
  *     while (result == 0 && (count = fread(chunk, 1, sizeof chunk, stdin)) > 0 &&
@@ -14,7 +15,12 @@
  *             .. item.item, item.payload, item.offset ..
  *         }
  *     }
- *     .. result, journal_reader_pending(&reader), journal_reader_header(&reader, &code, &length) ..
+ *     rest = journal_reader_finish(&reader);
+ *     if (result < 0) {
+ *         .. an error of the item at rest.offset: journal_error_text(result) ..
+ *     } else if (rest.size > 0) {
+ *         .. the stream ended within the item at rest.offset, after rest.size bytes: rest.has_code, rest.code ..
+ *     }
  *     journal_reader_free(&reader);
  *
  * A journal_memory is memory that grows, for arenas of pendratsoa_messages.h and for what a call writes.
@@ -78,6 +84,27 @@ static inline void journal_memory_free(struct journal_memory *memory) {
 }
 
 /*
+ * Kinds of types.
+ */
+
+/*
+ * Whether a code is that of a command: from 0x0400 to below 0x8000. This goes by the code, and not by the name of the
+ * type: GetStateEphemeralCommand (0x0200) is neither a command nor a notification. A custom entry counts by its code
+ * too, as 0x0415, which has no name: it is a command here, and no replay compares it.
+ */
+static inline bool journal_is_command(uint16_t code) {
+    return code >= 0x0400 && code < 0x8000;
+}
+
+/*
+ * Whether a code is that of a notification: from 0x8000 to below 0xFC00. This goes by the code, and not by the name of
+ * the type: GetStateEphemeralNotification (0x0300) is neither. A custom entry counts by its code too.
+ */
+static inline bool journal_is_notification(uint16_t code) {
+    return code >= 0x8000 && code < 0xFC00;
+}
+
+/*
  * Items of a stream.
  */
 
@@ -88,6 +115,17 @@ struct journal_reader_item {
     const uint8_t *bytes;     /* its bytes, header and payload; they stay until the next feed, room or free */
     const uint8_t *payload;   /* those of its payload */
     size_t payload_length;    /* how many these are */
+};
+
+/* What is at the end of a stream after its last item: the beginning of an item that is not whole, or nothing. */
+struct journal_reader_rest {
+    uint64_t offset;      /* where it begins in the stream, in bytes */
+    const uint8_t *bytes; /* its bytes that came; they stay until the next feed, room or free; null if there are none */
+    size_t size;          /* how many these are; 0 if the stream ended after an item */
+    bool has_code;        /* whether the code of its type came, which is its first two bytes */
+    uint16_t code;        /* this code, or 0 */
+    bool has_length;      /* whether the length of its payload came, which is in its first eight bytes */
+    uint32_t length;      /* this length in bytes, or 0 */
 };
 
 /* A reader of a stream. journal_reader_of makes one. */
@@ -114,8 +152,8 @@ static inline size_t journal_reader_pending(const struct journal_reader *reader)
 
 /*
  * What the header says that the pending bytes begin with: the code of its type, and the length of its payload in bytes.
- * After journal_reader_next it is that of an item which is too long, or at the end of a stream not whole. Returns false,
- * and writes nothing, if less than a header is pending.
+ * After journal_reader_next it is that of an item which is too long, or at the end of a stream not whole. Returns
+ * false, and writes nothing, if less than a header is pending; journal_reader_finish has the code from two bytes on.
  */
 static inline bool journal_reader_header(const struct journal_reader *reader, uint16_t *code, uint32_t *length) {
     const uint8_t *header;
@@ -127,6 +165,25 @@ static inline bool journal_reader_header(const struct journal_reader *reader, ui
     *code = (uint16_t)(header[0] << 8 | header[1]);
     *length = (uint32_t)header[4] << 24 | (uint32_t)header[5] << 16 | (uint32_t)header[6] << 8 | header[7];
     return true;
+}
+
+/*
+ * What the stream ended with, if all of it was given, and every item taken: the trailing bytes, and as much of their
+ * header as came. After JOURNAL_TOO_LONG they are those of the item that is too long. It changes nothing: more of the
+ * stream may come after it.
+ */
+static inline struct journal_reader_rest journal_reader_finish(const struct journal_reader *reader) {
+    struct journal_reader_rest rest = {reader->offset, NULL, journal_reader_pending(reader), false, 0, false, 0};
+
+    if (rest.size > 0) {
+        rest.bytes = reader->memory.bytes + reader->begin;
+    }
+    if (rest.size >= 2) {
+        rest.has_code = true;
+        rest.code = (uint16_t)(rest.bytes[0] << 8 | rest.bytes[1]);
+    }
+    rest.has_length = journal_reader_header(reader, &rest.code, &rest.length);
+    return rest;
 }
 
 /*

@@ -90,19 +90,17 @@ version=$(cat "$top/VERSION")
 soname=libpendratsoa.so.${version%%.*}
 calls=$(awk '/^int64_t journal_/ { sub(/^int64_t /, ""); sub(/\(.*/, ""); print }' \
   "$header" "$top/include/pendratsoa_messages.h")
-# the names that the man page has
-explained=$(sed -n -e 's/^int64_t \(journal_[a-z_]*\)(.*/\1/p' \
-  -e 's/^static inline .*[ *]\(journal_reader_[a-z]*\)(.*/\1/p' "$header" "$top/include/pendratsoa_reader.h")
+# the man pages of the library: its own, and one for each function
+library_pages=$(cd "$top/share/man/man3" && printf '%s\n' *.3)
 
 # library_files, program_files: what is installed, below PREFIX
 library_files() {
   # shellcheck disable=SC2086 # the names are split
   printf 'include/%s\n' $headers
-  echo share/man/man3/pendratsoa.3
   printf "$libdir/%s\n" libpendratsoa.a "libpendratsoa.so.$version" "$soname" libpendratsoa.so pkgconfig/pendratsoa.pc \
     cmake/pendratsoa/pendratsoa-config.cmake cmake/pendratsoa/pendratsoa-config-version.cmake
   # shellcheck disable=SC2086 # the names are split
-  printf 'share/man/man3/%s.3\n' $explained
+  printf 'share/man/man3/%s\n' $library_pages
 }
 program_files() {
   for program in $programs $scripts; do
@@ -240,10 +238,8 @@ for name in pendratsoa-config pendratsoa-config-version; do
 done
 ln -sfn "libpendratsoa.so.$version" "$target/$libdir/$soname"
 ln -sfn "$soname" "$target/$libdir/libpendratsoa.so"
-place "$top/share/man/man3/pendratsoa.3" 644 share/man/man3/pendratsoa.3
-echo '.so man3/pendratsoa.3' > "$work/call.3"
-for call in $explained; do
-  place "$work/call.3" 644 "share/man/man3/$call.3"
+for name in $library_pages; do
+  place "$top/share/man/man3/$name" 644 "share/man/man3/$name"
 done
 for program in $programs; do
   place "$top/crates/$program/$built/$program" 755 "bin/$program"

@@ -113,18 +113,14 @@ def strip(usr: pathlib.Path, machine: Machine) -> None:
 
 def adapt(usr: pathlib.Path, machine: Machine) -> None:
     """Makes of what is installed what Debian has: no symbols that only a debugger reads, its own Python, completion
-    where its zsh looks, compressed pages, and links for pages that have several names."""
+    where its zsh looks, and compressed pages."""
     strip(usr, machine)
     shared_library(usr).chmod(0o644)
     script = usr / "share/pendratsoa/view/make_page.py"
     text = script.read_text(encoding="utf-8")
     script.write_text(text.replace(FIRST_LINE, "#!/usr/bin/python3\n", 1), encoding="utf-8")
     (usr / "share/zsh/site-functions").rename(usr / "share/zsh/vendor-completions")
-    pages = usr / "share/man"
-    for page in (pages / "man3").glob("journal_*.3"):
-        page.unlink()
-        page.with_name(f"{page.name}.gz").symlink_to("pendratsoa.3.gz")
-    run("gzip", "-9n", *sorted(pages.glob("man1/*.1")), pages / "man3/pendratsoa.3")
+    run("gzip", "-9n", *sorted((usr / "share/man").glob("man?/*.[13]")))
 
 
 def documents(usr: pathlib.Path, date: str) -> None:

@@ -3,9 +3,11 @@
  * messages VALUE [VERSION] < STREAM > STREAM
  *
  * On the standard error it prints one line per state that is set and per call: the key, and the length of the value
- * before; the names of the service and the handler, and the number of headers. Other items are copied as they are. The
- * stream is read in chunks. VERSION is from 5 to 9; the default is 8. The status is 0 after a complete stream, 1 if
- * something fails or a message is malformed, and 2 if the arguments are wrong.
+ * before; the names of the service and the handler, and the number of headers. Other items are copied as they are, and
+ * so are the bytes after the last item. A message that is written anew has only the fields of its type: unknown fields
+ * and the ignored bits of its header are lost. The stream is read in chunks. VERSION is from 5 to 9; the default is 8.
+ * The status is 0 after a complete stream, 1 if something fails or a message is malformed, and 2 if the arguments are
+ * wrong.
  *
  *   cc -std=c99 messages.c $(pkg-config --cflags --libs pendratsoa) -o messages
  */
@@ -25,6 +27,23 @@ static void print(struct journal_slice slice) {
     fprintf(stderr, " \"%.*s\"", (int)slice.length, slice.length > 0 ? (const char *)slice.at : "");
 }
 
+/*
+ * Whether a call has to be repeated that returned this, for which there is more room now: of the arena, or for a frame.
+ * If an allocation fails, the result becomes JOURNAL_OUT_OF_MEMORY.
+ */
+static bool has_more_room(int64_t *result, size_t lacking) {
+    const bool is_arena = *result == JOURNAL_NO_ROOM;
+
+    if (!is_arena && *result <= (int64_t)out.size) {
+        return false;
+    }
+    if (is_arena ? journal_memory_grow(&memory, memory.size + lacking) : journal_memory_grow(&out, (size_t)*result)) {
+        return true;
+    }
+    *result = JOURNAL_OUT_OF_MEMORY;
+    return false;
+}
+
 /* Prints what a call says. Returns 0, or an error. */
 static int64_t print_call(const struct journal_reader_item *item) {
     struct journal_CallCommandMessage call;
@@ -34,7 +53,7 @@ static int64_t print_call(const struct journal_reader_item *item) {
     do {
         arena = journal_arena_of(memory.bytes, memory.size);
         result = journal_read_CallCommandMessage(item->payload, item->payload_length, &call, &arena);
-    } while (result == JOURNAL_NO_ROOM && journal_memory_grow(&memory, memory.size + arena.lacking));
+    } while (has_more_room(&result, arena.lacking));
     if (result == 0) {
         fprintf(stderr, "call");
         print(call.service_name);
@@ -60,8 +79,7 @@ static int64_t set_value(uint32_t version, const struct journal_reader_item *ite
             command.value.content = journal_text(value);
             result = journal_frame_SetStateCommandMessage(version, &command, &arena, out.bytes, out.size);
         }
-    } while (result == JOURNAL_NO_ROOM ? journal_memory_grow(&memory, memory.size + arena.lacking)
-                                       : result > (int64_t)out.size && journal_memory_grow(&out, (size_t)result));
+    } while (has_more_room(&result, arena.lacking));
     if (result >= 0) {
         fprintf(stderr, "state");
         print(command.key);
@@ -98,33 +116,53 @@ static size_t read_chunk(struct journal_reader *reader) {
     return count;
 }
 
+/* Copies the items of the standard input. Returns 0, or the error of an item, which it prints. */
+static int64_t copy_items(struct journal_reader *reader, const char *value) {
+    struct journal_reader_item item;
+    int64_t result = 0;
+
+    while (result == 0 && read_chunk(reader) > 0) {
+        while (result == 0 && (result = journal_reader_next(reader, &item)) == 1) {
+            result = copy_item(reader->version, &item, value);
+            if (result < 0) {
+                fprintf(stderr, "messages: the item at %llu: %s\n", (unsigned long long)item.offset,
+                        journal_error_text(result));
+            }
+        }
+    }
+    return result;
+}
+
+/* Copies the standard input. Returns the status. */
+static int copy(struct journal_reader *reader, const char *value) {
+    struct journal_reader_rest rest;
+
+    if (copy_items(reader, value) < 0) {
+        return 1;
+    }
+    rest = journal_reader_finish(reader);
+    if (rest.size > 0) {
+        fwrite(rest.bytes, 1, rest.size, stdout);
+    }
+    if (!feof(stdin) || fflush(stdout) != 0 || ferror(stdout)) {
+        fprintf(stderr, "messages: the input or the output failed\n");
+        return 1;
+    }
+    return 0;
+}
+
 int main(int count, char **words) {
     const uint32_t version = count == 3 ? (uint32_t)strtoul(words[2], NULL, 10) : 8;
     struct journal_reader reader = journal_reader_of(version, UINT32_MAX);
-    struct journal_reader_item item;
-    int64_t result = 0;
+    int status;
 
     if (count < 2 || count > 3 || version < JOURNAL_FIRST_VERSION || version > JOURNAL_LAST_VERSION) {
         fprintf(stderr, "usage: messages VALUE [5..9]\n");
         return 2;
     }
-    while (result == 0 && read_chunk(&reader) > 0) {
-        while ((result = journal_reader_next(&reader, &item)) == 1) {
-            result = copy_item(version, &item, words[1]);
-            if (result < 0) {
-                fprintf(stderr, "messages: the item at %llu: %s\n", (unsigned long long)item.offset,
-                        journal_error_text(result));
-                return 1;
-            }
-        }
-    }
-    fwrite(reader.memory.bytes + reader.begin, 1, journal_reader_pending(&reader), stdout);
-    if (!feof(stdin) || fflush(stdout) != 0 || ferror(stdout)) {
-        fprintf(stderr, "messages: the input or the output failed\n");
-        return 1;
-    }
+    status = copy(&reader, words[1]);
     journal_reader_free(&reader);
     journal_memory_free(&memory);
     journal_memory_free(&out);
-    return 0;
+    return status;
 }

@@ -4,7 +4,7 @@
  * It prints each command that is the same. Where the replay leaves the recording it prints how, where both are, which
  * command the recording has next, the text that the SDKs report, and the fields that differ. The status is 0 if both
  * are the same, 1 if they differ, and 2 if either cannot be read: a file, a message of more than a mebibyte, a stream
- * that ends within an item, a command that is malformed.
+ * or a recording that ends within an item, a command that is malformed.
  *
  *   cc -std=c99 replay.c $(pkg-config --cflags --libs pendratsoa) -o replay
  */
@@ -75,14 +75,46 @@ static int print_mismatch(const struct journal_mismatch *found) {
 
 /* Prints why the replay cannot be read to its end, by the item in which that is. */
 static void print_end(const struct journal_reader *reader, int64_t result) {
-    uint16_t code;
-    uint32_t size;
+    const struct journal_reader_rest rest = journal_reader_finish(reader);
 
-    fprintf(stderr, "replay: offset %" PRIu64, reader->offset);
-    if (journal_reader_header(reader, &code, &size)) {
-        fprintf(stderr, ": type 0x%04x, %" PRIu32 " bytes", (unsigned)code, size);
+    fprintf(stderr, "replay: offset %" PRIu64, rest.offset);
+    if (rest.has_code) {
+        fprintf(stderr, ": type 0x%04x", (unsigned)rest.code);
+    }
+    if (rest.has_length) {
+        fprintf(stderr, ", %" PRIu32 " bytes", rest.length);
     }
     fprintf(stderr, ": %s\n", result < 0 ? "too long" : ferror(stdin) ? "the input failed" : "the stream ended here");
+}
+
+/* How many bytes of the recording follow its last whole item, which are not compared. */
+static size_t recorded_rest(void) {
+    struct journal_item item;
+    size_t begin = 0;
+
+    while (journal_next((uint32_t)replay.version, recorded.bytes + begin, length - begin, &item,
+                        JOURNAL_ITEM_NUMBERS) == 0) {
+        begin += (size_t)item.size;
+    }
+    return length - begin;
+}
+
+/* Prints what is left of the recording at the end of the replay. Returns the status, or an error. */
+static int64_t print_rest(void) {
+    struct journal_mismatch found;
+    const int64_t result = journal_replay_finish(recorded.bytes, length, &replay, JOURNAL_REPLAY_NUMBERS, &found,
+                                                 JOURNAL_MISMATCH_NUMBERS);
+    const size_t rest = recorded_rest();
+
+    if (result != 0) {
+        return result == 1 ? print_mismatch(&found) : result;
+    }
+    if (rest > 0) {
+        fprintf(stderr, "replay: the recording ends within an item, after %zu bytes of it\n", rest);
+        return 2;
+    }
+    printf("same, %" PRIu64 " commands\n", replay.index);
+    return 0;
 }
 
 int main(int argc, char **argv) {
@@ -124,11 +156,8 @@ int main(int argc, char **argv) {
         print_end(&reader, result);
         return 2;
     }
-    if (result == 0 && (result = journal_replay_finish(recorded.bytes, length, &replay, JOURNAL_REPLAY_NUMBERS, &found,
-                                                       JOURNAL_MISMATCH_NUMBERS)) == 1) {
-        result = print_mismatch(&found);
-    } else if (result == 0) {
-        printf("same, %" PRIu64 " commands\n", replay.index);
+    if (result == 0) {
+        result = print_rest();
     }
     if (result < 0) {
         fprintf(stderr, "replay: %s\n", journal_error_text(result));

@@ -120,6 +120,8 @@ fi
 later_library
 stream_reader
 message_example "$prefix/lib/libpendratsoa.a" "$library"
+# shellcheck disable=SC2086 # the flags are split
+failing_message_example ${found:+$sanitized}
 replay_example "$prefix/lib/libpendratsoa.a" "$library"
 
 # The examples in C, without a warning of any compiler that is there, and the listing with each library.

@@ -137,6 +137,26 @@ message_example() {
   done
 }
 
+# failing_message_example FLAG..: that example where an allocation fails, compiled with these flags
+failing_message_example() {
+  compiled "examples/c/messages.c with failing allocations $*" -std=c99 -Wpedantic -Wconversion "$@" \
+    examples/c/messages.c tests/c/failing_realloc.c "$prefix/lib/libpendratsoa.a" -Wl,--wrap=realloc \
+    -o "$work/failing_messages"
+  # the chunk, the arena and the frame are allocated one after the other, and nothing after them
+  for fails in 1 2 3 4; do
+    # shellcheck disable=SC2086 # the words are split
+    FAILS=$fails $emulator "$work/failing_messages" 12 < "$work/stream" > "$out" 2> "$err"
+    status=$?
+    case $fails in
+      1) [ "$status" -eq 1 ] && [ "$(cat "$err")" = 'messages: the input or the output failed' ] ;;
+      4) [ "$status" -eq 0 ] && cmp -s "$work/wanted" "$out" ;;
+      *) [ "$status" -eq 1 ] && [ "$(cat "$err")" = 'messages: the item at 0: out of memory' ] && [ ! -s "$out" ] ;;
+    esac
+    outcome "examples/c/messages.c whose allocation $fails fails" $?
+  done
+  status=
+}
+
 # replay_example LIBRARY..: the example that checks a replay, with each library
 replay_example() {
   if ! command -v python3 > /dev/null; then

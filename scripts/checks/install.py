@@ -71,9 +71,10 @@ class Installation:
     def __init__(self, check: checks.Check):
         self.check = check
         self.prefix = check.work / "a prefix"
-        self.calls = re.findall(r"^int64_t (journal_[a-z_]*)\(", pathlib.Path("include/pendratsoa.h").read_text(), re.M)
-        reader = pathlib.Path("include/pendratsoa_reader.h").read_text()
-        self.calls += re.findall(r"^static inline .*\b(journal_reader_[a-z]+)\(", reader, re.M)
+        headers = (pathlib.Path(f"include/{name}.h").read_text() for name in ("pendratsoa", "pendratsoa_reader"))
+        self.calls = re.findall(
+            r"^(?:int64_t|static inline .*?) \*?(journal_[a-z_]*[a-z])\(", "".join(headers), re.M
+        )
         self.pages = (*INSTALLED, *crates.PAGES, "pendratsoa", *self.calls)
 
     def install(self, name: str, *words: str | pathlib.Path, **env: str) -> None:
@@ -95,12 +96,15 @@ class Installation:
             self.check.case(f"{' '.join(map(str, (name, *words)))}, installed", ended == expected, ended)
 
     def man_pages(self) -> None:
-        """Each program and each call has a man page, which man finds and mandoc finds nothing wrong with."""
+        """Each program and each function has a page of its own, which man finds and mandoc finds nothing wrong with."""
         pages = self.prefix / "share" / "man"
         for name in self.pages:
             self.check.case(f"the man page of {name}", any(pages.rglob(f"{name}.[13]")))
         names = {page.stem for page in (pages / "man3").iterdir()}
         self.check.case("no other man page of the library", names == {"pendratsoa", *self.calls}, names)
+        for name in self.calls:
+            lines = (pages / "man3" / f"{name}.3").read_text().splitlines()
+            self.check.case(f"{name} has a page of its own", any(line.startswith(f"{name} \\- ") for line in lines))
         if self.check.has("man", "the man pages by man"):
             env = {**os.environ, "LC_ALL": "C", "MANPATH": str(pages), "MANWIDTH": "80"}
             for name in self.pages:
@@ -112,8 +116,7 @@ class Installation:
                 pages_of = [checks.run(["man", *each], env=env) for each in ([name], words)]
                 self.check.case(f"man {' '.join(words)}", pages_of[0] == pages_of[1], pages_of[1])
         if self.check.has("mandoc", "the man pages by mandoc"):
-            files = [*sorted((pages / "man1").glob("*.1")), pages / "man3" / "pendratsoa.3"]
-            self.check.command("mandoc -T lint", ["mandoc", "-T", "lint", *files])
+            self.check.command("mandoc -T lint", ["mandoc", "-T", "lint", *sorted(pages.glob("man?/*.[13]"))])
 
     def completed(self, *words: str) -> list[str]:
         """What bash makes of the last word."""

@@ -44,20 +44,23 @@ static void say_name(uint64_t code) {
 
 /* How a stream ends. */
 static void say_end(const struct journal_reader *reader, int64_t result) {
-    const size_t pending = journal_reader_pending(reader);
-    const uint8_t *head = pending > 0 ? reader->memory.bytes + reader->begin : NULL;
+    const struct journal_reader_rest rest = journal_reader_finish(reader);
 
     if (result == JOURNAL_TOO_LONG) {
-        say("too_long %" PRIu64 " ", reader->offset);
-        say_name((uint64_t)head[0] << 8 | head[1]);
-        say(" %" PRIu32, (uint32_t)head[4] << 24 | (uint32_t)head[5] << 16 | (uint32_t)head[6] << 8 | head[7]);
+        say("too_long %" PRIu64 " ", rest.offset);
+        say_name(rest.code);
+        say(" %" PRIu32, rest.length);
     } else if (result < 0) {
         say("%s", journal_error_text(result));
-    } else if (pending == 0) {
+    } else if (rest.size == 0) {
         say("whole");
     } else {
-        say("incomplete %" PRIu64 " %zu ", reader->offset, pending);
-        say_name(pending < 8 ? 8 : (uint64_t)head[0] << 8 | head[1]);
+        say("incomplete %" PRIu64 " %zu ", rest.offset, rest.size);
+        if (rest.has_code) {
+            say_name(rest.code);
+        } else {
+            say("-");
+        }
     }
 }
 
@@ -350,6 +353,18 @@ static void replay(void) {
     }
     journal_reader_free(&reader);
     free(recorded.bytes);
+}
+
+/* How many bytes of a recording follow its last whole item. */
+static void rest(void) {
+    const uint32_t version = next_version();
+    struct journal_reader reader = reader_of_next(version);
+    struct journal_reader_item item;
+
+    while (journal_reader_next(&reader, &item) == 1) {
+    }
+    say("%zu", journal_reader_pending(&reader));
+    journal_reader_free(&reader);
 }
 
 /*
@@ -726,7 +741,7 @@ static void limit(void) {
 static const struct kind_of_line kinds[] = {{"items", items},       {"read", read_messages}, {"compare", compare},
                                             {"mismatch", mismatch}, {"replay", replay},      {"encode", encode},
                                             {"decode", decode},     {"json", json},          {"number", number},
-                                            {"limit", limit}};
+                                            {"limit", limit},       {"rest", rest}};
 
 static int check_line(char *line) { return check_words(line, kinds, sizeof kinds / sizeof *kinds); }
 

@@ -4,7 +4,8 @@
  * Each stream is read in chunks of every length up to 40, by each of the two ways in. The items and their offsets are
  * those of journal_next over the whole stream, and so are the trailing bytes, with their header. Every third allocation
  * fails, after which the same bytes are given again. Within a limit that is one byte less than a payload has, the
- * reader ends at the first such message, and the error stays. The last line is 'N passed, M failed'.
+ * reader ends at the first such message, and the error stays. What the stream ends with is looked at after each chunk,
+ * and for each beginning of an item. The last line is 'N passed, M failed'.
  */
 #include <stdio.h>
 #include <stdlib.h>
@@ -67,6 +68,23 @@ static int has_header(const struct journal_reader *reader, const uint8_t *pendin
     return is_there == (length >= 8) && code == wanted_code && size == wanted_size;
 }
 
+/* Whether a stream ends with these pending bytes, at this offset, and with the code and the length that they have. */
+static int has_rest(const struct journal_reader *reader, uint64_t offset, const uint8_t *pending, size_t length) {
+    const struct journal_reader_rest rest = journal_reader_finish(reader);
+    const uint64_t code = length < 2 ? 0 : (uint64_t)pending[0] * 256 + pending[1];
+    uint64_t announced = 0;
+
+    for (size_t at = 4; length >= 8 && at < 8; at++) {
+        announced = announced * 256 + pending[at];
+    }
+    if (rest.offset != offset || rest.size != length || (rest.bytes == NULL) != (length == 0) ||
+        (length > 0 && memcmp(rest.bytes, pending, length) != 0)) {
+        return 0;
+    }
+    return rest.has_code == (length >= 2) && rest.code == code && rest.has_length == (length >= 8) &&
+           rest.length == announced;
+}
+
 /* Whether the items of a stream in chunks are those of the whole, within a limit. */
 static int reads(uint32_t version, uint32_t limit, const uint8_t *stream, size_t length, size_t chunk, int is_copied) {
     struct journal_reader reader = journal_reader_of(version, limit);
@@ -86,7 +104,8 @@ static int reads(uint32_t version, uint32_t limit, const uint8_t *stream, size_t
                        found.payload_length == item.size - item.payload && found.payload_length <= limit;
             begin += (size_t)item.size;
         }
-        is_right = is_right && has_header(&reader, stream + begin, journal_reader_pending(&reader));
+        is_right = is_right && has_header(&reader, stream + begin, journal_reader_pending(&reader)) &&
+                   has_rest(&reader, begin, stream + begin, journal_reader_pending(&reader));
     }
     wanted = journal_next_within(version, limit, stream + begin, length - begin, &item, JOURNAL_ITEM_NUMBERS);
     is_right = is_right && wanted != 0 && reader.offset == begin;
@@ -155,6 +174,43 @@ static void check_memory(void) {
     outcome("memory", "-", 0, is_right && memory.bytes == NULL && memory.size == 0);
 }
 
+/* Each beginning of an item is the rest of a stream that ends there, after an item and without one. */
+static void check_rest(void) {
+    static const uint8_t stream[] = {0x00, 0x03, 0,    0,    0,    0,    0,    0,   0x04,
+                                     0x03, 0xFF, 0xFF, 0x80, 0x01, 0x02, 0x03, 0x0A};
+    const size_t first = 8;
+
+    for (size_t length = 0; length <= sizeof stream; length++) {
+        struct journal_reader reader = journal_reader_of(8, UINT32_MAX);
+        struct journal_reader_item item;
+        const size_t begin = length < first ? 0 : first;
+        int is_right = journal_reader_feed(&reader, stream, length) == 0;
+
+        while (journal_reader_next(&reader, &item) == 1) {
+        }
+        is_right = is_right && has_rest(&reader, begin, stream + begin, length - begin);
+        journal_reader_free(&reader);
+        outcome("the rest", "-", length, is_right && has_rest(&reader, begin, NULL, 0));
+    }
+}
+
+/* A code is that of a command, of a notification or of neither, whatever the name of its type is. */
+static void check_codes(void) {
+    int is_right = 1;
+
+    for (uint32_t code = 0; code <= UINT16_MAX; code++) {
+        const uint32_t upper = code >> 10;
+
+        is_right = is_right && journal_is_command((uint16_t)code) == (upper >= 1 && upper < 32) &&
+                   journal_is_notification((uint16_t)code) == (upper >= 32 && upper < 63);
+    }
+    outcome("the kind of each code", "-", 0, is_right);
+    outcome("a command", "-", 0, journal_is_command(JOURNAL_TYPE_SET_STATE_COMMAND));
+    outcome("a notification", "-", 0, journal_is_notification(JOURNAL_TYPE_SIGNAL_NOTIFICATION));
+    outcome("neither a command", "-", 0, !journal_is_command(JOURNAL_TYPE_GET_STATE_EPHEMERAL_COMMAND));
+    outcome("nor a notification", "-", 0, !journal_is_notification(JOURNAL_TYPE_GET_STATE_EPHEMERAL_NOTIFICATION));
+}
+
 /* Each error has a text of its own; a number that is none has that of its kind. */
 static void check_texts(void) {
     static const int64_t errors[] = {
@@ -181,6 +237,8 @@ int main(int count, char **words) {
         check_stream((uint32_t)strtoul(words[1], NULL, 10), words[i]);
     }
     check_memory();
+    check_rest();
+    check_codes();
     check_texts();
     printf("%ld passed, %ld failed\n", passed, failed);
     return failed != 0;
