@@ -28,6 +28,7 @@ import sys
 import tempfile
 
 import markdown_page
+import python_pages
 import rattle_pages
 
 PARTS = pathlib.Path(__file__).resolve().parent
@@ -127,6 +128,7 @@ def go(made: Work) -> Undocumented:
 
 
 CONF = """\
+import enum
 import sys
 
 sys.path.insert(0, {folder!r})
@@ -138,6 +140,24 @@ autodoc_typehints = "signature"
 html_theme = "alabaster"
 html_copy_source = False
 html_show_sourcelink = False
+
+
+def without_signature(app, what, name, member, *_):
+    # an enumeration has that of Enum
+    return ("", None) if what == "class" and issubclass(member, enum.Enum) else None
+
+
+def with_programs(app, what, name, member, options, lines):
+    # an indented paragraph of a docstring is a program
+    for at in range(len(lines) - 1, 0, -1):
+        before = next((line for line in reversed(lines[:at]) if line), "")
+        if lines[at].startswith("    ") and not lines[at - 1] and not before.startswith("    "):
+            lines[at:at] = ["::", ""]
+
+
+def setup(app):
+    app.connect("autodoc-process-signature", without_signature)
+    app.connect("autodoc-process-docstring", with_programs)
 """
 INDEX = """\
 pendratsoa for Python
@@ -159,14 +179,20 @@ MODULE = """\
 .. automodule:: {name}
    :members:
    :imported-members:
+   :inherited-members: {ends}
    :exclude-members: {constants}
 
 """
 CONSTANT = """\
 .. py:data:: {name}
-   :module: {module}
+   :module: {module}{value}
 
    {text}
+
+"""
+BASE = """\
+.. autoclass:: pendratsoa.messages.{name}
+   :members:
 
 """
 
@@ -176,23 +202,43 @@ def python(made: Work) -> Undocumented:
     # the folder of the tool is that of the Python which has it
     tool = needs("sphinx-build", "python3-sphinx")
     folder = copy("python", made.work)
+    python_pages.add_sentences(folder / "pendratsoa", ROOT / "proto" / "calls.json")
     pages = made.work / "pages"
     pages.mkdir()
     (pages / "conf.py").write_text(CONF.format(folder=str(folder), version=version()))
     lines = example("python/README.md", "python").splitlines()
     (pages / "index.rst").write_text(INDEX.format(example="\n".join(f"   {line}".rstrip() for line in lines)))
-    public = [each for each in public_python(folder / "pendratsoa") if isinstance(each[1], (ast.Assign, ast.AnnAssign))]
-    for module in ("pendratsoa", "pendratsoa.messages"):
-        constants = {name: text for of, _, name, text in public if of == module}
-        page = MODULE.format(name=module, line="=" * len(module), constants=", ".join(constants))
-        page = page if module == "pendratsoa" else page.replace("   :imported-members:\n", "")
-        for name, text in constants.items():
-            page += CONSTANT.format(name=name, module=module, text=f"{text[:1].upper()}{text[1:]}.".replace("..", "."))
-        (pages / f"{module.rpartition('.')[2]}.rst").write_text(page)
+    for module in PYTHON_MODULES:
+        (pages / f"{module.rpartition('.')[2]}.rst").write_text(python_page(folder / "pendratsoa", module))
     run(tool, "-q", "-b", "html", "-d", made.work / "doctrees", pages, made.out,
         PYTHONDONTWRITEBYTECODE="1", PENDRATSOA_PURE="1", LC_ALL="C.UTF-8")
     (made.out / ".buildinfo").unlink(missing_ok=True)
-    return undocumented_python(ROOT / "python" / "pendratsoa")
+    missing = undocumented_python(folder / "pendratsoa")
+    for module in PYTHON_MODULES:
+        public = {name for of, _, name, _ in public_python(folder / "pendratsoa") if of == module}
+        page = made.out / f"{module.rpartition('.')[2]}.html"
+        missing += python_pages.not_shown(folder / "pendratsoa", page, module, public)
+    return missing
+
+
+PYTHON_MODULES = ("pendratsoa", "pendratsoa.messages")
+
+
+def python_page(folder: pathlib.Path, module: str) -> str:
+    """The page of a module, for Sphinx: its classes and functions, and after them its constants."""
+    constants = [each[1:] for each in public_python(folder)
+                 if each[0] == module and isinstance(each[1], (ast.Assign, ast.AnnAssign))]
+    page = MODULE.format(name=module, line="=" * len(module), ends=", ".join(python_pages.ENDS),
+                         constants=", ".join(name for _, name, _ in constants))
+    if module != "pendratsoa":
+        # the members of all records are shown once
+        page = re.sub("   :(imported|inherited)-members:.*\n", "", page)
+        page += "".join(BASE.format(name=name) for name in python_pages.BASES)
+    for node, name, text in constants:
+        is_type = isinstance(node.value, ast.Subscript)
+        page += CONSTANT.format(name=name, module=module, text=f"{text[:1].upper()}{text[1:]}.".replace("..", "."),
+                                value=f"\n   :value: {ast.unparse(node.value)}" if is_type else "")
+    return page
 
 
 def undocumented_python(folder: pathlib.Path) -> Undocumented:
@@ -243,33 +289,30 @@ def defined(node: ast.stmt) -> list[str]:
     return [target.id for target in targets if isinstance(target, ast.Name)]
 
 
-# The members of a class that every reader of Python knows, and the numbers of a record.
-KNOWN = ("SCHEMA", "CODE", "TYPE", "BEFORE_VERSION")
-
-
 def undocumented_members(node: ast.ClassDef) -> list[str]:
-    """The public members of a class that have no docstring, and are not named in that of the class. An enumeration has
-    one for all of its members, and so has a class with one field."""
-    is_enum = any(base.id.endswith(("Enum", "Kind")) for base in node.bases if isinstance(base, ast.Name))
+    """The public members of a class that have no docstring, and are not named in that of the class. A class with one
+    field has one for both."""
     found = [(name, text) for member, text in documented(node.body, []) for name in defined(member)
-             if not (name.startswith("_") or name in KNOWN or is_enum and isinstance(member, ast.Assign))]
+             if not (name.startswith("_") or name in python_pages.KNOWN)]
     said = (ast.get_docstring(node) or "").lower()
     return [name for name, text in found if not text and len(found) > 1 and name.lower() not in said]
 
 
 def ruby(made: Work) -> Undocumented:
-    """The pages of YARD."""
+    """The pages of YARD, with comments as Markdown, which rdoc reads, and types of the signatures."""
     needs("yard", "yard")
     folder = copy("ruby", made.work)
     # what is generated says so to git, and no tag of YARD begins so
     for path in folder.glob("lib/**/*.rb"):
         path.write_text(re.sub(r"^# @generated.*\n", "", path.read_text(), flags=re.MULTILINE))
-    page = "= pendratsoa for Ruby\n\n" + "".join(
-        f"  {line}".rstrip() + "\n" for line in example("ruby/README.md", "ruby").splitlines())
-    (folder / "START.rdoc").write_text(page + "\nPendratsoa is the module of all names.\n")
-    words = ("--no-cache", "--quiet", "--no-progress", "--no-private", "--markup", "rdoc", "--readme", "START.rdoc",
-             "--title", "pendratsoa for Ruby", "--db", made.work / "yard")
-    run("yard", "doc", *words, "-o", made.out, "lib/**/*.rb", cwd=folder, LC_ALL="C.UTF-8")
+    page = "# pendratsoa for Ruby\n\n" + "".join(
+        f"    {line}".rstrip() + "\n" for line in example("ruby/README.md", "ruby").splitlines())
+    (folder / "START.md").write_text(page + "\n{Pendratsoa} is the module of all names.\n")
+    words = ("--no-cache", "--quiet", "--no-progress", "--no-private", "--markup", "markdown", "--markup-provider",
+             "rdoc", "--readme", "START.md", "--title", "pendratsoa for Ruby", "--db", made.work / "yard",
+             "--load", PARTS / "returned.rb", "--default-return", "")
+    # the comment of the module is that of the last file
+    run("yard", "doc", *words, "-o", made.out, "lib/*/**/*.rb", "lib/*.rb", cwd=folder, LC_ALL="C.UTF-8")
     for path in made.out.rglob("*.html"):
         # the date is that of the making
         text = re.sub(r"Generated on .*? by", "Generated by", path.read_text(encoding="utf-8"), flags=re.DOTALL)

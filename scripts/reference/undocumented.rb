@@ -16,5 +16,6 @@ YARD::Registry.all(:module, :class, :method, :constant).each do |object|
   hidden = private_paths.any? { |outer| path == outer || path.start_with?("#{outer}::", "#{outer}#", "#{outer}.") }
   next if hidden || object.root? || object.visibility != :public || path.match?(METHODS) || path.match?(CONSTANTS)
 
-  puts path if object.docstring.blank?(false) && object.tags.empty?
+  # a type is not a sentence
+  puts path if object.docstring.empty? && object.tags.all? { |tag| tag.text.to_s.empty? }
 end
