@@ -2,6 +2,7 @@ package pendratsoa
 
 import (
 	"bytes"
+	"encoding/binary"
 	"errors"
 	"io"
 	"testing"
@@ -33,6 +34,18 @@ func TestItemsAreCopiedAsTheyCame(t *testing.T) {
 			})
 			if !bytes.Equal(copied.Bytes(), stream) || !bytes.Equal(written.Bytes(), stream) {
 				t.Errorf("at version %d the copy is %x", version, copied.Bytes())
+			}
+		}
+	}
+}
+
+// The comment of Item says so.
+func TestItemsBeginWithTheirCode(t *testing.T) {
+	for version, digits := range faithful {
+		for _, item := range itemsIn(version, unhex(t, digits)) {
+			code, _, _ := partsOf(item)
+			if found := binary.BigEndian.Uint16(item.Bytes()); found != code {
+				t.Errorf("%v begins with %#04x", item, found)
 			}
 		}
 	}

@@ -81,9 +81,9 @@ func (e *MessageTooLong) Unwrap() error {
 	return ErrTooLong
 }
 
-// SetMaxMessageSize sets the greatest size of a payload that Next returns; without it there is no limit. For a larger
-// message the error is a *MessageTooLong as soon as its header was read, and of each call from then on: what was read
-// of it is dropped.
+// SetMaxMessageSize sets the greatest size of a payload that Next returns, in bytes; without it there is no limit. The
+// eight bytes of a header do not count for it. For a larger message the error is a *MessageTooLong as soon as its
+// header was read, and of each call from then on: what was read of it is dropped.
 func (d *Decoder) SetMaxMessageSize(size uint32) {
 	d.limit, d.hasLimit = size, true
 	// what was found may be larger
@@ -242,7 +242,7 @@ func (d *Decoder) look() (int64, error) {
 // incomplete returns the error that the stream ended within the item that the rest begins.
 func (d *Decoder) incomplete() error {
 	found := &IncompleteError{Offset: d.offset, Rest: len(d.rest)}
-	if len(d.rest) >= headerSize {
+	if len(d.rest) >= codeSize {
 		found.Code = binary.BigEndian.Uint16(d.rest)
 		found.Type, _ = TypeName(found.Code)
 	}

@@ -373,7 +373,7 @@ func TestMessage(t *testing.T) {
 	}
 	_, err = call.Notification()
 	wantError(t, err, ErrUnknown,
-		"pendratsoa: ReadNotification: unknown code 0x040d, or not of the kind that the call is for")
+		"pendratsoa: Notification: unknown code 0x040d, or not of the kind that the call is for")
 }
 
 func TestMessageOfItsVersion(t *testing.T) {
@@ -426,6 +426,7 @@ func TestKindsOfMessages(t *testing.T) {
 	for code, want := range map[uint16][2]bool{
 		0x0000: {false, false}, 0x03ff: {false, false}, 0x0400: {true, false}, 0x7fff: {true, false},
 		0x8000: {false, true}, 0xfbff: {false, true}, 0xfc00: {false, false}, 0xffff: {false, false},
+		CodeGetStateEphemeralCommand: {false, false}, CodeGetStateEphemeralNotification: {false, false},
 	} {
 		message := &Message{Version: 8, Code: code}
 		if message.IsCommand() != want[0] || message.IsNotification() != want[1] {

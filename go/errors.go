@@ -37,7 +37,7 @@ var (
 
 // An Error says of which function, and of which of its arguments, an error is.
 type Error struct {
-	// Call is the name of the function, as "Canonical".
+	// Call is the name of the function or method, as "Canonical".
 	Call string
 	// Argument is the argument and its value, as "schema 53" or "payload of 12 bytes".
 	Argument string
@@ -90,8 +90,8 @@ type IncompleteError struct {
 	// Offset is where the item begins in the stream, in bytes, and Rest how many bytes of it came.
 	Offset int64
 	Rest   int
-	// Code is the code of the item's type, and Type its name, as "SetStateCommand". They are 0 and empty if less than a
-	// header came; Type is empty too if no type has the code.
+	// Code is the code of the item's type, and Type its name, as "SetStateCommand". They are 0 and empty if only one byte
+	// came, since the first two have the code; Type is empty too if no type has the code.
 	Code uint16
 	Type string
 }

@@ -56,7 +56,7 @@ type MessageRecord interface {
 // into. The errors are those of Schema and Canonical; one of the payload is a *MessageError. The function As returns
 // the record of one type.
 func (m *Message) Record() (Record, error) {
-	schema, err := m.Schema()
+	schema, err := schemaOf("Record", m.Version, m.Code)
 	if err != nil {
 		// what has a header and no schema is a custom entry
 		if _, headerErr := Header(m.Version, m.Code, 0); headerErr == nil {
@@ -68,7 +68,7 @@ func (m *Message) Record() (Record, error) {
 	if record == nil {
 		return nil, &Error{"Record", named("schema", schema), ErrUnexpected}
 	}
-	if err := unmarshal(record, m.Payload); err != nil {
+	if err := readRecord("Record", record, m.Payload); err != nil {
 		return nil, m.located(err)
 	}
 	return record, nil
@@ -92,7 +92,7 @@ func As[R Record](item Item) (record R, ok bool, err error) {
 	if !ok {
 		return record, false, nil
 	}
-	if err := unmarshal(found, message.Payload); err != nil {
+	if err := readRecord("As", found, message.Payload); err != nil {
 		return record, false, message.located(err)
 	}
 	return found, true, nil
@@ -127,6 +127,8 @@ type fieldName struct {
 
 // A fieldTable is the entries of a payload, which are read one by one.
 type fieldTable struct {
+	// call is what errors name
+	call    string
 	fields  []tableField
 	at      int
 	payload []byte
@@ -175,14 +177,20 @@ func (t *fieldTable) textsToCome() int {
 
 // unknown returns the error that a later library knows more fields.
 func (t *fieldTable) unknown(record string) error {
-	return &Error{"UnmarshalBinary", "field of " + record, ErrUnexpected}
+	return &Error{t.call, "field of " + record, ErrUnexpected}
 }
 
 var tables = sync.Pool{New: func() any { return new(fieldTable) }}
 
-// unmarshal reads a record from a payload.
+// unmarshal reads a record from a payload, for UnmarshalBinary.
 func unmarshal(record Record, payload []byte) error {
+	return readRecord("UnmarshalBinary", record, payload)
+}
+
+// readRecord reads a record from a payload, for a call, which an error names.
+func readRecord(call string, record Record, payload []byte) error {
 	table := tables.Get().(*fieldTable)
+	table.call = call
 	err := table.find(record.Schema(), payload)
 	if err == nil {
 		err = record.read(table, 0)
@@ -199,7 +207,7 @@ func (t *fieldTable) find(schema int, payload []byte) error {
 	fields := t.room[:]
 	count := journalFields(uint32(schema), payload, fields)
 	if count == notCanonical {
-		canonical, err := Canonical(schema, payload)
+		canonical, err := payloadWritten(t.call, schema, payload, len(payload), journalCanonical)
 		if err != nil {
 			return err
 		}
@@ -211,7 +219,7 @@ func (t *fieldTable) find(schema int, payload []byte) error {
 		count = journalFields(uint32(schema), payload, fields)
 	}
 	if count < 0 {
-		return schemaError("UnmarshalBinary", count, schema, bytesText("payload", payload))
+		return schemaError(t.call, count, schema, bytesText("payload", payload))
 	}
 	t.fields, t.payload = fields[:count], payload
 	return nil

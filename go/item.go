@@ -8,6 +8,8 @@ import (
 )
 
 // An Item is what a stream consists of: a *Message, an *UnknownCode or a *Skipped. Its String is a line of a listing.
+// Each has a field Code. One that was received begins with it, so binary.BigEndian.Uint16(item.Bytes()) is the code of
+// an item of any kind.
 type Item interface {
 	fmt.Stringer
 	// WriteTo writes the item as received.
@@ -33,7 +35,8 @@ type Message struct {
 	position position
 }
 
-// An UnknownCode is eight bytes with an unassigned code, before version 9.
+// An UnknownCode is eight bytes with an unassigned code, before version 9: an item of its own, which the programs call
+// an unknown header.
 type UnknownCode struct {
 	// Version is that of its stream, and Code the unassigned code.
 	Version int
@@ -239,12 +242,18 @@ func (m *Message) Schema() (int, error) {
 	return Schema(m.Version, m.Code)
 }
 
-// IsCommand returns whether the message is a command. A custom entry counts by its code.
+// IsCommand returns whether the message is a command, by its code. GetStateEphemeralCommand is neither a command nor a
+// notification, since it is not recorded in the journal.
+//
+// A custom entry is a message of any code that no named type has, with one of its upper six bits set, 0x0400 and above.
+// By its code it may count as a command or a notification; a replay does not compare it.
 func (m *Message) IsCommand() bool {
 	return firstCommand <= m.Code && m.Code < firstNotification
 }
 
-// IsNotification returns whether the message is a notification. A custom entry counts by its code.
+// IsNotification returns whether the message is a notification, by its code. GetStateEphemeralNotification is neither a
+// command nor a notification, since it is not recorded in the journal. A custom entry counts by its code, as
+// IsCommand describes.
 func (m *Message) IsNotification() bool {
 	return firstNotification <= m.Code && m.Code < endOfNotifications
 }
@@ -310,7 +319,7 @@ func (m *Message) WriteFrame(writer io.Writer, version int) error {
 // Notification returns the id and the result of the message, if it is a notification. The errors are those of
 // ReadNotification; one of the payload is a *MessageError.
 func (m *Message) Notification() (Notification, error) {
-	notification, err := ReadNotification(m.Code, m.Payload)
+	notification, err := readNotification("Notification", m.Code, m.Payload)
 	return notification, m.located(err)
 }
 

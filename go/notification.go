@@ -37,17 +37,22 @@ type Notification struct {
 // ReadNotification returns the id and the result of the notification that a payload holds. ErrUnknown if the code is
 // that of no notification; ErrMalformed, ErrNoID, ErrNoResult, ErrTooLong, ErrOutOfMemory.
 func ReadNotification(code uint16, payload []byte) (Notification, error) {
+	return readNotification("ReadNotification", code, payload)
+}
+
+// readNotification is ReadNotification for a call, which an error names.
+func readNotification(call string, code uint16, payload []byte) (Notification, error) {
 	var numbers [notificationNumbers]uint64
 	found, result := written(len(payload), func(out []byte) int64 {
 		return journalNotification(code, payload, &numbers, out)
 	})
 	if result < 0 {
 		given := arguments{code: codeText(code), payload: bytesText("payload", payload)}
-		return Notification{}, given.refusal("ReadNotification", result)
+		return Notification{}, given.refusal(call, result)
 	}
 	notification, err := notificationOf(numbers[:], found)
 	if err != nil {
-		return Notification{}, &Error{"ReadNotification", bytesText("payload", payload), err}
+		return Notification{}, &Error{call, bytesText("payload", payload), err}
 	}
 	return notification, nil
 }

@@ -17,8 +17,8 @@ import (
 // The cases of conformance/packages.cases, which its README specifies: what each kind of line returns for its words.
 var packageCases = map[string]func(t *testing.T, words []string) string{
 	"items": itemsCase, "too_long": tooLongCase, "read": readCase, "as": asCase, "compare": compareCase,
-	"mismatch": mismatchCase, "replay": stepsCase, "encode": encodeCase, "message": messageCase, "decode": decodeCase,
-	"json": jsonCase, "number": numberCase, "name": nameCase, "limit": limitCase,
+	"mismatch": mismatchCase, "replay": stepsCase, "rest": restCase, "encode": encodeCase, "message": messageCase,
+	"decode": decodeCase, "json": jsonCase, "number": numberCase, "name": nameCase, "limit": limitCase,
 }
 
 func TestPackages(t *testing.T) {
@@ -408,6 +408,11 @@ func stepOf(t *testing.T, replay *Replay, said *Mismatch) string {
 	return fmt.Sprintf("%s %d %d %s", kind, replay.Index(), expected.Offset(), expected.Type())
 }
 
+func restCase(t *testing.T, words []string) string {
+	replay := must(NewReplay(must(strconv.Atoi(words[0]))(t), bytesOf(t, words[1]), Ignored{}))(t)
+	return strconv.Itoa(replay.RecordedRest())
+}
+
 func limitCase(t *testing.T, words []string) string {
 	limit, err := strconv.ParseUint(words[0], 10, 32)
 	if err != nil {
@@ -479,9 +484,37 @@ func TestErrorsOfAMessageThatDidNotCome(t *testing.T) {
 	}
 }
 
+// An error names the call that was made, also where that calls another function.
+func TestErrorsNameTheCall(t *testing.T) {
+	message := &Message{Version: 8, Code: CodeSetStateCommand, Payload: unhex(t, "0a0561")}
+	signal := &Message{Version: 8, Code: CodeSignalNotification, Payload: []byte{0xff}}
+	_, recordErr := message.Record()
+	_, _, asErr := As[*SetStateCommandMessage](message)
+	_, notificationErr := signal.Notification()
+	_, functionErr := ReadNotification(signal.Code, signal.Payload)
+	decodeErr := new(Value).UnmarshalBinary(message.Payload)
+	_, versionErr := (&Message{Version: 4, Code: CodeEnd}).Record()
+	for want, err := range map[string]error{
+		"Record: SetStateCommand: payload of 3 bytes: not well-formed for its schema":         recordErr,
+		"As: SetStateCommand: payload of 3 bytes: not well-formed for its schema":             asErr,
+		"UnmarshalBinary: payload of 3 bytes: not well-formed for its schema":                 decodeErr,
+		"Notification: SignalNotification: payload of 1 byte: not well-formed for its schema": notificationErr,
+		"ReadNotification: payload of 1 byte: not well-formed for its schema":                 functionErr,
+		"Record: unknown protocol version 4 (5 to 9)":                                         versionErr,
+	} {
+		if err == nil || err.Error() != "pendratsoa: "+want {
+			t.Errorf("%v, and not %s", err, want)
+		}
+	}
+}
+
 func TestIncompleteErrorSaysWhere(t *testing.T) {
 	for digits, want := range map[string]string{
 		input + "04":                            "an item at offset 17, after 1 byte of it",
+		input + "0403":                          "SetStateCommand at offset 17, after 2 bytes of it",
+		input + "040300":                        "SetStateCommand at offset 17, after 3 bytes of it",
+		input + "0000":                          "Start at offset 17, after 2 bytes of it",
+		input + "00080000000000":                "code 0x0008 at offset 17, after 7 bytes of it",
 		input + "0403000000000003" + "0a05":     "SetStateCommand at offset 17, after 10 bytes of it",
 		input + "fc01000000000001":              "CustomEntry(64513) at offset 17, after 8 bytes of it",
 		"00030000000000000403000000000003" + "": "SetStateCommand at offset 8, after 8 bytes of it",

@@ -1,10 +1,14 @@
 package pendratsoa
 
+import "math"
+
 // A ChangedField is a field in which two commands differ, as the text of their mismatch prints it.
 type ChangedField struct {
-	// Name is that of the field.
+	// Name is that of the field in the .proto, as "handler_name".
 	Name string
-	// Recorded is what the recorded command has, and Replayed what the replayed one has.
+	// Recorded is what the recorded command has, and Replayed what the replayed one has. A text is as it is in the
+	// journal, of any length and with any control characters; bytes are quoted. Escape them before you print them in a
+	// line.
 	Recorded, Replayed string
 }
 
@@ -21,7 +25,8 @@ type Mismatch struct {
 	ReplayedOffset int64
 	// Text is that of a mismatch of two commands, as the SDKs report it, and otherwise empty.
 	Text string
-	// Fields are the printed fields in which two commands of one type differ.
+	// Fields are the printed fields in which two commands of one type differ. There are none if the commands differ only
+	// in what is not printed, such as the name of most commands.
 	Fields []ChangedField
 }
 
@@ -58,7 +63,7 @@ func (i Ignored) options() uint64 {
 }
 
 // NewReplay returns a replay of a version that is checked by a recording, which is a whole journal and must not change
-// meanwhile. ErrUnknown for an unknown version.
+// meanwhile. RecordedRest tells whether it is whole. ErrUnknown for an unknown version.
 func NewReplay(version int, recorded []byte, ignored Ignored) (*Replay, error) {
 	number, err := unsigned("NewReplay", versionName, version)
 	if err != nil {
@@ -77,6 +82,23 @@ func NewReplay(version int, recorded []byte, ignored Ignored) (*Replay, error) {
 // Index returns how many commands were the same, which is the index of the one that comes next.
 func (r *Replay) Index() uint64 {
 	return r.numbers[replayIndex]
+}
+
+// RecordedRest returns how many bytes of the recording follow its last whole item, which are not compared: 0 of a whole
+// one. It walks over the recording, and changes nothing.
+func (r *Replay) RecordedRest() int {
+	// the command that was the same last, or the beginning, is where an item begins
+	rest := r.recorded[r.numbers[replayRecordedOffset]:]
+	var found [mostItems][itemNumbers]uint64
+	for {
+		count := journalItems(uint32(r.version), math.MaxUint32, rest, found[:])
+		if count <= 0 {
+			return len(rest)
+		}
+		for i := range found[:count] {
+			rest = rest[found[i][itemSize]:]
+		}
+	}
 }
 
 // Check checks the next item of the replay by the command that comes next in the recording. It returns nil if there is

@@ -74,6 +74,7 @@ func commandsIn(version int, stream []byte) []*Message {
 func replayCase(t *testing.T, version int, recorded, replayed []byte, ignorePayloads bool) string {
 	t.Helper()
 	replay := must(NewReplay(version, recorded, Ignored{Payloads: ignorePayloads}))(t)
+	wantRest(t, replay, version, recorded)
 	commands := commandsIn(version, recorded)
 	items := itemsIn(version, replayed)
 	count, index := 0, 0
@@ -97,6 +98,7 @@ func replayCase(t *testing.T, version int, recorded, replayed []byte, ignorePayl
 	} else {
 		mismatch = must(replay.Finish())(t)
 	}
+	wantRest(t, replay, version, recorded)
 	verdict := must(CompareJournals(version, recorded, replayed, ignorePayloads))(t)
 	if replay.Index() != verdict.Index {
 		t.Errorf("%d commands are the same, and the verdict is %+v", replay.Index(), verdict)
@@ -129,6 +131,16 @@ func wantExpected(t *testing.T, replay *Replay, commands []*Message) {
 		t.Errorf("expected: %v %v %v", found, isThere, err)
 	} else if isThere && !reflect.DeepEqual(found, commands[0]) {
 		t.Errorf("expected: %v, and not %v", found, commands[0])
+	}
+}
+
+// wantRest fails unless as many bytes follow the last whole item of a recording as a decoder does not return.
+func wantRest(t *testing.T, replay *Replay, version int, recorded []byte) {
+	t.Helper()
+	decoder := NewDecoder(bytes.NewReader(recorded), version)
+	_, _ = all(decoder)
+	if found := replay.RecordedRest(); found != decoder.Rest() {
+		t.Errorf("%d bytes follow the last whole item, and not %d", found, decoder.Rest())
 	}
 }
 
@@ -187,6 +199,30 @@ func TestReplayArguments(t *testing.T) {
 	for _, item := range []Item{nil, (*Message)(nil), (*UnknownCode)(nil), (*Skipped)(nil)} {
 		_, err := replay.Check(item)
 		wantError(t, err, ErrUnknown, text)
+	}
+}
+
+// Of more items than are looked for at once, before and after each of them is checked, and of none.
+func TestRecordedRest(t *testing.T) {
+	recorded := bytes.Repeat(unhex(t, "040c000000000000"), 3*mostItems)
+	for _, trailing := range []string{"", "04", "04030000000000"} {
+		replay := must(NewReplay(8, append(recorded, unhex(t, trailing)...), Ignored{}))(t)
+		for _, item := range itemsIn(8, recorded) {
+			before := replay.numbers
+			if found := replay.RecordedRest(); found != len(trailing)/2 || replay.numbers != before {
+				t.Fatalf("after %d commands: %d, and not %d", replay.Index(), found, len(trailing)/2)
+			}
+			if mismatch := must(replay.Check(item))(t); mismatch != nil {
+				t.Fatalf("%+v", mismatch)
+			}
+		}
+		if found := replay.RecordedRest(); found != len(trailing)/2 {
+			t.Errorf("at the end: %d, and not %d", found, len(trailing)/2)
+		}
+	}
+	var zero Replay
+	if found := zero.RecordedRest(); found != 0 {
+		t.Errorf("of no recording: %d", found)
 	}
 }
 

@@ -18,7 +18,12 @@ func LibraryVersion() (string, error) {
 // Schema returns the number of the schema that payloads of a type have at a version. A custom entry has none:
 // ErrUnknown.
 func Schema(version int, code uint16) (int, error) {
-	number, err := unsigned("Schema", versionName, version)
+	return schemaOf("Schema", version, code)
+}
+
+// schemaOf is Schema for a call, which an error names.
+func schemaOf(call string, version int, code uint16) (int, error) {
+	number, err := unsigned(call, versionName, version)
 	if err != nil {
 		return 0, err
 	}
@@ -29,7 +34,7 @@ func Schema(version int, code uint16) (int, error) {
 	}
 	schema := journalSchema(number, code)
 	if schema < 0 {
-		return 0, versionAndCode(version, code).refusal("Schema", schema)
+		return 0, versionAndCode(version, code).refusal(call, schema)
 	}
 	if schema < 0xffff {
 		known.Store(key | uint64(schema+1))
@@ -101,8 +106,11 @@ func didYouMean(name string) string {
 	return fmt.Sprintf("; did you mean %q?", name)
 }
 
-// headerSize is how many bytes a header has.
-const headerSize = 8
+// headerSize is how many bytes a header has, and codeSize how many of them have the code, which are the first.
+const (
+	headerSize = 8
+	codeSize   = 2
+)
 
 // Header returns the eight bytes that come before a payload of this length. ErrUnknown for an unknown version and for
 // an unassigned code; ErrTooLong for a length of more than 4,294,967,295 bytes, ErrNegative for one below 0.

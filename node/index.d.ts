@@ -67,7 +67,13 @@ export type Item = AnyTyped | UnknownCode | Skipped;
 /** A message of any type. */
 export type AnyTyped = { [T in NamedType]: Message<T> }[NamedType] | Message<`CustomEntry(${number})`>;
 
-/** A message of a stream. */
+/**
+ * A message of a stream.
+ *
+ * A custom entry is a message of any code that no named type has, with one of its upper six bits set, 0x0400 and above.
+ * It has no record, no JSON and no frame of its own. By its code it may count as a command or a notification; a replay
+ * does not compare it.
+ */
 export class Message<T extends TypeName = TypeName> {
   constructor(version: number, code: number, payload: Uint8Array, requestedAck?: boolean);
 
@@ -76,6 +82,7 @@ export class Message<T extends TypeName = TypeName> {
    * version.
    * @param version the protocol version, by default 8
    * @throws {FieldError} a field cannot be encoded
+   * @throws {TypeError} a value is of another kind than its field, or no field has the name
    * @throws {Unknown} the version is none, or no named type has the name
    */
   static of<T extends NamedType>(type: T, record: Init<MessageRecords[T]>, version?: number): Message<T>;
@@ -87,6 +94,13 @@ export class Message<T extends TypeName = TypeName> {
    * @throws {JsonError} it means no such message
    * @throws {Unknown} the version is none, or no named type has the code or the name
    */
+  static fromJson<T extends NamedType>(
+    type: T,
+    json: string | Uint8Array | JsonObject,
+    version?: number,
+  ): Message<T>;
+
+  /** The same of a type by its code or its name. */
   static fromJson(type: number | NamedType, json: string | Uint8Array | JsonObject, version?: number): Message;
 
   readonly kind: 'message';
@@ -141,10 +155,13 @@ export class Message<T extends TypeName = TypeName> {
    */
   get schema(): number;
 
-  /** Whether it is a command, by its code. Custom entries count by their codes too. */
+  /**
+   * Whether it is a command, by its code. So may be a custom entry: a message of any code that no named type has, with
+   * one of its upper six bits set, 0x0400 and above. A replay does not compare it.
+   */
   get isCommand(): boolean;
 
-  /** Whether it is a notification, by its code. Custom entries count by their codes too. */
+  /** Whether it is a notification, by its code. So may be a custom entry, as of `isCommand`. */
   get isNotification(): boolean;
 
   /**
@@ -163,10 +180,11 @@ export class Message<T extends TypeName = TypeName> {
   canonical(): Uint8Array;
 
   /**
-   * Its frame at a version, by default its own: a header, and after it the canonical payload.
+   * Its frame at a version, by default its own: a header, and after it the canonical payload. It is for a message that
+   * is made or changed: unknown fields of the payload and ignored bits of the header are lost. `bytes` is what came.
    * @throws {Malformed} a payload is not well-formed for its schema
-   * @throws {Unknown} a custom entry has no schema; the version cannot have the payload: a suspension before version 7
-   *   has no frame from 7 on, and one since then has a frame at each
+   * @throws {Unknown} a custom entry has no frame of its own; the version cannot have the payload: a suspension before
+   *   version 7 has no frame from 7 on, and one since then has a frame at each
    */
   frame(version?: number, options?: FrameOptions): Uint8Array;
 
@@ -174,7 +192,7 @@ export class Message<T extends TypeName = TypeName> {
    * Writes its frame, at a version, by default its own, to the front of an array, as the function `frameInto`.
    * @returns its length; if that is more than the length of the array, nothing is written
    * @throws {Malformed} a payload is not well-formed for its schema
-   * @throws {Unknown} a custom entry has no schema
+   * @throws {Unknown} a custom entry has no frame of its own
    */
   frameInto(out: Uint8Array, version?: number, options?: FrameOptions): number;
 
@@ -194,7 +212,10 @@ export class Message<T extends TypeName = TypeName> {
   toJSON(): JsonObject;
 }
 
-/** A header with an unassigned code, before version 9: eight bytes, which are skipped. */
+/**
+ * A header with an unassigned code, before version 9: eight bytes, an item of its own, which is skipped. The programs
+ * call it an unknown header.
+ */
 export class UnknownCode {
   constructor(version: number, code: number, word: bigint);
 
@@ -262,9 +283,9 @@ export class Skipped {
 /** What a stream takes. Any other name is a `TypeError`. */
 export interface StreamOptions {
   /**
-   * The greatest size of a payload in bytes; without it there is no limit. A larger message is a `MessageTooLong` as
-   * soon as its header came, and ends the stream: what came is dropped, and from then on each loop, `feed` and `finish`
-   * throw that error.
+   * The greatest size of a payload in bytes; without it there is no limit. The 8 bytes of a header do not count. A
+   * message with a larger payload is a `MessageTooLong` as soon as its header came, and ends the stream: what came is
+   * dropped, and from then on each loop, `feed` and `finish` throw that error.
    */
   maxMessageSize?: number;
 
@@ -333,6 +354,7 @@ export function decode(version?: number, options?: StreamOptions): TransformStre
 
 /**
  * The items of the chunks of a source: a readable stream of Node or of the web, or anything else that can be iterated.
+ * A synchronous one, as `[bytes]`, is for what is there as a whole; a `Stream` gives its items without `await`.
  * It throws `Incomplete` if the source ends within an item, and whatever the source throws. A loop that ends early
  * closes the source.
  * @param version the protocol version, by default 8
@@ -617,9 +639,12 @@ export function compareJournals(
   options?: CompareOptions,
 ): Verdict;
 
-/** A field in which two commands differ, as the text of their mismatch prints it. */
+/**
+ * A field in which two commands differ, as the text of their mismatch prints it. A text is as it is in the journal, of
+ * any length and with any control characters; bytes are quoted. Escape them before you print them in a line.
+ */
 export interface ChangedField {
-  /** The name of the field. */
+  /** The name of the field in the .proto, as `'handler_name'`. */
   readonly name: string;
 
   /** What the recorded command has. */
@@ -649,7 +674,10 @@ export interface Mismatch {
   /** The text of a mismatch of two commands, as the SDKs report it; otherwise empty. */
   readonly text: string;
 
-  /** The printed fields in which two commands of one type differ. */
+  /**
+   * The printed fields in which two commands of one type differ. Empty if the commands differ only in what is not
+   * printed, such as the name of most commands.
+   */
   readonly fields: readonly ChangedField[];
 }
 
@@ -657,7 +685,8 @@ export interface Mismatch {
 export class Replay {
   /**
    * @param version the protocol version of both
-   * @param recorded the recording, a whole journal, which is not copied and must not change meanwhile
+   * @param recorded the recording, a whole journal, which is not copied and must not change meanwhile;
+   *   `recordedRest` tells whether it is whole
    * @param options what is not compared, by default nothing
    * @throws {Unknown} the version is none
    */
@@ -668,6 +697,12 @@ export class Replay {
 
   /** How many commands were the same, which is the index of the one that comes next. */
   get index(): number;
+
+  /**
+   * How many bytes of the recording follow its last whole item, which are not compared: 0 of a whole one. It walks over
+   * the recording, and changes nothing.
+   */
+  get recordedRest(): number;
 
   /**
    * Checks the next item of the replay by the command that comes next in the recording. A mismatch is reported once:
@@ -684,7 +719,7 @@ export class Replay {
    * that.
    * @returns undefined if there is none
    */
-  expected(): Message | undefined;
+  expected(): AnyTyped | undefined;
 
   /**
    * Says that the replay ended. It changes nothing.
@@ -742,7 +777,7 @@ export class TooLong extends JournalError {
   readonly code: 'JOURNAL_TOO_LONG';
 }
 
-/** The payload of a message has more bytes than the limit of its stream. */
+/** The payload of a message has more bytes than the limit of its stream. The 8 bytes of its header do not count. */
 export class MessageTooLong extends TooLong {
   /** The code of its type. */
   readonly typeCode: number;
@@ -864,6 +899,6 @@ export class Incomplete extends JournalError {
   /** Where that item begins in the stream, in bytes. */
   readonly offset: number;
 
-  /** The code of its type; undefined if less than a header came. */
+  /** The code of its type, which is its first two bytes; undefined if only one came. */
   readonly typeCode: number | undefined;
 }

@@ -6,8 +6,8 @@ Gem::Specification.new do |spec|
   spec.name = "pendratsoa"
   spec.version = Pendratsoa::VERSION
   spec.summary = "The journal protocol of the Restate SDKs"
-  spec.description = "The journal protocol of the Restate SDKs, by the calls of Pendratsoa's shared library, " \
-                     "over Fiddle."
+  spec.description = "The journal protocol of the Restate SDKs, by the calls of Pendratsoa's shared library. " \
+                     "A compiled module makes them, or Fiddle where that module is not there."
   spec.authors = ["Pendratsoa maintainers"]
   spec.license = "MIT"
   spec.required_ruby_version = ">= 3.1"

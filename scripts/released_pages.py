@@ -76,4 +76,5 @@ def released(folder: str, page: str, text: str) -> str:
         return name if link[1] in of_page else f"{link[1]} ({name})"
 
     changed = LINK.sub(path_of, text)
-    return text if changed == text else changed + SECTION
+    is_said = changed == text or SECTION.splitlines()[1] in text.splitlines()
+    return changed if is_said else changed + SECTION

@@ -3,7 +3,8 @@
 It prints each command that is the same. Where the replay leaves the recording it prints how, where both are, which
 command the recording has next, the text that the SDKs report, and the fields that differ. The status is 0 if both are
 the same, 1 if they differ, and 2 if either cannot be read: a file, a message of more than a mebibyte, a stream that
-ends within an item, a command that is malformed.
+ends within an item, a command that is malformed. A recording that ends within an item is read up to that: the status
+is 1 if the replay differs from its whole items, and otherwise 2.
 """
 
 import sys
@@ -30,6 +31,14 @@ def lines(mismatch: Mismatch, replay: Replay) -> Iterator[str]:
         yield f"field {field.name}: recorded {field.recorded}, replayed {field.replayed}"
 
 
+def reject_cut(replay: Replay) -> None:
+    """Raises an EOFError if the recording ends within an item."""
+    rest = replay.recorded_rest
+    if rest > 0:
+        what = "1 byte" if rest == 1 else f"{rest} bytes"
+        raise EOFError(f"the recording ends within an item, after {what} of it")
+
+
 def check(replay: Replay) -> int:
     """Prints what is to be said of a replay, and returns the status."""
     mismatch = None
@@ -43,6 +52,7 @@ def check(replay: Replay) -> int:
                 print(f"same {type_name(item.code)} at offset {item.offset}")
     mismatch = mismatch or replay.finish()
     if mismatch is None:
+        reject_cut(replay)
         print(f"same, {replay.index} commands")
         return 0
     print(*lines(mismatch, replay), sep="\n")
@@ -57,7 +67,7 @@ def main(words: List[str]) -> int:
     version = int(words[1]) if len(words) > 1 else 8
     try:
         return check(Replay(version, Path(words[0]).read_bytes()))
-    except (JournalError, OSError) as error:
+    except (JournalError, EOFError, OSError) as error:
         print(f"replay.py: {error}", file=sys.stderr)
         return 2
 

@@ -1,4 +1,4 @@
-"""Tests of the example: PYTHONPATH=../../python python3 -m unittest, in this folder."""
+"""Tests of the example that lists a stream: PYTHONPATH=../../python python3 -m unittest, in this folder."""
 
 import contextlib
 import io
@@ -13,7 +13,7 @@ STREAM = bytes.fromhex("040000000000000972070a05696e707574" "0008000000000000" "
 
 
 class TestListing(unittest.TestCase):
-    def test_what_fails_is_returned(self):
+    def test_what_fails_is_returned(self) -> None:
         written = io.StringIO()
         with mock.patch.object(listing, "chunks", return_value=[STREAM]), contextlib.redirect_stdout(written):
             self.assertIsNone(listing.main([]))

@@ -5,7 +5,8 @@
 // It prints each command that is the same. Where the replay leaves the recording it prints how, where both are, which
 // command the recording has next, the text that the SDKs report, and the fields that differ. The status is 0 if both
 // are the same, 1 if they differ, and 2 if either cannot be read: a file, a message of more than a mebibyte, a stream
-// that ends within an item, a command that is malformed.
+// that ends within an item, a command that is malformed. A recording that ends within an item is read up to that: the
+// status is 1 if the replay differs from its whole items, and otherwise 2.
 
 // @ts-ignore: its types are in the package @types/node
 import { readFile } from 'node:fs/promises';
@@ -35,6 +36,14 @@ function lines(mismatch: Mismatch, replay: Replay): string[] {
   ];
 }
 
+/** Throws an error if the recording ends within an item. */
+function rejectCut(replay: Replay): void {
+  const rest = replay.recordedRest;
+  if (rest > 0) {
+    throw new Error(`the recording ends within an item, after ${rest} ${rest === 1 ? 'byte' : 'bytes'} of it`);
+  }
+}
+
 /** Prints each command that is the same, and returns the first mismatch. */
 async function firstMismatch(replay: Replay): Promise<Mismatch | undefined> {
   for await (const item of items(process.stdin, replay.version, { maxMessageSize: LIMIT })) {
@@ -60,6 +69,7 @@ async function main([name, version = '8', ...others]: readonly string[]): Promis
     const replay = new Replay(Number(version), await readFile(name));
     const mismatch = await firstMismatch(replay);
     if (mismatch === undefined) {
+      rejectCut(replay);
       console.log(`same, ${replay.index} commands`);
       return 0;
     }

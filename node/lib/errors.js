@@ -208,14 +208,26 @@ const KINDS = {
 // What is too long, or becomes so: the library does not say which argument that is of.
 const LONG = ['payloadLength', 'maxMessageSize', 'json', 'payload', 'first', 'stream'];
 
+// The first and the last code that custom entries may have, and named types among them.
+const FIRST_CUSTOM = 0x0400;
+const LAST_CODE = 0xffff;
+
 // What is said of each argument that can be unknown.
 const UNKNOWN = {
   version: (value) => `protocol version ${shown(value)} (${FIRST_VERSION} to ${LAST_VERSION})`,
   schema: (value) => `schema ${shown(value)}${typeof value === 'string' ? recordMeant(value) : NUMBERS}`,
-  code: (value) => `code ${codeText(value)}, or not of the kind that the call is for`,
+  code: (value, call) => `code ${codeText(value)}${isCustomFrame(value, call) ? NO_FRAME : NOT_MEANT}`,
   name: (value) => `name ${shown(value)}${typeMeant(value)}`,
 };
 const NUMBERS = ` (0 to ${SCHEMA_NAMES.length - 1})`;
+const NOT_MEANT = ', or not of the kind that the call is for';
+const NO_FRAME = ': a custom entry has no frame of its own, and `bytes` of its message has it as received';
+
+/** Whether a call is for a frame of a custom entry, whose code is one that no named type has. */
+function isCustomFrame(code, call) {
+  const isFrame = call === 'frame' || call === 'frameInto';
+  return isFrame && Number.isInteger(code) && code >= FIRST_CUSTOM && code <= LAST_CODE;
+}
 
 /** The question whether a type was meant by the name of its record; nothing if it is of none. */
 function typeMeant(name) {
@@ -246,7 +258,8 @@ export function refusal(number, given) {
     return new ErrorClass(`${call}: ${reason}`, { call });
   }
   const value = given[argument];
-  const said = kind === 'Unknown' ? `unknown ${UNKNOWN[argument](value)}` : `${argument} ${shown(value)}: ${reason}`;
+  const isUnknown = kind === 'Unknown';
+  const said = isUnknown ? `unknown ${UNKNOWN[argument](value, call)}` : `${argument} ${shown(value)}: ${reason}`;
   return new ErrorClass(`${call}: ${said}`, { call, argument, value });
 }
 

@@ -204,6 +204,9 @@ export function payloadOf(schema, value) {
 /** What is not in use now. */
 const writers = [];
 
+// The row of a record that is in no other one.
+const ROOT = { name: 'record', member: undefined };
+
 /** The payload that the table of a writer means. */
 function written(schema, writer) {
   // places are within what the bytes have room for
@@ -250,7 +253,7 @@ class Writer {
     this.schema = schema;
     this.count = 0;
     this.size = 0;
-    this.record(RECORDS[schema], value, 0);
+    this.record(RECORDS[schema], value, 0, ROOT);
     return written(schema, this);
   }
 
@@ -259,9 +262,10 @@ class Writer {
     return this.parts[count];
   }
 
-  record(record, values, level) {
+  /** Appends the entries of a record, which is the value of a row. */
+  record(record, values, level, row) {
     if (typeof values !== 'object' || values === null) {
-      throw wrongKind(record.name, values, 'an object');
+      throw notRecord(record, values, row);
     }
     // the names of a record that was read are those of its fields, in their order
     let next = 0;
@@ -269,30 +273,41 @@ class Writer {
       if (record.entries[next]?.name === name) {
         next += 1;
       } else if (!record.members.has(name) && Object.hasOwn(values, name)) {
+        if (!mayBeRecord(record, values)) {
+          throw notRecord(record, values, row);
+        }
         throw wrongKind(name, values[name], `a field of ${record.name}, which has none of this name`);
       }
     }
-    for (const row of record.entries) {
-      const value = values[row.name];
-      if (value === undefined) {
-        continue;
+    // only what does not begin with its first field is looked at, so that a whole record takes no longer
+    if (next === 0 && !mayBeRecord(record, values)) {
+      throw notRecord(record, values, row);
+    }
+    for (const entry of record.entries) {
+      const value = values[entry.name];
+      if (value !== undefined) {
+        this.field(entry, value, level);
       }
-      if (row.shape === 'repeated') {
-        if (!Array.isArray(value)) {
-          throw wrongKind(row.name, value, 'an array');
-        }
-        for (const element of value) {
-          this.value(row, element, level);
-        }
-      } else if (row.shape === 'member') {
-        const chosen = row.cases.get(value?.case);
-        if (chosen === undefined) {
-          throw wrongKind(row.name, value, `{ case, value } of ${[...row.cases.keys()].join(', ')}`);
-        }
-        this.value(chosen, value.value, level);
-      } else {
-        this.value(row, value, level);
+    }
+  }
+
+  /** Appends the entries of a field that is there. */
+  field(row, value, level) {
+    if (row.shape === 'repeated') {
+      if (!Array.isArray(value)) {
+        throw wrongKind(row.name, value, 'an array');
       }
+      for (const element of value) {
+        this.value(row, element, level);
+      }
+    } else if (row.shape === 'member') {
+      const chosen = row.cases.get(value?.case);
+      if (chosen === undefined) {
+        throw wrongKind(row.name, value, `{ case, value } of ${[...row.cases.keys()].join(', ')}`);
+      }
+      this.value(chosen, value.value, level);
+    } else {
+      this.value(row, value, level);
     }
   }
 
@@ -300,7 +315,7 @@ class Writer {
     switch (row.kind) {
       case MESSAGE:
         this.entry(row, level, row.holds);
-        this.record(RECORDS[row.holds], value, level + 1);
+        this.record(RECORDS[row.holds], value, level + 1, row);
         break;
       case BYTES:
         if (!(value instanceof Uint8Array)) {
@@ -410,6 +425,24 @@ class Writer {
       this.bytes = bytes;
     }
   }
+}
+
+/**
+ * Whether an object may be a record: not an array or bytes, nor an object of a class without any of the fields. The
+ * prototype of one that is of no class has none itself, in any realm.
+ */
+function mayBeRecord({ entries }, values) {
+  if (Array.isArray(values) || ArrayBuffer.isView(values)) {
+    return false;
+  }
+  const prototype = Object.getPrototypeOf(values);
+  const isOfNoClass = prototype === null || Object.getPrototypeOf(prototype) === null;
+  return isOfNoClass || entries.length === 0 || entries.some(({ name }) => name in values);
+}
+
+/** The error that the value of a row is not a record. */
+function notRecord(record, values, row) {
+  return wrongKind(row.member ?? row.name, values, `an object of ${record.name}`);
 }
 
 /** The error that a field cannot be encoded, with the path that leads to it. */

@@ -16,7 +16,7 @@ import {
 import { wrongKind } from './errors.js';
 import { Message, Skipped, UnknownCode, receivedLength } from './items.js';
 import { optionsOf } from './options.js';
-import { itemAt } from './stream.js';
+import { itemAt, restOf } from './stream.js';
 
 const NOTHING = new Uint8Array(0);
 const HEADER_SIZE = 8;
@@ -76,6 +76,12 @@ export class Replay {
 
   get index() {
     return Number(this.#numbers[REPLAY.index]);
+  }
+
+  get recordedRest() {
+    // an item begins with the last command that was the same, or with the recording
+    const begin = this.#begin + Number(this.#numbers[REPLAY.recordedOffset]);
+    return restOf(this.#version, this.#recorded.subarray(begin));
   }
 
   check(item) {

@@ -9,7 +9,9 @@ import { optionsOf } from './options.js';
 import { numberingOf, renumberedMessage } from './renumber.js';
 
 const NOTHING = new Uint8Array(0);
+// How many bytes a header has, and the code of a type, with which it begins.
 const HEADER_SIZE = 8;
+const CODE_SIZE = 2;
 const NO_LIMIT = 0xffffffff;
 
 // How many items are looked for at once, since a call costs more than finding one; and in how many bytes, which are
@@ -95,9 +97,9 @@ export class Stream {
   /** Throws if bytes are in no item. */
   #atEnd(call) {
     if (this.rest > 0) {
-      const isHeader = this.rest >= HEADER_SIZE;
-      const typeCode = isHeader ? this.#bytes[this.#begin] * 256 + this.#bytes[this.#begin + 1] : undefined;
-      const name = isHeader ? nameOf(typeCode) : 'an item';
+      const hasCode = this.rest >= CODE_SIZE;
+      const typeCode = hasCode ? this.#bytes[this.#begin] * 256 + this.#bytes[this.#begin + 1] : undefined;
+      const name = hasCode ? nameOf(typeCode) : 'an item';
       throw incomplete(call, { name, typeCode, offset: this.#offset, trailing: this.trailing });
     }
   }
@@ -243,6 +245,22 @@ function itemOf(version, offset, found, at, bytes, begin, size, numbering) {
 export function itemAt(version, bytes, offset) {
   checked(addon.next(version, bytes, numbers), { call: 'expected', version });
   return itemOf(version, offset, halves, 0, bytes, 0, bytes.length);
+}
+
+/** How many bytes follow the last whole item of bytes, which an item begins. */
+export function restOf(version, bytes) {
+  const given = { call: 'recordedRest', version };
+  let begin = 0;
+  let needed = HEADER_SIZE;
+  while (bytes.length - begin >= needed) {
+    const part = bytes.subarray(begin, begin + Math.max(MOST_BYTES, needed));
+    const count = checked(addon.items(version, NO_LIMIT, part, numbers), given);
+    needed = count > 0 ? HEADER_SIZE : part.length + checked(addon.next(version, part, numbers), given);
+    for (let at = 0; at < HALVES * count; at += HALVES) {
+      begin += wholeOf(halves, at + 2 * ITEM.size);
+    }
+  }
+  return bytes.length - begin;
 }
 
 /** Decodes chunks into items. */

@@ -329,6 +329,10 @@ const KINDS = {
     return `${steps.join(', ')}; ${left === undefined ? 'none' : `${snake(left.kind)} ${left.index}`}`;
   },
 
+  rest(version, word) {
+    return String(new Replay(Number(version), bytesOf(word)).recordedRest);
+  },
+
   encode(version, name, ...words) {
     try {
       return digits(Message.of(name.replace(/Message$/, ''), recordOf(name, words), Number(version)).bytes);

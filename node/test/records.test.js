@@ -2,6 +2,7 @@
 
 import assert from 'node:assert/strict';
 import test from 'node:test';
+import { runInNewContext } from 'node:vm';
 
 import {
   ErrorBehavior,
@@ -10,6 +11,8 @@ import {
   Message,
   Stream,
   Unknown,
+  frame,
+  frameInto,
   readRecord,
   schemaNames,
   writeRecord,
@@ -119,6 +122,72 @@ test('values of another kind', () => {
   assert.throws(() => new Message(8, 8, hex('')).message, Unknown);
   assert.throws(() => new Message(4, 0xfc01, hex('')).message, Unknown);
   assert.throws(() => Message.of('SetStatCommand', {}), Unknown);
+});
+
+test('what is not a record', () => {
+  const bytes = [hex('01'), hex(''), Buffer.from('1'), new ArrayBuffer(1)];
+  const values = [...bytes, [], [1], new Map(), new Date(0), 5, 'text', null];
+  for (const value of values) {
+    for (const [type, record, name] of [
+      ['SetStateCommand', { value }, 'value'],
+      ['OutputCommand', { result: { case: 'value', value } }, 'value'],
+      ['SetStateCommand', value, 'record'],
+    ]) {
+      assert.throws(() => Message.of(type, record), (error) => {
+        assert.ok(error instanceof TypeError);
+        assert.ok(error.message.startsWith(`${name} is `), error.message);
+        assert.match(error.message, /, and has to be an object of (Value|SetStateCommandMessage)$/);
+        return true;
+      });
+    }
+  }
+  assert.throws(() => Message.of('SetStateCommand', { value: new Uint8Array(1) }), {
+    code: 'ERR_INVALID_ARG_TYPE',
+    message: 'value is of 1 byte, and has to be an object of Value',
+  });
+});
+
+test('objects of a class that have fields, and of no class', () => {
+  class Own {
+    content = hex('01');
+  }
+  class Inherited {
+    get content() {
+      return hex('01');
+    }
+  }
+  const ofNone = Object.assign(Object.create(null), { content: hex('01') });
+  const ofOther = Object.assign(runInNewContext('({})'), { content: hex('01') });
+  for (const value of [new Own(), new Inherited(), ofNone, ofOther]) {
+    assert.deepEqual(Message.of('SetStateCommand', { value }).payload, hex('1a030a0101'));
+  }
+  // a record without fields
+  const written = [{}, Object.create(null), runInNewContext('({})'), new (class {})()].map((value) =>
+    digits(writeRecord('SendSignalCommandMessage', { result: { case: 'void', value } })),
+  );
+  assert.deepEqual(new Set(written), new Set(['2200']));
+});
+
+test('a custom entry has no frame of its own', () => {
+  const custom = new Message(8, 0xfc01, hex('ff'));
+  const said = 'a custom entry has no frame of its own, and `bytes` of its message has it as received';
+  for (const [call, make] of [
+    ['frame', () => custom.frame()],
+    ['frameInto', () => custom.frameInto(new Uint8Array(20))],
+    ['frame', () => frame(8, 0x0415, hex(''))],
+    ['frameInto', () => frameInto(9, 0xffff, hex(''), hex(''))],
+  ]) {
+    assert.throws(make, (error) => {
+      assert.ok(error instanceof Unknown);
+      assert.equal(error.message, `${call}: unknown code 0x${error.value.toString(16).padStart(4, '0')}: ${said}`);
+      return true;
+    });
+  }
+  assert.deepEqual(custom.bytes, hex('fc01000000000001 ff'));
+  for (const code of [0x0008, 0x03ff, 65536, 1024.5]) {
+    assert.throws(() => frame(8, code, hex('')), /, or not of the kind that the call is for$/);
+  }
+  assert.throws(() => custom.json(), /, or not of the kind that the call is for$/);
 });
 
 test('a custom entry has no record', () => {

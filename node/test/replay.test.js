@@ -24,6 +24,11 @@ function itemsOf(version, bytes) {
   return [...stream];
 }
 
+/** How many bytes of a stream follow its last whole item. */
+function restOf(version, bytes) {
+  return bytes.length - joined(...itemsOf(version, bytes).map((item) => item.bytes)).length;
+}
+
 /** The commands of a stream that are compared. */
 function commandsOf(version, bytes) {
   return itemsOf(version, bytes).filter((item) => item.isCommand && !item.type.startsWith('CustomEntry'));
@@ -39,6 +44,8 @@ function said(version, recorded, replayed, ignorePayloads) {
   const items = itemsOf(version, replayed);
   const commands = commandsOf(version, recorded);
   const replay = new Replay(version, recorded, { ignorePayloads });
+  const rest = restOf(version, recorded);
+  assert.equal(replay.recordedRest, rest);
   let index = 0;
   let count = 0;
   let mismatch;
@@ -59,6 +66,7 @@ function said(version, recorded, replayed, ignorePayloads) {
     assert.ok(items.every((item) => replay.check(item) === undefined));
     assert.equal(replay.finish(), undefined);
   }
+  assert.equal(replay.recordedRest, rest);
   const verdict = compareJournals(version, recorded, replayed, { ignorePayloads });
   assert.equal(replay.index, verdict.index);
   if (mismatch === undefined) {
@@ -124,6 +132,36 @@ test('commands far apart in the recording', () => {
   assert.equal(said(8, recorded, joined(entry, long, entry, notification, entry), false),
     `recorded_ended 3 4 ${offset} ${length + entry.length + notification.length}`);
   assert.equal(said(8, recorded, joined(entry, long, long), false), `other_type 2 2 ${offset} ${length}`);
+});
+
+test('bytes after the last whole item of a recording', () => {
+  const short = new Message(8, 0x800c, hex('0801')).bytes;
+  const long = joined(hex('fc01000000011170'), new Uint8Array(70000));
+  for (const items of [[], [short], [long, short], [short, ...Array(9000).fill(short), long, short, long]]) {
+    const whole = joined(...items);
+    for (const rest of [hex(''), hex('04'), hex('0403'), hex('0403000000000003'), long.subarray(0, 69999)]) {
+      const recorded = joined(hex('ffff'), whole, rest).subarray(2);
+      const replay = new Replay(8, recorded);
+      assert.equal(replay.recordedRest, rest.length);
+      assert.equal(replay.finish(), undefined);
+    }
+  }
+  // a code that is unknown is an item of eight bytes before version 9, and then one with its payload
+  const unknown = hex('0008000000000002 01');
+  assert.deepEqual([8, 9].map((version) => new Replay(version, unknown).recordedRest), [1, 9]);
+});
+
+test('the rest of a recording while it is checked', () => {
+  const recorded = joined(bytesOf('examples/streams/recorded'), hex('040300'));
+  const replay = new Replay(8, recorded);
+  for (const item of itemsOf(8, recorded)) {
+    assert.equal(replay.check(item), undefined);
+    assert.equal(replay.recordedRest, 3);
+  }
+  assert.equal(replay.index, 4);
+  assert.throws(() => {
+    replay.recordedRest = 0;
+  }, TypeError);
 });
 
 test('a mismatch', () => {

@@ -295,6 +295,26 @@ test('a source that ends within an item', async () => {
   assert.deepEqual(found, ITEMS);
 });
 
+test('a stream that ends within the header of an item', () => {
+  for (const [rest, typeCode, name, came] of [
+    ['04', undefined, 'an item', '1 byte'],
+    ['0403', 0x0403, 'SetStateCommand', '2 bytes'],
+    ['040300', 0x0403, 'SetStateCommand', '3 bytes'],
+    ['00080000000000', 8, 'code 0x8', '7 bytes'],
+  ]) {
+    const stream = new Stream();
+    stream.feed(joined(INPUT, hex(rest)));
+    assert.equal([...stream].length, 1);
+    assert.throws(() => stream.finish(), {
+      name: 'Incomplete',
+      trailing: hex(rest),
+      offset: 17,
+      typeCode,
+      message: `finish: the stream ended within ${name} at offset 17, after ${came} of it`,
+    });
+  }
+});
+
 test('a source that fails, and one of wrong chunks', async () => {
   const failure = new Error('the source failed');
   const source = new Source(REPLAY, failure);

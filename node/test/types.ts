@@ -14,6 +14,7 @@ import {
   Message,
   MessageTooLong,
   Mismatch,
+  NamedType,
   Notification,
   Numbering,
   NumberingError,
@@ -131,6 +132,15 @@ export function read(item: Item): string | bigint | number | Uint8Array | undefi
   }
 }
 
+/** The record of a message whose parts were taken, by its type. */
+export function readParts(item: Item): Uint8Array | undefined {
+  if (item.kind !== 'message') {
+    return undefined;
+  }
+  const { type, message } = item;
+  return type === 'SetStateCommand' ? message.value?.content : undefined;
+}
+
 /** A custom entry has no record. */
 export function isCustomEntry(item: Item): boolean {
   const custom: Same<Message<`CustomEntry(${number})`>['message'], undefined> = true;
@@ -162,6 +172,22 @@ export function made(): Uint8Array[] {
     readRecord('Value', bytes).content,
     bytes.subarray(Number(same)),
   ];
+}
+
+/** A message of JSON is typed if its type is given by a name. */
+export function ofJson(code: number, name: NamedType): Message[] {
+  const command = Message.fromJson('SetStateCommand', '{}');
+  const typed: Same<typeof command, Message<'SetStateCommand'>> = true;
+  const ofCode = Message.fromJson(code, '{}', 9);
+  const any: Same<typeof ofCode, Message> = true;
+  // @ts-expect-error there is no such field
+  command.message.valu;
+  // @ts-expect-error there is no such type
+  Message.fromJson('SetStatCommand', '{}');
+  const length: number | undefined = command.message.value?.content.length;
+  const either: number | NamedType = typed && any && length === 0 ? code : name;
+  const make: (type: number | NamedType, json: string) => Message = Message.fromJson;
+  return [command, ofCode, Message.fromJson(name, '{}'), Message.fromJson(either, '{}'), make(code, '{}')];
 }
 
 export async function streams(): Promise<void> {
@@ -225,12 +251,19 @@ export function checkedReplay(bytes: Uint8Array, item: Item): string {
   const mismatch: Mismatch | undefined = replay.check(item) ?? replay.finish();
   const offset: Same<Mismatch['recordedOffset'], number | undefined> = true;
   const key = replay.expected()?.record('SetStateCommandMessage')?.key.length;
+  const next: Message | undefined = replay.expected();
+  const expected = replay.expected();
+  const name = expected?.type === 'SleepCommand' ? expected.message.wakeUpTime + 1n : next?.type;
+  const rest: Same<Replay['recordedRest'], number> = true;
+  // @ts-expect-error it cannot be set
+  replay.recordedRest = 0;
   // @ts-expect-error a mismatch is not the same
   const isSame = mismatch?.kind === 'same';
   // @ts-expect-error an item, and not its bytes
   replay.check(bytes);
   const names = mismatch?.fields.map((field) => `${field.name}: ${field.recorded} and ${field.replayed}`);
-  return `${mismatch?.index} ${mismatch?.replayedOffset} ${offset} ${key} ${isSame} ${names?.join()}`;
+  const place = `${mismatch?.index} ${mismatch?.replayedOffset} ${offset} ${replay.recordedRest} ${rest}`;
+  return `${place} ${key} ${name} ${isSame} ${names?.join()}`;
 }
 
 export function renumbered(set: Uint8Array): Uint8Array[] {

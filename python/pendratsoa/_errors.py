@@ -15,6 +15,15 @@ class JournalError(Exception):
     argument. `argument` is None if no argument is at fault.
     """
 
+    call: Optional[str]
+    """The name of the function, or None if it is not known."""
+
+    argument: Optional[str]
+    """The name of the argument that is at fault, or None if none is."""
+
+    value: object
+    """The value of that argument, or None."""
+
     def __init__(
         self, *texts: str, call: Optional[str] = None, argument: Optional[str] = None, value: object = None
     ) -> None:
@@ -27,6 +36,12 @@ class JournalError(Exception):
 class _PayloadError(JournalError, ValueError):
     """An error of a payload. If it is that of a message, `code` is the code of its type, and `offset` where the message
     begins in its stream, in bytes; each is None if it is not known."""
+
+    code: Optional[int]
+    """The code of the message's type, or None if it is not known."""
+
+    offset: Optional[int]
+    """Where the message begins in its stream, in bytes, or None if it is not known."""
 
     def __init__(
         self,
@@ -60,11 +75,23 @@ class TooLong(JournalError, OverflowError):
 
 
 class MessageTooLong(TooLong):
-    """The payload of a message has more bytes than the limit of its stream.
+    """The payload of a message has more bytes than the limit of its stream. The eight bytes of its header do not count.
 
     `code` is that of its type, `length` the length of its payload by its header and `limit` the limit, and `offset` is
     where its header begins in the stream, all in bytes.
     """
+
+    code: int
+    """The code of its type."""
+
+    length: int
+    """The length of its payload by its header, in bytes."""
+
+    limit: int
+    """The limit, in bytes."""
+
+    offset: int
+    """Where its header begins in the stream, in bytes."""
 
     def __init__(
         self,
@@ -107,6 +134,15 @@ class JsonError(JournalError, ValueError):
     `path` leads to the rejected value, as "headers[2].key".
     """
 
+    reason: JsonReason
+    """Why it is rejected."""
+
+    offset: Optional[int]
+    """Where the text stops being JSON, in bytes of its UTF-8, and None if it is JSON."""
+
+    path: str
+    """What leads to the rejected value, as "headers[2].key", if the text is JSON; otherwise empty."""
+
     def __init__(
         self,
         *texts: str,
@@ -130,7 +166,16 @@ class NumberingError(JournalError, ValueError):
 
 class Incomplete(JournalError, EOFError):
     """A stream ended within an item; `rest` is the number of bytes of it received, and `offset` where it begins.
-    `code` is that of its type, and None if fewer bytes came than a header has."""
+    `code` is that of its type, which is its first two bytes, and None if only one was received."""
+
+    rest: int
+    """How many bytes of the item were received."""
+
+    offset: int
+    """Where the item begins in the stream, in bytes."""
+
+    code: Optional[int]
+    """The code of its type, which is its first two bytes, or None if only one was received."""
 
     def __init__(
         self,
@@ -148,6 +193,12 @@ class Incomplete(JournalError, EOFError):
 
 class FieldError(JournalError, ValueError):
     """A field of a record cannot be encoded. `reason` tells why, and `path` leads to it, as "headers[2].key"."""
+
+    reason: FieldReason
+    """Why it cannot be encoded."""
+
+    path: str
+    """What leads to the field, as "headers[2].key"."""
 
     def __init__(
         self,

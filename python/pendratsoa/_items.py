@@ -80,7 +80,7 @@ class Message(_Item):
     """Whether its header requests an acknowledgement."""
 
     word: Optional[int] = field(init=False, default=None, compare=False, repr=False)
-    """Its header as one number, or None."""
+    """The eight bytes of its header as one big-endian number, or None."""
 
     offset: Optional[int] = field(init=False, default=None, compare=False, repr=False)
     """Where it begins in its stream, in bytes, or None."""
@@ -126,25 +126,37 @@ class Message(_Item):
 
     @property
     def is_command(self) -> bool:
-        """Whether its code is that of a command. So may be the code of a custom entry, which `compare_journals` skips
-        nevertheless."""
+        """Whether its code is that of a command.
+
+        A custom entry is a message of any code that no named type has, with one of its upper six bits set, 0x0400 and
+        above. By its code it may count as a command or a notification; a replay does not compare it.
+        """
         return self.code in COMMAND_CODES
 
     @property
     def is_notification(self) -> bool:
-        """Whether its code is that of a notification, which those of custom entries may be."""
+        """Whether its code is that of a notification. A custom entry may count as one, by its code; see
+        `is_command`."""
         return self.code in NOTIFICATION_CODES
 
     @property
     def message(self) -> Optional[AnyMessage]:
         """The record that its payload means, which is decoded at each access. A custom entry has none: None.
-        `Malformed` if the payload means none."""
+        `Malformed` if the payload means none.
+
+        A record that is written again has only the fields of its type: unknown fields of the payload and ignored bits
+        of the header are lost.
+        """
         record = _class_of(self.version, self.code)
         return None if record is None else cast(AnyMessage, self._decoded("message", record))
 
     def record(self, record: Type[M], /) -> Optional[M]:
         """The record that its payload means, if it is of this class; otherwise None, and nothing is decoded.
-        `Malformed` if the payload means none."""
+        `Malformed` if the payload means none: a malformed payload of another type is not found.
+
+        A record that is written again has only the fields of its type: unknown fields of the payload and ignored bits
+        of the header are lost.
+        """
         found = _class_of(self.version, self.code)
         if found is None or found is not record:
             _check_class(record)
@@ -242,7 +254,10 @@ class Message(_Item):
 @dataclass(frozen=True)
 class UnknownCode(_Item):
     """Eight bytes with an unassigned code, before version 9; `word` is all eight as one big-endian number, and `offset`
-    where they begin in their stream."""
+    where they begin in their stream.
+
+    It is what the programs call an unknown header, an item of its own. What follows it is read as the next header.
+    """
 
     version: int
     """The version of its stream."""
@@ -251,7 +266,7 @@ class UnknownCode(_Item):
     """Its unassigned code."""
 
     word: int
-    """Its eight bytes as one number."""
+    """Its eight bytes as one big-endian number."""
 
     offset: Optional[int] = field(init=False, default=None, compare=False, repr=False)
     """Where it begins in its stream, in bytes, or None."""
@@ -275,7 +290,7 @@ class Skipped(_Item):
     """Its unassigned code."""
 
     word: int
-    """Its header as one number."""
+    """The eight bytes of its header as one big-endian number."""
 
     payload: bytes
     """Its payload."""
@@ -293,7 +308,7 @@ class Skipped(_Item):
         return _fields(self)
 
 
-# an item of a stream
+# an item of a stream: a `Message`, an `UnknownCode` or a message that is `Skipped`
 Item = Union[Message, UnknownCode, Skipped]
 I = TypeVar("I", Message, UnknownCode, Skipped)
 
@@ -355,8 +370,8 @@ def _is_custom_entry(version: int, code: int) -> bool:
     return True
 
 
-def _check_class(record: Type[MessageRecord]) -> None:
-    """Says that what is looked for is not a class of a message's record."""
+def _check_class(record: object) -> None:
+    """Says that what is looked for is not a class of a message's record, as it may be where no types are checked."""
     if not (isinstance(record, type) and issubclass(record, MessageRecord)):
         shown_as = record.__name__ if isinstance(record, type) else repr(record)
         raise TypeError(f"record: record must be the class of a message's record, not {shown_as}")

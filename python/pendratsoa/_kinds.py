@@ -18,6 +18,7 @@ class Kind(str, Enum):
     """A kind, which is its word: it equals the word, and is printed as it. `number` is what the library calls it."""
 
     number: int
+    """The number by which the library returns it."""
 
     def __new__(cls: Type[K], word: str, number: int) -> K:
         kind = str.__new__(cls, word)

@@ -73,6 +73,7 @@ class Record:
     """What all records have. Each is a frozen dataclass of `pendratsoa.messages`."""
 
     SCHEMA: ClassVar[int]
+    """The number of its schema."""
 
     # its rows by their numbers and by the attributes that have them, and what each attribute is by default
     _by_number: ClassVar[Dict[int, Row]]
@@ -127,9 +128,13 @@ class MessageRecord(Record):
     """What the records of messages have: the name and the code of the type, and a frame."""
 
     TYPE: ClassVar[str]
+    """The name of the type, as "SleepCommand"."""
+
     CODE: ClassVar[int]
-    # the version before which it is that of its type, if the type has another one since
+    """The code of the type."""
+
     BEFORE_VERSION: ClassVar[Optional[int]] = None
+    """The version from which on the type has another record, or None."""
 
     def frame(self, version: int = 8, *, numbering: Optional[Numbering] = None) -> bytes:
         """Its frame at a version: the header, and its canonical payload, at the field numbers of a numbering if one is

@@ -14,6 +14,7 @@ from ._items import Item, Message, Skipped, UnknownCode, came, longer_by
 from ._kinds import BytesLike
 from ._named import named
 from ._request import Request
+from ._stream import Stream
 
 # the numbers of a replay, as the library has them
 NUMBERS = struct.Struct(f"{REPLAY_NUMBERS}Q")
@@ -24,16 +25,21 @@ HEADER = 8
 
 @dataclass(frozen=True)
 class ChangedField:
-    """A field in which two commands differ, as the text of their mismatch prints it."""
+    """A field in which two commands differ, as the text of their mismatch prints it: its name, as in the .proto, and
+    the value of the `recorded` and of the `replayed` command.
+
+    A text is as it is in the journal, of any length and with any control characters; bytes are quoted. Escape them
+    before you print them in a line.
+    """
 
     name: str
-    """The name of the field."""
+    """The name of the field, as in the .proto."""
 
     recorded: str
-    """What the recorded command has."""
+    """What the recorded command has. Escape it before you print it in a line."""
 
     replayed: str
-    """What the replayed command has."""
+    """What the replayed command has. Escape it before you print it in a line."""
 
 
 @dataclass(frozen=True)
@@ -54,10 +60,12 @@ class Mismatch:
     """Where the replayed command begins in the replay, in bytes, or where the replay ends."""
 
     text: str
-    """The text of a mismatch of two commands, as the SDKs report it; otherwise empty."""
+    """The text of a mismatch of two commands, as the SDKs report it; otherwise empty. It has several lines, and the
+    values of the fields as they are."""
 
     fields: Tuple[ChangedField, ...]
-    """The printed fields in which two commands of one type differ."""
+    """The printed fields in which two commands of one type differ. Empty if the commands differ only in what is not
+    printed, such as the name of most commands."""
 
 
 class Replay:
@@ -67,9 +75,9 @@ class Replay:
         for item in stream.read(file):
             mismatch = replay.check(item)
 
-    The recording is a whole journal. `ignore_payloads` leaves the content of user data out of the comparison, but not
-    that of a signal, and `ignore_ids` leaves completion ids out. Nothing of the replay is kept: its memory does not
-    grow. Several threads may use one replay.
+    The recording is a whole journal; `recorded_rest` tells if it is cut. `ignore_payloads` leaves the content of user
+    data out of the comparison, but not that of a signal, and `ignore_ids` leaves completion ids out. Nothing of the
+    replay is kept: its memory does not grow. Several threads may use one replay.
     """
 
     def __init__(
@@ -94,12 +102,25 @@ class Replay:
         """How many commands were the same, which is the index of the one that comes next."""
         return self._numbers()[2]
 
+    @property
+    def recorded_rest(self) -> int:
+        """How many bytes of the recording follow its last whole item, which are not compared: 0 of a whole one. It
+        walks over the recording."""
+        numbers = self._numbers()
+        # the last command that was the same is a whole item, as are all before it
+        stream = Stream(numbers[0])
+        stream.feed(self._recorded[numbers[3] :])
+        for _ in stream:
+            pass
+        return stream.rest
+
     def check(self, item: Item) -> Optional[Mismatch]:
         """Checks the next item of the replay by the command that comes next in the recording.
 
-        None if there is nothing to report: the commands are the same, or the item is not a command. A mismatch is
-        reported once: afterwards nothing is compared. `compare_journals` of the recording and of all items so far has
-        the same `kind`, `index` and `text`. `OutOfMemory` changes nothing, so that the call can be repeated.
+        None if there is nothing to report: the commands are the same, or the item is not a command. A custom entry is
+        not compared. A mismatch is reported once: afterwards nothing is compared. `compare_journals` of the recording
+        and of all items so far has the same `kind`, `index` and `text`. `OutOfMemory` changes nothing, so that the call
+        can be repeated.
         """
         if not isinstance(item, (Message, UnknownCode, Skipped)):
             raise TypeError(f"check: item must be an item of a stream, not {type(item).__name__}")

@@ -20,8 +20,8 @@ if TYPE_CHECKING:
 # how many bytes are read from a file at a time
 CHUNK = 1 << 16
 
-# how many bytes a header has
-HEADER = 8
+# how many bytes of an item have its code
+CODE = 2
 
 
 class Readable(Protocol):
@@ -56,7 +56,7 @@ class Stream:
 
     A message whose payload has more than `max_message_size` bytes is a `MessageTooLong` as soon as its header came, and
     ends the stream: what came is dropped, and from then on each loop, `feed`, `read` and `finish` raise the same error.
-    None is not a limit.
+    The eight bytes of a header do not count. None is not a limit.
 
     With a `numbering` the payload of each message is at the protocol's own field numbers, and `bytes` and `offset` are
     those of the stream that is read. A payload that cannot be read so is a `Malformed`, which names its message; a next
@@ -120,7 +120,7 @@ class Stream:
         return self._read_async(reader, _checked("read_async", size), strict)
 
     def finish(self) -> None:
-        """Says that the stream ended: `Incomplete` if bytes are in no item. Its items have to be taken before."""
+        """Says that the stream ended: `Incomplete` if there are trailing bytes. Its items have to be taken before."""
         self._finish("finish")
 
     def __iter__(self) -> Iterator[Item]:
@@ -151,9 +151,9 @@ class Stream:
             raise Incomplete(text, call=call, rest=rest, offset=offset, code=code)
 
     def _code_of_rest(self) -> Optional[int]:
-        """The code of the item that the rest begins, or None if its header is not all there."""
+        """The code of the item that the rest begins, or None if its two bytes are not both there."""
         head = self._pending.head()
-        return int.from_bytes(head[:2], "big") if len(head) == HEADER else None
+        return int.from_bytes(head[:CODE], "big") if len(head) >= CODE else None
 
     def _read(self, receive: Callable[[int], Optional[bytes]], size: int, strict: bool) -> Iterator[Item]:
         yield from self

@@ -3,7 +3,8 @@
 import dataclasses
 from typing import Optional, Union
 
-from pendratsoa import Incomplete, Item, Malformed, Message, MessageTooLong, Numbering, Stream, Verdict, VerdictKind
+from pendratsoa import Incomplete, Item, Malformed, Message, MessageTooLong, Numbering, Replay, Stream, Verdict
+from pendratsoa import VerdictKind
 from pendratsoa.messages import (
     ErrorBehavior,
     ErrorMessage,
@@ -40,6 +41,12 @@ def limited(error: MessageTooLong, malformed: Malformed) -> int:
 def ended(error: Incomplete) -> int:
     error.code + 1  # type: ignore[operator]
     return error.offset + error.rest
+
+
+def cut(replay: Replay) -> int:
+    replay.recorded_rest()  # type: ignore[operator]
+    replay.recorded_rest = 0  # type: ignore[misc]
+    return replay.recorded_rest + 1
 
 
 def renumbered(path: str, command: SetStateCommandMessage) -> bytes:

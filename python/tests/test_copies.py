@@ -167,6 +167,24 @@ class TestEnd(unittest.TestCase):
         self.assertEqual((error.call, error.rest, error.offset), ("finish", 1, len(INPUT)))
         self.assertIsInstance(caught.exception, EOFError)
 
+    def test_the_code_of_an_item_that_is_cut(self):
+        for data, code, name in (
+            (INPUT[:1], None, "an item"),
+            (INPUT[:2], INPUT_COMMAND, "InputCommand"),
+            (INPUT[:7], INPUT_COMMAND, "InputCommand"),
+            (b"\x00\x08", 8, "code 0x8"),
+        ):
+            stream = Stream()
+            for at in range(len(data)):
+                stream.feed(data[at : at + 1])
+            for items in ([], list(stream)):
+                self.assertEqual(items, [])
+                with self.assertRaises(Incomplete) as caught:
+                    stream.finish()
+                self.assertEqual((caught.exception.code, caught.exception.rest), (code, len(data)))
+                text = f"finish: the stream ended within {name} at offset 0, after {len(data)} byte"
+                self.assertTrue(str(caught.exception).startswith(text), caught.exception)
+
     def test_finish_before_items_are_taken(self):
         for size in range(1, len(INPUT) + 1):
             stream = Stream()
@@ -182,7 +200,7 @@ class TestEnd(unittest.TestCase):
     def test_strict(self):
         items = Stream().read(io.BytesIO(INPUT + INPUT[:5]), strict=True)
         self.assertEqual(str(next(items)), f"InputCommand {INPUT_LENGTH}")
-        text = rf"^read: the stream ended within an item at offset {len(INPUT)}, after 5 bytes of it$"
+        text = rf"^read: the stream ended within InputCommand at offset {len(INPUT)}, after 5 bytes of it$"
         with self.assertRaisesRegex(Incomplete, text):
             next(items)
         self.assertEqual(len(list(Stream().read(io.BytesIO(INPUT), strict=True))), 1)

@@ -242,7 +242,7 @@ class TestErrors(unittest.TestCase):
         for call, fields in (
             (lambda: [item.message for item in malformed], ("call", "argument", "value", "code", "offset")),
             (lambda: list(limited), ("call", "argument", "value", "code", "length", "limit", "offset")),
-            (ended.finish, ("call", "rest", "offset")),
+            (ended.finish, ("call", "rest", "offset", "code")),
             (lambda: pendratsoa.from_json(13, "["), ("call", "argument", "value", "reason", "offset", "path")),
             (messages.Failure(code=-1).encode, ("call", "reason", "path")),
         ):

@@ -300,6 +300,16 @@ class TestPackages(unittest.TestCase):
             words += expected.offset, expected.type
         return " ".join(map(str, words))
 
+    def rest_result(self, version, word):
+        recorded = bytes_of(word)
+        replay = Replay(int(version), recorded)
+        rest = replay.recorded_rest
+        for item in Stream(int(version)).read(io.BytesIO(recorded)):
+            replay.check(item)
+            # wherever the replay is, and also after a mismatch
+            self.assertEqual(replay.recorded_rest, rest)
+        return str(rest)
+
     def encode_result(self, version, name, *words):
         try:
             record = record_of(getattr(messages, name), words)

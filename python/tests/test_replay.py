@@ -143,6 +143,20 @@ class TestReplay(unittest.TestCase):
         self.assertIsNone(replay.finish())
         self.assertIsNone(replay.expected())
 
+    def test_how_many_bytes_follow_the_last_whole_item_of_the_recording(self):
+        ends = [item.offset + len(item.bytes) for item in items_of(8, RECORDED)]
+        for end in range(len(RECORDED) + 1):
+            rest = end - max([0, *(whole for whole in ends if whole <= end)])
+            replay = Replay(8, RECORDED[:end])
+            self.assertEqual(replay.recorded_rest, rest)
+            for item in items_of(8, REPLAYED):
+                replay.check(item)
+                index, expected = replay.index, replay.expected()
+                self.assertEqual(replay.recorded_rest, rest)
+                self.assertEqual((replay.index, replay.expected()), (index, expected))
+        with self.assertRaises(AttributeError):
+            replay.recorded_rest = 0
+
     def test_the_recording_is_copied_if_it_can_change(self):
         recorded = bytearray(RECORDED)
         replay = Replay(8, recorded)

@@ -3,13 +3,15 @@
 # Passes a journal on from one connection to another, with each state one greater: ruby proxy.rb VERSION HOST PORT
 #
 # It takes a connection at a port of this machine, which it prints, and opens one to HOST and PORT. All that it does not
-# change it passes on byte for byte, also the beginning of a last item that is not whole.
+# change it passes on byte for byte, also the beginning of a last item that is not whole. It ends at a payload that is
+# not well-formed. A command that it changes keeps only the fields of its type, and no ignored bits of its header.
 
 require "pendratsoa"
 require "socket"
 
 # What takes the place of an item.
 def passed_on(item)
+  item.check
   case item
   in Pendratsoa::Message[type: "SetStateCommand", version:, message: { value: { content: } } => command]
     command.with(value: Pendratsoa::Value.new(content: (Integer(content, 10) + 1).to_s)).frame(version)
@@ -30,6 +32,6 @@ begin
   stream.read(source) { |item| target.write(passed_on(item)) }
   target.write(stream.trailing)
   stream.finish
-rescue Pendratsoa::Incomplete => error
+rescue Pendratsoa::Error => error
   abort "proxy.rb: #{error.message}"
 end

@@ -4,8 +4,8 @@
 #
 # It prints each command that is the same. Where the replay leaves the recording it prints how, where both are, which
 # command the recording has next, the text that the SDKs report, and the fields that differ. The status is 0 if both are
-# the same, 1 if they differ, and 2 if either cannot be read: a file, a message of more than a mebibyte, a stream that
-# ends within an item, a command that is malformed.
+# the same, 1 if they differ, and 2 if either cannot be read: a file, a message of more than a mebibyte, a stream or a
+# recording that ends within an item, a command that is malformed.
 
 require "pendratsoa"
 
@@ -48,6 +48,9 @@ begin
   replay = Pendratsoa::Replay.new(Integer(version), File.binread(name))
   found = first_mismatch(replay)
   exit print_mismatch(found, replay) if found
+
+  rest = replay.recorded_rest
+  fail_with "replay.rb: the recording ends within an item, after #{rest} bytes of it" if rest.positive?
 
   puts "same, #{replay.index} commands"
 rescue Pendratsoa::Error, SystemCallError => error

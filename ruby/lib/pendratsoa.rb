@@ -23,10 +23,10 @@ require_relative "pendratsoa/replay"
 
 # The journal protocol of the Restate SDKs, by the calls of Pendratsoa's shared library.
 #
-#   stream = Pendratsoa::Stream.new(version: 8)
-#   File.open("journal", "rb") do |file|
-#     stream.read(file) { |item| p item.type, item.message if item.is_a?(Pendratsoa::Message) }
-#   end
+#     stream = Pendratsoa::Stream.new(version: 8)
+#     File.open("journal", "rb") do |file|
+#       stream.read(file) { |item| p item.type, item.message if item.is_a?(Pendratsoa::Message) }
+#     end
 #
 # What a call rejects is an exception below Pendratsoa::Error, whose text names the argument and its value; what is no
 # String or no Integer is a TypeError. A schema is given by its number or by the name of its record, as

@@ -92,9 +92,20 @@ class TestCopies < Minitest::Test
     assert_equal [1, 17, nil], [error.rest, error.offset, error.code]
     items = Pendratsoa::Stream.read(StringIO.new(INPUT + INPUT[0, 5]), strict: true)
     assert_equal "InputCommand 9", items.next.to_s
-    text = "read: the stream ended within an item at offset 17, after 5 bytes of it"
+    text = "read: the stream ended within InputCommand at offset 17, after 5 bytes of it"
     error = assert_error(Pendratsoa::Incomplete, text) { items.next }
-    assert_equal ["read", 5], [error.call, error.rest]
+    assert_equal ["read", 5, CODES[:input]], [error.call, error.rest, error.code]
+  end
+
+  def test_the_code_of_an_item_that_is_cut
+    { "04" => [nil, "an item"], "0400" => [0x0400, "InputCommand"], "0008" => [8, "code 0x0008"],
+      "fc010000000000" => [0xfc01, "CustomEntry(64513)"] }.each do |digits, (code, name)|
+      stream = Pendratsoa::Stream.new.feed(unhex(digits))
+      assert_empty stream.to_a
+      error = assert_raises(Pendratsoa::Incomplete) { stream.finish }
+      assert_equal [code, digits.length / 2], [error.code, error.rest]
+      assert_operator error.message, :start_with?, "finish: the stream ended within #{name} at offset 0, after "
+    end
   end
 
   def test_the_end_of_a_stream_whose_items_are_not_taken

@@ -14,6 +14,27 @@ class TestItems < Minitest::Test
     assert_raises(Pendratsoa::Unknown) { call.notification }
   end
 
+  def test_items_that_are_no_messages
+    [Pendratsoa::UnknownCode.new(8, 8, 8 << 48), Pendratsoa::Skipped.new(9, 8, 8 << 48, "\n")].each do |item|
+      assert_equal [nil, false, false], [item.type, item.command?, item.notification?]
+      assert_same item, item.check
+    end
+  end
+
+  def test_checks_of_payloads
+    assert_empty(Pendratsoa::Stream.new.feed(read("examples/streams/recorded")).reject { |item| item.check == item })
+    custom = Pendratsoa::Message.of(CODES[:custom_entry], "\n")
+    assert_same custom, custom.check
+    text = "check: SetStateCommand at offset 17: payload \"\\n\" is not well-formed"
+    error = assert_error(Pendratsoa::Malformed, text) do
+      Pendratsoa::Message.new(8, CODES[:set_state], "\n", offset: 17).check
+    end
+    assert_equal ["check", CODES[:set_state], 17], [error.call, error.code, error.offset]
+    [[8, 8], [4, CODES[:set_state]]].each do |version, code|
+      assert_raises(Pendratsoa::Unknown) { Pendratsoa::Message.new(version, code, "").check }
+    end
+  end
+
   def test_items_are_frozen
     message = Pendratsoa::Message.new(8, CODES[:input], +"bytes")
     skipped = Pendratsoa::Skipped.new(9, 8, 0, +"bytes")

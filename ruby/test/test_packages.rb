@@ -160,7 +160,19 @@ class TestPackages < Minitest::Test
 
       reading(item) { item.public_send(READS.fetch(call)).nil? ? "none" : "ok" }
     end
+    # a check ends as the reading of a record does
+    assert_equal(results.map { |result| result.sub("none", "ok") }, checks_of(version, word)) if call == "record"
     results.join(", ")
+  end
+
+  # How the check of each item of a stream ends.
+  def checks_of(version, word)
+    items_of(version, word).map do |item|
+      reading(item) do
+        assert_same item, item.check
+        "ok"
+      end
+    end
   end
 
   def as_result(name, version, word)
@@ -225,6 +237,10 @@ class TestPackages < Minitest::Test
   def step(replay, mismatch)
     expected = replay.expected
     [mismatch ? mismatch.kind : "none", replay.index, expected&.offset, expected&.type].compact.join(" ")
+  end
+
+  def rest_result(version, recorded)
+    Pendratsoa::Replay.new(Integer(version), bytes_of(recorded)).recorded_rest.to_s
   end
 
   def encode_result(version, name, *words)

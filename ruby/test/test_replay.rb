@@ -39,6 +39,30 @@ class TestReplay < Minitest::Test
     assert_nil replay.finish
   end
 
+  def test_bytes_after_the_last_whole_item
+    ends = items_of(8, RECORDED).map { |item| item.offset + item.bytes.bytesize }
+    (0..RECORDED.bytesize).each do |length|
+      replay = Pendratsoa::Replay.new(8, RECORDED.byteslice(0, length))
+      wanted = length - [0, *ends].select { |offset| offset <= length }.last
+      assert_equal [wanted, wanted], [replay.recorded_rest, replay.recorded_rest]
+      items_of(8, RECORDED).each { |item| replay.check(item) }
+      assert_equal wanted, replay.recorded_rest
+    end
+    # those of an item that is longer than what is read at a time
+    replay = Pendratsoa::Replay.new(8, RECORDED + Pendratsoa.header(8, 0xfc01, 300_000) + ("x" * 200_000))
+    assert_equal 200_008, replay.recorded_rest
+  end
+
+  def test_what_is_asked_changes_nothing
+    replay = Pendratsoa::Replay.new(8, RECORDED)
+    first, *others = items_of(8, RECORDED)
+    replay.check(first)
+    before = [replay.index, replay.expected]
+    assert_equal [0, *before], [replay.recorded_rest, replay.index, replay.expected]
+    assert_equal([], others.filter_map { |item| replay.check(item) })
+    assert_nil replay.finish
+  end
+
   def test_finish_changes_nothing
     replay = Pendratsoa::Replay.new(8, RECORDED)
     assert_equal [:replayed_ended, 0, 0], replay.finish.to_a.first(3)

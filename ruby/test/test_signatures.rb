@@ -8,16 +8,20 @@ rescue LoadError
   warn "test_signatures.rb: not run, since there is no rbs"
 end
 
-# The signatures of sig/ have the methods that there are, and no others.
+# The signatures of sig/ have the methods and constants that there are, and no others.
 class TestSignatures < Minitest::Test
-  # What every object has, and writers of frozen members.
-  COMMON = %i[initialize to_s inspect hash == eql? deconstruct deconstruct_keys].freeze
+  # What every object has.
+  COMMON = %i[initialize to_s inspect hash == eql?].freeze
+
+  # What the classes of records have, and their signatures do not.
+  OF_RECORDS = %i[SCHEMA CODE TYPE BEFORE_VERSION].freeze
 
   def setup
     skip unless defined?(RBS)
     loader = RBS::EnvironmentLoader.new
     loader.add(path: Pathname(File.join(TOP, "ruby/sig")))
-    @builder = RBS::DefinitionBuilder.new(env: RBS::Environment.from_loader(loader).resolve_type_names)
+    @environment = RBS::Environment.from_loader(loader).resolve_type_names
+    @builder = RBS::DefinitionBuilder.new(env: @environment)
   end
 
   def test_the_functions
@@ -26,18 +30,36 @@ class TestSignatures < Minitest::Test
   end
 
   def test_the_classes
-    classes = Pendratsoa.constants.map { |name| Pendratsoa.const_get(name) }.grep(Module)
     refute_empty classes
     classes.each do |one|
       declared = names(@builder.build_instance(type_name(one.name))) - COMMON
-      found = one.public_instance_methods(false).reject { |name| COMMON.include?(name) || name.end_with?("=") }
+      # no writer of a frozen member
+      found = one.public_instance_methods(false).reject { |name| COMMON.include?(name) || name.match?(/\w=\z/) }
       # what a class inherits of a module is in both, or only in the module
       assert_equal [], (found - declared).sort, one.name
       assert_equal [], (declared - one.public_instance_methods).sort, one.name
     end
   end
 
+  def test_the_constants
+    [Pendratsoa, *classes].each do |one|
+      found = one.constants(false) - (one < Pendratsoa::Record ? OF_RECORDS : [])
+      assert_equal found.sort, constants_in("::#{one.name}::"), one.name
+    end
+  end
+
   private
+
+  # The classes and modules of this gem.
+  def classes
+    Pendratsoa.constants.map { |name| Pendratsoa.const_get(name) }.grep(Module)
+  end
+
+  # The constants that are declared in a namespace, classes among them.
+  def constants_in(namespace)
+    declared = @environment.constant_decls.keys + @environment.class_decls.keys
+    declared.filter_map { |name| name.name if name.namespace.to_s == namespace }.sort
+  end
 
   def type_name(name)
     *outer, last = name.split("::").map(&:to_sym)

@@ -75,6 +75,19 @@ class TestStream < Minitest::Test
     assert_empty stream.to_a
   end
 
+  def test_a_loop_goes_on_after_a_payload_that_is_malformed
+    stream = Pendratsoa::Stream.new
+    bad = unhex("04030000000000010a")
+    %i[check message].each do |call|
+      stream.feed(bad + Helper::INPUT)
+      assert_raises(Pendratsoa::Malformed) { stream.each(&call) }
+      assert_equal [ITEMS[0]], stream.to_a
+      input = StringIO.new(bad + Helper::INPUT)
+      assert_raises(Pendratsoa::Malformed) { stream.read(input, &call) }
+      assert_equal [ITEMS[0]], stream.read(input).to_a
+    end
+  end
+
   def test_a_loop_that_feeds
     stream = Pendratsoa::Stream.new.feed(Helper::INPUT)
     count = 0

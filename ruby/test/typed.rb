@@ -52,9 +52,12 @@ module Typed
       record.to_h.each_key { |member| record.public_send(member) }
       record.with(**record.to_h).encode
       record.class.members
+      record.deconstruct_keys(nil)
       tried { record.frame(6) } if record.is_a?(Pendratsoa::MessageRecord)
       tried { record.frame(8, numbering: numbering) } if record.is_a?(Pendratsoa::MessageRecord)
     end
+    member = Pendratsoa::NotificationTemplateSignalId.new(1)
+    used(member.value, member.deconstruct, member.deconstruct_keys(%i[value]), Pendratsoa::Member.of)
     tried { Pendratsoa::Value.decode("\n") }
     tried { Pendratsoa::SleepCommandMessage.new(wake_up_time: -1).encode }
   end
@@ -74,6 +77,9 @@ module Typed
 
   def item(item)
     used(item.offset, item.bytes, item.version, item.code, item.write_to(StringIO.new))
+    used(item.command?, item.notification?, item.deconstruct_keys(%i[code]), item.deconstruct_keys(nil))
+    tried { item.type }
+    tried { item.check }
     item.record(Pendratsoa::SetStateCommandMessage)
     message(item) if item.is_a?(Pendratsoa::Message)
   end
@@ -113,6 +119,7 @@ module Typed
       replay.expected
     end
     used(replay.index, replay.version, replay.finish, Pendratsoa::Replay.new(8, journals[0]).finish)
+    used(replay.recorded_rest)
   end
 
   def numbering

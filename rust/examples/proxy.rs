@@ -1,7 +1,8 @@
 //! Passes a journal on from one connection to another, with each state one greater: proxy VERSION HOST PORT
 //!
 //! It takes a connection at a port of this machine, which it prints, and opens one to HOST and PORT. All that it does
-//! not change it passes on byte for byte, also the beginning of a last item that is not whole.
+//! not change it passes on byte for byte, also the beginning of a last item that is not whole. A command that it
+//! changes has only the fields of its type. Unknown fields of the payload and ignored bits of the header are lost.
 
 use std::env;
 use std::error::Error;

@@ -3,7 +3,8 @@
 //! It prints each command that is the same. Where the replay leaves the recording it prints how, where both are, which
 //! command the recording has next, the text that the SDKs report, and the fields that differ. The status is 0 if both
 //! are the same, 1 if they differ, and 2 if either cannot be read: a file, a message of more than a mebibyte, a stream
-//! that ends within an item, a command that is malformed.
+//! that ends within an item, a command that is malformed. A recording that ends within an item is read up to that: the
+//! status is 1 if the replay differs from its whole items, and otherwise 2.
 
 use std::env;
 use std::error::Error;
@@ -36,6 +37,7 @@ fn run(words: &[String]) -> Result<ExitCode, Box<dyn Error>> {
     let mismatch = match check(&mut replay, io::stdin().lock(), &mut output)? {
         Some(mismatch) => mismatch,
         None => {
+            check_end(&replay)?;
             writeln!(output, "same, {} commands", replay.index())?;
             return Ok(ExitCode::SUCCESS);
         }
@@ -74,6 +76,14 @@ fn check(
     }
     decoder.finish()?;
     Ok(replay.finish()?)
+}
+
+/// An error if the recording ends within an item: it may have had more commands.
+fn check_end(replay: &Replay<'_>) -> Result<(), Box<dyn Error>> {
+    match replay.recorded_rest()? {
+        0 => Ok(()),
+        rest => Err(format!("the recording ends within an item, after {rest} of its bytes").into()),
+    }
 }
 
 /// Prints a mismatch.

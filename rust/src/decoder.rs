@@ -74,6 +74,9 @@ impl Decoder {
     /// header announces, and its offset in the stream. It ends the stream, and what came of it is dropped: from then on
     /// each iteration, `feed`, `room`, `read_from` and `finish` return this error, and no bytes are pending.
     ///
+    /// The limit is on the payload. Its header does not count: a message that is over the limit only with these 8 bytes
+    /// is taken.
+    ///
     /// ```
     /// use pendratsoa::{Decoder, Error};
     ///
@@ -163,6 +166,29 @@ impl Decoder {
     /// Reads once, at most 64 KiB, and appends the bytes to those received. Returns how many they are, 0 at the end.
     ///
     /// An error of the reader, or a failed allocation, leaves the bytes received unchanged.
+    ///
+    /// An error of the reader is returned as it is. Any other is an [`io::Error`] that holds an [`Error`]:
+    /// `Error::OutOfMemory`, or the `Error::MessageTooLong` that ended the stream. `?` takes it in a function that
+    /// returns an [`io::Result`] or a boxed error, and takes the errors of [`Decoder::items`] there too. There is no
+    /// conversion from an [`io::Error`] to an [`Error`]; this finds the one that is held:
+    ///
+    /// ```
+    /// use pendratsoa::{Decoder, Error};
+    ///
+    /// # fn read() -> std::io::Result<()> {
+    /// let mut decoder = Decoder::with_max_message_size(8, 0)?;
+    /// let mut input = &[4, 0, 0, 0, 0, 0, 0, 1][..];
+    /// decoder.read_from(&mut input)?;
+    /// assert!(matches!(decoder.items().next(), Some(Err(Error::MessageTooLong(_)))));
+    /// let error = decoder.read_from(&mut input).unwrap_err();
+    /// let held = error.get_ref().and_then(|held| held.downcast_ref::<Error>());
+    /// assert!(matches!(held, Some(Error::MessageTooLong(_))));
+    /// # Ok(())
+    /// # }
+    /// # read().unwrap();
+    /// ```
+    ///
+    /// A stream is read in two loops:
     ///
     /// ```
     /// use pendratsoa::Decoder;

@@ -96,24 +96,29 @@ pub struct Incomplete {
     pub rest: usize,
     /// Where the item begins in the stream, in bytes.
     pub offset: u64,
-    /// The code of its type; `None` if less than a header came.
+    /// The code of its type, which is its first two bytes; `None` if only one came.
     pub code: Option<u16>,
 }
 
 impl Incomplete {
     /// The end within the item that these bytes begin.
     pub(crate) fn of(bytes: &[u8], offset: u64) -> Incomplete {
-        let code = announced(bytes).map(|(code, _)| code);
+        let code = announced_code(bytes);
         let rest = bytes.len();
         Incomplete { rest, offset, code }
     }
 }
 
-/// The code and the length that a header has, if these bytes begin with a whole one.
-fn announced(bytes: &[u8]) -> Option<(u16, u32)> {
+/// The code that a header has, if these bytes begin with its first two.
+fn announced_code(bytes: &[u8]) -> Option<u16> {
     let code = bytes.get(..2)?.try_into().ok()?;
+    Some(u16::from_be_bytes(code))
+}
+
+/// The length that a header has, if these bytes begin with a whole one.
+fn announced_length(bytes: &[u8]) -> Option<u32> {
     let length = bytes.get(4..8)?.try_into().ok()?;
-    Some((u16::from_be_bytes(code), u32::from_be_bytes(length)))
+    Some(u32::from_be_bytes(length))
 }
 
 /// A message whose payload has more bytes than is taken.
@@ -133,10 +138,9 @@ pub struct MessageTooLong {
 impl MessageTooLong {
     /// The message whose header these bytes begin with, at an offset of its stream.
     pub(crate) fn of(bytes: &[u8], limit: u32, offset: u64) -> MessageTooLong {
-        let (code, length) = announced(bytes).unwrap_or_default();
         MessageTooLong {
-            code,
-            length,
+            code: announced_code(bytes).unwrap_or_default(),
+            length: announced_length(bytes).unwrap_or_default(),
             limit,
             offset,
         }
@@ -147,7 +151,7 @@ impl Error {
     /// The code of the type of the message, or of the item, that the error is about.
     ///
     /// That of a payload's error that a method of [`Message`](crate::Message) returned, of `Error::MessageTooLong`, and
-    /// of `Error::Incomplete` if a header came; otherwise `None`.
+    /// of `Error::Incomplete` if two bytes of the item came; otherwise `None`.
     ///
     /// ```
     /// use pendratsoa::{Decoder, Item};
@@ -470,6 +474,10 @@ mod tests {
             (
                 Error::Incomplete(Incomplete::of(&[4], 17)),
                 "the stream ended within an item at offset 17, after 1 byte of it",
+            ),
+            (
+                Error::Incomplete(Incomplete::of(&[4, 3, 0], 17)),
+                "the stream ended within SetStateCommand at offset 17, after 3 bytes of it",
             ),
             (
                 Error::Incomplete(Incomplete::of(&[4, 3, 0, 0, 0, 0, 0, 1], 17)),

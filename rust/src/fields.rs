@@ -14,13 +14,15 @@ use crate::schema::Schema;
 use crate::LAST_VERSION;
 
 /// The name of a record, and its fields: their numbers, their names, whether they are repeated, and the schema of what
-/// they hold.
+/// they hold. It has no public name.
+#[derive(Debug)]
 pub struct Listed {
     pub(crate) name: &'static str,
     pub(crate) fields: &'static [(u64, &'static str, bool, Option<usize>)],
 }
 
-/// A record of the journal protocol, as a struct of [`messages`](crate::messages).
+/// A record of the journal protocol, as a struct of [`messages`](crate::messages). The trait is sealed: only this crate
+/// implements it.
 pub trait Record<'a>: Fields<'a> {
     /// The schema of its payloads.
     const SCHEMA: Schema;
@@ -108,7 +110,7 @@ pub trait MessageRecord<'a>: Record<'a> {
 /// How many bytes a header has.
 pub(crate) const HEADER: usize = 8;
 
-/// What the generated code has of each record.
+/// What the generated code has of each record. It has no public name, which seals [`Record`].
 pub trait Fields<'a>: Default {
     #[doc(hidden)]
     const LISTED: &'static Listed;

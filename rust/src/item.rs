@@ -57,7 +57,7 @@ impl fmt::Debug for Place {
 pub enum Item<'a> {
     /// A message of a named type, or a custom entry.
     Message(Message<'a>),
-    /// Eight bytes with an unassigned code, before version 9.
+    /// Eight bytes with an unassigned code, before version 9: an item of its own, whatever comes after it.
     UnknownCode(UnknownCode),
     /// A message of an unknown type, which is skipped with its payload, from version 9 on.
     Skipped(Skipped<'a>),
@@ -83,7 +83,8 @@ pub struct Message<'a> {
     offset: Place,
 }
 
-/// Eight bytes of a stream with an unassigned code.
+/// Eight bytes of a stream with an unassigned code, which are an item of its own before version 9. The programs call
+/// them an unknown header.
 #[derive(Clone, Copy, Debug, PartialEq, Eq, Hash)]
 #[non_exhaustive]
 pub struct UnknownCode {
@@ -112,6 +113,49 @@ pub struct Skipped<'a> {
 }
 
 impl<'a> Item<'a> {
+    /// The code of its type: the first two bytes of the item. That of an unknown code, or of what is skipped, is one
+    /// that no type has.
+    #[must_use]
+    pub fn code(&self) -> u16 {
+        match self {
+            Item::Message(message) => message.code,
+            Item::UnknownCode(unknown) => unknown.code,
+            Item::Skipped(skipped) => skipped.code,
+        }
+    }
+
+    /// The name of its type, as [`Message::type_name`] has it. `Error::Unknown` of what is not a message, since no type
+    /// has its code.
+    ///
+    /// ```
+    /// use pendratsoa::{Argument, Decoder, Error};
+    ///
+    /// let mut decoder = Decoder::new(8)?;
+    /// decoder.feed(&[0x04, 0, 0, 0, 0, 0, 0, 0, 0, 8, 0, 0, 0, 0, 0, 0])?;
+    /// let items: Vec<_> = decoder.items().collect::<Result<_, _>>()?;
+    /// assert_eq!(items[0].type_name()?, "InputCommand");
+    /// assert!(items[0].is_command());
+    /// assert_eq!((items[1].code(), items[1].is_command()), (8, false));
+    /// assert_eq!(items[1].type_name(), Err(Error::Unknown(Argument::Code(8))));
+    /// # Ok::<(), Error>(())
+    /// ```
+    pub fn type_name(&self) -> Result<String, Error> {
+        type_name(self.code())
+    }
+
+    /// Whether it is a command, as [`Message::is_command`] tells of a message; false of what is not a message.
+    #[must_use]
+    pub fn is_command(&self) -> bool {
+        matches!(self, Item::Message(message) if message.is_command())
+    }
+
+    /// Whether it is a notification, as [`Message::is_notification`] tells of a message; false of what is not a
+    /// message.
+    #[must_use]
+    pub fn is_notification(&self) -> bool {
+        matches!(self, Item::Message(message) if message.is_notification())
+    }
+
     /// Where the item begins in its stream, in bytes. An item of a [`Decoder`](crate::Decoder) has an offset; one of
     /// [`next_item`] has none, since no stream is known there.
     #[must_use]
@@ -443,17 +487,22 @@ impl<'a> Message<'a> {
         MessageType::from_code(self.code)
     }
 
-    /// The name of the type, as [`type_name`] has it.
+    /// The name of the type, as [`type_name`] has it. `Error::Unknown` if no type has the code.
     pub fn type_name(&self) -> Result<String, Error> {
         type_name(self.code)
     }
 
     /// Whether it is a command, by its code.
+    ///
+    /// A custom entry is a message of any code that no named type has, with one of its upper six bits set, `0x0400` and
+    /// above. By its code it may count as a command or a notification; a replay does not compare it.
+    #[must_use]
     pub fn is_command(&self) -> bool {
         self.message_type().map_or(false, MessageType::is_command)
     }
 
-    /// Whether it is a notification, by its code.
+    /// Whether it is a notification, by its code. A custom entry may count as one, as [`Message::is_command`] says.
+    #[must_use]
     pub fn is_notification(&self) -> bool {
         self.message_type()
             .map_or(false, MessageType::is_notification)
@@ -626,7 +675,8 @@ pub fn next_item(version: u32, bytes: &[u8]) -> Result<Next<'_>, Error> {
 /// Finds the item that bytes begin with, as [`next_item`], if its payload has at most `limit` bytes.
 ///
 /// `Error::MessageTooLong` as soon as the eight bytes of a header are there that announces more. Its offset is 0, since
-/// the message begins where the bytes do.
+/// the message begins where the bytes do. The header does not count: a message that is over the limit only with its
+/// header is taken.
 ///
 /// ```
 /// use pendratsoa::{next_item_within, Error};

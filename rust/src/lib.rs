@@ -44,7 +44,13 @@ mod error;
     clippy::inline_always,
     clippy::struct_field_names
 )]
+// records are sealed by a trait that has no public name, and neither have the types of its methods
+#[allow(unknown_lints)]
+#[allow(unnameable_types)]
 mod ffi;
+// that trait is here
+#[allow(unknown_lints)]
+#[allow(unnameable_types)]
 mod fields;
 mod item;
 mod journals;

@@ -321,13 +321,13 @@ impl MessageType {
             .find(|named| named.name() == name)
     }
 
-    /// Whether it is a command, by its code. Custom entries count by their codes too.
+    /// Whether it is a command, by its code. Custom entries count too; a replay does not compare them.
     #[must_use]
     pub fn is_command(self) -> bool {
         (0x0400..0x8000).contains(&self.code())
     }
 
-    /// Whether it is a notification, by its code. Custom entries count by their codes too.
+    /// Whether it is a notification, by its code. Custom entries count too; a replay does not compare them.
     #[must_use]
     pub fn is_notification(self) -> bool {
         (0x8000..0xFC00).contains(&self.code())

@@ -1,5 +1,8 @@
 //! A replay that is checked by its recording, item by item.
 
+use std::error;
+use std::fmt;
+
 use crate::calls::{of_commands, text};
 use crate::error::{narrowed, Argument, Error};
 use crate::ffi::{self, About, Refusal, REPLAY_IGNORE_IDS, REPLAY_IGNORE_PAYLOADS};
@@ -10,18 +13,36 @@ use crate::journals::{kind_of, VerdictKind};
 const HEADER: usize = 8;
 
 /// A field in which two commands differ, as the text of their mismatch prints it.
+///
+/// A text is as it is in the journal, of any length and with any control characters; bytes are quoted. Escape both
+/// values before you print them in a line, as `{:?}` does.
 #[derive(Clone, Debug, PartialEq, Eq, Hash)]
 #[non_exhaustive]
 pub struct ChangedField {
-    /// The name of the field.
+    /// The name of the field in the .proto.
     pub name: String,
-    /// What the recorded command has.
+    /// What the recorded command has, which is not escaped.
     pub recorded: String,
-    /// What the replayed command has.
+    /// What the replayed command has, which is not escaped.
     pub replayed: String,
 }
 
 /// Where a replay leaves its recording: all commands before this one are the same.
+///
+/// It displays as one sentence: which command it is, and how the journals differ there. That has the names of changed
+/// fields, and never their values.
+///
+/// ```
+/// use pendratsoa::{Decoder, Ignored, Replay};
+///
+/// // the recorded command clears the state `a`, and the replayed one `b`
+/// let mut replay = Replay::new(8, b"\x04\x04\0\0\0\0\0\x03\n\x01a", Ignored::default())?;
+/// let mut decoder = Decoder::new(8)?;
+/// decoder.feed(b"\x04\x04\0\0\0\0\0\x03\n\x01b")?;
+/// let mismatch = replay.check(&decoder.items().next().unwrap()?)?.unwrap();
+/// assert_eq!(mismatch.to_string(), "command 0 differs from the recorded one in key");
+/// # Ok::<(), pendratsoa::Error>(())
+/// ```
 #[derive(Clone, Debug, PartialEq, Eq, Hash)]
 #[non_exhaustive]
 pub struct Mismatch {
@@ -34,10 +55,45 @@ pub struct Mismatch {
     pub recorded_offset: Option<u64>,
     /// Where the replayed command begins in the replay, in bytes, or where the replay ends.
     pub replayed_offset: u64,
-    /// The text of a mismatch of two commands, as the SDKs report it, otherwise empty.
+    /// The text of a mismatch of two commands, as the SDKs report it, otherwise empty. It has the values of fields as
+    /// they are, as [`ChangedField`] does.
     pub text: String,
-    /// The printed fields in which two commands of one type differ.
+    /// The printed fields in which two commands of one type differ. Empty if the commands differ only in what is not
+    /// printed, such as the name of most commands.
     pub fields: Vec<ChangedField>,
+}
+
+impl fmt::Display for Mismatch {
+    fn fmt(&self, f: &mut fmt::Formatter<'_>) -> fmt::Result {
+        let (before, after) = match self.kind {
+            VerdictKind::Same => ("command", "is the same as the recorded one"),
+            VerdictKind::RecordedEnded => ("the recording ended before command", "of the replay"),
+            VerdictKind::ReplayedEnded => ("the replay ended before command", "of the recording"),
+            VerdictKind::TypeMismatch => ("command", "is of another type than the recorded one"),
+            VerdictKind::HeaderMismatch => ("command", "differs from the recorded one in "),
+            VerdictKind::BadRecorded => ("the recorded command", "is malformed"),
+            VerdictKind::BadReplayed => ("the replayed command", "is malformed"),
+        };
+        write!(f, "{before} {} {after}", self.index)?;
+        match self.kind {
+            VerdictKind::HeaderMismatch => write_names(f, &self.fields),
+            _ => Ok(()),
+        }
+    }
+}
+
+impl error::Error for Mismatch {}
+
+/// Writes the names of the fields in which two commands differ.
+fn write_names(f: &mut fmt::Formatter<'_>, fields: &[ChangedField]) -> fmt::Result {
+    if fields.is_empty() {
+        return f.write_str("what is not printed");
+    }
+    for (place, field) in fields.iter().enumerate() {
+        let before = if place == 0 { "" } else { ", " };
+        write!(f, "{before}{}", field.name)?;
+    }
+    Ok(())
 }
 
 /// What a replay does not compare: nothing by default.
@@ -75,7 +131,8 @@ pub struct Replay<'a> {
 }
 
 impl<'a> Replay<'a> {
-    /// A replay of a version that is checked by a recording, which is a whole journal.
+    /// A replay of a version that is checked by a recording, which is a whole journal: [`Replay::recorded_rest`] tells
+    /// whether it ends with a whole item.
     ///
     /// `Error::Unknown` if there is no version of this number.
     pub fn new(version: u32, recorded: &'a [u8], ignored: Ignored) -> Result<Replay<'a>, Error> {
@@ -163,6 +220,32 @@ impl<'a> Replay<'a> {
             return Ok(None);
         }
         self.mismatch(mismatch, 0, &[]).map(Some)
+    }
+
+    /// How many bytes of the recording follow its last whole item, which are not compared: 0 of a whole one.
+    ///
+    /// It walks over the recording, and changes nothing. Nothing else tells a recording that is cut from one that
+    /// ended.
+    ///
+    /// ```
+    /// use pendratsoa::{Ignored, Replay};
+    ///
+    /// let recorded = [0x04, 0x0C, 0, 0, 0, 0, 0, 0, 0x04, 0x05, 0];
+    /// let replay = Replay::new(8, &recorded, Ignored::default())?;
+    /// assert_eq!(replay.recorded_rest()?, 3);
+    /// # Ok::<(), pendratsoa::Error>(())
+    /// ```
+    pub fn recorded_rest(&self) -> Result<usize, Error> {
+        // whatever is before the command that comes next is whole
+        let begin = self.command()?.map_or(0, |[offset, _, _]| offset);
+        let mut rest = usize::try_from(begin)
+            .ok()
+            .and_then(|begin| self.recorded.get(begin..))
+            .ok_or_else(|| Error::unexpected("the offset", begin))?;
+        while let Next::Item { size, .. } = next_item(self.version, rest)? {
+            rest = &rest[size..];
+        }
+        Ok(rest.len())
     }
 
     /// The offset, the code and the size of the command that comes next in the recording.
@@ -265,6 +348,66 @@ fn changed_field(lengths: [u64; 3], bytes: &[u8]) -> Result<ChangedField, Error>
 #[cfg(test)]
 mod tests {
     use super::*;
+
+    /// A mismatch at the command 2, in fields of these names.
+    fn mismatch(kind: VerdictKind, names: &[&str]) -> Mismatch {
+        let field = |name: &&str| ChangedField {
+            name: (*name).to_owned(),
+            recorded: "a\n".to_owned(),
+            replayed: "b\n".to_owned(),
+        };
+        Mismatch {
+            kind,
+            index: 2,
+            recorded_offset: Some(39),
+            replayed_offset: 39,
+            text: "a != b\n".to_owned(),
+            fields: names.iter().map(field).collect(),
+        }
+    }
+
+    #[test]
+    fn each_kind_of_mismatch_is_a_sentence() {
+        use VerdictKind::*;
+        for (kind, names, text) in [
+            (Same, &[][..], "command 2 is the same as the recorded one"),
+            (
+                RecordedEnded,
+                &[],
+                "the recording ended before command 2 of the replay",
+            ),
+            (
+                ReplayedEnded,
+                &[],
+                "the replay ended before command 2 of the recording",
+            ),
+            (
+                TypeMismatch,
+                &[],
+                "command 2 is of another type than the recorded one",
+            ),
+            (
+                HeaderMismatch,
+                &[],
+                "command 2 differs from the recorded one in what is not printed",
+            ),
+            (
+                HeaderMismatch,
+                &["key"],
+                "command 2 differs from the recorded one in key",
+            ),
+            (
+                HeaderMismatch,
+                &["service_name", "key"],
+                "command 2 differs from the recorded one in service_name, key",
+            ),
+            (BadRecorded, &[], "the recorded command 2 is malformed"),
+            (BadReplayed, &[], "the replayed command 2 is malformed"),
+        ] {
+            let error: Box<dyn error::Error> = mismatch(kind, names).into();
+            assert_eq!(error.to_string(), text);
+        }
+    }
 
     #[test]
     fn numbers_of_a_later_library() {

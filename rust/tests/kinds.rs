@@ -43,6 +43,8 @@ fn items() {
                 Some(MessageType::ProposeRunCompletion)
             );
             assert!(!message.is_command() && !message.is_notification());
+            assert_eq!(item(8, &bytes).code(), 5);
+            assert_eq!(item(8, &bytes).type_name(), message.type_name());
             assert_eq!(message.canonical().unwrap(), [0x08, 1]);
             assert_eq!(message.json().unwrap(), r#"{"resultCompletionId":1}"#);
             assert_eq!(message.frame().unwrap()[8..], bytes[8..]);
@@ -66,6 +68,27 @@ fn items() {
             assert_eq!(skipped.payload, &bytes[8..]);
         }
         other => panic!("{other:?}"),
+    }
+    for version in [8, 9] {
+        let item = item(version, &[0, 4, 1, 2, 0, 0, 0, 0]);
+        assert_eq!(item.code(), 4);
+        assert_eq!(item.type_name(), Err(Error::Unknown(Argument::Code(4))));
+        assert!(!item.is_command() && !item.is_notification());
+    }
+}
+
+#[test]
+fn commands_and_notifications() {
+    for code in (0..=u16::MAX).filter(|code| MessageType::from_code(*code).is_some()) {
+        let message = Message::new(8, code, &[]).unwrap();
+        let item = Item::from(message);
+        let is_command = (0x0400..0x8000).contains(&code);
+        assert_eq!(
+            (item.is_command(), message.is_command()),
+            (is_command, is_command)
+        );
+        assert_eq!(item.is_notification(), message.is_notification());
+        assert_eq!(item.is_notification(), (0x8000..0xFC00).contains(&code));
     }
 }
 

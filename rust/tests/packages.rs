@@ -324,6 +324,21 @@ fn replay_case(words: &[&str]) -> String {
     format!("{}; {end}", steps.join(", "))
 }
 
+fn rest_case(words: &[&str]) -> String {
+    let (version, recorded) = (words[0].parse().unwrap(), bytes(words[1]));
+    let mut replay = Replay::new(version, &recorded, Ignored::default()).unwrap();
+    let rest = replay.recorded_rest().unwrap();
+    let mut decoder = decoder(version, None);
+    decoder.feed(&recorded).unwrap();
+    for item in decoder.items() {
+        replay.check(&item.unwrap()).unwrap();
+        // it is the same wherever the replay is
+        assert_eq!(replay.recorded_rest(), Ok(rest));
+    }
+    assert_eq!(decoder.rest(), rest);
+    rest.to_string()
+}
+
 /// What is said of an item, and what comes next.
 fn step(replay: &Replay<'_>, said: Option<Mismatch>) -> String {
     let kind = said.map_or("none", |mismatch| kind_of(mismatch.kind));
@@ -430,6 +445,7 @@ fn each_case_has_its_result() {
             "compare" => compare_case(&words[1..]),
             "mismatch" => mismatch_case(&words[1..]),
             "replay" => replay_case(&words[1..]),
+            "rest" => rest_case(&words[1..]),
             "encode" => encode_case(&words[1..]),
             "message" => message_case(&words[1..]),
             "decode" => decode_case(&words[1..]),

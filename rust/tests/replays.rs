@@ -170,6 +170,27 @@ fn journals_cut_short() {
 }
 
 #[test]
+fn bytes_after_the_last_whole_item() {
+    let recorded = fs::read("../examples/streams/recorded").unwrap();
+    let recording = items(8, &recorded);
+    let ends: Vec<usize> = recording
+        .iter()
+        .map(|item| item.item().offset().unwrap() as usize)
+        .chain([recorded.len()])
+        .collect();
+    for end in 0..=recorded.len() {
+        let whole = ends.iter().rev().find(|whole| **whole <= end).unwrap();
+        let mut replay = Replay::new(8, &recorded[..end], Ignored::default()).unwrap();
+        for item in &recording {
+            assert_eq!(replay.recorded_rest(), Ok(end - whole));
+            replay.check(&item.item()).unwrap();
+        }
+        // also after the mismatch that the recording ended
+        assert_eq!(replay.recorded_rest(), Ok(end - whole));
+    }
+}
+
+#[test]
 fn versions_that_are_none() {
     for version in [0, 4, 10, u32::MAX] {
         let error = Replay::new(version, &[], Ignored::default()).unwrap_err();

@@ -126,7 +126,7 @@ types() {
 # The types, and the example, which lists as that in C does.
 if command -v tsc > /dev/null; then
   case_of 'the types' tsc -p "$tree/node"
-  types 'the examples in TypeScript' "$user/listing.mts" "$user/replay.mts"
+  types 'the examples in TypeScript' "$user/listing.mts" "$user/replay.mts" "$user/proxy.mts"
   case_of 'the example in C' cc -std=c99 -I "$prefix/include" examples/c/listing.c "$prefix/lib/libpendratsoa.a" \
     -o "$work/listing"
   for stream in replay:8 recorded:8 cut_short:8 three_unknown_types:8 unknown_type:9; do
@@ -140,6 +140,7 @@ if command -v tsc > /dev/null; then
   same 'the listing of a mixed stream' "$work/wanted" "$out"
   refused 'the listing with wrong words' 'usage: listing.mjs [5..9]' node "$user/listing.mjs" 10
   counted 'the replays' python3 -B scripts/checks/replayed.py node "$user/replay.mjs"
+  counted 'the proxy' python3 -B scripts/checks/proxied.py --pipe node "$user/proxy.mjs"
 else
   left_out 'the types and the example' 'there is no tsc; the Debian package node-typescript has it'
 fi
@@ -172,9 +173,6 @@ python3 -B scripts/checks/write_numbering.py "$user"
 (cd "$user" && node other.mjs) > "$out" 2> "$err"
 sed -n '/^Of a set/,/\.$/s/^`\(.*\)`\.$/\1/p' node/README.md > "$work/wanted"
 same 'the program of node/README.md that reads other field numbers' "$work/wanted" "$out"
-
-cp examples/typescript/proxy.mjs "$user/"
-counted 'the proxy' python3 -B scripts/checks/proxied.py node "$user/proxy.mjs"
 
 # Another library in place of the proved one.
 copy later

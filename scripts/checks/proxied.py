@@ -1,11 +1,12 @@
 #!/usr/bin/env python3
-"""proxied.py [--record] COMMAND..: a proxy passes journals on over sockets of this machine.
+"""proxied.py [--record | --pipe] COMMAND..: a proxy passes journals on over sockets of this machine, or over pipes.
 
 The command is one of the examples named proxy, which takes a version, a host and a port after these words, prints the
 port at which it listens, and adds 1 to each state that is set. The journals have flags that no encoder sets, lengths
 longer than they need to be, custom entries and unknown types, and come in chunks of any size. The beginning of a last
 item that is not whole is passed on too, and then the proxy has status 1 and says so. With --record it takes
---record FOLDER before the version, and writes what it takes and what it passes on there.
+--record FOLDER before the version, and writes what it takes and what it passes on there. With --pipe it takes only the
+version, and passes its standard input on to its standard output.
 """
 import pathlib
 import random
@@ -63,6 +64,24 @@ def passed_on(command, version, journal):
     return bytes(found), process.returncode, said
 
 
+def piped(command, version, journal):
+    """The same of a proxy from its standard input to its standard output."""
+    words = [*command, str(version)]
+    with subprocess.Popen(words, stdin=subprocess.PIPE, stdout=subprocess.PIPE, stderr=subprocess.PIPE) as process:
+        found = []
+        reader = threading.Thread(target=lambda: found.append(process.stdout.read()), daemon=True)
+        reader.start()
+        while journal:
+            size = random.choice((1, 7, 8, 9, 1000, 100000))
+            process.stdin.write(journal[:size])
+            process.stdin.flush()
+            journal = journal[size:]
+        process.stdin.close()
+        reader.join(60)
+        said = process.stderr.read().decode()
+    return b"".join(found), process.returncode, said
+
+
 def recorded(folder):
     """What the folder has of what was received, and of what was passed on."""
     return tuple(pathlib.Path(folder, name).read_bytes() for name in ("received", "passed_on"))
@@ -71,11 +90,12 @@ def recorded(folder):
 def main(command):
     passed = failed = 0
     is_recorded = command[:1] == ["--record"]
-    command = command[1:] if is_recorded else command
+    passed_by = piped if command[:1] == ["--pipe"] else passed_on
+    command = command[1:] if is_recorded or passed_by == piped else command
     for version, items, wanted, trailing in JOURNALS:
         with tempfile.TemporaryDirectory() as folder:
             words = [*command, "--record", folder] if is_recorded else command
-            found, status, said = passed_on(words, version, items + trailing)
+            found, status, said = passed_by(words, version, items + trailing)
             is_right = not is_recorded or recorded(folder) == (items + trailing, wanted + trailing)
         is_said = (status == 0, said == "") == (not trailing, not trailing)
         if is_right and is_said and found == wanted + trailing:

@@ -3,7 +3,8 @@
 // It prints each command that is the same. Where the replay leaves the recording it prints how, where both are, which
 // command the recording has next, the text that the SDKs report, and the fields that differ. The status is 0 if both
 // are the same, 1 if they differ, and 2 if either cannot be read: a file, a message of more than a mebibyte, a stream
-// that ends within an item, a command that is malformed.
+// or a recording that ends within an item, a command that is malformed. A recording that ends within an item is
+// compared up to that: the status is 1 if the replay differs from its whole items.
 package main
 
 import (
@@ -81,7 +82,7 @@ func check(replay *pendratsoa.Replay, decoder *pendratsoa.Decoder, output io.Wri
 	for {
 		item, err := decoder.Next()
 		if err == io.EOF {
-			return replay.Finish()
+			return finish(replay)
 		} else if err != nil {
 			return nil, err
 		}
@@ -93,6 +94,15 @@ func check(replay *pendratsoa.Replay, decoder *pendratsoa.Decoder, output io.Wri
 			fmt.Fprintf(output, "same %s at offset %d\n", command.Type(), command.Offset())
 		}
 	}
+}
+
+// finish returns what is left of the recording, or the error that the recording ends within an item.
+func finish(replay *pendratsoa.Replay) (*pendratsoa.Mismatch, error) {
+	left, err := replay.Finish()
+	if rest := replay.RecordedRest(); left == nil && err == nil && rest > 0 {
+		err = fmt.Errorf("the recording ends within an item, after %d of its bytes", rest)
+	}
+	return left, err
 }
 
 // show prints a mismatch.

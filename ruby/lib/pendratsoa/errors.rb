@@ -43,7 +43,7 @@ module Pendratsoa
   # than the limit of its stream.
   class TooLong < Error; end
 
-  # The payload of a message has more bytes than the limit of its stream.
+  # The payload of a message has more bytes than the limit of its stream. The eight bytes of its header do not count.
   class MessageTooLong < TooLong
     # The code of its type, the length of its payload by its header, the limit, and where its header begins in the
     # stream, all in bytes.
@@ -96,8 +96,8 @@ module Pendratsoa
 
   # A stream ended within an item.
   class Incomplete < Error
-    # How many bytes of the item came, where it begins in the stream, and the code of its type, which is nil if fewer
-    # bytes came than a header has.
+    # How many bytes of the item came, where it begins in the stream, and the code of its type: its first two bytes, or
+    # nil if only one came.
     attr_reader :rest, :offset, :code
 
     def initialize(message = nil, rest: 0, offset: 0, code: nil, **details)

@@ -8,6 +8,19 @@ module Pendratsoa
     # Where it begins in its stream, in bytes; nil if it came in none. It is not a member, and `==` does not compare it.
     attr_reader :offset
 
+    # The name of its type, which only a message has; otherwise nil.
+    def type = nil
+
+    # Whether it is a message whose code is that of a command.
+    def command? = false
+
+    # Whether it is a message whose code is that of a notification.
+    def notification? = false
+
+    # Checks the payload of a message, and returns the item: Malformed, with its code and its offset, if the payload is
+    # not well-formed. No record is made. A custom entry, an unknown code and a skipped message have nothing to check.
+    def check = self
+
     # The record that its payload means, if it is a message whose record is of this class; otherwise nil.
     def record(record)
       return if record.is_a?(Class) && record < MessageRecord
@@ -57,10 +70,10 @@ module Pendratsoa
   # `word` is the eight bytes of its header as one big-endian number, where it came in a stream, and otherwise nil. It
   # is not a member, and `==` does not compare it. In a pattern a message has its `type` and its `message` besides:
   #
-  #   case item
-  #   in Pendratsoa::Message[type: "SetStateCommand", message: { key:, value: { content: } }] then ..
-  #   in Pendratsoa::Message[type: "SetStateCommand", payload:] then ..
-  #   end
+  #     case item
+  #     in Pendratsoa::Message[type: "SetStateCommand", message: { key:, value: { content: } }] then ..
+  #     in Pendratsoa::Message[type: "SetStateCommand", payload:] then ..
+  #     end
   #
   # A pattern with `message` decodes each message that is tried, and raises Malformed if one means no record.
   Message = Struct.new(:version, :code, :payload, :requested_ack) do
@@ -133,6 +146,16 @@ module Pendratsoa
       found && reading("message") { found.decode(payload) }
     end
 
+    # Checks its payload without making a record, and returns the message: Malformed, with its code and its offset, if
+    # the payload is not well-formed. A custom entry has nothing to check. Unknown if there is no such version or type.
+    def check
+      found = class_of_record
+      return self if found.nil? || Pendratsoa.well_formed?(found::SCHEMA, payload)
+
+      # raises the error
+      reading("check") { found.decode(payload) }
+    end
+
     # The record that its payload means, if it is of this class; otherwise nil, and nothing is decoded. Malformed if the
     # payload means none.
     def record(record)
@@ -147,13 +170,15 @@ module Pendratsoa
       Pendratsoa.schema(version, code)
     end
 
-    # Whether its code is that of a command. So may be the code of a custom entry, which `compare_journals` skips
-    # nevertheless.
+    # Whether its code is that of a command.
+    #
+    # A custom entry is a message of any code that no named type has, with one of its upper six bits set: 0x0400 and
+    # above. By its code it may count as a command or a notification. `compare_journals` and a replay do not compare it.
     def command?
       COMMAND_CODES.cover?(code)
     end
 
-    # Whether its code is that of a notification, which those of custom entries may be.
+    # Whether its code is that of a notification. As with `command?`, it may be a custom entry.
     def notification?
       NOTIFICATION_CODES.cover?(code)
     end
@@ -263,7 +288,8 @@ module Pendratsoa
     end
   end
 
-  # Eight bytes with an unassigned code, before version 9; `word` is all eight as one big-endian number. It is frozen.
+  # Eight bytes with an unassigned code, before version 9, an item of their own; `word` is all eight as one big-endian
+  # number. It is frozen. The programs call it an unknown header.
   UnknownCode = Struct.new(:version, :code, :word) do
     include Item
 

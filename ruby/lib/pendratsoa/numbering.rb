@@ -3,8 +3,8 @@
 module Pendratsoa
   # The field numbers of a runtime's own .proto file, by a descriptor set of it.
   #
-  #   numbering = Pendratsoa::Numbering.load("set.binpb")
-  #   Pendratsoa::Stream.read(file, version: 8, numbering: numbering) { |item| puts item }
+  #     numbering = Pendratsoa::Numbering.load("set.binpb")
+  #     Pendratsoa::Stream.read(file, version: 8, numbering: numbering) { |item| puts item }
   #
   # `protoc --include_imports -o set.binpb FILE.proto` writes a set. Messages and fields are found by their names.
   # `renames` has the messages with other names there, as `{ "Fetch" => "GetLazyStateCommandMessage" }`. A field that

@@ -59,13 +59,13 @@ module Pendratsoa
   # what the field is by default. A String of another encoding for a field of bytes becomes a binary one, with the same
   # bytes, so that a record equals the one that its payload is decoded to.
   #
-  #   command = Pendratsoa::SetStateCommandMessage.new(key: "counter", value: Pendratsoa::Value.new(content: "1"))
-  #   command.frame(8)
-  #   command.with(name: "set") # as command, except its name
+  #     command = Pendratsoa::SetStateCommandMessage.new(key: "counter", value: Pendratsoa::Value.new(content: "1"))
+  #     command.frame(8)
+  #     command.with(name: "set") # as command, except its name
   #
-  #   case message.message
-  #   in Pendratsoa::SetStateCommandMessage[key:, value: { content: }] then ..
-  #   end
+  #     case message.message
+  #     in Pendratsoa::SetStateCommandMessage[key:, value: { content: }] then ..
+  #     end
   class Record
     # A field: its name, or that of the oneof that it is a member of, its number, its kind, its shape, what it holds,
     # and of a member of a oneof its own name, its class, and whether that is made for it.

@@ -1,8 +1,13 @@
 # frozen_string_literal: true
 
+require "stringio"
+
 module Pendratsoa
-  # A field in which two commands differ, as the text of their mismatch prints it: its name, what the recorded command
-  # has, and what the replayed one has, all in UTF-8.
+  # A field in which two commands differ, as the text of their mismatch prints it: its name in the .proto, what the
+  # recorded command has, and what the replayed one has, all in UTF-8.
+  #
+  # A text is as it is in the journal, of any length and with any control characters; bytes are quoted. Escape both
+  # values before you print them in a line.
   ChangedField = Struct.new(:name, :recorded, :replayed) do
     def initialize(*)
       super
@@ -16,7 +21,8 @@ module Pendratsoa
   # the recorded command begins in the recording, in bytes; if the recording has ended, where its last command begins,
   # or nil if it has none. `replayed_offset` is where the replayed command begins in the replay, or where that ends.
   # The text is that of a mismatch of two commands, as the SDKs report it, and otherwise empty. The fields are the
-  # printed ones in which two commands of one type differ, each a ChangedField.
+  # printed ones in which two commands of one type differ, each a ChangedField. There are none if the commands differ
+  # only in what is not printed, such as the name of most commands.
   Mismatch = Struct.new(:kind, :index, :recorded_offset, :replayed_offset, :text, :fields) do
     def initialize(*)
       super
@@ -26,17 +32,19 @@ module Pendratsoa
 
   # A replay of a version from 5 to 9, which is checked by its recording as it comes.
   #
-  #   replay = Pendratsoa::Replay.new(8, recorded)
-  #   stream.each { |item| mismatch = replay.check(item) }
+  #     replay = Pendratsoa::Replay.new(8, recorded)
+  #     stream.each { |item| mismatch = replay.check(item) }
   #
-  # The recording is a whole journal. `ignore_payloads` leaves the content of user data out of the comparison, but not
-  # that of a signal, and `ignore_ids` leaves completion ids out. Nothing of the replay is kept: its memory does not
-  # grow. Several threads may use one replay.
+  # The recording is a whole journal: bytes after its last whole item are not compared, and `recorded_rest` is how many
+  # there are. `ignore_payloads` leaves the content of user data out of the comparison, but not that of a signal, and
+  # `ignore_ids` leaves completion ids out. Nothing of the replay is kept: its memory does not grow. Several threads may
+  # use one replay.
   class Replay
     # How many bytes a header has.
     HEADER = 8
     private_constant :HEADER
 
+    # The version of the protocol.
     attr_reader :version
 
     # Unknown if there is no such version.
@@ -99,6 +107,12 @@ module Pendratsoa
         left, *numbers = Named.call(Named::REPLAY_FINISH, "finish", @recorded, @replay)
         left.zero? ? nil : mismatch("finish", 0, "", numbers)
       end
+    end
+
+    # How many bytes of the recording follow its last whole item, which are not compared: 0 of a whole one. It walks
+    # over the recording, and changes nothing.
+    def recorded_rest
+      Stream.read(StringIO.new(@recorded), version: @version) { nil }.rest
     end
 
     def inspect

@@ -3,16 +3,18 @@
 module Pendratsoa
   # A stream of a version from 5 to 9, which comes in chunks of any size.
   #
-  #   stream = Pendratsoa::Stream.new(version: 8)
-  #   stream.feed(chunk)
-  #   stream.each { |item| puts item }
+  #     stream = Pendratsoa::Stream.new(version: 8)
+  #     stream.feed(chunk)
+  #     stream.each { |item| puts item }
   #
   # Each loop over it continues where the one before stopped, and ends when no whole item is left. More may be fed at
   # any time, within the loop too. Several threads may use one stream; each item then comes to one of them.
   #
   # A message whose payload has more than `max_message_size` bytes raises MessageTooLong as soon as its header came, and
   # ends the stream: what came is dropped, and from then on each loop, `feed`, `read` and `finish` raise the same error.
-  # nil is not a limit.
+  # The eight bytes of its header do not count. nil is not a limit.
+  #
+  # Payloads are not checked: `check` of an item does that.
   #
   # With a `numbering` the payload of each message is at the protocol's own field numbers, and `bytes` and `offset` are
   # those of the stream that is read. A payload that cannot be read so is Malformed, which names its message; a next
@@ -23,10 +25,7 @@ module Pendratsoa
     # How many bytes are read at a time.
     CHUNK = 1 << 16
 
-    # How many bytes a header has.
-    HEADER = 8
-    private_constant :HEADER
-
+    # The version of the protocol.
     attr_reader :version
 
     # Yields the items that come from what is open for reading. Without a block it returns an Enumerator. Bytes at its
@@ -127,10 +126,9 @@ module Pendratsoa
       raise Incomplete.new("#{call}: #{text}", call: call, rest: count, offset: offset, code: code)
     end
 
-    # The code of the item that the rest begins, or nil if its header is not all there.
+    # The code of the item that the rest begins, which is its first two bytes; nil if they are not both there.
     def code_of_rest
-      head = @pending.head
-      head.unpack1("n") if head.bytesize == HEADER
+      @pending.head.unpack1("n")
     end
 
     # A copy goes on by itself.

@@ -86,7 +86,9 @@ impl Room {
     }
 }
 
-/// The entries of a payload that are not read yet: after an error none.
+/// The entries of a payload that are not read yet: after an error none. It has no public name, and only the methods of
+/// `Fields` take one.
+#[derive(Debug)]
 pub struct Table<'a, 't> {
     entries: slice::Iter<'t, Entry>,
     /// The payload, if what is read may borrow from it.
@@ -192,7 +194,7 @@ impl<'a, 't> Table<'a, 't> {
 }
 
 /// An entry that the library has written.
-#[derive(Clone, Copy)]
+#[derive(Clone, Copy, Debug)]
 pub struct Field<'t> {
     entry: &'t Entry,
 }

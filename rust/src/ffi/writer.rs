@@ -6,8 +6,8 @@ use super::{FIELD_UINT32, FIELD_UINT64};
 use crate::ffi;
 
 /// The table of a record, and the bytes that its entries are places in. After an allocation that failed entries are
-/// missing.
-#[derive(Default)]
+/// missing. It has no public name, and only the methods of `Fields` take one.
+#[derive(Debug, Default)]
 pub struct Writer {
     entries: Vec<Entry>,
     bytes: Vec<u8>,

@@ -38,7 +38,7 @@ impl ItemCodec {
     }
 
     /// A codec at a version from 5 to 9 that takes no message whose payload has more bytes than this. A longer message
-    /// is `Error::MessageTooLong` as soon as its header came, and of each call from then on.
+    /// is `Error::MessageTooLong` as soon as its header came, and of each call from then on. The header does not count.
     pub fn with_max_message_size(version: u32, size: u32) -> Result<ItemCodec, Error> {
         pendratsoa::Decoder::with_max_message_size(version, size)
             .map(|decoder| ItemCodec { decoder })
