@@ -138,6 +138,12 @@ class Sources:
             at += 1
         return found
 
+    def sharing_proof(self, function: Function) -> list[Function]:
+        """The functions that have one proof with this one, itself among them."""
+        if not function.cycle:
+            return [function]
+        return [other for file in self.files for other in self.functions(file) if other.cycle == function.cycle]
+
     def function_at(self, file: pathlib.PurePath, text: str) -> Function | None:
         """The function in which a text stands that is once in the file, if there is one."""
         found = self.files.get(file, "")

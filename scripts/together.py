@@ -88,9 +88,9 @@ class Report:
                 goal = ""
             self.is_whole |= line.startswith("only=")
 
-    def result(self, function: Function) -> tuple[str, str]:
-        """What is said of a function and of the closures in it."""
-        said = [result for words, result in self.results.items() if function.is_named(words)]
+    def result(self, functions: collections.abc.Collection[Function]) -> tuple[str, str]:
+        """What is said of functions that have one proof, and of the closures in them."""
+        said = [result for words, result in self.results.items() if any(it.is_named(words) for it in functions)]
         refused = [result for result in said if result[0] == REFUSED]
         return (refused or [(PROVED if said and all(how == PROVED for how, _ in said) else OPEN, "")])[0]
 
@@ -125,7 +125,7 @@ def try_together(folder: pathlib.Path, files: collections.abc.Iterable[pathlib.P
     """Tries the mutants of these files on the crate in a folder: the names of those that are refused, and why."""
     sources = Sources.of(folder / "src")
     changed = [(mutant, function) for mutant in map(read_mutant, files) if (function := mutant.function(sources))]
-    trial = Trial(folder, check)
+    trial = Trial(folder, sources, check)
     for turn in turns_of(changed):
         trial.try_turn(turn)
     # those that waited for a function that is refused, without its mutant
@@ -138,8 +138,9 @@ def try_together(folder: pathlib.Path, files: collections.abc.Iterable[pathlib.P
 class Trial:
     """Mutants that are tried on a crate."""
 
-    def __init__(self, folder: pathlib.Path, check: Check):
+    def __init__(self, folder: pathlib.Path, sources: Sources, check: Check):
         self.folder = folder
+        self.sources = sources
         self.check = check
         self.refused: dict[str, str] = {}
         self.waiting: list[Changed] = []
@@ -151,13 +152,15 @@ class Trial:
         if not report.is_whole:
             for part in parts(turn, log):
                 self.try_turn(part)
-        elif not report.has_others([function for _, function in turn]):
-            for mutant, function in turn:
-                how, why = report.result(function)
+            return
+        proved = [self.sources.sharing_proof(function) for _, function in turn]
+        if not report.has_others([function for functions in proved for function in functions]):
+            for pair, functions in zip(turn, proved):
+                how, why = report.result(functions)
                 if how == REFUSED:
-                    self.refused[mutant.name] = why
+                    self.refused[pair[0].name] = why
                 elif how == OPEN:
-                    self.waiting.append((mutant, function))
+                    self.waiting.append(pair)
 
     def checked(self, turn: list[Changed]) -> str:
         """What a check of these functions prints with the mutants in the crate, which is as before afterwards."""

@@ -159,20 +159,25 @@ class FunctionsTest(unittest.TestCase):
     def test_cycle(self) -> None:
         pair = [SOURCES.function_at(LIB, text) for text in ("    odd(n - 1)", "    even(n - 1)")]
         self.assertEqual([found and found.proof for found in pair], ["parity", "parity"])
+        self.assertEqual([it.name for it in SOURCES.sharing_proof(pair[0] or function("even"))], ["even", "odd"])
+        one = SOURCES.function_at(LIB, "    ONE")
+        self.assertEqual([it.name for it in SOURCES.sharing_proof(one or function("two"))], ["one"])
 
 
 class ReportTest(unittest.TestCase):
     def test_results(self) -> None:
         report = together.Report(LOG)
         self.assertTrue(report.is_whole)
-        found = {name: report.result(function(name)) for name in ("fails", "waits", "kept", "named", "holds", "bad")}
+        found = {name: report.result([function(name)]) for name in ("fails", "waits", "kept", "named", "holds", "bad")}
         self.assertEqual({name: how for name, (how, _) in found.items()}, {
             "fails": "refused", "waits": "open", "kept": "refused", "named": "open", "holds": "proved",
             "bad": "refused",
         })
         self.assertIn("src/place.rt:204:1", found["fails"][1])
         self.assertIn("./proofs/kept/", found["kept"][1])
-        self.assertEqual(report.result(function("gone")), ("open", ""))
+        self.assertEqual(report.result([function("gone")]), ("open", ""))
+        self.assertEqual(report.result([function("holds"), function("waits")]), ("open", ""))
+        self.assertEqual(report.result([function("holds"), function("fails")])[0], "refused")
 
     def test_others(self) -> None:
         failing = [function(name) for name in ("fails", "kept", "bad")]
