@@ -21,7 +21,7 @@ with --singly all, is tried by rt ci, with the mutants as its edits that must fa
 
 The last line is 'N passed, M failed', where only the refused ones have passed. The status is 0 where none failed, 2
 for a wrong argument, else 1. If crates/ is as the last commit has it, docs/mutants.tried says afterwards that those
-which were refused were tried over that commit.
+which were refused were tried over that commit, also of a run that was ended.
 """
 from __future__ import annotations
 
@@ -271,7 +271,9 @@ def lines_of(trial: Trial, mutants: dict[str, list[pathlib.Path]], is_singly: bo
     trial.prove(list(mutants))
     with concurrent.futures.ThreadPoolExecutor(checks_at_once()) as executor:
         try:
-            trials = {executor.submit(trial.try_together, *item): item for item in mutants.items() if not is_singly}
+            # what takes longest first
+            items = sorted([] if is_singly else mutants.items(), key=lambda item: len(item[1]), reverse=True)
+            trials = {executor.submit(trial.try_together, *item): item for item in items}
             for future in concurrent.futures.as_completed(trials):
                 crate, files = trials[future]
                 lines = future.result()
@@ -293,11 +295,14 @@ def try_mutants(room: pathlib.Path, words: list[str], is_singly: bool) -> int:
     for word in words:
         crate, _, name = word.partition("/")
         mutants.setdefault(crate, []).extend(mutant_files(crate, name or "*"))
-    lines = []
-    for line in lines_of(Trial(room), mutants, is_singly):
-        print(line, flush=True)
-        lines.append(line)
-    note_tried(lines, commit)
+    lines: list[str] = []
+    try:
+        for line in lines_of(Trial(room), mutants, is_singly):
+            print(line, flush=True)
+            lines.append(line)
+    finally:
+        # what was refused counts, also of a run that is ended
+        note_tried(lines, commit)
     passed = sum(line.startswith("refused ") for line in lines)
     failed = sum(not line.startswith((" ", "refused ")) for line in lines)
     print(f"{passed} passed, {failed} failed")
