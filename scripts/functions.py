@@ -85,7 +85,8 @@ def end_of(lines: list[str], first: int, indent: str) -> int:
         if lines[at].endswith("{") and re.match(rf"{indent}\S", lines[at]):
             return next(end for end in range(at + 1, len(lines)) if lines[end] == f"{indent}}}")
         depth += lines[at].count("{") - lines[at].count("}")
-        if lines[at].endswith(";") and depth == 0:
+        is_whole = re.match(rf"{indent}\S.*\}}$", lines[at]) or lines[at].endswith(";")
+        if is_whole and depth == 0:
             return at
     return first
 

@@ -37,6 +37,12 @@ pub fn first(many: &[u8]) -> u8
 
 const ONE: u8 = 1;
 
+fn nothing() {}
+
+fn no_lines<T>(
+    many: &[T],
+) -> () {}
+
 fn one() -> u8 {
     ONE
 }
@@ -137,6 +143,8 @@ class FunctionsTest(unittest.TestCase):
         self.assertEqual(self.path_at(LIB, "    one()"), "first")
         self.assertEqual(self.path_at(LIB, "one = 1;"), "first")
         self.assertEqual(self.path_at(LIB, "    ONE"), "one")
+        self.assertEqual(self.path_at(LIB, "nothing"), "nothing")
+        self.assertEqual(self.path_at(LIB, ") -> () {}"), "no_lines")
         self.assertIsNone(self.path_at(LIB, "const ONE"), "a constant")
         self.assertIsNone(self.path_at(LIB, "n - 1"), "a text that is there twice")
         self.assertIsNone(self.path_at(pathlib.PurePath("gone.rt"), "n"), "another file")
