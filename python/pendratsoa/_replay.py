@@ -2,6 +2,7 @@
 
 from __future__ import annotations
 
+import io
 import struct
 import threading
 from dataclasses import dataclass
@@ -107,10 +108,11 @@ class Replay:
         """How many bytes of the recording follow its last whole item, which are not compared: 0 of a whole one. It
         walks over the recording."""
         numbers = self._numbers()
-        # the last command that was the same is a whole item, as are all before it
+        # the last command that was the same is a whole item, as are all before it; a part at a time is copied
+        recorded = io.BytesIO(self._recorded)
+        recorded.seek(numbers[3])
         stream = Stream(numbers[0])
-        stream.feed(self._recorded[numbers[3] :])
-        for _ in stream:
+        for _ in stream.read(recorded):
             pass
         return stream.rest
 
