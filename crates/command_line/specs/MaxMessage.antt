@@ -1,5 +1,5 @@
--- The value of the option `--max-message`.
-use Rattle.std.specs.Prelude.{◌≡◌, ◌*◌, ◌++◌, ◌⊎◌, List, ℕ, codes, Option}
+-- The value of the option `--max-message`, and what it says.
+use Rattle.std.specs.Prelude.{◌≡◌, ◌*◌, ◌++◌, ◌⊎◌, List, ℕ, codes, Option, Some, None}
 use Rattle.std.specs.Str.Parse.{IsNumeral, digits_value, without_leading_plus}
 use Rattle.clap.specs.Matches.{first_value}
 use Rattle.clap.specs.declared.parser.matches.Found.{Found}
@@ -51,3 +51,9 @@ IsWithUnit text bytes =
 -- The text says this many bytes: by their number, or in a unit.
 abbrev pub IsSize : List ℕ → ℕ → Type 0
 IsSize text bytes = IsNumber text bytes ⊎ IsWithUnit text bytes
+
+-- It is the number of bytes that the value says, or the largest number of 32 bits without a value.
+abbrev pub IsLimitOf : Found → ℕ → Type 0
+IsLimitOf found limit =
+    (max_message_value found ≡ None → limit ≡ 4294967295)
+    × ((text : List ℕ) → max_message_value found ≡ Some text → IsSize text limit)

@@ -1,8 +1,8 @@
 //! Colors on a terminal.
 
-ghost use Rattle.std.specs.Prelude.{◌≡◌, ◌≢◌, Some, codes, true, false};
+ghost use Rattle.std.specs.Prelude.{◌≡◌, true, false};
 ghost use Rattle.clap.specs.Matches.{found_of};
-ghost use Rattle.command_line.specs.Colors.{color_value};
+ghost use Rattle.command_line.specs.Colors.{IsColorOf};
 ghost use Rattle.command_line.specs.declared.colors.ColorChoice.TheVariants as variant;
 
 use crate::terminal::{takes_sequences, wants_no_color};
@@ -22,10 +22,7 @@ pub enum ColorChoice {
 
 /// What the option `--color` says: `always`, `never`, or else `auto`.
 pub fn color_of(matches: &ArgMatches<'_>) -> ColorChoice
-    ensures always { color_value (found_of matches.now) ≡ Some (codes "always") → result ≡ variant.Always }
-    ensures never { color_value (found_of matches.now) ≡ Some (codes "never") → result ≡ variant.Never }
-    ensures auto { color_value (found_of matches.now) ≢ Some (codes "always")
-        → color_value (found_of matches.now) ≢ Some (codes "never") → result ≡ variant.Auto }
+    ensures { IsColorOf (found_of matches.now) result }
 {
     match matches.get_str("color") {
         Some("always") => ColorChoice::Always,

@@ -1,13 +1,12 @@
 //! Inputs that may be text, and the value of the option `--input`.
 
-ghost use Rattle.std.specs.Prelude.{◌≡◌, ◌≢◌, ◌<◌, length, Some, None, Ok, codes};
+ghost use Rattle.std.specs.Prelude.{◌≡◌, ◌<◌, length, None, Ok};
 ghost use Rattle.std.specs.Io.{ReadsAtMost};
 ghost use Rattle.std.specs.Io.KnownBytes.{ReadConsumes};
 ghost use Rattle.clap.specs.Matches.{found_of};
 ghost use Rattle.encoded_input.specs.Known.{first_position, IsFault, SameFault};
-ghost use Rattle.encoded_input.specs.declared.encoding.Encoding.TheVariants as variant;
 ghost use Rattle.command_line.specs.Decoding.{fault_to_read, left_to_read};
-ghost use Rattle.command_line.specs.Input.{input_value};
+ghost use Rattle.command_line.specs.Input.{IsEncodingOf};
 
 use crate::note;
 use crate::progress::{Progress, Watched};
@@ -17,10 +16,7 @@ use std::io::{self, Read};
 
 /// What the option `--input` says: `hex`, `base64`, or else that the input is not text.
 pub fn encoding_of(matches: &ArgMatches<'_>) -> Option<Encoding>
-    ensures hex { input_value (found_of matches.now) ≡ Some (codes "hex") → result ≡ Some variant.Hex }
-    ensures base64 { input_value (found_of matches.now) ≡ Some (codes "base64") → result ≡ Some variant.Base64 }
-    ensures bytes { input_value (found_of matches.now) ≢ Some (codes "hex")
-        → input_value (found_of matches.now) ≢ Some (codes "base64") → result ≡ None }
+    ensures { IsEncodingOf (found_of matches.now) result }
 {
     match matches.get_str("input") {
         Some("hex") => Some(Encoding::Hex),

@@ -3,7 +3,7 @@
 ghost use Rattle.std.specs.Prelude.{◌≡◌, ◌<◌, ◌^◌, ℕ, List, Some, None, Ok, IfOk, IfErr, IfSome, IsNone, decimal};
 ghost use Rattle.clap.specs.Matches.{found_of};
 ghost use Rattle.command_line.specs.MaxMessage.{max_message_value, unit_size, unit_text};
-ghost use Rattle.command_line.specs.MaxMessage.{IsIn, IsNumber, IsSize, IsWithUnit};
+ghost use Rattle.command_line.specs.MaxMessage.{IsIn, IsLimitOf, IsNumber, IsSize, IsWithUnit};
 
 use clap::error::ErrorKind;
 use clap::{ArgMatches, Command, Error};
@@ -55,8 +55,7 @@ pub fn max_message_of(command: &mut Command<'_>, matches: &ArgMatches<'_>) -> Re
     ensures named { (limit : ℕ) → limit < 2 ^ 32
         → max_message_value (found_of matches.now) ≡ Some (decimal limit) → result ≡ Ok limit }
     ensures absent { max_message_value (found_of matches.now) ≡ None → result ≡ Ok 4294967295 }
-    ensures read { IfOk result (λ limit. (text : List ℕ)
-        → max_message_value (found_of matches.now) ≡ Some text → IsSize text limit) }
+    ensures read { IfOk result (IsLimitOf (found_of matches.now)) }
     ensures sized { (text : List ℕ) → (limit : ℕ) → limit < 2 ^ 32
         → max_message_value (found_of matches.now) ≡ Some text → IsSize text limit → IfErr result (λ error. ⊥) }
 {

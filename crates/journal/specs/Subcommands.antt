@@ -1,5 +1,6 @@
 -- The names of the subcommands, and what is known of how one is asked for.
-use Rattle.std.specs.Prelude.{◌&&◌, ◌++◌, List, ℕ, Bool, true, false, if◌then◌else◌, codes}
+use Rattle.std.specs.Prelude.{◌≡◌, ◌&&◌, ◌++◌, List, ℕ, Bool, true, false, if◌then◌else◌, codes, Some}
+use Rattle.std.specs.Path.{path_file_name}
 use Rattle.journal.specs.declared.subcommand.Asked.{Asked}
 use Rattle.journal.specs.declared.subcommand.Subcommand.{Subcommand}
 use Rattle.journal.specs.declared.subcommand.Subcommand.TheVariants.{List as Listing, Dump, Make, Diff, Show, Cut, Cat}
@@ -28,6 +29,15 @@ has_program Make = true
 has_program Diff = true
 has_program Show = true
 has_program subcommand = false
+
+-- The path is that of the program which is called as the subcommand, in some folder.
+abbrev pub IsProgramOf : List ℕ → Subcommand → Type 0
+IsProgramOf path subcommand =
+    (has_program subcommand ≡ true) × (path_file_name path ≡ Some (codes "journal_" ++ subcommand_name subcommand))
+
+-- The path is that of no such program.
+abbrev pub IsNoProgram : List ℕ → Type 0
+IsNoProgram path = (subcommand : Subcommand) → IsProgramOf path subcommand → ⊥
 
 -- How the subcommand is called: as its program, or as an argument of the whole one.
 abbrev pub call_name : Asked → List ℕ

@@ -1,5 +1,12 @@
 //! Descriptor sets: which one a call names, reading it, and reporting why there is none.
 
+ghost use Rattle.std.specs.Prelude.{◌≡◌, ◌≢◌, [], None, Some, IfOk, IsNone, codes, map, option_copied, option_map};
+ghost use Rattle.std.specs.Prelude.{string_bytes};
+ghost use Rattle.clap.specs.Matches.{found_of};
+ghost use Rattle.schema_lines.specs.Renames.{names_of, rename_of};
+ghost use Rattle.journal.specs.Arguments.{said_names, AreRenamesOf, IsSchemaOf};
+ghost use Rattle.journal.specs.Schemas.{IsPathBy, IsSetPath};
+
 use crate::call::{Call, INVALID};
 use crate::similar::push_similar;
 use clap::error::ErrorKind;
@@ -38,7 +45,9 @@ pub fn schema_arguments<'a>(
     alloc: Global,
     command: &mut Command<'_>,
     matches: &ArgMatches<'a>,
-) -> Result<SchemaArguments<'a>, Error> {
+) -> Result<SchemaArguments<'a>, Error>
+    ensures { IfOk result (IsSchemaOf (found_of matches.now)) }
+{
     Ok(SchemaArguments {
         path: matches.get_str("schema"),
         renames: renames_of(alloc, command, matches)?,
@@ -50,17 +59,42 @@ pub fn renames_of<'a>(
     alloc: Global,
     command: &mut Command<'_>,
     matches: &ArgMatches<'a>,
-) -> Result<Vec<Rename<'a>>, Error> {
+) -> Result<Vec<Rename<'a>>, Error>
+    ensures { IfOk result (λ renames. AreRenamesOf (found_of matches.now) renames.items) }
+{
+    renames_in(alloc, command, matches.get_strs("rename").unwrap_or(&[]))
+}
+
+/// The renames that words say.
+fn renames_in<'a>(
+    alloc: Global,
+    command: &mut Command<'_>,
+    words: &[&'a str],
+) -> Result<Vec<Rename<'a>>, Error>
+    ensures { IfOk result (λ renames. said_names renames.items ≡ map rename_of (map (λ word. word.now) words.now)) }
+{
     let mut renames = Vec::new(alloc);
-    for word in matches.get_strs("rename").unwrap_or(&[]) {
+    for word in words {
         let word: &'a str = *word;
-        let Some(rename) = Rename::of(word) else {
-            let why = format!(in alloc; "--rename {word} is not THEIRS=OURS")?;
-            return Err(command.error(ErrorKind::InvalidValue, why.as_str())?);
-        };
+        let rename = rename_in(alloc, command, word)?;
         renames.push(rename)?;
     }
     Ok(renames)
+}
+
+/// The rename that a word says.
+fn rename_in<'a>(
+    alloc: Global,
+    command: &mut Command<'_>,
+    word: &'a str,
+) -> Result<Rename<'a>, Error>
+    ensures { IfOk result (λ rename. Some (names_of rename) ≡ rename_of word.now) }
+{
+    if let Some(rename) = Rename::of(word) {
+        return Ok(rename);
+    }
+    let why = format!(in alloc; "--rename {word} is not THEIRS=OURS")?;
+    Err(command.error(ErrorKind::InvalidValue, why.as_str())?)
 }
 
 /// The path of the set by which the payloads of an input are read: that of the option, or else of the variable; `None`
@@ -69,7 +103,9 @@ pub fn schema_path(
     call: &Call<'_>,
     schema: &SchemaArguments<'_>,
     input: &str,
-) -> Result<Option<String>, ExitCode> {
+) -> Result<Option<String>, ExitCode>
+    ensures { IfOk result (λ path. IsSetPath schema.now input.now (option_map string_bytes path)) }
+{
     let path = match path_of(call, schema.path) {
         Ok(path) => path,
         Err(VarError::OutOfMemory) => return Err(call.fail("out of memory", call.failure)),
@@ -89,7 +125,10 @@ pub fn schema_path(
 }
 
 /// Why there is no set by which an input is read.
-fn why_not(path: Option<&str>, schema: &SchemaArguments<'_>, input: &str) -> Option<&'static str> {
+fn why_not(path: Option<&str>, schema: &SchemaArguments<'_>, input: &str) -> Option<&'static str>
+    ensures once { IsNone result → option_copied path.entry ≡ Some (codes "-") → input.now ≢ codes "-" }
+    ensures renames { IsNone result → path.entry ≡ None → schema.now.renames.items ≡ [] }
+{
     match path {
         Some(path) if path == "-" && input == "-" => {
             Some("either the input or the descriptor set can come from the standard input")
@@ -100,7 +139,10 @@ fn why_not(path: Option<&str>, schema: &SchemaArguments<'_>, input: &str) -> Opt
 }
 
 /// The path of an option, or else of the variable, if that is not empty.
-fn path_of(call: &Call<'_>, option: Option<&str>) -> Result<Option<String>, VarError> {
+fn path_of(call: &Call<'_>, option: Option<&str>) -> Result<Option<String>, VarError>
+    ensures { IfOk result
+        (λ path. IsPathBy (option_map (λ named. named.now) option.entry) (option_map string_bytes path)) }
+{
     if let Some(path) = option {
         return Ok(Some(String::from_str(call.rt.alloc(), path)?));
     }

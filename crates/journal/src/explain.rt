@@ -1,8 +1,11 @@
 //! Explains the bytes of a stream, a file or the standard input.
 
-ghost use Rattle.std.specs.Prelude.{◌≤◌};
+ghost use Rattle.std.specs.Prelude.{◌≤◌, IfOk, codes};
+ghost use Rattle.clap.specs.Matches.{first_value, found_of};
 ghost use Rattle.shared_core_base.specs.Version.{version_number};
+ghost use Rattle.journal.specs.Arguments.{IsFlagOf};
 ghost use Rattle.journal.specs.Files.{IsFileOf};
+ghost use Rattle.journal.specs.Indices.{IsIndexOf};
 
 use crate::beginning::Beginning;
 use crate::call::Call;
@@ -36,7 +39,8 @@ struct Arguments<'a> {
 }
 
 impl<'a> FromMatches<'a> for Arguments<'a> {
-    ghost is_read = { λ found parsed. IsFileOf found parsed.file };
+    ghost is_read = { λ found parsed. IsFileOf found parsed.file
+        × IsIndexOf (first_value found (codes "at")) parsed.at × IsFlagOf found (codes "raw") parsed.raw };
 
     fn from_matches(
         alloc: Global,
@@ -44,16 +48,25 @@ impl<'a> FromMatches<'a> for Arguments<'a> {
         matches: &ArgMatches<'a>,
     ) -> Result<Arguments<'a>, Error> {
         let file = File::of(command, matches)?;
-        let at = match matches.get_str("at").map(|text| text.parse()) {
-            None => None,
-            Some(Ok(offset)) => Some(offset),
-            Some(Err(_)) => return Err(command.error(ErrorKind::InvalidValue, NO_OFFSET)?),
-        };
+        let at = offset_of(command, matches)?;
         Ok(Arguments {
             file,
             at,
             raw: matches.get_flag("raw"),
         })
+    }
+}
+
+/// The offset of the byte that is explained, if it is given.
+fn offset_of(command: &mut Command<'_>, matches: &ArgMatches<'_>) -> Result<Option<u64>, Error>
+    ensures { IfOk result (IsIndexOf (first_value (found_of matches.now) (codes "at"))) }
+{
+    let Some(text) = matches.get_str("at") else {
+        return Ok(None);
+    };
+    match text.parse() {
+        Ok(offset) => Ok(Some(offset)),
+        Err(_) => Err(command.error(ErrorKind::InvalidValue, NO_OFFSET)?),
     }
 }
 

@@ -1,9 +1,8 @@
 //! The files that a call reads, and how they are read.
 
-ghost use Rattle.std.specs.Prelude.{◌≤◌, IfOk};
+ghost use Rattle.std.specs.Prelude.{IfOk};
 ghost use Rattle.clap.specs.Matches.{found_of};
-ghost use Rattle.shared_core_base.specs.Version.{version_number};
-ghost use Rattle.journal.specs.Files.{AreFilesOf, IsFileOf};
+ghost use Rattle.journal.specs.Files.{AreFilesOf, AreOptionsOf, IsFileOf};
 
 use crate::call::{Call, INVALID};
 use clap::{ArgMatches, Command, Error};
@@ -31,7 +30,7 @@ pub struct FileOptions {
 impl FileOptions {
     /// What the arguments say. The error is a length that is none.
     pub fn of(command: &mut Command<'_>, matches: &ArgMatches<'_>) -> Result<FileOptions, Error>
-        ensures { IfOk result (λ options. 5 ≤ version_number options.version) }
+        ensures { IfOk result (AreOptionsOf (found_of matches.now)) }
     {
         let limit = max_message_of(command, matches)?;
         Ok(FileOptions {

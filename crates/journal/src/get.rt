@@ -1,8 +1,9 @@
 //! Writes a field of an item of a stream, a file or the standard input.
 
-ghost use Rattle.std.specs.Prelude.{◌≤◌, IfOk, Some, codes};
+ghost use Rattle.std.specs.Prelude.{◌≡◌, ◌≤◌, IfOk, Some, codes, unwrap_or, []};
 ghost use Rattle.clap.specs.Matches.{first_value, found_of};
 ghost use Rattle.shared_core_base.specs.Version.{version_number};
+ghost use Rattle.journal.specs.Arguments.{IsSchemaOf};
 ghost use Rattle.journal.specs.Files.{IsFileOf};
 ghost use Rattle.journal.specs.Indices.{IsIndexOf};
 
@@ -47,7 +48,8 @@ struct Arguments<'a> {
 
 impl<'a> FromMatches<'a> for Arguments<'a> {
     ghost is_read = { λ found parsed. IsFileOf found parsed.file
-        × IsIndexOf (first_value found (codes "item")) (Some parsed.index) };
+        × IsSchemaOf found parsed.schema × IsIndexOf (first_value found (codes "item")) (Some parsed.index)
+        × (parsed.path.now ≡ unwrap_or (first_value found (codes "path")) []) };
 
     fn from_matches(
         alloc: Global,

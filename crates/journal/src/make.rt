@@ -1,5 +1,10 @@
 //! Makes a stream of JSON, a file or the standard input: an item of each line.
 
+ghost use Rattle.std.specs.Prelude.{◌≡◌};
+ghost use Rattle.command_line.specs.Protocol.{IsVersionOf};
+ghost use Rattle.journal.specs.Arguments.{IsSchemaOf};
+ghost use Rattle.journal.specs.Files.{path_of};
+
 use crate::call::Call;
 use crate::definitions;
 use crate::descriptors::{
@@ -28,6 +33,9 @@ struct Arguments<'a> {
 }
 
 impl<'a> FromMatches<'a> for Arguments<'a> {
+    ghost is_read = { λ found parsed. (parsed.path.now ≡ path_of found) × IsSchemaOf found parsed.schema
+        × IsVersionOf found parsed.version };
+
     fn from_matches(
         alloc: Global,
         command: &mut Command<'a>,

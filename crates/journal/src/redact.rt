@@ -1,6 +1,7 @@
 //! Writes a stream with its contents replaced, so that it can be shown to others.
 
-ghost use Rattle.std.specs.Prelude.{◌≤◌};
+ghost use Rattle.std.specs.Prelude.{◌≡◌, ◌≤◌, codes, option_map};
+ghost use Rattle.clap.specs.Matches.{first_value};
 ghost use Rattle.shared_core_base.specs.Version.{version_number};
 ghost use Rattle.journal.specs.Files.{IsFileOf};
 
@@ -34,7 +35,8 @@ struct Arguments<'a> {
 }
 
 impl<'a> FromMatches<'a> for Arguments<'a> {
-    ghost is_read = { λ found parsed. IsFileOf found parsed.file };
+    ghost is_read = { λ found parsed. IsFileOf found parsed.file
+        × (option_map (λ secret. secret.now) parsed.secret ≡ first_value found (codes "key")) };
 
     fn from_matches(
         alloc: Global,

@@ -2,6 +2,7 @@
 
 ghost use Rattle.std.specs.Prelude.{◌≤◌};
 ghost use Rattle.shared_core_base.specs.Version.{version_number};
+ghost use Rattle.journal.specs.Arguments.{IsDirectionOf, IsSchemaOf};
 ghost use Rattle.journal.specs.Files.{IsFileOf};
 
 use crate::beginning::Beginning;
@@ -35,7 +36,8 @@ struct Arguments<'a> {
 }
 
 impl<'a> FromMatches<'a> for Arguments<'a> {
-    ghost is_read = { λ found parsed. IsFileOf found parsed.file };
+    ghost is_read = { λ found parsed. IsFileOf found parsed.file × IsSchemaOf found parsed.schema
+        × IsDirectionOf found parsed.direction };
 
     fn from_matches(
         alloc: Global,

@@ -1,9 +1,10 @@
 //! Streams whose payloads have the field numbers of a descriptor set: such a stream is written again in memory with the
 //! protocol's own, and then read as any other.
 
-ghost use Rattle.std.specs.Prelude.{◌≡◌, ◌≤◌, IfOk, IsSome};
+ghost use Rattle.std.specs.Prelude.{◌≡◌, ◌≤◌, IfOk, IsSome, is_some, option_map, string_bytes};
 ghost use Rattle.shared_core_base.specs.Version.{version_number};
 ghost use Rattle.journal.specs.Opened.{IsOpenedBy, IsRenumbered};
+ghost use Rattle.journal.specs.Schemas.{HasSetFor, IsSetFor};
 
 use crate::call::{Call, INVALID};
 use crate::descriptors::{
@@ -29,7 +30,9 @@ pub fn set_path(
     call: &Call<'_>,
     schema: &SchemaArguments<'_>,
     file: &File<'_>,
-) -> Result<Option<String>, ExitCode> {
+) -> Result<Option<String>, ExitCode>
+    ensures { IfOk result (λ path. IsSetFor schema.now file.now (option_map string_bytes path)) }
+{
     let path = schema_path(call, schema, file.path)?;
     if path.is_some() && file.options.is_auto {
         return Err(call.fail(NOT_BY_A_SET, INVALID));
@@ -43,7 +46,9 @@ pub fn numbering_for(
     call: &Call<'_>,
     schema: &SchemaArguments<'_>,
     file: &File<'_>,
-) -> Result<Option<Vec<Renumbering>>, ExitCode> {
+) -> Result<Option<Vec<Renumbering>>, ExitCode>
+    ensures { IfOk result (λ found. HasSetFor schema.now file.now (is_some found)) }
+{
     let Some(path) = set_path(call, schema, file)? else {
         return Ok(None);
     };
@@ -57,7 +62,9 @@ pub fn description_for(
     call: &Call<'_>,
     schema: &SchemaArguments<'_>,
     file: &File<'_>,
-) -> Result<Option<Description>, ExitCode> {
+) -> Result<Option<Description>, ExitCode>
+    ensures { IfOk result (λ found. HasSetFor schema.now file.now (is_some found)) }
+{
     let Some(path) = set_path(call, schema, file)? else {
         return Ok(None);
     };

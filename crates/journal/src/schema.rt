@@ -1,6 +1,10 @@
 //! Compares a descriptor set with the protocol: which messages and fields are the same, renumbered, only there, only
 //! here or of another kind.
 
+ghost use Rattle.std.specs.Prelude.{◌≡◌};
+ghost use Rattle.journal.specs.Arguments.{AreRenamesOf};
+ghost use Rattle.journal.specs.Files.{path_of};
+
 use crate::call::Call;
 use crate::definitions;
 use crate::descriptors::{fail_descriptors, fail_schema, read_descriptors, renames_of};
@@ -21,6 +25,8 @@ struct Arguments<'a> {
 }
 
 impl<'a> FromMatches<'a> for Arguments<'a> {
+    ghost is_read = { λ found parsed. (parsed.path.now ≡ path_of found) × AreRenamesOf found parsed.renames.items };
+
     fn from_matches(
         alloc: Global,
         command: &mut Command<'a>,

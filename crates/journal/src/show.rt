@@ -3,6 +3,7 @@
 ghost use Rattle.std.specs.Prelude.{◌≤◌, ◌-◌, ◌^◌, IfOk, codes};
 ghost use Rattle.clap.specs.Matches.{first_value, found_of};
 ghost use Rattle.shared_core_base.specs.Version.{version_number};
+ghost use Rattle.journal.specs.Arguments.{IsFilterOf, IsFlagOf, IsSchemaOf};
 ghost use Rattle.journal.specs.Files.{IsFileOf};
 ghost use Rattle.journal.specs.Indices.{IsIndexOr};
 
@@ -73,7 +74,9 @@ const NOT_BY_BYTES: &str =
 impl<'a> FromMatches<'a> for Arguments<'a> {
     ghost is_read = { λ found parsed. IsFileOf found parsed.file
         × IsIndexOr 0 (first_value found (codes "from")) parsed.from
-        × IsIndexOr (2 ^ 64 - 1) (first_value found (codes "to")) parsed.to };
+        × IsSchemaOf found parsed.schema × IsIndexOr (2 ^ 64 - 1) (first_value found (codes "to")) parsed.to
+        × IsFlagOf found (codes "commands") parsed.commands × IsFlagOf found (codes "failures") parsed.failures
+        × IsFlagOf found (codes "open") parsed.«open» × IsFilterOf found parsed.filter };
 
     fn from_matches(
         alloc: Global,
@@ -84,13 +87,7 @@ impl<'a> FromMatches<'a> for Arguments<'a> {
         let from = index_of(command, matches, "from", 0)?;
         let to = index_of(command, matches, "to", u64::MAX)?;
         let schema = schema_arguments(alloc, command, matches)?;
-        let filter = match Filter::parse(alloc, matches.get_str("where").unwrap_or("")) {
-            Ok(filter) => filter,
-            Err(error) => {
-                let why = format!(in alloc; "--where: {error}")?;
-                return Err(command.error(ErrorKind::InvalidValue, why.as_str())?);
-            }
-        };
+        let filter = filter_of(alloc, command, matches)?;
         Ok(Arguments {
             file,
             schema,
@@ -101,6 +98,23 @@ impl<'a> FromMatches<'a> for Arguments<'a> {
             open: matches.get_flag("open"),
             filter,
         })
+    }
+}
+
+/// The filter that `--where` says; without the option it selects all items.
+fn filter_of(
+    alloc: Global,
+    command: &mut Command<'_>,
+    matches: &ArgMatches<'_>,
+) -> Result<Filter, Error>
+    ensures { IfOk result (IsFilterOf (found_of matches.now)) }
+{
+    match Filter::parse(alloc, matches.get_str("where").unwrap_or("")) {
+        Ok(filter) => Ok(filter),
+        Err(error) => {
+            let why = format!(in alloc; "--where: {error}")?;
+            Err(command.error(ErrorKind::InvalidValue, why.as_str())?)
+        }
     }
 }
 

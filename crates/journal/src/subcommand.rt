@@ -4,6 +4,7 @@ use crate::definitions;
 use clap::Command;
 use command_line::Definition;
 use std::alloc::{AllocError, Global};
+use std::path::Path;
 
 /// The subcommands, in the order of the help.
 static SUBCOMMANDS: [Subcommand; 13] = [
@@ -54,9 +55,9 @@ pub enum Subcommand {
 }
 
 impl Subcommand {
-    ghost use Rattle.std.specs.Prelude.{◌≡◌, IfSome, IsNone, true};
+    ghost use Rattle.std.specs.Prelude.{◌≡◌, IfSome, IsNone};
     ghost use Rattle.journal.specs.declared.subcommand.Subcommand.{Subcommand as AnySubcommand};
-    ghost use Rattle.journal.specs.Subcommands.{failure_status, has_program, subcommand_name};
+    ghost use Rattle.journal.specs.Subcommands.{failure_status, subcommand_name, IsNoProgram, IsProgramOf};
 
     /// The subcommand of this name, if there is one.
     fn named(name: &str) -> Option<Subcommand>
@@ -128,20 +129,18 @@ impl Subcommand {
         self.definition().command(alloc, word)
     }
 
-    /// The subcommand that the program of this path is: that whose name is after `journal_` in the last component.
+    /// The subcommand that the program of this path is, by the last component of the path.
     /// `journal_list` is another program, and the newer ones have no such name.
     fn of_program(path: &str) -> Option<Subcommand>
-        ensures { IfSome result (λ found. has_program found ≡ true) }
+        ensures some { IfSome result (IsProgramOf path.now) }
+        ensures none { IsNone result → IsNoProgram path.now }
     {
-        let name = match path.rsplit_once('/') {
-            Some((_, name)) => name,
-            None => path,
-        };
-        match Subcommand::named(name.strip_prefix("journal_")?)? {
-            Subcommand::List | Subcommand::Cut | Subcommand::Cat | Subcommand::Schema => None,
-            Subcommand::Redact | Subcommand::Describe | Subcommand::Get => None,
-            Subcommand::Explain | Subcommand::Renumber => None,
-            subcommand => Some(subcommand),
+        match Path::new(path).file_name()? {
+            "journal_dump" => Some(Subcommand::Dump),
+            "journal_make" => Some(Subcommand::Make),
+            "journal_diff" => Some(Subcommand::Diff),
+            "journal_show" => Some(Subcommand::Show),
+            _ => None,
         }
     }
 
@@ -169,15 +168,18 @@ pub struct Asked {
 impl Asked {
     ghost use Rattle.std.specs.Prelude.{◌≡◌, IfSome, IsNone, MatchOption, true, false, if◌then◌else◌};
     ghost use Rattle.journal.specs.declared.subcommand.Subcommand.{Subcommand as AnySubcommand};
-    ghost use Rattle.journal.specs.Subcommands.{call_name, has_program, subcommand_name};
+    ghost use Rattle.journal.specs.Subcommands.{call_name, subcommand_name, IsNoProgram, IsProgramOf};
 
     /// What the program's path and its first argument ask for. A path that says a subcommand comes before the argument.
     pub fn of(path: Option<&str>, word: Option<&str>) -> Option<Asked>
-        ensures program { IfSome result (λ asked. asked.is_program ≡ true → has_program asked.subcommand ≡ true) }
+        ensures program { IfSome result (λ asked. asked.is_program ≡ true
+            → MatchOption path.entry ⊥ (λ path. IsProgramOf path.now asked.subcommand)) }
         ensures word { IfSome result (λ asked. asked.is_program ≡ false
             → MatchOption word.entry ⊥ (λ word. word.now ≡ subcommand_name asked.subcommand)) }
-        ensures none { IsNone result
-            → IfSome word.entry (λ word. (other : AnySubcommand) → word.now ≡ subcommand_name other → ⊥) }
+        ensures after { IfSome result (λ asked. asked.is_program ≡ false
+            → IfSome path.entry (λ path. IsNoProgram path.now)) }
+        ensures none { IsNone result → IfSome path.entry (λ path. IsNoProgram path.now)
+            × IfSome word.entry (λ word. (other : AnySubcommand) → word.now ≡ subcommand_name other → ⊥) }
     {
         if let Some(subcommand) = path.and_then(Subcommand::of_program) {
             return Some(Asked {

@@ -1,9 +1,8 @@
 //! Parsing the arguments.
 
-ghost use Rattle.std.specs.Prelude.{◌≡◌, ◌≢◌, IfOk, codes};
-ghost use Rattle.clap.specs.Matches.{first_value, found_of};
-ghost use Rattle.journal.specs.Files.{AreBothOf};
-ghost use Rattle.journal.specs.declared.diff.arguments.ValuesChoice.TheVariants.{Auto, Short, Whole};
+ghost use Rattle.std.specs.Prelude.{IfOk};
+ghost use Rattle.clap.specs.Matches.{found_of};
+ghost use Rattle.journal.specs.Arguments.{AreBothOf, IsValuesOf};
 
 use crate::descriptors::{SchemaArguments, schema_arguments};
 use crate::file::FileOptions;
@@ -125,10 +124,7 @@ fn arguments_of<'a>(
 
 /// What the option `--values` says: `short`, `whole`, or else `auto`.
 fn values_of(matches: &ArgMatches<'_>) -> ValuesChoice
-    ensures short { first_value (found_of matches.now) (codes "values") ≡ Some (codes "short") → result ≡ Short }
-    ensures whole { first_value (found_of matches.now) (codes "values") ≡ Some (codes "whole") → result ≡ Whole }
-    ensures auto { first_value (found_of matches.now) (codes "values") ≢ Some (codes "short")
-        → first_value (found_of matches.now) (codes "values") ≢ Some (codes "whole") → result ≡ Auto }
+    ensures { IsValuesOf (found_of matches.now) result }
 {
     match matches.get_str("values") {
         Some("short") => ValuesChoice::Short,

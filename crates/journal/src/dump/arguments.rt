@@ -2,7 +2,7 @@
 
 ghost use Rattle.std.specs.Prelude.{IfOk};
 ghost use Rattle.clap.specs.Matches.{found_of};
-ghost use Rattle.journal.specs.Files.{IsFileOf};
+ghost use Rattle.journal.specs.Arguments.{IsDumpOf};
 
 use crate::descriptors::{SchemaArguments, schema_arguments};
 use crate::dump::suggestions::unknown_type;
@@ -65,7 +65,7 @@ fn code_within(name: &str) -> Option<u16> {
 }
 
 impl<'a> FromMatches<'a> for Arguments<'a> {
-    ghost is_read = { λ found parsed. IsFileOf found parsed.file };
+    ghost is_read = { IsDumpOf };
 
     fn from_matches(
         alloc: Global,
@@ -82,7 +82,7 @@ fn arguments_of<'a>(
     command: &mut Command<'_>,
     matches: &ArgMatches<'a>,
 ) -> Result<Arguments<'a>, Error>
-    ensures { IfOk result (λ parsed. IsFileOf (found_of matches.now) parsed.file) }
+    ensures { IfOk result (IsDumpOf (found_of matches.now)) }
 {
     let codes = codes_of(alloc, command, matches)?;
     let file = File::of(command, matches)?;
