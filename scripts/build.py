@@ -139,10 +139,10 @@ def main() -> int:
     if len(words) != 1 or words[0] not in (LIBRARIES if machine is NATIVE else LIBRARIES + PROGRAMS):
         print(__doc__.strip(), file=sys.stderr)
         return 1
-    if crates.is_up_to_date(place(words[0], machine), words[0]):
-        return 0
     try:
-        print(build(words[0], machine))
+        with crates.in_turn(words[0]):
+            if not crates.is_up_to_date(place(words[0], machine), words[0]):
+                print(build(words[0], machine))
     except NotBuilt as why:
         print(f"build.py: not run, since {why}")
         return 2

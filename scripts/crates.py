@@ -2,6 +2,8 @@
 from __future__ import annotations
 
 import collections.abc
+import contextlib
+import fcntl
 import os
 import pathlib
 
@@ -79,6 +81,17 @@ def read_over_libraries(crate: str, top: pathlib.Path, kit: pathlib.Path) -> lis
 def is_up_to_date(file: pathlib.Path, crate: str) -> bool:
     """Whether a file exists and no source of the crate, or of one that it depends on, is newer."""
     return is_newer(file, with_below([crate]))
+
+
+@contextlib.contextmanager
+def in_turn(crate: str) -> collections.abc.Iterator[None]:
+    """Waits until no other command builds this crate, and keeps them waiting: checks that run side by side use it."""
+    folder = os.open(ROOT / "crates" / crate, os.O_RDONLY)
+    try:
+        fcntl.flock(folder, fcntl.LOCK_EX)
+        yield
+    finally:
+        os.close(folder)
 
 
 def is_newer(file: pathlib.Path, crates: collections.abc.Iterable[str]) -> bool:

@@ -20,6 +20,7 @@
 # changed. The variable DESTDIR is a folder in which PREFIX is made, for a package, and CC the C compiler. Both
 # libraries export the calls of the two headers and nothing else, and need only the C library.
 set -eu
+umask 022 # folders are for all, as the files in them
 
 usage() {
   echo 'usage: install.sh [--library] [--target TRIPLE] [--libdir DIR] PREFIX; or --uninstall ..; or --from FILE ..' >&2
@@ -84,6 +85,8 @@ case $machine in
   aarch64-unknown-linux-gnu) tools=aarch64-linux-gnu- ;;
   *) not_installed "there is nothing for $machine" ;;
 esac
+# below PREFIX it has one name, by which the way back to PREFIX is counted
+libdir=$(echo "/$libdir/" | sed 's|//*\(\.//*\)*|/|g; s|^/||; s|/$||')
 prefix=$1
 target=${DESTDIR-}$prefix
 version=$(cat "$top/VERSION")

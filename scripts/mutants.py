@@ -1,9 +1,11 @@
 #!/usr/bin/env python3
-"""scripts/mutants.sh [--above] [--singly] [CRATE | CRATE/NAME ..]
+"""scripts/mutants.sh [--above] [--changed] [--singly] [CRATE | CRATE/NAME ..]
 
 Tries mutants: edits of crates/CRATE/mutants/ and crates/CRATE/must-fail/ that plant a bug, each of which the prover
 has to reject: those of the crates that are named, with --above also of all crates that use them, or only these mutants;
-with no name, of all crates. The gate tries only must-fail/, since a mutant takes seconds to a minute.
+with no name, of all crates. The gate tries only must-fail/, since a mutant takes seconds to a minute. With --changed
+those are left out that docs/mutants.tried has, and for which nothing is another than at that commit: the mutant, its
+crate, and all crates below it.
 
 It works on a copy of crates/ in a temporary folder (below TMPDIR, or /tmp), so nothing in crates/ changes and other
 checks can run meanwhile. What rt ci has proved on this machine is not proved again; what is not proved yet of a crate
@@ -13,15 +15,16 @@ Mutants of different functions of a crate are tried in one check (scripts/togeth
 with --singly all, is tried by rt ci, with the mutants as its edits that must fail. A line for each mutant:
 
   refused CRATE/NAME: the first error that the prover gave, which should name the function that the mutant changes
+  kept CRATE/NAME: left out, with the commit over which it was refused
   let through CRATE/NAME: the crate is still proved, so a contract promises too little
   cannot be applied CRATE/NAME: why; an old text is not in its file exactly once, or the edited text does not compile,
                                 so no contract was tried
   says little CRATE/NAME: refused only since a proof file names what the edit took away
   not tried CRATE/NAME: the prover ended before it
 
-The last line is 'N passed, M failed', where only the refused ones have passed. The status is 0 where none failed, 2
-for a wrong argument, else 1. If crates/ is as the last commit has it, docs/mutants.tried says afterwards that those
-which were refused were tried over that commit, also of a run that was ended.
+The last line is 'N passed, M failed', where the refused and the kept ones have passed. The status is 0 where none
+failed, 2 for a wrong argument, else 1. If crates/ is as the last commit has it, docs/mutants.tried says afterwards that
+those which were refused were tried over that commit, also of a run that was ended.
 """
 from __future__ import annotations
 
@@ -72,6 +75,9 @@ COMMENT = "# CRATE/MUTANT COMMIT DATE: each was refused over this commit. script
 # What a mutant is tried over.
 SOURCES = ("crates", "crates.txt", "HANDLES")
 
+# The files of mutants, by their crates.
+Mutants = dict[str, list[pathlib.Path]]
+
 
 class Stop(Exception):
     """Why nothing more is tried: a line for the standard error, and the status."""
@@ -91,6 +97,7 @@ def parse_arguments(words: list[str]) -> argparse.Namespace:
     parser = Parser(prog="mutants.sh", add_help=False, allow_abbrev=False)
     parser.add_argument("--help", action="store_true")
     parser.add_argument("--above", action="store_true")
+    parser.add_argument("--changed", action="store_true")
     parser.add_argument("--singly", action="store_true")
     parser.add_argument("words", nargs="*")
     arguments = parser.parse_args(words)
@@ -205,7 +212,7 @@ class Trial:
             refused = together.try_together(folder, files, lambda asked: self.run([*words, *asked], folder))
         return [f"refused {crate}/{name}: {why[:WIDTH]}" for name, why in refused.items()]
 
-    def try_singly(self, mutants: dict[str, list[pathlib.Path]]) -> list[str]:
+    def try_singly(self, mutants: Mutants) -> list[str]:
         """Tries each mutant of these crates in a check of its own, by rt ci, and returns the lines."""
         for crate, files in mutants.items():
             (self.tree / "crates" / crate / FOLDERS[0]).mkdir()
@@ -249,6 +256,33 @@ def clean_commit() -> str | None:
     return git("rev-parse", "--short=7", "HEAD") if git("status", "--porcelain", "--", *SOURCES) == "" else None
 
 
+def sources_of(crate: str) -> list[str]:
+    """What the proofs of a crate are made of, with all crates below it."""
+    return [*(f"crates/{name}/{part}" for name in crates.with_below([crate]) for part in crates.PARTS), *SOURCES[1:]]
+
+
+def kept(mutants: Mutants) -> dict[str, str]:
+    """Those of the mutants, CRATE/NAME, that were refused over what is there now, and the commit of each."""
+    if clean_commit() is None or not TRIED.exists():
+        return {}
+    tried = dict(line.split()[:2] for line in TRIED.read_text(encoding="utf-8").splitlines() if line[:1] != "#")
+    same: dict[tuple[str, ...], bool] = {}
+
+    def is_same(commit: str, paths: list[str]) -> bool:
+        key = (commit, *paths)
+        if key not in same:
+            same[key] = git("diff", "--quiet", commit, "HEAD", "--", *paths) is not None
+        return same[key]
+
+    found = {}
+    for crate, files in mutants.items():
+        for file in files:
+            commit = tried.get(f"{crate}/{file.stem}")
+            if commit and is_same(commit, sources_of(crate)) and is_same(commit, [str(file)]):
+                found[f"{crate}/{file.stem}"] = commit
+    return found
+
+
 def note_tried(verdicts: list[str], commit: str | None) -> None:
     """Writes in TRIED what was tried over a commit."""
     if commit is None:
@@ -265,46 +299,61 @@ def checks_at_once() -> int:
     return max(1, min(len(os.sched_getaffinity(0)), memory // MEMORY))
 
 
-def lines_of(trial: Trial, mutants: dict[str, list[pathlib.Path]], is_singly: bool) -> collections.abc.Iterator[str]:
+def without(mutants: Mutants, names: collections.abc.Container[str]) -> Mutants:
+    """The mutants except for these, CRATE/NAME."""
+    left = {crate: [file for file in files if f"{crate}/{file.stem}" not in names] for crate, files in mutants.items()}
+    return {crate: files for crate, files in left.items() if files}
+
+
+def lines_of(trial: Trial, mutants: Mutants, is_singly: bool) -> collections.abc.Iterator[str]:
     """The lines of these mutants, as they come."""
-    left = dict(mutants)
+    if not mutants:
+        return
+    refused: set[str] = set()
     trial.prove(list(mutants))
     with concurrent.futures.ThreadPoolExecutor(checks_at_once()) as executor:
         try:
             # what takes longest first
             items = sorted([] if is_singly else mutants.items(), key=lambda item: len(item[1]), reverse=True)
-            trials = {executor.submit(trial.try_together, *item): item for item in items}
+            trials = [executor.submit(trial.try_together, *item) for item in items]
             for future in concurrent.futures.as_completed(trials):
-                crate, files = trials[future]
                 lines = future.result()
                 yield from lines
-                refused = {line.split()[1].rstrip(":") for line in lines}
-                left[crate] = [file for file in files if f"{crate}/{file.stem}" not in refused]
+                refused |= {line.split()[1].rstrip(":") for line in lines}
         finally:
             trial.end()
             executor.shutdown(cancel_futures=True)
     trial.is_ended = False
-    if left := {crate: files for crate, files in left.items() if files}:
+    if left := without(mutants, refused):
         yield from trial.try_singly(left)
 
 
-def try_mutants(room: pathlib.Path, words: list[str], is_singly: bool) -> int:
-    """Tries these mutants, prints the lines and the tally, and returns the status."""
-    commit = clean_commit()
-    mutants: dict[str, list[pathlib.Path]] = {}
+def named(words: list[str]) -> Mutants:
+    """The mutants of these words, CRATE or CRATE/NAME, by their crates."""
+    mutants: Mutants = {}
     for word in words:
         crate, _, name = word.partition("/")
         mutants.setdefault(crate, []).extend(mutant_files(crate, name or "*"))
-    lines: list[str] = []
+    return mutants
+
+
+def try_mutants(room: pathlib.Path, names: list[str], arguments: argparse.Namespace) -> int:
+    """Tries the mutants of these names, prints the lines and the tally, and returns the status."""
+    commit = clean_commit()
+    mutants = named(names)
+    before = kept(mutants) if arguments.changed else {}
+    lines = [f"kept {name}: refused over {where}" for name, where in before.items()]
+    for line in lines:
+        print(line, flush=True)
     try:
-        for line in lines_of(Trial(room), mutants, is_singly):
+        for line in lines_of(Trial(room), without(mutants, before), arguments.singly):
             print(line, flush=True)
             lines.append(line)
     finally:
         # what was refused counts, also of a run that is ended
         note_tried(lines, commit)
-    passed = sum(line.startswith("refused ") for line in lines)
-    failed = sum(not line.startswith((" ", "refused ")) for line in lines)
+    passed = sum(line.startswith(("refused ", "kept ")) for line in lines)
+    failed = sum(not line.startswith((" ", "refused ", "kept ")) for line in lines)
     print(f"{passed} passed, {failed} failed")
     return 1 if failed > 0 or passed == 0 else 0
 
@@ -312,7 +361,9 @@ def try_mutants(room: pathlib.Path, words: list[str], is_singly: bool) -> int:
 def main(words: list[str]) -> int:
     os.chdir(crates.ROOT)
     for number, status in ((signal.SIGINT, 130), (signal.SIGTERM, 143), (signal.SIGHUP, 143)):
-        signal.signal(number, lambda *_, status=status: sys.exit(status))
+        # what is ignored stays so, as nohup has it
+        if signal.getsignal(number) != signal.SIG_IGN:
+            signal.signal(number, lambda *_, status=status: sys.exit(status))
     try:
         arguments = parse_arguments(words)
         if arguments.help:
@@ -322,7 +373,7 @@ def main(words: list[str]) -> int:
         if arguments.above:
             names = list(filter(has_mutants, crates.with_above(names)))
         with tempfile.TemporaryDirectory(ignore_cleanup_errors=True) as room:
-            return try_mutants(pathlib.Path(room), names, arguments.singly)
+            return try_mutants(pathlib.Path(room), names, arguments)
     except Stop as stop:
         print(f"mutants.sh: {stop}", file=sys.stderr)
         return stop.status

@@ -138,6 +138,13 @@ def documents(usr: pathlib.Path, date: str) -> None:
     write(usr / "share/lintian/overrides/pendratsoa", OVERRIDES)
 
 
+def kibibytes(folder: pathlib.Path) -> int:
+    """The size that is installed, as Debian counts it: files in whole KiB, and one KiB for each folder and each link.
+    What a folder takes differs from one file system to another."""
+    paths = [folder, *folder.rglob("*")]
+    return sum(-(-path.stat().st_size // 1024) if path.is_file() and not path.is_symlink() else 1 for path in paths)
+
+
 def describe(root: pathlib.Path, machine: Machine) -> None:
     """Writes what dpkg reads of the package, with the latest version of the C library that a symbol of it has."""
     usr, debian = root / "usr", root / "DEBIAN"
@@ -145,7 +152,7 @@ def describe(root: pathlib.Path, machine: Machine) -> None:
         "version": version(),
         "maintainer": MAINTAINER,
         "architecture": machine.debian,
-        "size": run("du", "-ks", "--apparent-size", usr).split()[0],
+        "size": str(kibibytes(usr)),
         "glibc": machine.glibc(*programs(usr), shared_library(usr)),
         "processor": "" if machine.tools else SSE,
     }

@@ -40,7 +40,7 @@ class Stage:
 
 
 STAGES = (
-    Stage("mutants", "scripts/mutants.sh", "the prover rejects every planted bug", of="HEAD:crates"),
+    Stage("mutants", "scripts/mutants.sh --changed", "the prover rejects every planted bug", of="HEAD:crates"),
     Stage("gate", "scripts/test.sh", "every proof, test and check of the gate"),
     Stage("systems", "scripts/check.sh before_release", "on arm64, and the files of a release in bare systems"),
     Stage("agree", "scripts/bench.sh agree 1 200000", "the library and prost agree on 200,000 random cases"),

@@ -75,11 +75,16 @@ class Report:
         self.results: dict[tuple[str, ...], tuple[str, str]] = {}
         # Whether the prover came to its end.
         self.is_whole = False
+        # The first error in the proof of each cycle of calls, by its name.
+        self.of_cycles: dict[str, str] = {}
         errors: dict[tuple[str, ...], str] = {}
         goal = ""
         for line in log.splitlines():
             if (error := ERROR.match(line)) and not NAMES.search(line):
-                errors.setdefault(tuple(error[1].split("/")), line)
+                words = tuple(error[1].split("/"))
+                errors.setdefault(words, line)
+                if words[-1].startswith("+"):
+                    self.of_cycles.setdefault(words[-1][1:], line)
             elif GOAL.match(line):
                 goal = goal or line
             elif verdict := VERDICT.match(line):
@@ -92,12 +97,15 @@ class Report:
         """What is said of functions that have one proof, and of the closures in them."""
         said = [result for words, result in self.results.items() if any(it.is_named(words) for it in functions)]
         refused = [result for result in said if result[0] == REFUSED]
+        # the functions of a cycle have one proof, in which at most one mutant is planted at a time
+        refused += [(REFUSED, self.of_cycles[it.cycle]) for it in functions if it.cycle in self.of_cycles]
         return (refused or [(PROVED if said and all(how == PROVED for how, _ in said) else OPEN, "")])[0]
 
     def has_others(self, functions: collections.abc.Collection[Function]) -> bool:
         """Whether a function fails by itself that is none of these."""
         failing = [words for words, (how, _) in self.results.items() if how == REFUSED]
-        return any(not any(function.is_named(words) for function in functions) for words in failing)
+        is_other = any(not any(function.is_named(words) for function in functions) for words in failing)
+        return is_other or not self.of_cycles.keys() <= {function.cycle for function in functions}
 
 
 def result_of(verdict: str, error: str, goal: str) -> tuple[str, str]:

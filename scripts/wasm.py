@@ -148,13 +148,15 @@ def main() -> int:
     if words not in ([], ["--compare"]) and (words[0] != "--of" or len(words) < 3):
         print(__doc__.strip(), file=sys.stderr)
         return 1
-    if not words and is_up_to_date():
-        return 0
     try:
         if words[:1] == ["--of"]:
             linked(toolchain(), [pathlib.Path(source) for source in words[2:]], pathlib.Path(words[1]))
-        else:
-            print(compare() if words else make())
+            return 0
+        with crates.in_turn(CRATE):
+            if words:
+                print(compare())
+            elif not is_up_to_date():
+                print(make())
     except NotBuilt as why:
         print(f"wasm.py: not run, since {why}")
         return 2

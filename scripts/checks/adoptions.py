@@ -186,6 +186,15 @@ FILES = [
         ["Duration is only there, and is", "Duration.nanos is only there"],
     ),
     (
+        "names that a language has another use for",
+        f"{HEAD}message Failure {{ string class = 60; Item item = 61; Kind kind = 62; string method_name = 63; }}\n"
+        "message Item { string key = 1; }\nenum Kind { NO_KIND = 0; None = 1; }\n",
+        [("lost", "Failure.class is only there, and is left out: a language has another use for the name"),
+         ("lost", "Failure.item is only there, and is left out: Item"),
+         ("lost", "Failure.kind is only there, and is left out: Kind"), ("", "63 string")],
+        [],
+    ),
+    (
         "options of theirs that are groups, and texts that are no UTF-8",
         f'{PROTO2}import "google/protobuf/descriptor.proto";\nextend google.protobuf.MessageOptions {{\n'
         "  optional string code = 50002; optional group Opt = 50003 { optional int32 a = 1; } }\n"
@@ -219,6 +228,23 @@ def taken(check: Check, what: str, text: str, words: tuple[str, ...] = ()) -> tu
     adoption = Adoption(proto.description(), theirs, words)
     adoption.match()
     return adoption, theirs, path
+
+
+def comments(check: Check) -> None:
+    """What a comment of a description may have is in what is generated, and ends no comment and no docstring there."""
+    import ast
+
+    from generators import typed_python, typed_ruby, typed_typescript
+    from generators.typed_model import TypedField
+
+    for said in ('the mode "fast"', 'three """ of them', "a path C:\\users", 'ends with \\"', "ends with \\", "\\N{x}"):
+        found = ast.get_docstring(ast.parse(f"class A:\n{typed_python.doc(said, '    ')}").body[0])
+        check.same(f"the docstring of {said!r}", said, found)
+    check.same("a comment of TypeScript", "/** as a* /b */\n", typed_typescript.doc("as a*/b"))
+    # a member of a oneof that has a class of its own
+    for kind, record, enum, wanted in (("message", "Value", None, "Value"), ("enum", None, "OneKind", "one_kind")):
+        field = TypedField("it", 1, kind, "member", record, enum, "It.")
+        check.same(f"the type of {kind} in RBS", wanted, typed_ruby.rbs_element(field))
 
 
 def files(check: Check) -> None:
@@ -395,5 +421,5 @@ def pages(check: Check) -> None:
 
 def perform_all(check: Check) -> None:
     """All cases."""
-    for cases in (files, codes, moved_codes, renames, sampled, arguments, pages):
+    for cases in (comments, files, codes, moved_codes, renames, sampled, arguments, pages):
         cases(check)

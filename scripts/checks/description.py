@@ -114,6 +114,22 @@ REFUSED = [
         'bytes content = 1 [json_name = "c"];',
         "content of Value is called c in JSON",
     ),
+    (
+        "a name that a language has another use for",
+        "bytes content = 1;",
+        "bytes content = 1; string hash = {content}2;  // it",
+        "a language has another use for the name hash in Value",
+    ),
+    (
+        "a value that a language has a word for",
+        "PAUSE = 1;",
+        "PAUSE = 1; class = 7;",
+        "a value of ErrorBehavior cannot be called class",
+    ),
+    ("an enum of a name that code has", "enum ErrorBehavior {", "enum Item { NO_ITEM = 0; } enum ErrorBehavior {",
+     "an enum cannot be called Item"),
+    ("a message of a name that code has", "message Void {", "// It.\nmessage Stream { option (schema) = {messages}; }\n"
+     "message Void {", "a message cannot be called Stream"),
     ("a negative value", "PAUSE = 1;", "PAUSE = -1;", "PAUSE of ErrorBehavior is -1"),
     (
         "a second name of a value",

@@ -174,6 +174,17 @@ class Installation:
         left = checks.names_below(root)
         self.check.case("nothing is left below DESTDIR", not left, left)
 
+    def by_a_narrow_mask(self) -> None:
+        """By the mask 077 folders are for all, as the files; and a slash after the folder of the libraries is none."""
+        folder = self.check.work / "masked"
+        script = 'umask 077; exec sh scripts/install.sh --library --libdir lib/ "$1"'
+        self.check.command("install.sh by the mask 077", ["sh", "-c", script, "sh", folder])
+        folders = [path for path in [folder, *folder.rglob("*")] if path.is_dir()]
+        closed = [path for path in folders if path.stat().st_mode & 0o055 != 0o055]
+        self.check.case("its folders are for all", not closed, closed)
+        files = [each / "lib" / "pkgconfig" / "pendratsoa.pc" for each in (folder, self.prefix)]
+        self.check.same("the file of pkg-config by --libdir lib/", *(file.read_text() for file in files))
+
 
 def main(check: checks.Check) -> None:
     for name in checks.PROGRAMS:
@@ -194,6 +205,7 @@ def main(check: checks.Check) -> None:
     installation.zsh()
     names = [name for name in checks.names_below(prefix) if name != "bin/other"]
     installation.below_destdir(names)
+    installation.by_a_narrow_mask()
 
     # `--library` installs the rest of it
     library = check.work / "library"

@@ -215,12 +215,14 @@ NO_SUBCOMMAND = (
     (("--", "dump"), "dump"),
 )
 
-# By which names the program is which subcommand; by others it is none.
+# By which names the program is which subcommand; by others it is none. The last component counts, without a slash at
+# the end.
 PATHS = {
     "journal_diff": "journal_diff",
     "./journal_diff": "journal_diff",
     "/a b/journal_diff": "journal_diff",
-    "journal_diff/": None,
+    "journal_diff/": "journal_diff",
+    "journal_diff/other": None,
     "journal_": None,
     "other_journal_diff": None,
     "journal_list": None,

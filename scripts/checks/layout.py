@@ -90,21 +90,28 @@ def complaint(edit: pathlib.Path) -> str | None:
     """Why a mutant cannot be applied. Each old text is replaced before the next one, as the prover's tool does it."""
     crate = edit.parent.parent
     file, text, old = crate, "", ""
+    has_change = False
     for line in edit.read_text(encoding="utf-8").splitlines():
         if line.startswith("file: "):
             file = crate / line.removeprefix("file: ")
             if not file.is_file():
                 return f"there is no {file}"
             text = file.read_text(encoding="utf-8")
-        elif line.startswith("old: "):
+        elif line.startswith("old: ") and not old:
             old = line.removeprefix("old: ")
             if old not in text:
                 return f"not in {file}: {old}"
             if text.find(old, text.index(old) + 1) >= 0:
                 return f"more than once in {file}: {old}"
-        elif line.startswith("new:"):
-            text = text.replace(old, line.removeprefix("new:").removeprefix(" "), 1)
-    return None
+        elif line.startswith("new:") and old:
+            new = line.removeprefix("new:").removeprefix(" ")
+            if new == old:
+                return f"nothing is changed in {file}: {old}"
+            text = text.replace(old, new, 1)
+            old, has_change = "", True
+        else:
+            return f"a line of no form, or in no order: {line}"
+    return None if has_change and not old else "no change, or one without a new text"
 
 
 def mutants(check: checks.Check) -> None:

@@ -18,6 +18,7 @@ import posixpath
 import re
 
 import checks
+import check
 import crates
 
 # What a function here yields: a page, what is missing of it, and whether that is there.
@@ -296,8 +297,7 @@ def compatibility() -> Found:
 def stages() -> Found:
     """The page on the gate has each check in a row, and nothing else."""
     page = "docs/GATE.md"
-    lists = re.findall(r"""^(?:all|before_release)=['"](?:\$all )?([^'"]*)""", text("scripts/check.sh"), re.MULTILINE)
-    names = {name for names in lists for name in names.split()}
+    names = {*check.ALL, *check.BEFORE_RELEASE}
     section = text(page).partition("\n## The stages\n")[2].partition("\n## ")[0]
     firsts = re.findall(r"^\| (`\w+`(?:, `\w+`)*) \|", section, re.MULTILINE)
     rows = {name for first in firsts for name in re.findall(r"\w+", first)}

@@ -1,18 +1,24 @@
 #!/usr/bin/env python3
-"""How mutants are tried together: which function each changes, and what the prover's lines say of it.
+"""How mutants are tried together: which function each changes, and what the prover's lines say of it. And which of them
+are left out, since they were refused over the same sources.
 
 It needs no prover: what a check prints is given.
 """
 from __future__ import annotations
 
 import collections.abc
+import os
 import pathlib
 import re
+import subprocess
 import tempfile
 import unittest
+import unittest.mock
 
 import checks  # noqa: F401 (it finds the modules of scripts/)
+import crates
 import functions
+import mutants
 import tally
 import together
 
@@ -109,11 +115,12 @@ impl fmt::Display
     }
 )
 
-# What the prover prints of a mutated function that fails, one that waits, one whose goal is in a proof file, and one
-# with a closure.
+# What the prover prints of a mutated function that fails, one that waits, one whose goal is in a proof file, one with a
+# closure, and two in a cycle of calls.
 LOG = """\
 ./proofs/kept/Answers.antt:7:5: error: `returns`: expected type `◌≡◌`
 ./proofs/named/Answers.antt:7:5: error: `returns`: `c.gone` is not in scope
+./proofs/lists/+parity/Answers.antt:7:5: error: `even-returns-clause-ok`: computed as far as they go, the two differ
 struct a::kept::Kept: proved
 note: src/place.rt:204:1: it is not proved that what the function ensures holds when it returns (`returns-in-Hex`)
 note: a goal may be false even if its line does not say so
@@ -125,6 +132,8 @@ fn a::holds: proved
 fn a::fn::holds::map: proved
 fn a::fn::bad::map: no proof: `search` did not prove `returns`
 fn a::bad: no proof: it calls `a::fn::bad::map`, which is not proved
+fn a::even: not proved
+fn a::odd: not proved
 only=7 proved=1
 """
 
@@ -187,10 +196,21 @@ class ReportTest(unittest.TestCase):
         self.assertEqual(report.result([function("holds"), function("waits")]), ("open", ""))
         self.assertEqual(report.result([function("holds"), function("fails")])[0], "refused")
 
+    def test_cycle(self) -> None:
+        report = together.Report(LOG)
+        pair = [functions.Function(0, 0, (), "", name, "parity") for name in ("even", "odd")]
+        how, why = report.result(pair)
+        self.assertEqual(how, "refused")
+        self.assertIn("./proofs/lists/+parity/", why)
+        other = [functions.Function(0, 0, (), "", name, "other") for name in ("even", "odd")]
+        self.assertEqual(report.result(other), ("open", ""))
+
     def test_others(self) -> None:
         failing = [function(name) for name in ("fails", "kept", "bad")]
+        failing.append(functions.Function(0, 0, (), "", "odd", "parity"))
         self.assertFalse(together.Report(LOG).has_others(failing))
         self.assertTrue(together.Report(LOG).has_others(failing[1:]))
+        self.assertTrue(together.Report(LOG).has_others(failing[:-1]))
 
 
 class TrialTest(unittest.TestCase):
@@ -271,6 +291,87 @@ class TrialTest(unittest.TestCase):
     def test_no_function(self) -> None:
         self.assertEqual(self.refused(self.edit("m", "a()", "wrong")), set())
         self.assertEqual(self.asked, [])
+
+
+class KeptTest(unittest.TestCase):
+    """A repository of two crates: high uses low. Each has mutants that were refused over the first commit."""
+
+    FILES = {
+        "crates.txt": "low:\nhigh: low\n",
+        "HANDLES": "Handles allowed: none.\n",
+        "crates/low/src/lib.rt": "fn low() {}\n",
+        "crates/low/must-fail/m.edit": "file: src/lib.rt\n",
+        "crates/high/specs/Lib.antt": "",
+        "crates/high/src/lib.rt": "fn high() {}\n",
+        "crates/high/mutants/n.edit": "file: src/lib.rt\n",
+        "crates/high/mutants/o.edit": "file: src/lib.rt\n",
+    }
+
+    def setUp(self) -> None:
+        room = tempfile.TemporaryDirectory()
+        self.addCleanup(room.cleanup)
+        self.addCleanup(os.chdir, os.getcwd())
+        os.chdir(room.name)
+        root = unittest.mock.patch.object(crates, "ROOT", pathlib.Path(room.name))
+        root.start()
+        self.addCleanup(root.stop)
+        self.git("init", "--quiet")
+        self.commit(self.FILES)
+        first = self.git("rev-parse", "--short=7", "HEAD")
+        tried = "".join(f"{name} {first} 2026-11-30\n" for name in ("high/n", "high/o", "low/m"))
+        self.commit({"docs/mutants.tried": mutants.COMMENT + tried})
+
+    def git(self, *words: str) -> str:
+        who = ("-c", "user.name=a", "-c", "user.email=a@b")
+        return subprocess.run(["git", *who, *words], capture_output=True, text=True, check=True).stdout.strip()
+
+    def write(self, files: dict[str, str]) -> None:
+        for name, text in files.items():
+            pathlib.Path(name).parent.mkdir(parents=True, exist_ok=True)
+            pathlib.Path(name).write_text(text)
+
+    def commit(self, files: dict[str, str]) -> None:
+        self.write(files)
+        self.git("add", ".")
+        self.git("commit", "--quiet", "-m", "files")
+
+    def kept(self) -> set[str]:
+        return set(mutants.kept(mutants.named(["low", "high"])))
+
+    def test_nothing_changed(self) -> None:
+        self.assertEqual(self.kept(), {"high/n", "high/o", "low/m"})
+
+    def test_page_changed(self) -> None:
+        self.commit({"README.md": "a page"})
+        self.assertEqual(self.kept(), {"high/n", "high/o", "low/m"})
+
+    def test_crate_above_changed(self) -> None:
+        self.commit({"crates/high/specs/Lib.antt": "pub mod Other\n"})
+        self.assertEqual(self.kept(), {"low/m"})
+
+    def test_crate_below_changed(self) -> None:
+        self.commit({"crates/low/src/lib.rt": "fn lower() {}\n"})
+        self.assertEqual(self.kept(), set())
+
+    def test_mutant_changed(self) -> None:
+        self.commit({"crates/high/mutants/o.edit": "file: specs/Lib.antt\n"})
+        self.assertEqual(self.kept(), {"high/n", "low/m"})
+
+    def test_new_mutant(self) -> None:
+        self.commit({"crates/low/mutants/p.edit": "file: src/lib.rt\n"})
+        self.assertEqual(self.kept(), {"high/n", "high/o", "low/m"})
+
+    def test_crates_changed(self) -> None:
+        self.commit({"crates.txt": "low:\nother:\nhigh: low\n"})
+        self.assertEqual(self.kept(), set())
+
+    def test_not_committed(self) -> None:
+        self.write({"crates/high/src/lib.rt": "fn higher() {}\n"})
+        self.assertEqual(self.kept(), set())
+
+    def test_unknown_commit(self) -> None:
+        self.commit({"docs/mutants.tried": mutants.COMMENT + "high/n abcdef0 2026-11-30\n"})
+        self.assertEqual(self.kept(), set())
 
 
 if __name__ == "__main__":

@@ -26,11 +26,20 @@ END = bytes.fromhex("0003000000000000")
 SET = bytes.fromhex("040300000000000a" "0a81000a1a040a810031")
 TWO = bytes.fromhex("0403000000000008" "0a010a1a030a0132")
 
+# a state that is set to a number which no double is, and one more
+GREAT, GREATER = (bytes.fromhex("0403000000000017" "0a010a1a120a10") + b"900719925474099%d" % digit for digit in (3, 4))
+
+# a state that is set to what is not a number, at which a proxy ends, after it passed on what came before
+WORD = bytes.fromhex("0403000000000008" "0a010a1a030a0178")
+
 # version, what is sent as whole items, what is passed on of them, and what is sent after them
 JOURNALS = (
     (8, KEPT + SET + END, KEPT + TWO + END, b""),
     (9, SET + SKIPPED + SET + INPUT, TWO + SKIPPED + TWO + INPUT, b""),
     (8, (KEPT + SET) * 5000, (KEPT + TWO) * 5000, b""),
+    (8, KEPT + GREAT, KEPT + GREATER, b""),
+    (8, KEPT + WORD, KEPT, b""),
+    (8, (KEPT + SET) * 50 + WORD, (KEPT + TWO) * 50, b""),
     (8, b"", b"", b""),
     (8, KEPT + SET, KEPT + TWO, KEPT[:11]),
     (8, SET, TWO, KEPT[:3]),
@@ -97,7 +106,8 @@ def main(command):
             words = [*command, "--record", folder] if is_recorded else command
             found, status, said = passed_by(words, version, items + trailing)
             is_right = not is_recorded or recorded(folder) == (items + trailing, wanted + trailing)
-        is_said = (status == 0, said == "") == (not trailing, not trailing)
+        is_whole = not trailing and not items.endswith(WORD)
+        is_said = (status == 0, said == "") == (is_whole, is_whole)
         if is_right and is_said and found == wanted + trailing:
             passed += 1
         else:

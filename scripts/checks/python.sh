@@ -118,7 +118,7 @@ cp examples/streams/* "$work/page"
 cp examples/streams/replay "$work/page/journal"
 PYTHONPATH=$site:python/tests python3 -c \
   'import sys, descriptors; sys.stdout.buffer.write(descriptors.SMALL)' > "$work/page/set.binpb"
-for part in 1 3 4 5 6; do
+for part in 1 3 4 5 6 7; do
   if [ $part -eq 3 ] && python3 -c 'import sys; sys.exit(sys.version_info >= (3, 10))'; then
     left_out 'the match of python/README.md' 'this python3 is older than 3.10'
     continue
@@ -151,7 +151,7 @@ if command -v mypy > /dev/null; then
     outcome "the types of $file" $?
   done
   # the second part is one of the proxy
-  (cd "$work/page" && MYPYPATH=$site mypy --strict --cache-dir=/dev/null part[13456].py) > "$out" 2> "$err"
+  (cd "$work/page" && MYPYPATH=$site mypy --strict --cache-dir=/dev/null part[134567].py) > "$out" 2> "$err"
   outcome 'the types of the programs of python/README.md' $?
 else
   without 'the types' 'mypy; the Debian package mypy has it'

@@ -82,6 +82,10 @@ case_of 'the proxy is built' cargo build --quiet --example proxy
 counted 'the proxy' python3 -B "$top/scripts/checks/proxied.py" "$CARGO_TARGET_DIR/debug/examples/proxy"
 case_of 'the example that checks a replay is built' cargo build --quiet --example replay
 counted 'the replays' python3 -B "$top/scripts/checks/replayed.py" "$CARGO_TARGET_DIR/debug/examples/replay"
+recording=$work/$(printf 'recorded\377')
+cp "$top/examples/streams/recorded" "$recording"
+case_of 'a recording whose name is not UTF-8' "$CARGO_TARGET_DIR/debug/examples/replay" "$recording" \
+  < "$top/examples/streams/recorded"
 sed -n '/^fn append/,/^}/p' README.md > "$work/part"
 case_of 'the proxy of rust/README.md' python3 -B "$top/scripts/checks/is_part.py" "$work/part" examples/proxy.rs
 

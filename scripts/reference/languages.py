@@ -202,7 +202,6 @@ def python(made: Work) -> Undocumented:
     # the folder of the tool is that of the Python which has it
     tool = needs("sphinx-build", "python3-sphinx")
     folder = copy("python", made.work)
-    python_pages.add_sentences(folder / "pendratsoa", ROOT / "proto" / "calls.json")
     pages = made.work / "pages"
     pages.mkdir()
     (pages / "conf.py").write_text(CONF.format(folder=str(folder), version=version()))

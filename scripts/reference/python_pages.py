@@ -1,35 +1,11 @@
-"""What the pages for Python have in addition to the docstrings: sentences for the members of enumerations, and members
-that a class inherits from classes without an entry of their own."""
+"""What the pages for Python have in addition to the docstrings: members that a class inherits from classes without an
+entry of their own."""
 from __future__ import annotations
 
 import ast
 import collections.abc
 import dataclasses
-import json
 import pathlib
-import re
-
-# The members whose sentences are nowhere else.
-SENTENCES = {
-    "IdKind": {
-        "COMPLETION_ID": "The id is a completion id, a number.",
-        "SIGNAL_ID": "The id is that of a signal, a number.",
-        "SIGNAL_NAME": "The id is the name of a signal, a text.",
-    },
-    "ResultKind": {
-        "VOID": "The result is nothing, and empty.",
-        "VALUE": "The result is the canonical payload of a `Value`.",
-        "FAILURE": "The result is the canonical payload of a `Failure`.",
-        "INVOCATION_ID": "The result is the text of an invocation id.",
-        "STATE_KEYS": "The result is the canonical payload of `StateKeys`.",
-    },
-    "VerdictKind": {
-        "BAD_REPLAYED": "The replayed command at this index is malformed, and the recorded one is not; all before it "
-                        "are the same.",
-    },
-    "CombinatorType": {"COMBINATOR_TYPE_ZERO": "The number 0, the only one with a name."},
-    "ErrorBehavior": {"RETRY": "The service retries the invocation.", "PAUSE": "The service pauses the invocation."},
-}
 
 # Base classes of records, which have an entry on the page of the records.
 BASES = ("Record", "MessageRecord")
@@ -87,41 +63,6 @@ def members(name: str, known: dict[str, Class], public: set[str]) -> list[str]:
         if base in known and base not in public and base not in BASES:
             found += members(base, known, public)
     return list(dict.fromkeys(found))
-
-
-def sentences(folder: pathlib.Path, calls: pathlib.Path) -> dict[str, dict[str, str]]:
-    """The sentence of each member of an enumeration. Those of kinds are in the description of the calls, and those of
-    the codes of types are the docstrings of their records."""
-    found = {name: dict(those) for name, those in SENTENCES.items()}
-    for section in json.loads(calls.read_text(encoding="utf-8"))["sections"]:
-        for entry in section["has"]:
-            if entry.get("python") and "values" in entry:
-                said = {name: f"{text[:1].upper()}{text[1:]}." for name, text in entry["values"] if text}
-                found[entry["python"]] = {**said, **found.get(entry["python"], {})}
-    found["TypeCode"] = {}
-    for record in classes(folder).values():
-        given = {each.target.id for each in record.node.body if isinstance(each, ast.AnnAssign)}
-        if "CODE" in given and "BEFORE_VERSION" not in given and record.node.name != "MessageRecord":
-            name = re.sub(r"(?<!^)(?=[A-Z])", "_", record.node.name.removesuffix("Message")).upper()
-            found["TypeCode"][name] = ast.get_docstring(record.node) or ""
-    return found
-
-
-def add_sentences(folder: pathlib.Path, calls: pathlib.Path) -> None:
-    """Writes a sentence after each member of an enumeration of a copy of the package, as a docstring."""
-    known = classes(folder)
-    said = sentences(folder, calls)
-    for path in sorted(folder.glob("*.py")):
-        name = ""
-        lines = []
-        for line in path.read_text(encoding="utf-8").splitlines():
-            begins = re.match(r"class (\w+)", line)
-            name = begins[1] if begins else name if line.startswith(" ") or not line else ""
-            lines.append(line)
-            member = re.match(r"    ([A-Z]\w*) = ", line)
-            if member and name in known and is_enum(name, known) and member[1] in said.get(name, {}):
-                lines.append(f'    """{said[name][member[1]]}"""')
-        path.write_text("\n".join(lines) + "\n", encoding="utf-8")
 
 
 def not_shown(folder: pathlib.Path, page: pathlib.Path, module: str, public: set[str]) -> list[str]:

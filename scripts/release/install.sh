@@ -11,6 +11,7 @@
 # release below PREFIX is removed first. No file of another's is replaced. The variable DESTDIR is a folder in which
 # PREFIX is made.
 set -eu
+umask 022 # folders and the list are for all, as the files
 
 usage() {
   echo 'usage: install.sh [--uninstall] [PREFIX]' >&2
