@@ -70,12 +70,15 @@ static inline struct journal_slice journal_text(const char *text) {
 
 /* How the parts of a future are combined. Numbers without a name are kept. */
 enum journal_CombinatorType {
+    /* The number 0, which is the only one with a name. */
     JOURNAL_COMBINATOR_TYPE_ZERO = 0
 };
 
 /* What the service does after an error. */
 enum journal_ErrorBehavior {
+    /* The service retries the invocation. */
     JOURNAL_ERROR_BEHAVIOR_RETRY = 0,
+    /* The service pauses the invocation. */
     JOURNAL_ERROR_BEHAVIOR_PAUSE = 1
 };
 
@@ -5412,8 +5415,10 @@ static inline int64_t journal_write_NotificationTemplate(const struct journal_No
  * Frames.
  *
  * journal_frame_NAME writes the frame of a message at a version from 5 to 9: its header, and the canonical payload after
- * it. It returns the frame's length in bytes, and writes it if `room` is at least as much. A suspension has the record
- * of its version. The errors are JOURNAL_UNKNOWN_VERSION, and those of journal_write_NAME.
+ * it. It returns the frame's length in bytes, and writes it if `room` is at least as much. A suspension is a
+ * journal_SuspensionMessage at each version, and its payload is made for the version. Before version 7 journal_schema
+ * has another struct: the frame of a journal_SuspensionMessageV6 that was read there is what journal_header and
+ * journal_write_SuspensionMessageV6 write. The errors are JOURNAL_UNKNOWN_VERSION, and those of journal_write_NAME.
  */
 
 /* Where the payload of a frame is written, and the room that it has: none if there is none behind a header. */
@@ -5454,7 +5459,10 @@ static inline int64_t journal_frame_SuspensionMessage(uint32_t version, const st
 
     if (length > 0 && version < 7) {
         length = journal_write_SuspensionMessage(record, arena, NULL, 0);
-        if (length >= 0 && (uint64_t)length > arena->left) {
+        if (length == JOURNAL_NO_ROOM) {
+            /* the payload comes next to its table, and is shorter */
+            arena->lacking += arena->left + arena->lacking;
+        } else if (length >= 0 && (uint64_t)length > arena->left) {
             length = journal_lacks_(arena, (size_t)length);
         } else if (length >= 0) {
             const size_t taken = (size_t)length;

@@ -193,6 +193,8 @@ static inline struct journal_reader_rest journal_reader_finish(const struct jour
 static inline uint8_t *journal_reader_room(struct journal_reader *reader, size_t count) {
     const size_t pending = journal_reader_pending(reader);
 
+    /* of no bytes the room is not null either */
+    count = count > 0 ? count : 1;
     if (count > reader->memory.size - reader->end) {
         if (pending > 0 && reader->begin > 0) {
             memmove(reader->memory.bytes, reader->memory.bytes + reader->begin, pending);

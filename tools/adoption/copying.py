@@ -114,7 +114,7 @@ def add_line(out, name, alike, line):
     text = place.read_text(encoding="utf-8")
     heading, lines = re.search(rf"^# (.*)\n(?:#.*\n)*((?:{alike})+)", text, re.M).groups()
     place.write_text(text.replace(lines, lines + line, 1), encoding="utf-8")
-    for page in (out / "docs").glob("*.md"):
+    for page in [out / "conformance" / "README.md", *(out / "docs").glob("*.md")]:
         said = page.read_text(encoding="utf-8")
         counted = [
             row

@@ -7,7 +7,7 @@ import textwrap
 from . import ROOT, laid_out
 from . import missing_rt as missing  # noqa: F401
 from .calls_data import BITS, PATH, calls, camel, comment, constants, described, errors, kinds
-from .calls_data import paragraphs, returned_errors, structs
+from .calls_data import paragraphs, returned_errors, sentence, structs
 from . import compiled
 from .bindings import snake
 from .proto import schemas, typed
@@ -449,8 +449,9 @@ def python():
     for entry in kinds():
         if entry["python"]:
             said = entry.get("what", " ".join(entry["comment"]))
-            text += f'\n\nclass {entry["python"]}(Kind):\n    """{said}"""\n\n'
-            text += "".join(f'    {name} = "{name.lower()}", {number}\n' for number, name in numbered(entry))
+            text += f'\n\nclass {entry["python"]}(Kind):\n    """{said}"""\n'
+            for number, name, about in shown_kinds(entry):
+                text += f'\n    {name} = "{name.lower()}", {number}\n    """{sentence(about)}"""\n'
     return text
 
 
@@ -463,9 +464,9 @@ def quoted(word):
     return f'"{word}"'
 
 
-def numbered(entry):
-    """The kinds that a binding shows, with their numbers."""
-    return [(number, name) for number, _, name, _ in constants(entry) if number >= entry.get("from", 0)]
+def shown_kinds(entry):
+    """The kinds that a binding shows: the number of each, its name, and what is said of it."""
+    return [(number, name, said) for number, _, name, said in constants(entry) if number >= entry.get("from", 0)]
 
 
 def shapes(call):
@@ -512,8 +513,10 @@ def ruby():
     text += f"  # The last protocol version. A later library may have further ones.\n  LAST_VERSION = {last}\n"
     for entry in kinds():
         said = entry.get("what", " ".join(entry["comment"]))
-        text += "\n" + commented([said], "  # ")
-        names = " ".join(name.lower() for _, name in numbered(entry))
+        text += "\n" + commented([said], "  # ") + "  #\n"
+        for _, name, about in shown_kinds(entry):
+            text += filled(f"- `:{name.lower()}`: {about}.", "  # ", "  #   ") + "\n"
+        names = " ".join(name.lower() for _, name, _ in shown_kinds(entry))
         made = f"[nil, *%i[{names}]].freeze" if entry.get("first") else f"%i[{names}].freeze"
         text += filled(f"{entry['ruby']} = {made}", "  ", "    ") + "\n"
     hidden = [entry["ruby"] for entry in kinds() if not entry["python"]]
@@ -560,7 +563,10 @@ def node():
     text += f"export const LAST_VERSION = {last};\n"
     for entry in kinds():
         names = "  undefined,\n" * entry.get("first", 0)
-        names += "".join(f"  '{camel(name, False, with_capitals=False)}',\n" for name, _ in entry["values"])
+        names += "".join(
+            f"  /** {sentence(said)} */\n  '{camel(name, False, with_capitals=False)}',\n"
+            for name, said in entry["values"]
+        )
         text += f"\n/** {' '.join(entry['comment'])} */\nexport const {entry['node']} = [\n{names}];\n"
     for entry in structs().values():
         text += f"\n/** The indices of the numbers of a {entry['struct']}, and how many there are. */\n"
@@ -848,22 +854,112 @@ def rust():
         "    }\n}\n\nimpl From<i64> for Refusal {\n    fn from(returned: i64) -> Refusal {\n        match returned {\n"
     )
     for error in returned_errors():
-        kind, about = class_name(error), rust_about(error)
-        text += (
-            f"            {error['number']} => Refusal::{kind}{f'(About::{about})' if kind in WITH_ABOUT else ''},\n"
-        )
+        kind = class_name(error)
+        if kind in WITH_ABOUT and error["about"][0] in ABOUTS:
+            text += f"            {error['number']} => Refusal::{kind}(About::{ABOUTS[error['about'][0]]}),\n"
+        elif kind not in WITH_ABOUT + NEVER:
+            text += f"            {error['number']} => Refusal::{kind},\n"
     text += "            unlisted => Refusal::Unlisted(unlisted),\n        }\n    }\n}\n"
     return text + "".join(rust_call(call) for call in calls())
 
 
-# The kinds of errors of which several arguments can be the reason, and how an argument is named in Rust.
+# The kinds of errors of which several arguments can be the reason, and how an argument is named in Rust. The crate
+# passes neither an unknown version nor unknown options, which have types there, and never a slice that is too short.
 WITH_ABOUT = ("Malformed", "Unknown")
-ABOUTS = {"version": "Version", "schema": "Schema", "code": "Type", "payload": "Payload", "second": "Second",
-          "options": "Options"}
+NEVER = ("NoRoom",)
+ABOUTS = {"schema": "Schema", "code": "Type", "payload": "Payload", "second": "Second"}
+
+RUST_VERSION = """\
+//! The versions of the protocol.
+
+use std::fmt;
+use std::str::FromStr;
+
+use crate::error::{Argument, Error};
+
+/// A version of the protocol. A later one is greater; version 9 is this project's own, and not one of Restate.
+///
+/// It is made of its number, or of a text with this number, such as an argument of a program. That is
+/// [`Error::Unknown`] if this crate knows no such version, so no other call has the error of an unknown one. A version
+/// displays as its number.
+///
+/// ```
+/// use pendratsoa::Version;
+///
+/// let version: Version = "8".parse()?;
+/// assert_eq!(version, Version::V8);
+/// assert_eq!(version, Version::try_from(8)?);
+/// assert_eq!(u32::from(version), 8);
+/// assert_eq!(version.to_string(), "8");
+/// let error = Version::try_from(10).unwrap_err();
+/// assert_eq!(error.to_string(), "unknown protocol version 10 (@FIRST@ to @LAST@)");
+/// # Ok::<(), pendratsoa::Error>(())
+/// ```
+#[derive(Clone, Copy, Debug, PartialEq, Eq, Hash, PartialOrd, Ord)]
+#[non_exhaustive]
+pub enum Version {
+@VARIANTS@}
+
+impl Version {
+    /// The versions, from the first to the last.
+    pub const ALL: &'static [Version] = &[
+@LISTED@    ];
+
+    pub(crate) const FIRST: Version = Version::V@FIRST@;
+
+    pub(crate) const LAST: Version = Version::V@LAST@;
+}
+
+impl fmt::Display for Version {
+    fn fmt(&self, f: &mut fmt::Formatter<'_>) -> fmt::Result {
+        u32::from(*self).fmt(f)
+    }
+}
+
+impl From<Version> for u32 {
+    fn from(version: Version) -> u32 {
+        version as u32
+    }
+}
+
+impl TryFrom<u32> for Version {
+    type Error = Error;
+
+    fn try_from(number: u32) -> Result<Version, Error> {
+        match number {
+@READ@            _ => Err(Error::Unknown(Argument::Version(number.to_string()))),
+        }
+    }
+}
+
+impl FromStr for Version {
+    type Err = Error;
+
+    fn from_str(text: &str) -> Result<Version, Error> {
+        text.parse()
+            .ok()
+            .and_then(|number: u32| Version::try_from(number).ok())
+            .ok_or_else(|| Error::Unknown(Argument::Version(text.to_owned())))
+    }
+}
+"""
 
 
-def rust_about(error):
-    return ABOUTS[error["about"][0]] if error["about"] else None
+def rust_version():
+    """The enum of versions, as rustfmt lays it out."""
+    first, last = described()["versions"]
+    numbers = range(first, last + 1)
+    parts = {
+        "@FIRST@": str(first),
+        "@LAST@": str(last),
+        "@VARIANTS@": "".join(f"    /// Version {number}.\n    V{number} = {number},\n" for number in numbers),
+        "@LISTED@": "".join(f"        Version::V{number},\n" for number in numbers),
+        "@READ@": "".join(f"            {number} => Ok(Version::V{number}),\n" for number in numbers),
+    }
+    text = RUST_VERSION
+    for name, part in parts.items():
+        text = text.replace(name, part)
+    return text
 
 
 def rust_raw(call):
@@ -1027,6 +1123,7 @@ def files():
         "node/test/refusing_library.c": refusing(),
         "go/library.go": go(),
         "rust/src/ffi/declared.rs": rust(),
+        "rust/src/version.rs": rust_version(),
         "tests/c/calls.h": listed(),
     }
 
@@ -1042,6 +1139,7 @@ def paths():
         "python/pendratsoa/_declared.py",
         "ruby/lib/pendratsoa/declared.rb",
         "rust/src/ffi/declared.rs",
+        "rust/src/version.rs",
         "tests/c/calls.h",
         *(f"{FFI}/{module}.rt" for module in ("lib", *FFI_MODULES)),
     ]

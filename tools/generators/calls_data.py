@@ -5,7 +5,7 @@ import json
 import re
 from typing import Dict, List, Optional
 
-from . import ROOT
+from . import ROOT, Refused
 from .versions import library_version
 
 PATH = "proto/calls.json"
@@ -84,7 +84,10 @@ def camel(name, is_upper, with_capitals=True):
 
 @functools.lru_cache(maxsize=None)
 def described():
-    return json.loads((ROOT / PATH).read_text(encoding="utf-8"))
+    try:
+        return json.loads((ROOT / PATH).read_text(encoding="utf-8"))
+    except json.JSONDecodeError as error:
+        raise Refused([f"{PATH}: {error}"]) from None
 
 
 def entries(kind):
@@ -94,7 +97,30 @@ def entries(kind):
 
 @functools.lru_cache(maxsize=None)
 def calls():
+    problems = [f"{PATH}: {entry['call']}: {problem}" for entry in entries("call") for problem in problems_of(entry)]
+    names = [entry["call"] for entry in entries("call")]
+    problems += [f"{PATH}: {name} is there twice" for name in sorted(set(names)) if names.count(name) > 1]
+    if problems:
+        raise Refused(problems)
     return [Call(**versioned(entry)) for entry in entries("call")]
+
+
+def problems_of(entry):
+    """What is wrong with the entry of a call."""
+    members = dataclasses.fields(Call)
+    yield from (f"there is no member {name}" for name in sorted(entry.keys() - {member.name for member in members}))
+    for member in members:
+        is_needed = member.default is member.default_factory is dataclasses.MISSING
+        if is_needed and member.name not in entry:
+            yield f"it has no {member.name}"
+    known = {error["name"] for error in errors()}
+    yield from (f"there is no number {name}" for name in entry.get("takes", []) if name not in BITS)
+    named = (error.partition(" ")[0] for error in entry.get("errors", []))
+    yield from (f"there is no error {name}" for name in named if name not in known)
+    for member in ("entries", "given", "numbers", "table"):
+        if entry.get(member) is not None and entry[member] not in structs():
+            yield f"there is no struct {entry[member]}"
+    yield from (f"there is no language {name}" for name in entry.get("names", {}) if name not in LANGUAGES)
 
 
 def versioned(entry):
@@ -115,7 +141,14 @@ def constants(entry):
         if entry["kinds"] == "option":
             # options are added up, so each is a bit
             number = 1 << (number - 1)
+        if not said:
+            raise Refused([f"{PATH}: {name} of the kinds {entry['kinds']} has no sentence"])
         yield number, entry.get("prefix", "") + name if number >= begin else name, name, said
+
+
+def sentence(said):
+    """What is said of a kind, as a sentence."""
+    return f"{said[0].upper()}{said[1:]}."
 
 
 def structs():

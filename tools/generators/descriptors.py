@@ -137,9 +137,11 @@ class Field(Named):
 
 @dataclasses.dataclass
 class Enum(Named):
-    """An enum: its values, each a name, a number and a line, and the message in which it is."""
+    """An enum: its values, each a name, a number and a line, what is said of each by its name, and the message in which
+    it is."""
 
     values: list = dataclasses.field(default_factory=list)
+    said: dict = dataclasses.field(default_factory=dict)
     within: str = ""
 
 
@@ -291,6 +293,8 @@ class Reader:
         for at, value in enumerate(enum.records(VALUES)):
             place = self.named(Named, (*path, VALUES, at), value)
             found.values.append((place.name, value.signed(2), place.line))
+            if place.comment:
+                found.said[place.name] = place.comment
         self.found.enums.append(found)
 
     def options(self, record, extended, plain):

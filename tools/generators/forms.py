@@ -1,4 +1,5 @@
 """What the library has a form for: the kinds of fields, what prints them, and the names that code cannot have."""
+import keyword
 import re
 
 from . import ROOT
@@ -34,8 +35,22 @@ RESERVED = set(
     "return self static struct super trait true type unsafe use where while async await abstract become box do final "
     "macro override priv try typeof unsized virtual yield ghost requires ensures data record deriving module package "
     "open unfoldable abbrev axiom unfold unfolding ruleset mutual infix infixl infixr elim coe fcoe tcoe hcom "
-    "com".split()
+    "com gen".split()
 )
+
+# Names that no field and no oneof can have, since a language has another use for them: words of Python, and what the
+# records of a language have besides their fields.
+TAKEN = {
+    *keyword.kwlist,
+    *("encode", "decode", "frame"),
+    *("schema", "marshal_binary", "unmarshal_binary", "read", "write"),
+    *("class", "hash", "method", "methods", "send", "dup", "clone", "freeze", "inspect", "object_id", "with"),
+    *("to_h", "to_s"),
+    *("self", "super", "crate"),
+}
+
+# What a value of an enum, a constant of a class in some languages, cannot be called.
+TAKEN_VALUES = RESERVED | {*keyword.kwlist, "Self", "mro"}
 
 # Names of types that generated code uses, so that no message and no enum of a oneof can have them. For a oneof `result`
 # is handled.
@@ -45,6 +60,18 @@ TYPE_NAMES = set(
     "FieldKind MessageType MessageHeader RestateMessage RestateEncodableMessage Version EncodingError Formatter "
     "CommandMessageHeaderDiff CommandMessageHeaderEq NamedCommandMessage DifferenceForm PrintedMessage "
     "PrintedOneOf PrintedValue".split()
+)
+
+# Names of types of the packages, which no message and no enum can have: there are records next to these.
+PACKAGE_TYPES = set(
+    "Any AppendFrame ArgumentError Array Call Canonical ChangedField Class ClassVar Compiled Cow Data Decoder "
+    "Difference Earlier Enumerable Error Exception Fiddle FieldError Fields File FirstVersion Frame Hash HeaderEq "
+    "Ignored Incomplete IncompleteError Init Integer Item JournalError Kernel LastVersion Library LibraryVersion "
+    "Listed Literal Malformed Member Merge Message MessageError MessageName MessageRecord MessageTooLong "
+    "MessageTooLongError Mismatch Module Named NamedType NoId NoResult NoRoom NotCanonical Notification "
+    "NotificationId NotificationResult Numbered Numbering NumberingError Object OpenEnum Optional OutOfMemory "
+    "Pending Process Replay Row Schema Shown Skipped Stream Struct Symbol Table TooLong Trapped Tuple TypeCode "
+    "TypeError TypeName Union Unknown UnknownCode Verdict Writer".split()
 )
 
 # What functions of generated code call their own values, so that a member of a oneof is bound by another name there.

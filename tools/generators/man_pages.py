@@ -5,7 +5,7 @@ import re
 import textwrap
 import typing
 
-from . import ROOT, missing, programs  # noqa: F401
+from . import ROOT, Refused, missing, programs  # noqa: F401
 from .calls_data import entries, errors, paragraphs, sentence_of_errors
 from .calls_data import calls as described_calls
 from .versions import library_version
@@ -322,7 +322,8 @@ def declared(path):
 def functions():
     """What declares each function of the two headers that has a page, by its name, and the path of its header."""
     found = {each.function(): (path, each) for path in (HEADER, READER) for each in declared(path) if each.function()}
-    assert set(found) == set(TITLES), f"functions without a title, or without a declaration: {set(found) ^ set(TITLES)}"
+    if others := sorted(set(found) ^ set(TITLES)):
+        raise Refused([f"TITLES of tools/generators/man_pages.py has no title, or too many: {' '.join(others)}"])
     return found
 
 

@@ -6,7 +6,7 @@ import re
 import textwrap
 import tomllib
 
-from . import ROOT, laid_out
+from . import ROOT, Refused, laid_out
 from . import missing_rt as missing  # noqa: F401
 from .proto import typed
 from .record_vectors import LAST_VERSION
@@ -34,7 +34,12 @@ class Argument:
 
     def __init__(self, name, entry, is_option):
         if unknown := entry.keys() - KEYS:
-            raise ValueError(f"{SOURCE}: {name} has {', '.join(sorted(unknown))}")
+            raise Refused([f"{SOURCE}: {name} has {', '.join(sorted(unknown))}"])
+        if lacks := {"help", "page", *(() if is_option else ("value",))} - entry.keys():
+            raise Refused([f"{SOURCE}: {name} lacks {', '.join(sorted(lacks))}"])
+        values = entry.get("values", [])
+        if isinstance(values, str) and values not in ("versions", "versions or auto"):
+            raise Refused([f"{SOURCE}: {name} has the values {values}, which are neither a list nor the versions"])
         self.name = name
         self.is_option = is_option
         self.help = entry["help"]
@@ -50,6 +55,8 @@ class Argument:
         self.is_repeated = entry.get("repeated", False)
         self.is_required = entry.get("required", False)
         self.may_begin_with_hyphen = entry.get("hyphen", False)
+        if self.values and self.default is not None and self.default not in self.values:
+            raise Refused([f"{SOURCE}: {name} has the default {self.default}, which is none of its values"])
         completed = entry.get("completed", self.values)
         # what completion offers; nothing for the name of a file
         self.completed = [message.type_name() for message in typed()] if completed == "types" else completed
@@ -228,7 +235,10 @@ def heading(program):
 def described():
     """What the file says."""
     with (ROOT / SOURCE).open("rb") as file:
-        return tomllib.load(file)
+        try:
+            return tomllib.load(file)
+        except tomllib.TOMLDecodeError as error:
+            raise Refused([f"{SOURCE}: {error}"]) from None
 
 
 def common():

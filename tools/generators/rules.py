@@ -65,8 +65,12 @@ def check_enums(problems, described):
     for enum in described.enums:
         if enum.within:
             problems.say(f"{enum.name} is within {enum.within}: enums are beside messages", enum.line)
+        if enum.name in forms.TYPE_NAMES | forms.PACKAGE_TYPES:
+            problems.say(f"an enum cannot be called {enum.name}: code has that name", enum.line)
         numbered = {}
         for name, number, line in enum.values:
+            if name in forms.TAKEN_VALUES or not re.fullmatch(r"(?!(.*_)?(?i:self)$)[A-Za-z][A-Za-z0-9_]*", name):
+                problems.say(f"a value of {enum.name} cannot be called {name}: a language has that word", line)
             if number < 0:
                 problems.say(f"{name} of {enum.name} is {number}: values with names are 0 or more", line)
             if number in numbered:
@@ -90,7 +94,7 @@ def check_names(problems, found):
         seen.add(name)
         if not re.fullmatch(r"[A-Z][A-Za-z0-9]*", name):
             problems.say(f"the name {name} is not in UpperCamelCase", message.line)
-        elif name in forms.TYPE_NAMES or snake(name) in taken:
+        elif name in forms.TYPE_NAMES | forms.PACKAGE_TYPES or snake(name) in taken:
             problems.say(f"a message cannot be called {name}: the code of the library has that name", message.line)
         if place in forms.TABLE_NAMES | forms.RESERVED or place in places:
             other = places.get(place, "the table of schemas or the language")
@@ -113,6 +117,8 @@ def check_message(problems, message):
                 problems.say(
                     f"the name {one.name} in {name} is a word of the language, or not in lower_snake_case", one.line
                 )
+            elif one.name in forms.TAKEN:
+                problems.say(f"a language has another use for the name {one.name} in {name}", one.line)
             if not one.comment:
                 problems.say(f"{one.name} of {name} has no comment, which its record would have", one.line)
         if isinstance(row, OneOf):

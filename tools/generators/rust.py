@@ -66,7 +66,7 @@ use crate::error::{{Argument, Error}};
 
 impl MessageType {{
     /// The named types, in the order of their codes.
-    pub const NAMED: [MessageType; {len(types)}] = [
+    pub const NAMED: &'static [MessageType] = &[
 {listed}    ];
 
     /// The code of the type in headers.
@@ -100,7 +100,8 @@ impl MessageType {{
     #[must_use]
     pub fn from_name(name: &str) -> Option<MessageType> {{
         MessageType::NAMED
-            .into_iter()
+            .iter()
+            .copied()
             .find(|named| named.name() == name)
     }}
 
@@ -172,7 +173,7 @@ use crate::error::{{Argument, Error}};
 
 impl Schema {{
     /// The schemas, each at its number.
-    pub const ALL: [Schema; {len(names)}] = [
+    pub const ALL: &'static [Schema] = &[
 {listed}    ];
 
     /// The number of the schema, from 0 on.
@@ -197,7 +198,10 @@ impl Schema {{
     /// The schema that has the name, or `None` if none has it.
     #[must_use]
     pub fn from_name(name: &str) -> Option<Schema> {{
-        Schema::ALL.into_iter().find(|schema| schema.name() == name)
+        Schema::ALL
+            .iter()
+            .copied()
+            .find(|schema| schema.name() == name)
     }}
 }}
 

@@ -159,9 +159,13 @@ def enums():
     text = ""
     for found in enumerations():
         prefix = upper(found.name)
-        names = [(name.removeprefix(f"{prefix}_"), number) for name, number in found.values]
         text += comment(found.comment) + f"enum journal_{found.name} {{\n"
-        text += ",\n".join(f"    JOURNAL_{prefix}_{name} = {number}" for name, number in names) + "\n};\n\n"
+        text += ",\n".join(
+            (comment(said, "    ") if said else "")
+            + f"    JOURNAL_{prefix}_{name.removeprefix(f'{prefix}_')} = {number}"
+            for name, number, said in found.values
+        )
+        text += "\n};\n\n"
     return text
 
 
@@ -392,7 +396,10 @@ def earlier_frame(name, code, before):
     return (
         f"    if (length > 0 && version < {before}) {{\n"
         f"        length = journal_write_{name}(record, arena, NULL, 0);\n"
-        "        if (length >= 0 && (uint64_t)length > arena->left) {\n"
+        "        if (length == JOURNAL_NO_ROOM) {\n"
+        "            /* the payload comes next to its table, and is shorter */\n"
+        "            arena->lacking += arena->left + arena->lacking;\n"
+        "        } else if (length >= 0 && (uint64_t)length > arena->left) {\n"
         "            length = journal_lacks_(arena, (size_t)length);\n"
         "        } else if (length >= 0) {\n"
         "            const size_t taken = (size_t)length;\n\n"

@@ -207,19 +207,21 @@ def written(field, value, depth):
 
 def methods(record):
     name = name_of(record.name)
-    payload = f'&place{{call: "CALL", schema: Schema{record.name}}}'
+    payload = f'&place{{call: "{name}.CALL", schema: Schema{record.name}}}'
     text = (
         f"\n// Schema returns the number of the schema, Schema{record.name}.\nfunc (r *{name}) Schema() int {{\n"
         f"\treturn Schema{record.name}\n}}\n"
         "\n// MarshalBinary returns the canonical payload. The error is a *FieldError, ErrTooLong or ErrOutOfMemory.\n"
         f"func (r *{name}) MarshalBinary() ([]byte, error) {{\n"
         f"\treturn r.appendTo(nil, {payload.replace('CALL', 'MarshalBinary')})\n}}\n"
-        "\n// AppendBinary appends the canonical payload to a slice, as append does. The errors are those of "
-        f"MarshalBinary.\nfunc (r *{name}) AppendBinary(dst []byte) ([]byte, error) {{\n"
+        "\n// AppendBinary appends the canonical payload to a slice, as append does, whose room has no bytes of the"
+        " record.\n// The errors are those of MarshalBinary.\n"
+        f"func (r *{name}) AppendBinary(dst []byte) ([]byte, error) {{\n"
         f"\treturn r.appendTo(dst, {payload.replace('CALL', 'AppendBinary')})\n}}\n"
         "\n// UnmarshalBinary reads a payload, in any encoding. Bytes in the record are parts of it, without a copy, "
         "or of its\n// canonical encoding. The errors are those of Canonical.\n"
-        f"func (r *{name}) UnmarshalBinary(payload []byte) error {{\n\treturn unmarshal(r, payload)\n}}\n"
+        f"func (r *{name}) UnmarshalBinary(payload []byte) error {{\n"
+        f'\treturn readRecord("{name}.UnmarshalBinary", r, payload)\n}}\n'
     )
     if record.code is not None:
         what = "its header, and its canonical payload"
@@ -229,25 +231,32 @@ def methods(record):
             "and Frame"
             + (f", and\n// ErrUnknown from version {before} on.\n" if before else ".\n")
             + f"func (r *{name}) Frame(version int) ([]byte, error) {{\n"
-            + framed(record, "Frame", "nil")
-            + "}\n\n// AppendFrame appends the frame that Frame returns to a slice, as append does. The errors are "
-            f"those of Frame.\nfunc (r *{name}) AppendFrame(dst []byte, version int) ([]byte, error) {{\n"
-            + framed(record, "AppendFrame", "dst")
+            + f'\treturn r.appendFrame("{name}.Frame", nil, version)\n'
+            + "}\n\n// AppendFrame appends the frame that Frame returns to a slice, as append does, whose room has no "
+            "bytes of the\n// record. The errors are those of Frame.\n"
+            f"func (r *{name}) AppendFrame(dst []byte, version int) ([]byte, error) {{\n"
+            f'\treturn r.appendFrame("{name}.AppendFrame", dst, version)\n'
+            f"}}\n\nfunc (r *{name}) appendFrame(call string, dst []byte, version int) ([]byte, error) {{\n"
+            + framed(record)
             + "}\n"
         )
     return text
 
 
-def framed(record, call, dst):
+def framed(record):
     """The statements that append the frame of a record."""
-    code = f"Code{record.type_name}"
-    if record.before_version:
-        return f'\treturn appendEarlierRecord("{call}", {dst}, version, {code}, r)\n'
-    if any(other.before_version and other.type_name == record.type_name for other in records()):
-        return f'\treturn appendLaterRecord("{call}", {dst}, version, {code}, r)\n'
+    schema, code = f"Schema{record.name}", f"Code{record.type_name}"
+    has_earlier = any(other.before_version and other.type_name == record.type_name for other in records())
+    if record.before_version or has_earlier:
+        function = "appendEarlierFrame" if record.before_version else "appendFrame"
+        given = f"version, {code}, {schema}, payload" if record.before_version else f"version, {code}, payload"
+        return (
+            f"\tpayload, err := r.appendTo(nil, &place{{call: call, schema: {schema}}})\n"
+            f"\tif err != nil {{\n\t\treturn dst, err\n\t}}\n\treturn {function}(call, dst, {given})\n"
+        )
     return (
-        f'\tto, err := placeOfFrame("{call}", Schema{record.name}, version, {code})\n'
-        f"\tif err != nil {{\n\t\treturn {dst}, err\n\t}}\n\treturn r.appendTo({dst}, &to)\n"
+        f"\tto, err := placeOfFrame(call, {schema}, version, {code})\n"
+        f"\tif err != nil {{\n\t\treturn dst, err\n\t}}\n\treturn r.appendTo(dst, &to)\n"
     )
 
 
@@ -256,12 +265,13 @@ def enum(found):
     text += doc(f"The values of {found.name}.")
     prefix = found.name
     rows = []
-    for value, number in found.values:
-        own = camel(value, True)
-        own = own.removeprefix(prefix)
-        rows.append((f"{prefix}{own}", found.name, number))
-    width = max(len(row[0]) for row in rows)
-    return text + "const (\n" + "".join(f"\t{one:{width}} {kind} = {number}\n" for one, kind, number in rows) + ")\n"
+    for value, number, said in found.values:
+        own = f"{prefix}{camel(value, True).removeprefix(prefix)}"
+        # gofmt aligns only lines without comments between them
+        rows.append((doc(f"{own}: {said[0].lower()}{said[1:]}", "\t") if said else "", own, number))
+    width = 0 if any(said for said, _, _ in rows) else max(len(own) for _, own, _ in rows)
+    lines = "".join(f"{said}\t{own:{width}} {found.name} = {number}\n" for said, own, number in rows)
+    return f"{text}const (\n{lines})\n"
 
 
 def table():

@@ -3,10 +3,8 @@ and nothing of how it is encoded. A binding gives the library the numbers of fie
 """
 import dataclasses
 import functools
-import keyword
 from typing import List, Optional
 
-from . import Refused
 from .calls_data import constants, kinds
 from .model import OneOf, camel, members_of
 from .proto import description, earlier, enums, schemas, typed
@@ -101,40 +99,17 @@ class Record:
 
 @dataclasses.dataclass
 class Enum:
-    """An enum: its name, its values with their numbers, and what the description says of it."""
+    """An enum: its name, its values with their numbers and what the description says of each, and what it says of the
+    enum."""
 
     name: str
     values: list
     comment: str
 
 
-# Names that no field and no oneof can have, since a language has another use for them: words of Python, and what the
-# records of a language have besides their fields.
-TAKEN = {
-    *keyword.kwlist,
-    *("encode", "decode", "frame"),
-    *("schema", "marshal_binary", "unmarshal_binary", "read", "write"),
-    *("class", "hash", "method", "methods", "send", "dup", "clone", "freeze", "inspect", "object_id", "with"),
-    *("to_h", "to_s"),
-    *("self", "super", "crate"),
-}
-
-
 def wrapper(record, field):
     """The class of a oneof's member that has no class of its own."""
     return f"{record.name}{camel(field.name)}"
-
-
-def refuse_taken(found):
-    """Rejects a description whose names a language cannot have."""
-    problems = [
-        f"proto/journal.proto: {record.name}: a field cannot be named '{name}', which a language has another use for"
-        for record in found
-        for name in {row.name for row in record.rows} | {field.name for field in record.fields()}
-        if name in TAKEN
-    ]
-    if problems:
-        raise Refused(problems)
 
 
 def field_of(field, is_member):
@@ -173,7 +148,6 @@ def records():
                 message.before_version,
             )
         )
-    refuse_taken(found)
     return found
 
 
@@ -186,5 +160,9 @@ def messages():
 @functools.cache
 def enumerations():
     """The enums of the description."""
-    comments = {enum.name: getattr(enum, "comment", "") for enum in description().enums}
-    return [Enum(name, values, text(comments.get(name))) for name, values in enums().items()]
+    described = {enum.name: enum for enum in description().enums}
+    return [
+        Enum(name, [(value, number, text(described[name].said.get(value))) for value, number in values],
+             text(described[name].comment))
+        for name, values in enums().items()
+    ]

@@ -28,9 +28,15 @@ from ._records import MessageRecord, OpenEnum, Record, Row, described
 '''
 
 
+def quoted(comment):
+    """A comment as it is between the quotes of a docstring."""
+    text = comment.replace("\\", "\\\\")
+    return text.replace('"', '\\"') if '"""' in text or text.endswith('"') else text
+
+
 def doc(comment, indent):
     """A comment as the text of a class or of an attribute."""
-    lines = textwrap.wrap(comment, 120 - len(indent) - 6)
+    lines = textwrap.wrap(quoted(comment), 120 - len(indent) - 6)
     if len(lines) == 1:
         return f'{indent}"""{lines[0]}"""\n'
     return (
@@ -64,8 +70,10 @@ def default(row):
 
 
 def enum(found):
-    values = "".join(f"    {name} = {number}\n" for name, number in found.values)
-    return f"\n\nclass {found.name}(OpenEnum):\n{doc(found.comment, '    ')}\n{values}"
+    text = f"\n\nclass {found.name}(OpenEnum):\n{doc(found.comment, '    ')}"
+    for name, number, said in found.values:
+        text += f"\n    {name} = {number}\n" + (doc(said, "    ") if said else "")
+    return text
 
 
 def wrappers(record):

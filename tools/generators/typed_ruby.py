@@ -1,7 +1,10 @@
-"""The records as structs of Ruby, with keywords and frozen, and their signatures in RBS."""
+"""The records as structs of Ruby, with keywords and frozen, and their signatures in RBS. For the compiled module it is
+where their C structs have the fields."""
 import re
 import textwrap
 
+from . import typed_c
+from .model import snake
 from .typed_model import TypedOneOf, enumerations, kind_numbers, messages, records, wrapper
 
 # What Ruby tells apart: numbers are Integers, and both texts and bytes are Strings.
@@ -25,7 +28,11 @@ def default(row):
         return "[]"
     if row.enum:
         value = next(
-            name for found in enumerations() if found.name == row.enum for name, number in found.values if number == 0
+            name
+            for found in enumerations()
+            if found.name == row.enum
+            for name, number, _ in found.values
+            if number == 0
         )
         return f":{value}"
     return DEFAULTS[row.kind]
@@ -101,8 +108,11 @@ module Pendratsoa
 def module():
     text = HEAD
     for found in enumerations():
-        values = ", ".join(f"{name}: {number}" for name, number in found.values)
+        values = ", ".join(f"{name}: {number}" for name, number, _ in found.values)
         text += doc(f"{found.comment} A value is one of these names, or the number of one that has none.", "  ")
+        listed = [(name, said) for name, _, said in found.values if said]
+        text += "  #\n" if listed else ""
+        text += "".join(doc(f"- `:{name}`: {said[0].lower()}{said[1:]}", "  ") for name, said in listed)
         text += f"  {found.name} = {{ {values} }}.freeze\n\n"
     text = text.rstrip() + "\n"
     text += "".join(wrappers(record) + class_of(record) for record in records())
@@ -114,6 +124,11 @@ def module():
 RBS = {"u32": "Integer", "u64": "Integer", "bool": "bool", "text": "String", "bytes": "String"}
 
 
+def rbs_element(field):
+    """The type of what a field holds."""
+    return field.record or (snake(field.enum) if field.enum else RBS[field.kind])
+
+
 def rbs_type(record, row):
     if isinstance(row, TypedOneOf):
         found = [
@@ -121,7 +136,7 @@ def rbs_type(record, row):
             for field in row.members
         ]
         return f"({' | '.join(found)})?"
-    one = row.record or (f"{re.sub(r'(?<=[a-z0-9])(?=[A-Z])', '_', row.enum).lower()}" if row.enum else RBS[row.kind])
+    one = rbs_element(row)
     if row.shape == "repeated":
         return f"Array[{one}]"
     return f"{one}?" if row.shape == "optional" else one
@@ -131,7 +146,7 @@ def signatures():
     text = "module Pendratsoa\n"
     for found in enumerations():
         alias = re.sub(r"(?<=[a-z0-9])(?=[A-Z])", "_", found.name).lower()
-        names = " | ".join(f":{name}" for name, _ in found.values)
+        names = " | ".join(f":{name}" for name, _, _ in found.values)
         text += (
             f"  {doc(found.comment, '  ').strip()}\n  type {alias} = {names} | Integer\n\n"
             f"  {found.name}: Hash[Symbol, Integer]\n\n"
@@ -142,9 +157,9 @@ def signatures():
                 for field in row.members:
                     text += (
                         doc(field.comment, "  ")
-                        + f"  class {wrapper(record, field)} < Member\n    attr_reader value: {RBS[field.kind]}\n"
+                        + f"  class {wrapper(record, field)} < Member\n    attr_reader value: {rbs_element(field)}\n"
                     )
-                    text += f"    def self.new: ({RBS[field.kind]} value) -> instance\n  end\n\n"
+                    text += f"    def self.new: ({rbs_element(field)} value) -> instance\n  end\n\n"
         text += doc(record.comment, "  ") + f"  class {record.name} < Record\n"
         if record.code is not None:
             text += "    include MessageRecord\n\n"
@@ -164,8 +179,93 @@ def signatures():
     return text + "  RECORDS: Array[singleton(Record)]\nend\n"
 
 
+STRUCTS = """\
+/*
+ * The structs of records that the library takes, as pendratsoa_messages.h has them, whose comments are there, and where
+ * in each its fields are.
+ */
+#ifndef STRUCTS_H
+#define STRUCTS_H
+
+#include <stdbool.h>
+#include <stddef.h>
+#include <stdint.h>
+
+/* Text in UTF-8 without a zero byte at its end, or bytes. */
+struct journal_slice {
+    const uint8_t *at;
+    size_t length;
+};
+
+"""
+
+PLACES = """\
+/* Where a struct has a field, in bytes from its beginning. */
+struct place {
+    uint64_t number; /* the number of the field */
+    size_t at;       /* its value, or the pointer to the elements of a list */
+    size_t said;     /* whether it is there, which member of its oneof is, or how many elements a list has */
+    size_t size;     /* how many bytes an element of a list has */
+};
+
+/* The struct of a record: its size, which is 0 if the library does not take it, and its fields. */
+struct layout {
+    size_t size;
+    long count;
+    const struct place *places;
+};
+
+/* The place of a member of a struct, or of a member of one in it. */
+#define AT(record, member) offsetof(struct journal_##record, member)
+
+"""
+
+
+def place(record, row, field):
+    """Where the struct of a record has a field, which is in a row."""
+    name = typed_c.member(row.name)
+
+    def at(member):
+        return f"AT({record.name}, {member})"
+
+    if field.shape == "repeated":
+        words = [at(name), at(f"{name}_count"), f"sizeof({typed_c.element(field)})"]
+    else:
+        held = f"{name}.{typed_c.member(field.name)}" if field.shape == "member" else name
+        said = {"optional": f"has_{name}", "member": f"{name}_case"}.get(field.shape)
+        words = [at(held) if typed_c.has_content(field) else "0", at(said) if said else "0", "0"]
+    return entry([str(field.number), *words])
+
+
+def entry(words):
+    """An element of an array of structs."""
+    return typed_c.declared("    {", words, "},").replace("{ ", "{", 1)
+
+
+def structs():
+    """The structs that the library takes, and where each of them has its fields."""
+    taken = [record for record in typed_c.in_order() if typed_c.is_borrowed(record)]
+    declared = "".join(f"{typed_c.struct(record)}\n" for record in taken)
+    text = STRUCTS + re.sub(r" */\*.*?\*/\n", "", declared, flags=re.DOTALL) + PLACES
+    for record in (record for record in taken if record.rows):
+        text += f"static const struct place places_of_{record.name}[] = {{\n"
+        for row in record.rows:
+            for field in row.members if isinstance(row, TypedOneOf) else [row]:
+                text += place(record, row, field)
+        text += "};\n\n"
+    text += "/* The structs by the numbers of their schemas. */\nstatic const struct layout LAYOUTS[] = {\n"
+    for record in records():
+        words = ["0", "0", "NULL"]
+        if record in taken:
+            places = f"places_of_{record.name}" if record.rows else "NULL"
+            words = [f"sizeof(struct journal_{record.name})", str(len(record.fields())), places]
+        text += entry(words)
+    return text + "};\n\n#endif\n"
+
+
 def files():
     return {
+        "ruby/ext/pendratsoa/structs.h": structs(),
         "ruby/lib/pendratsoa/messages.rb": module(),
         "ruby/sig/messages.rbs": signatures(),
     }

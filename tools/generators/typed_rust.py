@@ -3,7 +3,6 @@ import functools
 import textwrap
 
 from .borrowed import has_slices, is_slice
-from .calls_data import described
 from .model import camel
 from .typed_c import by_name, has_content, is_borrowed
 from .typed_model import TypedOneOf, enumerations, reasons, records
@@ -17,13 +16,14 @@ HEAD = """\
 //!
 //! ```
 //! use pendratsoa::messages::{MessageRecord, Record, SetStateCommandMessage, Value};
+//! use pendratsoa::Version;
 //!
 //! let command = SetStateCommandMessage {
 //!     key: b"counter"[..].into(),
 //!     value: Some(Value { content: b"1"[..].into() }),
 //!     ..Default::default()
 //! };
-//! let frame = command.frame(8u32)?;
+//! let frame = command.frame(Version::V8)?;
 //! assert_eq!(frame.len(), 8 + command.encode()?.len());
 //! # Ok::<(), pendratsoa::Error>(())
 //! ```
@@ -35,6 +35,7 @@ use crate::ffi::{append_struct, structs, Table, Writer};
 use crate::fields::{Fields, Listed};
 use crate::message_type::MessageType;
 use crate::schema::Schema;
+use crate::version::Version;
 
 pub use crate::fields::{MessageRecord, Record};
 """
@@ -231,7 +232,9 @@ def implementation(record):
     text += f"\nimpl<'a> Record<'a> for {name}{life(name)} {{\n    const SCHEMA: Schema = Schema::{name};\n}}\n"
     if record.code is not None:
         before = (
-            f"    const BEFORE_VERSION: Option<u32> = Some({record.before_version});\n" if record.before_version else ""
+            f"    const BEFORE_VERSION: Option<Version> = Some(Version::V{record.before_version});\n"
+            if record.before_version
+            else ""
         )
         if record.code in {other.code for other in records() if other.before_version}:
             before += "    const IS_ALONE: bool = false;\n"
@@ -245,8 +248,8 @@ def implementation(record):
 def enum(found):
     text = "\n" + doc(found.comment) + "#[derive(Clone, Copy, Debug, Default, PartialEq, Eq, Hash)]\n"
     text += f"pub struct {found.name}(pub i32);\n\nimpl {found.name} {{\n"
-    for name, number in found.values:
-        text += f"    /// `{name}`.\n    pub const {name}: {found.name} = {found.name}({number});\n"
+    for name, number, said in found.values:
+        text += doc(said or f"`{name}`.", "    ") + f"    pub const {name}: {found.name} = {found.name}({number});\n"
     return text + "}\n"
 
 
@@ -267,7 +270,7 @@ def any_message():
         text += f"                Record::decode(payload).map(AnyMessage::{variant(record)})\n            }}\n"
     text += "            _ => return None,\n        })\n    }\n\n"
     text += "    /// Its frame at a version, as [`MessageRecord::frame`].\n"
-    text += "    pub fn frame(&self, version: impl Into<u32>) -> Result<Vec<u8>, Error> {\n        match self {\n"
+    text += "    pub fn frame(&self, version: Version) -> Result<Vec<u8>, Error> {\n        match self {\n"
     for record in sent:
         text += f"            AnyMessage::{variant(record)}(record) => record.frame(version),\n"
     return text + "        }\n    }\n}\n"
@@ -302,7 +305,7 @@ def listed():
 
 
 def kinds():
-    text = "//! Why a field cannot be encoded, by the numbers of the library, and the versions.\n\n"
+    text = "//! Why a field cannot be encoded, by the numbers of the library.\n\n"
     names = [("".join(word.capitalize() for word in name.split("_")), *texts) for name, *texts in reasons()]
     text += (
         "/// Why a field cannot be encoded.\n#[derive(Clone, Copy, Debug, PartialEq, Eq, Hash)]\n#[non_exhaustive]\n"
@@ -320,18 +323,7 @@ def kinds():
         "        match self {\n"
     )
     text += "".join(f'            FieldReason::{name} => "{words}",\n' for name, _, words in names)
-    first, last = described()["versions"]
-    text += (
-        "        }\n    }\n}\n\n/// The protocol versions.\n"
-        "#[derive(Clone, Copy, Debug, PartialEq, Eq, PartialOrd, Ord, Hash)]\n#[non_exhaustive]\n"
-    )
-    text += "pub enum Version {\n" + "".join(
-        f"    /// Version {number}.\n    V{number} = {number},\n" for number in range(first, last + 1)
-    )
-    text += (
-        "}\n\nimpl From<Version> for u32 {\n    fn from(version: Version) -> u32 {\n        version as u32\n    }\n}\n"
-    )
-    return text
+    return text + "        }\n    }\n}\n"
 
 
 def module():

@@ -7,8 +7,14 @@ from .typed_model import TypedOneOf, enumerations, kind_numbers, messages, recor
 TYPES = {"u32": "number", "u64": "bigint", "bool": "boolean", "text": "string", "bytes": "Uint8Array"}
 
 
+def commented(comment):
+    """A comment without what ends one."""
+    return comment.replace("*/", "* /")
+
+
 def doc(comment, indent=""):
     """A comment of JSDoc."""
+    comment = commented(comment)
     if len(f"{indent}/** {comment} */") <= 120:
         return f"{indent}/** {comment} */\n"
     lines = textwrap.wrap(comment, 120 - len(indent) - 3)
@@ -58,7 +64,9 @@ def interface(record):
 
 
 def enum(found):
-    values = "".join(f"  readonly {name}: {number};\n" for name, number in found.values)
+    values = "".join(
+        (doc(said, "  ") if said else "") + f"  readonly {name}: {number};\n" for name, number, said in found.values
+    )
     return (
         "\n" + doc(found.comment) + f"export type {found.name} = number;\n\n"
         + doc(f"The names of the values of `{found.name}`.") + f"export const {found.name}: {{\n{values}}};\n"
@@ -119,7 +127,7 @@ def rows():
     text = "// The records: the name of each and that of its type, what it is without a field, and its fields.\n\n"
     text += "const NOTHING = new Uint8Array(0);\n\n"
     for found in enumerations():
-        values = ", ".join(f"{name}: {number}" for name, number in found.values)
+        values = ", ".join(f"{name}: {number}" for name, number, _ in found.values)
         text += f"\nexport const {found.name} = Object.freeze({{ {values} }});\n"
     text += "\n/** Each record, at the number of its schema. */\nexport const RECORDS = [\n"
     for record in records():
