@@ -156,3 +156,16 @@ func TestAllItems(t *testing.T) {
 		t.Errorf("%d items, %d failures", items, failures)
 	}
 }
+
+func TestAppendFrameOverItsPayload(t *testing.T) {
+	record := &SetStateCommandMessage{Key: []byte("counter"), Value: &Value{Content: []byte("0123456789abcdefghij")}}
+	payload := must(record.MarshalBinary())(t)
+	want := must(Frame(8, CodeSetStateCommand, payload))(t)
+	for at := 0; at < 12; at++ {
+		buffer := make([]byte, 128)
+		there := buffer[at : at+copy(buffer[at:], payload)]
+		if found := must(AppendFrame(buffer[:0], 8, CodeSetStateCommand, there))(t); !bytes.Equal(found, want) {
+			t.Errorf("at %d: %q", at, found)
+		}
+	}
+}

@@ -31,6 +31,8 @@ const (
 // which is the caller's to keep or to change, and keeps its block in memory. Only an item that crosses the end of a
 // block is copied into the next. Items are the caller's too. Messages that were read at once are one allocation, so
 // each of them keeps the others in memory.
+//
+// NewDecoder makes one. Several goroutines may use it only one at a time, and the items that it returned at once.
 type Decoder struct {
 	reader  io.Reader
 	version int
@@ -54,8 +56,8 @@ type Decoder struct {
 	ended  error
 }
 
-// A MessageTooLong is the error of a message whose payload is larger than the limit of its decoder.
-type MessageTooLong struct {
+// A MessageTooLongError is the error of a message whose payload is larger than the limit of its decoder.
+type MessageTooLongError struct {
 	// Code is that of its type, and Type its name, as "SetStateCommand", which is empty if no type has the code.
 	Code uint16
 	Type string
@@ -67,7 +69,7 @@ type MessageTooLong struct {
 
 // Error returns a text as "pendratsoa: a message of type SetStateCommand (0x0403) at offset 0 has 10 bytes, more than
 // the limit of 9".
-func (e *MessageTooLong) Error() string {
+func (e *MessageTooLongError) Error() string {
 	named := fmt.Sprintf("%#04x", e.Code)
 	if e.Type != "" {
 		named = fmt.Sprintf("%s (%#04x)", e.Type, e.Code)
@@ -77,12 +79,12 @@ func (e *MessageTooLong) Error() string {
 }
 
 // Unwrap returns ErrTooLong.
-func (e *MessageTooLong) Unwrap() error {
+func (e *MessageTooLongError) Unwrap() error {
 	return ErrTooLong
 }
 
 // SetMaxMessageSize sets the greatest size of a payload that Next returns, in bytes; without it there is no limit. The
-// eight bytes of a header do not count for it. For a larger message the error is a *MessageTooLong as soon as its
+// eight bytes of a header do not count for it. For a larger message the error is a *MessageTooLongError as soon as its
 // header was read, and of each call from then on: what was read of it is dropped.
 func (d *Decoder) SetMaxMessageSize(size uint32) {
 	d.limit, d.hasLimit = size, true
@@ -109,7 +111,7 @@ func NewDecoder(reader io.Reader, version int) *Decoder {
 // error of the reader is returned as it is, after all items before it.
 //
 // None of these loses anything: the next call continues where the stream ended, since a reader may have more by then. A
-// *MessageTooLong ends the stream, and is the error of each later call.
+// *MessageTooLongError ends the stream, and is the error of each later call.
 func (d *Decoder) Next() (Item, error) {
 	for {
 		item, missing, err := d.take()
@@ -148,8 +150,8 @@ func (d *Decoder) Rest() int {
 }
 
 // Trailing returns the bytes that were read and are in no item that Next returned. After an *IncompleteError they are
-// what came of the last item, and a proxy passes them on after the items before it. After a *MessageTooLong there are
-// none. They are a part of the decoder's block, without a copy. Do not change them if you take further items.
+// what came of the last item, and a proxy passes them on after the items before it. After a *MessageTooLongError there
+// are none. They are a part of the decoder's block, without a copy. Do not change them if you take further items.
 func (d *Decoder) Trailing() []byte {
 	return d.rest[:len(d.rest):len(d.rest)]
 }
@@ -229,7 +231,7 @@ func (d *Decoder) look() (int64, error) {
 	if result == tooLong && len(d.rest) >= headerSize {
 		code, length := binary.BigEndian.Uint16(d.rest), binary.BigEndian.Uint32(d.rest[4:])
 		name, _ := TypeName(code)
-		d.ended = &MessageTooLong{code, name, length, d.limit, d.offset}
+		d.ended = &MessageTooLongError{code, name, length, d.limit, d.offset}
 		d.rest = nil
 		return 0, d.ended
 	}

@@ -373,7 +373,7 @@ func TestMessage(t *testing.T) {
 	}
 	_, err = call.Notification()
 	wantError(t, err, ErrUnknown,
-		"pendratsoa: Notification: unknown code 0x040d, or not of the kind that the call is for")
+		"pendratsoa: Message.Notification: unknown code 0x040d, or not of the kind that the call is for")
 }
 
 func TestMessageOfItsVersion(t *testing.T) {
@@ -411,11 +411,13 @@ func TestMessageWithoutSchemaOrType(t *testing.T) {
 	if entry.Type() != "CustomEntry(64513)" || entry.IsCommand() || entry.IsNotification() {
 		t.Errorf("%s, %v, %v", entry.Type(), entry.IsCommand(), entry.IsNotification())
 	}
-	text := "pendratsoa: Schema: unknown code 0xfc01, or not of the kind that the call is for"
+	const text = ": unknown code 0xfc01, or not of the kind that the call is for"
 	_, err := entry.JSON()
-	wantError(t, err, ErrUnknown, text)
+	wantError(t, err, ErrUnknown, "pendratsoa: Message.JSON"+text)
 	_, err = entry.Canonical()
-	wantError(t, err, ErrUnknown, text)
+	wantError(t, err, ErrUnknown, "pendratsoa: Message.Canonical"+text)
+	_, err = entry.Schema()
+	wantError(t, err, ErrUnknown, "pendratsoa: Message.Schema"+text)
 	none := &Message{Version: 8, Code: 8}
 	if none.Type() != "" || none.String() != "code 0x0008 0" {
 		t.Errorf("%q, %v", none.Type(), none)
@@ -447,8 +449,8 @@ func TestMessageTooLong(t *testing.T) {
 			t.Errorf("%d items", len(items))
 		}
 		for i := 0; i < 2; i++ {
-			var long *MessageTooLong
-			wanted := MessageTooLong{0, "Start", math.MaxUint32, limit, int64(whole)}
+			var long *MessageTooLongError
+			wanted := MessageTooLongError{0, "Start", math.MaxUint32, limit, int64(whole)}
 			if !errors.As(err, &long) || *long != wanted || decoder.Rest() != 0 || len(decoder.Trailing()) != 0 {
 				t.Errorf("%v, with %d bytes left, %x", err, decoder.Rest(), decoder.Trailing())
 			}

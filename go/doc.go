@@ -23,9 +23,9 @@
 //
 // # Errors
 //
-// An error of a call is an *Error, which names the function and the argument, and wraps one of the variables such as
-// ErrMalformed. A *FieldError, a *MessageTooLong and an *IncompleteError are none, and wrap one of those too, or
-// io.ErrUnexpectedEOF:
+// An error of a call is an *Error, which names the function or method and the argument, and wraps one of the variables
+// such as ErrMalformed. A *FieldError, a *MessageTooLongError and an *IncompleteError are none, and wrap one of those
+// too, or io.ErrUnexpectedEOF:
 //
 //	_, err := pendratsoa.Canonical(pendratsoa.SchemaErrorMessage, payload)
 //	if errors.Is(err, pendratsoa.ErrMalformed) {

@@ -15,8 +15,8 @@ var (
 	ErrOutOfMemory = errors.New("an allocation failed")
 	// ErrNoRoom: a slice for numbers was too short, which this package never passes.
 	ErrNoRoom = errors.New("no room for the numbers")
-	// ErrTooLong: a payload has, or would have, more than 4,294,967,295 bytes. A MessageTooLong, which is about the limit
-	// of a decoder, wraps it too.
+	// ErrTooLong: a payload has, or would have, more than 4,294,967,295 bytes. A MessageTooLongError, which is about the
+	// limit of a decoder, wraps it too.
 	ErrTooLong = errors.New("more than 4,294,967,295 bytes")
 	// ErrUnknown: a version, a schema, a code or a name does not exist, or is not of the kind that the call is for.
 	ErrUnknown = errors.New("unknown, or not of the kind that the call is for")
@@ -37,7 +37,7 @@ var (
 
 // An Error says of which function, and of which of its arguments, an error is.
 type Error struct {
-	// Call is the name of the function or method, as "Canonical".
+	// Call is the name of the function or method that was called, as "Canonical" or "Message.JSON".
 	Call string
 	// Argument is the argument and its value, as "schema 53" or "payload of 12 bytes".
 	Argument string
@@ -70,8 +70,8 @@ type MessageError struct {
 	Err *Error
 }
 
-// Error returns a text as "pendratsoa: ToJSON: SetStateCommand at offset 17: payload of 3 bytes: not well-formed for
-// its schema", and of a message that did not come in a stream the same without the offset.
+// Error returns a text as "pendratsoa: Message.JSON: SetStateCommand at offset 17: payload of 3 bytes: not well-formed
+// for its schema", and of a message that did not come in a stream the same without the offset.
 func (e *MessageError) Error() string {
 	where := e.Type
 	if e.Offset >= 0 {

@@ -60,6 +60,103 @@ func ExampleDecoder_chunks() {
 	// CustomEntry(64513) rest 0
 }
 
+// In Go 1.23 and later the same is a loop: for item, err := range decoder.All().
+func ExampleDecoder_All() {
+	stream := "\x04\x05\x00\x00\x00\x00\x00\x00" + "\x00\x03\x00\x00\x00\x00\x00\x00"
+	decoder := pendratsoa.NewDecoder(strings.NewReader(stream), 8)
+	decoder.All()(func(item pendratsoa.Item, err error) bool {
+		if err != nil {
+			log.Fatal(err)
+		}
+		fmt.Println(item.Offset(), item)
+		return true
+	})
+	// Output:
+	// 0 ClearAllStateCommand 0
+	// 8 End 0
+}
+
+// A header that announces too much is an error before its payload is read.
+func ExampleDecoder_SetMaxMessageSize() {
+	decoder := pendratsoa.NewDecoder(strings.NewReader("\x04\x03\x00\x00\xff\xff\xff\xff"), 8)
+	decoder.SetMaxMessageSize(1 << 20)
+	_, err := decoder.Next()
+	var long *pendratsoa.MessageTooLongError
+	if errors.As(err, &long) {
+		fmt.Println(long.Type, long.Length, "of at most", long.Limit)
+	}
+	// Output: SetStateCommand 4294967295 of at most 1048576
+}
+
+func ExampleIncompleteError() {
+	// the first three bytes of a payload of ten
+	decoder := pendratsoa.NewDecoder(strings.NewReader("\x04\x03\x00\x00\x00\x00\x00\x0a\x0a\x01a"), 8)
+	_, err := decoder.Next()
+	var ended *pendratsoa.IncompleteError
+	if errors.As(err, &ended) {
+		fmt.Println(ended.Type, "at offset", ended.Offset, "of which", ended.Rest, "bytes came")
+	}
+	// Output: SetStateCommand at offset 0 of which 11 bytes came
+}
+
+// A record is written as a message: by NewMessageOf for a Replay, and by Frame or AppendFrame for a connection.
+func ExampleNewMessageOf() {
+	command := &pendratsoa.SetStateCommandMessage{Key: []byte("a"), Value: &pendratsoa.Value{Content: []byte("1")}}
+	message, err := pendratsoa.NewMessageOf(8, command)
+	if err != nil {
+		log.Fatal(err)
+	}
+	frame, err := command.Frame(8)
+	fmt.Println(message, err)
+	fmt.Printf("%x\n", frame)
+	// Output:
+	// SetStateCommand 8 <nil>
+	// 04030000000000080a01611a030a0131
+}
+
+func ExampleMessageFromJSON() {
+	json := []byte(`{"key":"YQ==","value":{"content":"MQ=="}}`)
+	message, err := pendratsoa.MessageFromJSON(8, pendratsoa.CodeSetStateCommand, json)
+	if err != nil {
+		log.Fatal(err)
+	}
+	fmt.Println(message)
+	_, err = pendratsoa.MessageFromJSON(8, pendratsoa.CodeSetStateCommand, []byte(`{"key":5}`))
+	var rejected *pendratsoa.JSONError
+	if errors.As(err, &rejected) {
+		fmt.Println(rejected.Path, rejected.Reason)
+	}
+	// Output:
+	// SetStateCommand 8
+	// key ReasonWrongKind
+}
+
+// The descriptor set is that of a .proto file in which a key has the number 4, a value 2, and its content 3.
+func ExampleNumbering() {
+	set := "\n~\n\aa.proto\"!\n\x05Value\x12\x18\n\acontent\x18\x03 \x01(\fR\acontent" +
+		"\"H\n\x16SetStateCommandMessage\x12\x10\n\x03key\x18\x04 \x01(\fR\x03key" +
+		"\x12\x1c\n\x05value\x18\x02 \x01(\v2\x06.ValueR\x05valueb\x06proto3"
+	numbering, err := pendratsoa.NewNumbering([]byte(set), nil)
+	if err != nil {
+		log.Fatal(err)
+	}
+	frame, err := numbering.Frame(8, pendratsoa.CodeSetStateCommand, []byte("\x0a\x01a\x1a\x03\x0a\x011"))
+	if err != nil {
+		log.Fatal(err)
+	}
+	fmt.Printf("%x\n", frame[8:])
+	decoder := pendratsoa.NewDecoder(bytes.NewReader(frame), 8)
+	decoder.SetNumbering(numbering)
+	item, err := decoder.Next()
+	if err != nil {
+		log.Fatal(err)
+	}
+	fmt.Printf("%x %v\n", item.(*pendratsoa.Message).Payload, bytes.Equal(item.Bytes(), frame))
+	// Output:
+	// 12031a0131220161
+	// 0a01611a030a0131 true
+}
+
 func ExampleAs() {
 	item, err := pendratsoa.NewMessage(8, pendratsoa.CodeSetStateCommand, []byte("\x0a\x01a\x1a\x03\x0a\x011"))
 	if err != nil {

@@ -49,6 +49,8 @@ type MessageRecord interface {
 	Frame(version int) ([]byte, error)
 	// AppendFrame appends the frame that Frame returns to a slice, as append does.
 	AppendFrame(dst []byte, version int) ([]byte, error)
+	// appendFrame is AppendFrame for a call, which an error names
+	appendFrame(call string, dst []byte, version int) ([]byte, error)
 }
 
 // Record returns what the payload means: a pointer to a struct as SetStateCommandMessage, for a type switch. A custom
@@ -56,7 +58,7 @@ type MessageRecord interface {
 // into. The errors are those of Schema and Canonical; one of the payload is a *MessageError. The function As returns
 // the record of one type.
 func (m *Message) Record() (Record, error) {
-	schema, err := schemaOf("Record", m.Version, m.Code)
+	schema, err := schemaOf("Message.Record", m.Version, m.Code)
 	if err != nil {
 		// what has a header and no schema is a custom entry
 		if _, headerErr := Header(m.Version, m.Code, 0); headerErr == nil {
@@ -66,9 +68,9 @@ func (m *Message) Record() (Record, error) {
 	}
 	record := newRecord(schema)
 	if record == nil {
-		return nil, &Error{"Record", named("schema", schema), ErrUnexpected}
+		return nil, &Error{"Message.Record", named("schema", schema), ErrUnexpected}
 	}
-	if err := readRecord("Record", record, m.Payload); err != nil {
+	if err := readRecord("Message.Record", record, m.Payload); err != nil {
 		return nil, m.located(err)
 	}
 	return record, nil
@@ -101,7 +103,7 @@ func As[R Record](item Item) (record R, ok bool, err error) {
 // NewMessageOf returns the message of a record at a version, whose type follows from the record. It requests an
 // acknowledgement if the header of its type does at this version. The errors are those of the record's Frame.
 func NewMessageOf(version int, record MessageRecord) (*Message, error) {
-	frame, err := record.Frame(version)
+	frame, err := record.appendFrame("NewMessageOf", nil, version)
 	if err != nil {
 		return nil, err
 	}
@@ -156,6 +158,9 @@ func (t *fieldTable) bytes(field *tableField) []byte {
 }
 
 func (t *fieldTable) text(field *tableField) string {
+	if field[fieldLength] == 0 {
+		return ""
+	}
 	begin := t.texts.Len()
 	if begin == 0 {
 		t.texts.Grow(t.textsToCome())
@@ -182,11 +187,6 @@ func (t *fieldTable) unknown(record string) error {
 
 var tables = sync.Pool{New: func() any { return new(fieldTable) }}
 
-// unmarshal reads a record from a payload, for UnmarshalBinary.
-func unmarshal(record Record, payload []byte) error {
-	return readRecord("UnmarshalBinary", record, payload)
-}
-
 // readRecord reads a record from a payload, for a call, which an error names.
 func readRecord(call string, record Record, payload []byte) error {
 	table := tables.Get().(*fieldTable)
@@ -207,7 +207,7 @@ func (t *fieldTable) find(schema int, payload []byte) error {
 	fields := t.room[:]
 	count := journalFields(uint32(schema), payload, fields)
 	if count == notCanonical {
-		canonical, err := payloadWritten(t.call, schema, payload, len(payload), journalCanonical)
+		canonical, err := canonicalOf(t.call, schema, payload)
 		if err != nil {
 			return err
 		}
@@ -357,7 +357,7 @@ func (w *fieldWriter) refused(to *place, length int64) error {
 	case length < 0:
 		return schemaError(to.call, length, to.schema, bytesText("payload", w.data[:w.length]))
 	case kind >= uint64(len(fieldReasons)):
-		return unexpected("kind", kind)
+		return &Error{to.call, named("schema", to.schema), unexpected("kind of table", kind)}
 	default:
 		return &FieldError{pathOf(to.schema, w.fields[:w.writing[writingIndex]+1]), fieldReasons[kind]}
 	}
@@ -392,25 +392,6 @@ func (to *place) writeHeader(frame []byte) error {
 func placeOfFrame(call string, schema, version int, code uint16) (place, error) {
 	number, err := unsigned(call, versionName, version)
 	return place{call, schema, headerSize, number, code}, err
-}
-
-// appendLaterRecord appends the frame of a record of a type that has another one at earlier versions, which is written
-// of what it has of this one.
-func appendLaterRecord(call string, dst []byte, version int, code uint16, record Record) ([]byte, error) {
-	payload, err := record.MarshalBinary()
-	if err != nil {
-		return dst, err
-	}
-	return appendFrame(call, dst, version, code, payload)
-}
-
-// appendEarlierRecord appends the frame of a record that a type has at earlier versions only.
-func appendEarlierRecord(call string, dst []byte, version int, code uint16, record Record) ([]byte, error) {
-	payload, err := record.MarshalBinary()
-	if err != nil {
-		return dst, err
-	}
-	return appendEarlierFrame(call, dst, version, code, record.Schema(), payload)
 }
 
 // pathOf returns what leads to the last of these entries, as "headers[2].key".

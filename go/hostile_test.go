@@ -171,6 +171,16 @@ func resident(t *testing.T) int {
 	return must(strconv.Atoi(strings.Fields(string(status))[1]))(t) * os.Getpagesize()
 }
 
+// Each empty text once looked at all that come after it. These would take longer than Go gives a test.
+func TestEmptyTexts(t *testing.T) {
+	record := &Future{WaitingNamedSignals: make([]string, 400_000)}
+	payload := must(record.MarshalBinary())(t)
+	read := new(Future)
+	if err := read.UnmarshalBinary(payload); err != nil || !reflect.DeepEqual(read, record) {
+		t.Error(err)
+	}
+}
+
 func TestMemoryDoesNotGrow(t *testing.T) {
 	random := rand.New(rand.NewSource(3))
 	stream := bytes.Repeat(readFile(t, "examples/streams/recorded"), 100)

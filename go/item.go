@@ -145,15 +145,15 @@ func (s *Skipped) String() string {
 // Bytes returns the message as received, whatever was set in it since. Of one that did not come in a stream they are
 // its payload as it is after the header of its type, and nil if its version, its code or the length has no header.
 func (m *Message) Bytes() []byte {
-	bytes, _ := m.bytes()
+	bytes, _ := m.bytes("Message.Bytes")
 	return bytes
 }
 
-func (m *Message) bytes() ([]byte, error) {
+func (m *Message) bytes(call string) ([]byte, error) {
 	if bytes := m.came.bytes(); bytes != nil {
 		return bytes, nil
 	}
-	header, err := Header(m.Version, m.Code, len(m.Payload))
+	header, err := headerOf(call, m.Version, m.Code, len(m.Payload))
 	if err != nil {
 		return nil, err
 	}
@@ -176,7 +176,7 @@ func (s *Skipped) Bytes() []byte {
 // WriteTo writes the message as received, as Bytes returns it. Of one that did not come in a stream, the errors are
 // also those of Header.
 func (m *Message) WriteTo(writer io.Writer) (int64, error) {
-	bytes, err := m.bytes()
+	bytes, err := m.bytes("Message.WriteTo")
 	if err != nil {
 		return 0, err
 	}
@@ -208,7 +208,12 @@ func writeAll(writer io.Writer, bytes []byte) (int64, error) {
 // NewMessage returns the message of a type with a payload, which is taken as it is. It requests an acknowledgement if
 // the header of its type does at this version. The errors are those of Header.
 func NewMessage(version int, code uint16, payload []byte) (*Message, error) {
-	header, err := Header(version, code, len(payload))
+	return newMessage("NewMessage", version, code, payload)
+}
+
+// newMessage is NewMessage for a call, which an error names.
+func newMessage(call string, version int, code uint16, payload []byte) (*Message, error) {
+	header, err := headerOf(call, version, code, len(payload))
 	if err != nil {
 		return nil, err
 	}
@@ -219,15 +224,16 @@ func NewMessage(version int, code uint16, payload []byte) (*Message, error) {
 // MessageFromJSON returns the message of a named type that a JSON text means. Its payload is canonical, and it requests
 // an acknowledgement if the header of its type does at this version. The errors are those of Schema and FromJSON.
 func MessageFromJSON(version int, code uint16, json []byte) (*Message, error) {
-	schema, err := Schema(version, code)
+	const call = "MessageFromJSON"
+	schema, err := schemaOf(call, version, code)
 	if err != nil {
 		return nil, err
 	}
-	payload, err := FromJSON(schema, json)
+	payload, err := payloadOfJSON(call, schema, json)
 	if err != nil {
 		return nil, err
 	}
-	return NewMessage(version, code, payload)
+	return newMessage(call, version, code, payload)
 }
 
 // Type returns the name of the message's type, as "SleepCommand", or "CustomEntry(64513)" of a custom entry. It is
@@ -239,7 +245,7 @@ func (m *Message) Type() string {
 
 // Schema returns the number of the schema of the payload. A custom entry has none: ErrUnknown.
 func (m *Message) Schema() (int, error) {
-	return Schema(m.Version, m.Code)
+	return schemaOf("Message.Schema", m.Version, m.Code)
 }
 
 // IsCommand returns whether the message is a command, by its code. GetStateEphemeralCommand is neither a command nor a
@@ -261,22 +267,22 @@ func (m *Message) IsNotification() bool {
 // JSON returns the JSON of what the payload means. The errors are those of Schema and ToJSON; one of the payload is a
 // *MessageError.
 func (m *Message) JSON() ([]byte, error) {
-	schema, err := m.Schema()
+	schema, err := schemaOf("Message.JSON", m.Version, m.Code)
 	if err != nil {
 		return nil, err
 	}
-	json, err := ToJSON(schema, m.Payload)
+	json, err := jsonOf("Message.JSON", schema, m.Payload)
 	return json, m.located(err)
 }
 
 // Canonical returns the canonical encoding of the payload. The errors are those of Schema and Canonical; one of the
 // payload is a *MessageError.
 func (m *Message) Canonical() ([]byte, error) {
-	schema, err := m.Schema()
+	schema, err := schemaOf("Message.Canonical", m.Version, m.Code)
 	if err != nil {
 		return nil, err
 	}
-	canonical, err := Canonical(schema, m.Payload)
+	canonical, err := canonicalOf("Message.Canonical", schema, m.Payload)
 	return canonical, m.located(err)
 }
 
@@ -285,14 +291,14 @@ func (m *Message) Canonical() ([]byte, error) {
 // before version 7 has no frame from 7 on, and one since then has a frame at each. An error of the payload is a
 // *MessageError.
 func (m *Message) Frame(version int) ([]byte, error) {
-	frame, err := m.appendFrame("Frame", nil, version)
+	frame, err := m.appendFrame("Message.Frame", nil, version)
 	return frame[:len(frame):len(frame)], err
 }
 
 // AppendFrame appends the frame that Frame returns, and returns the extended slice, as append does. With an error,
 // which is one of those of Frame, it returns the slice as it was.
 func (m *Message) AppendFrame(dst []byte, version int) ([]byte, error) {
-	return m.appendFrame("AppendFrame", dst, version)
+	return m.appendFrame("Message.AppendFrame", dst, version)
 }
 
 func (m *Message) appendFrame(call string, dst []byte, version int) ([]byte, error) {
@@ -308,7 +314,7 @@ func (m *Message) appendFrame(call string, dst []byte, version int) ([]byte, err
 
 // WriteFrame writes the frame that Frame returns. The errors are those of Frame and of the writer.
 func (m *Message) WriteFrame(writer io.Writer, version int) error {
-	frame, err := m.Frame(version)
+	frame, err := m.appendFrame("Message.WriteFrame", nil, version)
 	if err != nil {
 		return err
 	}
@@ -319,7 +325,7 @@ func (m *Message) WriteFrame(writer io.Writer, version int) error {
 // Notification returns the id and the result of the message, if it is a notification. The errors are those of
 // ReadNotification; one of the payload is a *MessageError.
 func (m *Message) Notification() (Notification, error) {
-	notification, err := readNotification("Notification", m.Code, m.Payload)
+	notification, err := readNotification("Message.Notification", m.Code, m.Payload)
 	return notification, m.located(err)
 }
 

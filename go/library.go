@@ -130,8 +130,7 @@ const (
 	listNumbers = C.JOURNAL_LIST_NUMBERS
 )
 
-// The kinds of items: a message; before version 9 an unassigned code, whose eight bytes are skipped; at version 9 a
-// message of an unknown type, skipped with its payload.
+// The kinds of items.
 const (
 	itemMessage     = C.JOURNAL_ITEM_MESSAGE
 	itemUnknownCode = C.JOURNAL_ITEM_UNKNOWN_CODE
@@ -199,9 +198,12 @@ const (
 
 // The kinds of a notification's id.
 const (
+	// CompletionID: the id is that of a completion, a number.
 	CompletionID IDKind = C.JOURNAL_COMPLETION_ID
-	SignalID     IDKind = C.JOURNAL_SIGNAL_ID
-	SignalName   IDKind = C.JOURNAL_SIGNAL_NAME
+	// SignalID: the id is that of a signal, a number.
+	SignalID IDKind = C.JOURNAL_SIGNAL_ID
+	// SignalName: the id is the name of a signal, a text.
+	SignalName IDKind = C.JOURNAL_SIGNAL_NAME
 )
 
 // The names of the kinds, from the first on.
@@ -213,11 +215,16 @@ var namesOfIDKind = []string{
 
 // The kinds of a notification's result.
 const (
-	ResultVoid         ResultKind = C.JOURNAL_RESULT_VOID
-	ResultValue        ResultKind = C.JOURNAL_RESULT_VALUE
-	ResultFailure      ResultKind = C.JOURNAL_RESULT_FAILURE
+	// ResultVoid: the result says that there is no value; it is empty.
+	ResultVoid ResultKind = C.JOURNAL_RESULT_VOID
+	// ResultValue: the result is the canonical payload of a Value.
+	ResultValue ResultKind = C.JOURNAL_RESULT_VALUE
+	// ResultFailure: the result is the canonical payload of a Failure.
+	ResultFailure ResultKind = C.JOURNAL_RESULT_FAILURE
+	// ResultInvocationID: the result is the text of an invocation id.
 	ResultInvocationID ResultKind = C.JOURNAL_RESULT_INVOCATION_ID
-	ResultStateKeys    ResultKind = C.JOURNAL_RESULT_STATE_KEYS
+	// ResultStateKeys: the result is the canonical payload of StateKeys.
+	ResultStateKeys ResultKind = C.JOURNAL_RESULT_STATE_KEYS
 )
 
 // The names of the kinds, from the first on.
@@ -243,7 +250,7 @@ const (
 	VerdictHeaderMismatch VerdictKind = C.JOURNAL_VERDICT_HEADER_MISMATCH
 	// VerdictBadRecorded: the recorded command at this index is malformed; all before it are the same.
 	VerdictBadRecorded VerdictKind = C.JOURNAL_VERDICT_BAD_RECORDED
-	// VerdictBadReplayed: the same for the replayed command, if the recorded one is not malformed.
+	// VerdictBadReplayed: the replayed command at this index is malformed, the recorded one is not.
 	VerdictBadReplayed VerdictKind = C.JOURNAL_VERDICT_BAD_REPLAYED
 )
 

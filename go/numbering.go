@@ -62,7 +62,8 @@ const renumberingRoom = 256
 // payloads at the numbers of the protocol. A field that only the descriptor set has is left out of what is read, and
 // one that only the protocol has is left out of what is written.
 //
-// NewNumbering makes one. Nothing changes it, so that any number of goroutines may use it at once.
+// NewNumbering makes one, and the calls of any other are ErrNumbering. Nothing changes it, so that any number of
+// goroutines may use it at once.
 type Numbering struct {
 	reading, writing []renumbering
 	text             string
@@ -74,6 +75,18 @@ type Numbering struct {
 // and fields by their names. A rename has the name of a message in the set, and as its value that in the protocol; nil
 // has none. A *NumberingError, which wraps ErrNumbering, if the set or a rename has a fault; ErrOutOfMemory.
 func NewNumbering(set []byte, renames map[string]string) (*Numbering, error) {
+	var faults []string
+	for theirs, ours := range renames {
+		for _, name := range []string{theirs, ours} {
+			// the library takes a rename per line
+			if strings.ContainsAny(name, "=\n") {
+				faults = append(faults, fmt.Sprintf("%q is not the name of a message", name))
+			}
+		}
+	}
+	if sort.Strings(faults); len(faults) > 0 {
+		return nil, &Error{"NewNumbering", "renames", &NumberingError{ReasonNoRename, faults[0]}}
+	}
 	lines := renameLines(renames)
 	setText := bytesText("set", set)
 	var list [listNumbers]uint64
@@ -164,6 +177,9 @@ func payloadBy(call string, table []renumbering, schema int, payload []byte) ([]
 
 // appendPayloadBy appends a payload of a schema by a table.
 func appendPayloadBy(call string, dst []byte, table []renumbering, schema int, payload []byte) ([]byte, error) {
+	if err := made(call, table); err != nil {
+		return dst, err
+	}
 	out, result := appended(dst, len(payload)+renumberedRoom, func(out []byte) int64 {
 		return journalRenumber(uint32(schema), table, payload, out)
 	})
@@ -171,6 +187,14 @@ func appendPayloadBy(call string, dst []byte, table []renumbering, schema int, p
 		return dst, schemaError(call, result, schema, bytesText("payload", payload))
 	}
 	return out, nil
+}
+
+// made returns the error of a numbering that NewNumbering has not made: without a table all fields would be left out.
+func made(call string, table []renumbering) error {
+	if table == nil {
+		return &Error{call, "a numbering that NewNumbering has not made", ErrNumbering}
+	}
+	return nil
 }
 
 // How many bytes more than what is read a payload may have, so that the library is called once for most.
@@ -195,6 +219,9 @@ func (n *Numbering) WriteStream(version int, stream []byte) ([]byte, error) {
 // version; ErrTooLong, ErrOutOfMemory.
 func (n *Numbering) Dump(version int, stream []byte) ([]byte, error) {
 	number, err := unsigned("Numbering.Dump", versionName, version)
+	if err == nil {
+		err = made("Numbering.Dump", n.reading)
+	}
 	if err != nil {
 		return nil, err
 	}
@@ -236,6 +263,9 @@ func (n *Numbering) appendFrame(call string, dst []byte, version int, code uint1
 // streamBy appends a stream of a version by a table. With an error it returns the slice as it was.
 func streamBy(call string, dst []byte, table []renumbering, version int, stream []byte) ([]byte, error) {
 	number, err := unsigned(call, versionName, version)
+	if err == nil {
+		err = made(call, table)
+	}
 	if err != nil {
 		return dst, err
 	}

@@ -348,6 +348,8 @@ func TestRenamesAndRejectedSets(t *testing.T) {
 		{theirSet(), renames("Pause", "SlepCommandMessage"), ReasonNoRename},
 		{theirSet(), renames("Pause", ""), ReasonNoRename},
 		{theirSet(), renames("", ""), ReasonNoRename},
+		{theirSet(), renames("Pause", "SleepCommandMessage\n"), ReasonNoRename},
+		{theirSet(), renames("Pause=SleepCommandMessage\nPause", "SleepCommandMessage"), ReasonNoRename},
 	} {
 		numbering, err := NewNumbering(test.set, test.renames)
 		var found *NumberingError
@@ -443,4 +445,31 @@ func TestGoroutinesShareANumbering(t *testing.T) {
 		}()
 	}
 	group.Wait()
+}
+
+// Without a table each field would be left out, so a numbering that nothing has made is an error.
+func TestNumberingThatWasNotMade(t *testing.T) {
+	var zero Numbering
+	payload, stream := []byte(ours), unhex(t, input)
+	decoder := NewDecoder(bytes.NewReader(stream), 8)
+	decoder.SetNumbering(&zero)
+	for call, do := range map[string]func() ([]byte, error){
+		"Numbering.ReadPayload":  func() ([]byte, error) { return zero.ReadPayload(SchemaSetStateCommandMessage, payload) },
+		"Numbering.WritePayload": func() ([]byte, error) { return zero.WritePayload(SchemaSetStateCommandMessage, payload) },
+		"Numbering.ReadStream":   func() ([]byte, error) { return zero.ReadStream(8, stream) },
+		"Numbering.WriteStream":  func() ([]byte, error) { return zero.WriteStream(8, stream) },
+		"Numbering.Dump":         func() ([]byte, error) { return zero.Dump(8, stream) },
+		"Numbering.Frame":        func() ([]byte, error) { return zero.Frame(8, CodeSetStateCommand, payload) },
+		"Decoder.Next": func() ([]byte, error) {
+			_, err := decoder.Next()
+			return nil, err
+		},
+	} {
+		found, err := do()
+		if len(found) > 0 {
+			t.Errorf("%s: %x", call, found)
+		}
+		wantError(t, err, ErrNumbering, "pendratsoa: "+call+": a numbering that NewNumbering has not made: "+
+			ErrNumbering.Error())
+	}
 }

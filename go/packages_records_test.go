@@ -145,7 +145,10 @@ func encodeCase(t *testing.T, words []string) string {
 	version := must(strconv.Atoi(words[0]))(t)
 	frame, err := record.Frame(version)
 	message, other := NewMessageOf(version, record)
-	if fmt.Sprint(other) != fmt.Sprint(err) || (message == nil) != (err != nil) ||
+	// both have the same errors, each with its own name
+	text := strings.Replace(fmt.Sprint(err), strings.TrimPrefix(fmt.Sprintf("%T.Frame", record), "*pendratsoa."),
+		"NewMessageOf", 1)
+	if fmt.Sprint(other) != text || (message == nil) != (err != nil) ||
 		message != nil && !bytes.Equal(message.Bytes(), frame) {
 		t.Errorf("%v, %v", message, other)
 	}

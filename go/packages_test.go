@@ -225,7 +225,7 @@ func streamCase(t *testing.T, reader io.Reader, version int, limit string, strea
 // endOf returns how a stream ends.
 func endOf(err error) string {
 	var incomplete *IncompleteError
-	var long *MessageTooLong
+	var long *MessageTooLongError
 	switch {
 	case err == io.EOF:
 		return "whole"
@@ -474,7 +474,7 @@ func TestErrorsOfAMessageThatDidNotCome(t *testing.T) {
 	if !errors.As(err, &of) || of.Offset != -1 || of.Code != CodeSetStateCommand || of.Type != "SetStateCommand" {
 		t.Error(err)
 	}
-	const text = "pendratsoa: ToJSON: SetStateCommand: payload of 3 bytes: not well-formed for its schema"
+	const text = "pendratsoa: Message.JSON: SetStateCommand: payload of 3 bytes: not well-formed for its schema"
 	if err.Error() != text {
 		t.Error(err)
 	}
@@ -486,23 +486,88 @@ func TestErrorsOfAMessageThatDidNotCome(t *testing.T) {
 
 // An error names the call that was made, also where that calls another function.
 func TestErrorsNameTheCall(t *testing.T) {
+	const malformed = "payload of 3 bytes: not well-formed for its schema"
 	message := &Message{Version: 8, Code: CodeSetStateCommand, Payload: unhex(t, "0a0561")}
-	signal := &Message{Version: 8, Code: CodeSignalNotification, Payload: []byte{0xff}}
-	_, recordErr := message.Record()
-	_, _, asErr := As[*SetStateCommandMessage](message)
-	_, notificationErr := signal.Notification()
-	_, functionErr := ReadNotification(signal.Code, signal.Payload)
-	decodeErr := new(Value).UnmarshalBinary(message.Payload)
-	_, versionErr := (&Message{Version: 4, Code: CodeEnd}).Record()
-	for want, err := range map[string]error{
-		"Record: SetStateCommand: payload of 3 bytes: not well-formed for its schema":         recordErr,
-		"As: SetStateCommand: payload of 3 bytes: not well-formed for its schema":             asErr,
-		"UnmarshalBinary: payload of 3 bytes: not well-formed for its schema":                 decodeErr,
-		"Notification: SignalNotification: payload of 1 byte: not well-formed for its schema": notificationErr,
-		"ReadNotification: payload of 1 byte: not well-formed for its schema":                 functionErr,
-		"Record: unknown protocol version 4 (5 to 9)":                                         versionErr,
+	signal := &Message{Version: 8, Code: CodeSignalNotification, Payload: message.Payload}
+	suspension := &Message{Version: 6, Code: CodeSuspension, Payload: message.Payload}
+	later := &Message{Version: 8, Code: CodeSuspension, Payload: message.Payload}
+	for want, call := range map[string]func() error{
+		"Message.Record: SetStateCommand: " + malformed: func() error {
+			_, err := message.Record()
+			return err
+		},
+		"As: SetStateCommand: " + malformed: func() error {
+			_, _, err := As[*SetStateCommandMessage](message)
+			return err
+		},
+		"Message.WriteTo: unknown protocol version 4 (5 to 9)": func() error {
+			_, err := (&Message{Version: 4, Code: CodeEnd}).WriteTo(io.Discard)
+			return err
+		},
+		"Message.JSON: SetStateCommand: " + malformed: func() error {
+			_, err := message.JSON()
+			return err
+		},
+		"Message.Canonical: SetStateCommand: " + malformed: func() error {
+			_, err := message.Canonical()
+			return err
+		},
+		"Message.Frame: Suspension: " + malformed: func() error {
+			_, err := later.Frame(8)
+			return err
+		},
+		"Message.AppendFrame: Suspension: " + malformed: func() error {
+			_, err := suspension.AppendFrame(nil, 6)
+			return err
+		},
+		"Message.WriteFrame: SetStateCommand: " + malformed: func() error {
+			return message.WriteFrame(io.Discard, 8)
+		},
+		"Message.Notification: SignalNotification: " + malformed: func() error {
+			_, err := signal.Notification()
+			return err
+		},
+		"ReadNotification: " + malformed: func() error {
+			_, err := ReadNotification(signal.Code, signal.Payload)
+			return err
+		},
+		"Value.UnmarshalBinary: " + malformed: func() error {
+			return new(Value).UnmarshalBinary(message.Payload)
+		},
+		"Message.Record: unknown protocol version 4 (5 to 9)": func() error {
+			_, err := (&Message{Version: 4, Code: CodeEnd}).Record()
+			return err
+		},
+		"NewMessage: unknown protocol version 4 (5 to 9)": func() error {
+			_, err := NewMessage(4, CodeEnd, nil)
+			return err
+		},
+		"NewMessageOf: unknown protocol version 4 (5 to 9)": func() error {
+			_, err := NewMessageOf(4, new(EndMessage))
+			return err
+		},
+		"NewMessageOf: protocol version 7 has no message of this record": func() error {
+			_, err := NewMessageOf(7, new(SuspensionMessageV6))
+			return err
+		},
+		"EndMessage.Frame: unknown protocol version 4 (5 to 9)": func() error {
+			_, err := new(EndMessage).Frame(4)
+			return err
+		},
+		"SuspensionMessage.Frame: unknown protocol version 4 (5 to 9)": func() error {
+			_, err := new(SuspensionMessage).Frame(4)
+			return err
+		},
+		"SuspensionMessageV6.AppendFrame: unknown protocol version 4 (5 to 9)": func() error {
+			_, err := new(SuspensionMessageV6).AppendFrame(nil, 4)
+			return err
+		},
+		"MessageFromJSON: JSON of 1 byte: not JSON at byte 1": func() error {
+			_, err := MessageFromJSON(8, CodeEnd, []byte("{"))
+			return err
+		},
 	} {
-		if err == nil || err.Error() != "pendratsoa: "+want {
+		if err := call(); err == nil || err.Error() != "pendratsoa: "+want {
 			t.Errorf("%v, and not %s", err, want)
 		}
 	}

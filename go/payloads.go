@@ -16,12 +16,22 @@ func IsWellFormed(schema int, payload []byte) (bool, error) {
 // Canonical returns the canonical payload of what a payload means. ErrUnknown if no schema has the number;
 // ErrMalformed, ErrTooLong, ErrOutOfMemory.
 func Canonical(schema int, payload []byte) ([]byte, error) {
-	return payloadWritten("Canonical", schema, payload, len(payload), journalCanonical)
+	return canonicalOf("Canonical", schema, payload)
+}
+
+// canonicalOf is Canonical for a call, which an error names.
+func canonicalOf(call string, schema int, payload []byte) ([]byte, error) {
+	return payloadWritten(call, schema, payload, len(payload), journalCanonical)
 }
 
 // ToJSON returns the JSON of what a payload means, in protobuf's own form. The errors are those of Canonical.
 func ToJSON(schema int, payload []byte) ([]byte, error) {
-	return payloadWritten("ToJSON", schema, payload, textRoom+2*len(payload), journalJSON)
+	return jsonOf("ToJSON", schema, payload)
+}
+
+// jsonOf is ToJSON for a call, which an error names.
+func jsonOf(call string, schema int, payload []byte) ([]byte, error) {
+	return payloadWritten(call, schema, payload, textRoom+2*len(payload), journalJSON)
 }
 
 // Merge merges the second payload into the first, as protobuf merges messages, and returns the canonical payload of the

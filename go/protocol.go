@@ -5,47 +5,102 @@ package pendratsoa
 
 // The codes of the types.
 const (
-	CodeStart                                     = 0x0000
-	CodeSuspension                                = 0x0001
-	CodeError                                     = 0x0002
-	CodeEnd                                       = 0x0003
-	CodeProposeRunCompletion                      = 0x0005
-	CodeAwaitingOn                                = 0x0006
-	CodeProposeRunCompletionAck                   = 0x0007
-	CodeGetStateEphemeralCommand                  = 0x0200
-	CodeGetStateEphemeralNotification             = 0x0300
-	CodeInputCommand                              = 0x0400
-	CodeOutputCommand                             = 0x0401
-	CodeGetLazyStateCommand                       = 0x0402
-	CodeSetStateCommand                           = 0x0403
-	CodeClearStateCommand                         = 0x0404
-	CodeClearAllStateCommand                      = 0x0405
-	CodeGetLazyStateKeysCommand                   = 0x0406
-	CodeGetEagerStateCommand                      = 0x0407
-	CodeGetEagerStateKeysCommand                  = 0x0408
-	CodeGetPromiseCommand                         = 0x0409
-	CodePeekPromiseCommand                        = 0x040a
-	CodeCompletePromiseCommand                    = 0x040b
-	CodeSleepCommand                              = 0x040c
-	CodeCallCommand                               = 0x040d
-	CodeOneWayCallCommand                         = 0x040e
-	CodeSendSignalCommand                         = 0x0410
-	CodeRunCommand                                = 0x0411
-	CodeAttachInvocationCommand                   = 0x0412
-	CodeGetInvocationOutputCommand                = 0x0413
-	CodeCompleteAwakeableCommand                  = 0x0414
-	CodeGetLazyStateCompletionNotification        = 0x8002
-	CodeGetLazyStateKeysCompletionNotification    = 0x8006
-	CodeGetPromiseCompletionNotification          = 0x8009
-	CodePeekPromiseCompletionNotification         = 0x800a
-	CodeCompletePromiseCompletionNotification     = 0x800b
-	CodeSleepCompletionNotification               = 0x800c
-	CodeCallCompletionNotification                = 0x800d
-	CodeCallInvocationIdCompletionNotification    = 0x800e
-	CodeRunCompletionNotification                 = 0x8011
-	CodeAttachInvocationCompletionNotification    = 0x8012
+	// CodeStart is that of StartMessage: starts or resumes an invocation.
+	CodeStart = 0x0000
+	// CodeSuspension is that of SuspensionMessage: suspends the invocation until something that it awaits is there.
+	CodeSuspension = 0x0001
+	// CodeError is that of ErrorMessage: ends the attempt with an error, after which the service may retry.
+	CodeError = 0x0002
+	// CodeEnd is that of EndMessage: ends the invocation.
+	CodeEnd = 0x0003
+	// CodeProposeRunCompletion is that of ProposeRunCompletionMessage: proposes the result of a run.
+	CodeProposeRunCompletion = 0x0005
+	// CodeAwaitingOn is that of AwaitingOnMessage: says what the invocation waits for.
+	CodeAwaitingOn = 0x0006
+	// CodeProposeRunCompletionAck is that of ProposeRunCompletionAckMessage: says that the proposed result of a run was
+	// recorded.
+	CodeProposeRunCompletionAck = 0x0007
+	// CodeGetStateEphemeralCommand is that of GetStateEphemeralCommandMessage: reads the value of a key, without
+	// recording it in the journal.
+	CodeGetStateEphemeralCommand = 0x0200
+	// CodeGetStateEphemeralNotification is that of GetStateEphemeralNotificationMessage: the value of a key that was
+	// read without recording it.
+	CodeGetStateEphemeralNotification = 0x0300
+	// CodeInputCommand is that of InputCommandMessage: the input of the handler.
+	CodeInputCommand = 0x0400
+	// CodeOutputCommand is that of OutputCommandMessage: the output of the handler.
+	CodeOutputCommand = 0x0401
+	// CodeGetLazyStateCommand is that of GetLazyStateCommandMessage: reads the value of a key.
+	CodeGetLazyStateCommand = 0x0402
+	// CodeSetStateCommand is that of SetStateCommandMessage: sets the value of a key.
+	CodeSetStateCommand = 0x0403
+	// CodeClearStateCommand is that of ClearStateCommandMessage: clears a key.
+	CodeClearStateCommand = 0x0404
+	// CodeClearAllStateCommand is that of ClearAllStateCommandMessage: clears all keys.
+	CodeClearAllStateCommand = 0x0405
+	// CodeGetLazyStateKeysCommand is that of GetLazyStateKeysCommandMessage: reads all keys.
+	CodeGetLazyStateKeysCommand = 0x0406
+	// CodeGetEagerStateCommand is that of GetEagerStateCommandMessage: reads the value of a key from the state in the
+	// start message.
+	CodeGetEagerStateCommand = 0x0407
+	// CodeGetEagerStateKeysCommand is that of GetEagerStateKeysCommandMessage: reads all keys from the state in the
+	// start message.
+	CodeGetEagerStateKeysCommand = 0x0408
+	// CodeGetPromiseCommand is that of GetPromiseCommandMessage: awaits a promise.
+	CodeGetPromiseCommand = 0x0409
+	// CodePeekPromiseCommand is that of PeekPromiseCommandMessage: reads the result of a promise, without awaiting it.
+	CodePeekPromiseCommand = 0x040a
+	// CodeCompletePromiseCommand is that of CompletePromiseCommandMessage: completes a promise.
+	CodeCompletePromiseCommand = 0x040b
+	// CodeSleepCommand is that of SleepCommandMessage: sleeps until a time.
+	CodeSleepCommand = 0x040c
+	// CodeCallCommand is that of CallCommandMessage: calls a handler and awaits its result.
+	CodeCallCommand = 0x040d
+	// CodeOneWayCallCommand is that of OneWayCallCommandMessage: calls a handler without awaiting its result.
+	CodeOneWayCallCommand = 0x040e
+	// CodeSendSignalCommand is that of SendSignalCommandMessage: sends a signal to an invocation.
+	CodeSendSignalCommand = 0x0410
+	// CodeRunCommand is that of RunCommandMessage: runs a side effect, whose result is recorded.
+	CodeRunCommand = 0x0411
+	// CodeAttachInvocationCommand is that of AttachInvocationCommandMessage: awaits the result of an invocation.
+	CodeAttachInvocationCommand = 0x0412
+	// CodeGetInvocationOutputCommand is that of GetInvocationOutputCommandMessage: reads the result of an invocation,
+	// without awaiting it.
+	CodeGetInvocationOutputCommand = 0x0413
+	// CodeCompleteAwakeableCommand is that of CompleteAwakeableCommandMessage: completes an awakeable.
+	CodeCompleteAwakeableCommand = 0x0414
+	// CodeGetLazyStateCompletionNotification is that of GetLazyStateCompletionNotificationMessage: the value of a key
+	// that was read.
+	CodeGetLazyStateCompletionNotification = 0x8002
+	// CodeGetLazyStateKeysCompletionNotification is that of GetLazyStateKeysCompletionNotificationMessage: all keys
+	// that were read.
+	CodeGetLazyStateKeysCompletionNotification = 0x8006
+	// CodeGetPromiseCompletionNotification is that of GetPromiseCompletionNotificationMessage: the result of an awaited
+	// promise.
+	CodeGetPromiseCompletionNotification = 0x8009
+	// CodePeekPromiseCompletionNotification is that of PeekPromiseCompletionNotificationMessage: the result of a
+	// promise, which was read without awaiting it.
+	CodePeekPromiseCompletionNotification = 0x800a
+	// CodeCompletePromiseCompletionNotification is that of CompletePromiseCompletionNotificationMessage: whether a
+	// promise was completed.
+	CodeCompletePromiseCompletionNotification = 0x800b
+	// CodeSleepCompletionNotification is that of SleepCompletionNotificationMessage: a sleep is over.
+	CodeSleepCompletionNotification = 0x800c
+	// CodeCallCompletionNotification is that of CallCompletionNotificationMessage: the result of a call.
+	CodeCallCompletionNotification = 0x800d
+	// CodeCallInvocationIdCompletionNotification is that of CallInvocationIdCompletionNotificationMessage: the id of
+	// the invocation that a call started.
+	CodeCallInvocationIdCompletionNotification = 0x800e
+	// CodeRunCompletionNotification is that of RunCompletionNotificationMessage: the recorded result of a run.
+	CodeRunCompletionNotification = 0x8011
+	// CodeAttachInvocationCompletionNotification is that of AttachInvocationCompletionNotificationMessage: the result
+	// of an awaited invocation.
+	CodeAttachInvocationCompletionNotification = 0x8012
+	// CodeGetInvocationOutputCompletionNotification is that of GetInvocationOutputCompletionNotificationMessage: the
+	// result of an invocation, which was read without awaiting it.
 	CodeGetInvocationOutputCompletionNotification = 0x8013
-	CodeSignalNotification                        = 0xfbff
+	// CodeSignalNotification is that of SignalNotificationMessage: a signal.
+	CodeSignalNotification = 0xfbff
 )
 
 // The numbers of the schemas.

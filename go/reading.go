@@ -16,6 +16,9 @@ func (reason JSONReason) String() string {
 
 // text returns the text of the reason, as "wrong kind of value".
 func (reason JSONReason) text() string {
+	if reason < ReasonNotJSON || reason > ReasonTooDeep {
+		return reason.String()
+	}
 	return []string{
 		"not JSON", "unknown member", "repeated member", "several members of a oneof", "wrong kind of value",
 		"out of range", "not base64", "too deep",
@@ -52,7 +55,12 @@ func (e *JSONError) Unwrap() error {
 // why it means no value of the schema, and wraps ErrJSON. ErrUnknown if no schema has the number; ErrTooLong,
 // ErrOutOfMemory.
 func FromJSON(schema int, json []byte) ([]byte, error) {
-	number, err := unsigned("FromJSON", "schema", schema)
+	return payloadOfJSON("FromJSON", schema, json)
+}
+
+// payloadOfJSON is FromJSON for a call, which an error names.
+func payloadOfJSON(call string, schema int, json []byte) ([]byte, error) {
+	number, err := unsigned(call, "schema", schema)
 	if err != nil {
 		return nil, err
 	}
@@ -61,11 +69,11 @@ func FromJSON(schema int, json []byte) ([]byte, error) {
 		return journalPayloadOfJSON(number, json, &numbers, out)
 	})
 	if result < 0 {
-		return nil, schemaError("FromJSON", result, schema, bytesText("JSON", json))
+		return nil, schemaError(call, result, schema, bytesText("JSON", json))
 	}
 	payload, err := readingOf(numbers[:], found)
 	if err != nil {
-		return nil, &Error{"FromJSON", bytesText("JSON", json), err}
+		return nil, &Error{call, bytesText("JSON", json), err}
 	}
 	return payload, nil
 }

@@ -87,7 +87,16 @@ func TestMessageFromJSON(t *testing.T) {
 		}
 	}
 	_, err := MessageFromJSON(8, 0xFC01, []byte("{}"))
-	wantError(t, err, ErrUnknown, "pendratsoa: Schema: unknown code 0xfc01, or not of the kind that the call is for")
+	wantError(t, err, ErrUnknown,
+		"pendratsoa: MessageFromJSON: unknown code 0xfc01, or not of the kind that the call is for")
 	_, err = MessageFromJSON(4, CodeSuspension, []byte("{}"))
-	wantError(t, err, ErrUnknown, "pendratsoa: Schema: unknown protocol version 4 (5 to 9)")
+	wantError(t, err, ErrUnknown, "pendratsoa: MessageFromJSON: unknown protocol version 4 (5 to 9)")
+}
+
+func TestJSONErrorOfNoReason(t *testing.T) {
+	for _, failed := range []*JSONError{{}, {Offset: -1}, {Offset: -1, Path: "key"}, {Reason: 9, Offset: -1}} {
+		if text := failed.Error(); !strings.Contains(text, failed.Reason.String()) {
+			t.Error(text)
+		}
+	}
 }

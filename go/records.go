@@ -8,6 +8,7 @@ type CombinatorType int32
 
 // The values of CombinatorType.
 const (
+	// CombinatorTypeZero: the number 0, which is the only one with a name.
 	CombinatorTypeZero CombinatorType = 0
 )
 
@@ -16,7 +17,9 @@ type ErrorBehavior int32
 
 // The values of ErrorBehavior.
 const (
+	// ErrorBehaviorRetry: the service retries the invocation.
 	ErrorBehaviorRetry ErrorBehavior = 0
+	// ErrorBehaviorPause: the service pauses the invocation.
 	ErrorBehaviorPause ErrorBehavior = 1
 )
 
@@ -30,18 +33,19 @@ func (r *Void) Schema() int {
 
 // MarshalBinary returns the canonical payload. The error is a *FieldError, ErrTooLong or ErrOutOfMemory.
 func (r *Void) MarshalBinary() ([]byte, error) {
-	return r.appendTo(nil, &place{call: "MarshalBinary", schema: SchemaVoid})
+	return r.appendTo(nil, &place{call: "Void.MarshalBinary", schema: SchemaVoid})
 }
 
-// AppendBinary appends the canonical payload to a slice, as append does. The errors are those of MarshalBinary.
+// AppendBinary appends the canonical payload to a slice, as append does, whose room has no bytes of the record.
+// The errors are those of MarshalBinary.
 func (r *Void) AppendBinary(dst []byte) ([]byte, error) {
-	return r.appendTo(dst, &place{call: "AppendBinary", schema: SchemaVoid})
+	return r.appendTo(dst, &place{call: "Void.AppendBinary", schema: SchemaVoid})
 }
 
 // UnmarshalBinary reads a payload, in any encoding. Bytes in the record are parts of it, without a copy, or of its
 // canonical encoding. The errors are those of Canonical.
 func (r *Void) UnmarshalBinary(payload []byte) error {
-	return unmarshal(r, payload)
+	return readRecord("Void.UnmarshalBinary", r, payload)
 }
 
 func (r *Void) read(table *fieldTable, level uint64) error {
@@ -67,18 +71,19 @@ func (r *Value) Schema() int {
 
 // MarshalBinary returns the canonical payload. The error is a *FieldError, ErrTooLong or ErrOutOfMemory.
 func (r *Value) MarshalBinary() ([]byte, error) {
-	return r.appendTo(nil, &place{call: "MarshalBinary", schema: SchemaValue})
+	return r.appendTo(nil, &place{call: "Value.MarshalBinary", schema: SchemaValue})
 }
 
-// AppendBinary appends the canonical payload to a slice, as append does. The errors are those of MarshalBinary.
+// AppendBinary appends the canonical payload to a slice, as append does, whose room has no bytes of the record.
+// The errors are those of MarshalBinary.
 func (r *Value) AppendBinary(dst []byte) ([]byte, error) {
-	return r.appendTo(dst, &place{call: "AppendBinary", schema: SchemaValue})
+	return r.appendTo(dst, &place{call: "Value.AppendBinary", schema: SchemaValue})
 }
 
 // UnmarshalBinary reads a payload, in any encoding. Bytes in the record are parts of it, without a copy, or of its
 // canonical encoding. The errors are those of Canonical.
 func (r *Value) UnmarshalBinary(payload []byte) error {
-	return unmarshal(r, payload)
+	return readRecord("Value.UnmarshalBinary", r, payload)
 }
 
 func (r *Value) read(table *fieldTable, level uint64) error {
@@ -118,18 +123,19 @@ func (r *Failure) Schema() int {
 
 // MarshalBinary returns the canonical payload. The error is a *FieldError, ErrTooLong or ErrOutOfMemory.
 func (r *Failure) MarshalBinary() ([]byte, error) {
-	return r.appendTo(nil, &place{call: "MarshalBinary", schema: SchemaFailure})
+	return r.appendTo(nil, &place{call: "Failure.MarshalBinary", schema: SchemaFailure})
 }
 
-// AppendBinary appends the canonical payload to a slice, as append does. The errors are those of MarshalBinary.
+// AppendBinary appends the canonical payload to a slice, as append does, whose room has no bytes of the record.
+// The errors are those of MarshalBinary.
 func (r *Failure) AppendBinary(dst []byte) ([]byte, error) {
-	return r.appendTo(dst, &place{call: "AppendBinary", schema: SchemaFailure})
+	return r.appendTo(dst, &place{call: "Failure.AppendBinary", schema: SchemaFailure})
 }
 
 // UnmarshalBinary reads a payload, in any encoding. Bytes in the record are parts of it, without a copy, or of its
 // canonical encoding. The errors are those of Canonical.
 func (r *Failure) UnmarshalBinary(payload []byte) error {
-	return unmarshal(r, payload)
+	return readRecord("Failure.UnmarshalBinary", r, payload)
 }
 
 func (r *Failure) read(table *fieldTable, level uint64) error {
@@ -181,18 +187,19 @@ func (r *FailureMetadata) Schema() int {
 
 // MarshalBinary returns the canonical payload. The error is a *FieldError, ErrTooLong or ErrOutOfMemory.
 func (r *FailureMetadata) MarshalBinary() ([]byte, error) {
-	return r.appendTo(nil, &place{call: "MarshalBinary", schema: SchemaFailureMetadata})
+	return r.appendTo(nil, &place{call: "FailureMetadata.MarshalBinary", schema: SchemaFailureMetadata})
 }
 
-// AppendBinary appends the canonical payload to a slice, as append does. The errors are those of MarshalBinary.
+// AppendBinary appends the canonical payload to a slice, as append does, whose room has no bytes of the record.
+// The errors are those of MarshalBinary.
 func (r *FailureMetadata) AppendBinary(dst []byte) ([]byte, error) {
-	return r.appendTo(dst, &place{call: "AppendBinary", schema: SchemaFailureMetadata})
+	return r.appendTo(dst, &place{call: "FailureMetadata.AppendBinary", schema: SchemaFailureMetadata})
 }
 
 // UnmarshalBinary reads a payload, in any encoding. Bytes in the record are parts of it, without a copy, or of its
 // canonical encoding. The errors are those of Canonical.
 func (r *FailureMetadata) UnmarshalBinary(payload []byte) error {
-	return unmarshal(r, payload)
+	return readRecord("FailureMetadata.UnmarshalBinary", r, payload)
 }
 
 func (r *FailureMetadata) read(table *fieldTable, level uint64) error {
@@ -235,18 +242,19 @@ func (r *HeaderRecord) Schema() int {
 
 // MarshalBinary returns the canonical payload. The error is a *FieldError, ErrTooLong or ErrOutOfMemory.
 func (r *HeaderRecord) MarshalBinary() ([]byte, error) {
-	return r.appendTo(nil, &place{call: "MarshalBinary", schema: SchemaHeader})
+	return r.appendTo(nil, &place{call: "HeaderRecord.MarshalBinary", schema: SchemaHeader})
 }
 
-// AppendBinary appends the canonical payload to a slice, as append does. The errors are those of MarshalBinary.
+// AppendBinary appends the canonical payload to a slice, as append does, whose room has no bytes of the record.
+// The errors are those of MarshalBinary.
 func (r *HeaderRecord) AppendBinary(dst []byte) ([]byte, error) {
-	return r.appendTo(dst, &place{call: "AppendBinary", schema: SchemaHeader})
+	return r.appendTo(dst, &place{call: "HeaderRecord.AppendBinary", schema: SchemaHeader})
 }
 
 // UnmarshalBinary reads a payload, in any encoding. Bytes in the record are parts of it, without a copy, or of its
 // canonical encoding. The errors are those of Canonical.
 func (r *HeaderRecord) UnmarshalBinary(payload []byte) error {
-	return unmarshal(r, payload)
+	return readRecord("HeaderRecord.UnmarshalBinary", r, payload)
 }
 
 func (r *HeaderRecord) read(table *fieldTable, level uint64) error {
@@ -287,18 +295,19 @@ func (r *StateKeys) Schema() int {
 
 // MarshalBinary returns the canonical payload. The error is a *FieldError, ErrTooLong or ErrOutOfMemory.
 func (r *StateKeys) MarshalBinary() ([]byte, error) {
-	return r.appendTo(nil, &place{call: "MarshalBinary", schema: SchemaStateKeys})
+	return r.appendTo(nil, &place{call: "StateKeys.MarshalBinary", schema: SchemaStateKeys})
 }
 
-// AppendBinary appends the canonical payload to a slice, as append does. The errors are those of MarshalBinary.
+// AppendBinary appends the canonical payload to a slice, as append does, whose room has no bytes of the record.
+// The errors are those of MarshalBinary.
 func (r *StateKeys) AppendBinary(dst []byte) ([]byte, error) {
-	return r.appendTo(dst, &place{call: "AppendBinary", schema: SchemaStateKeys})
+	return r.appendTo(dst, &place{call: "StateKeys.AppendBinary", schema: SchemaStateKeys})
 }
 
 // UnmarshalBinary reads a payload, in any encoding. Bytes in the record are parts of it, without a copy, or of its
 // canonical encoding. The errors are those of Canonical.
 func (r *StateKeys) UnmarshalBinary(payload []byte) error {
-	return unmarshal(r, payload)
+	return readRecord("StateKeys.UnmarshalBinary", r, payload)
 }
 
 func (r *StateKeys) read(table *fieldTable, level uint64) error {
@@ -336,18 +345,19 @@ func (r *StateEntry) Schema() int {
 
 // MarshalBinary returns the canonical payload. The error is a *FieldError, ErrTooLong or ErrOutOfMemory.
 func (r *StateEntry) MarshalBinary() ([]byte, error) {
-	return r.appendTo(nil, &place{call: "MarshalBinary", schema: SchemaStateEntry})
+	return r.appendTo(nil, &place{call: "StateEntry.MarshalBinary", schema: SchemaStateEntry})
 }
 
-// AppendBinary appends the canonical payload to a slice, as append does. The errors are those of MarshalBinary.
+// AppendBinary appends the canonical payload to a slice, as append does, whose room has no bytes of the record.
+// The errors are those of MarshalBinary.
 func (r *StateEntry) AppendBinary(dst []byte) ([]byte, error) {
-	return r.appendTo(dst, &place{call: "AppendBinary", schema: SchemaStateEntry})
+	return r.appendTo(dst, &place{call: "StateEntry.AppendBinary", schema: SchemaStateEntry})
 }
 
 // UnmarshalBinary reads a payload, in any encoding. Bytes in the record are parts of it, without a copy, or of its
 // canonical encoding. The errors are those of Canonical.
 func (r *StateEntry) UnmarshalBinary(payload []byte) error {
-	return unmarshal(r, payload)
+	return readRecord("StateEntry.UnmarshalBinary", r, payload)
 }
 
 func (r *StateEntry) read(table *fieldTable, level uint64) error {
@@ -396,18 +406,19 @@ func (r *Future) Schema() int {
 
 // MarshalBinary returns the canonical payload. The error is a *FieldError, ErrTooLong or ErrOutOfMemory.
 func (r *Future) MarshalBinary() ([]byte, error) {
-	return r.appendTo(nil, &place{call: "MarshalBinary", schema: SchemaFuture})
+	return r.appendTo(nil, &place{call: "Future.MarshalBinary", schema: SchemaFuture})
 }
 
-// AppendBinary appends the canonical payload to a slice, as append does. The errors are those of MarshalBinary.
+// AppendBinary appends the canonical payload to a slice, as append does, whose room has no bytes of the record.
+// The errors are those of MarshalBinary.
 func (r *Future) AppendBinary(dst []byte) ([]byte, error) {
-	return r.appendTo(dst, &place{call: "AppendBinary", schema: SchemaFuture})
+	return r.appendTo(dst, &place{call: "Future.AppendBinary", schema: SchemaFuture})
 }
 
 // UnmarshalBinary reads a payload, in any encoding. Bytes in the record are parts of it, without a copy, or of its
 // canonical encoding. The errors are those of Canonical.
 func (r *Future) UnmarshalBinary(payload []byte) error {
-	return unmarshal(r, payload)
+	return readRecord("Future.UnmarshalBinary", r, payload)
 }
 
 func (r *Future) read(table *fieldTable, level uint64) error {
@@ -471,18 +482,19 @@ func (r *WorkflowTarget) Schema() int {
 
 // MarshalBinary returns the canonical payload. The error is a *FieldError, ErrTooLong or ErrOutOfMemory.
 func (r *WorkflowTarget) MarshalBinary() ([]byte, error) {
-	return r.appendTo(nil, &place{call: "MarshalBinary", schema: SchemaWorkflowTarget})
+	return r.appendTo(nil, &place{call: "WorkflowTarget.MarshalBinary", schema: SchemaWorkflowTarget})
 }
 
-// AppendBinary appends the canonical payload to a slice, as append does. The errors are those of MarshalBinary.
+// AppendBinary appends the canonical payload to a slice, as append does, whose room has no bytes of the record.
+// The errors are those of MarshalBinary.
 func (r *WorkflowTarget) AppendBinary(dst []byte) ([]byte, error) {
-	return r.appendTo(dst, &place{call: "AppendBinary", schema: SchemaWorkflowTarget})
+	return r.appendTo(dst, &place{call: "WorkflowTarget.AppendBinary", schema: SchemaWorkflowTarget})
 }
 
 // UnmarshalBinary reads a payload, in any encoding. Bytes in the record are parts of it, without a copy, or of its
 // canonical encoding. The errors are those of Canonical.
 func (r *WorkflowTarget) UnmarshalBinary(payload []byte) error {
-	return unmarshal(r, payload)
+	return readRecord("WorkflowTarget.UnmarshalBinary", r, payload)
 }
 
 func (r *WorkflowTarget) read(table *fieldTable, level uint64) error {
@@ -537,18 +549,19 @@ func (r *IdempotentRequestTarget) Schema() int {
 
 // MarshalBinary returns the canonical payload. The error is a *FieldError, ErrTooLong or ErrOutOfMemory.
 func (r *IdempotentRequestTarget) MarshalBinary() ([]byte, error) {
-	return r.appendTo(nil, &place{call: "MarshalBinary", schema: SchemaIdempotentRequestTarget})
+	return r.appendTo(nil, &place{call: "IdempotentRequestTarget.MarshalBinary", schema: SchemaIdempotentRequestTarget})
 }
 
-// AppendBinary appends the canonical payload to a slice, as append does. The errors are those of MarshalBinary.
+// AppendBinary appends the canonical payload to a slice, as append does, whose room has no bytes of the record.
+// The errors are those of MarshalBinary.
 func (r *IdempotentRequestTarget) AppendBinary(dst []byte) ([]byte, error) {
-	return r.appendTo(dst, &place{call: "AppendBinary", schema: SchemaIdempotentRequestTarget})
+	return r.appendTo(dst, &place{call: "IdempotentRequestTarget.AppendBinary", schema: SchemaIdempotentRequestTarget})
 }
 
 // UnmarshalBinary reads a payload, in any encoding. Bytes in the record are parts of it, without a copy, or of its
 // canonical encoding. The errors are those of Canonical.
 func (r *IdempotentRequestTarget) UnmarshalBinary(payload []byte) error {
-	return unmarshal(r, payload)
+	return readRecord("IdempotentRequestTarget.UnmarshalBinary", r, payload)
 }
 
 func (r *IdempotentRequestTarget) read(table *fieldTable, level uint64) error {
@@ -628,32 +641,34 @@ func (r *StartMessage) Schema() int {
 
 // MarshalBinary returns the canonical payload. The error is a *FieldError, ErrTooLong or ErrOutOfMemory.
 func (r *StartMessage) MarshalBinary() ([]byte, error) {
-	return r.appendTo(nil, &place{call: "MarshalBinary", schema: SchemaStartMessage})
+	return r.appendTo(nil, &place{call: "StartMessage.MarshalBinary", schema: SchemaStartMessage})
 }
 
-// AppendBinary appends the canonical payload to a slice, as append does. The errors are those of MarshalBinary.
+// AppendBinary appends the canonical payload to a slice, as append does, whose room has no bytes of the record.
+// The errors are those of MarshalBinary.
 func (r *StartMessage) AppendBinary(dst []byte) ([]byte, error) {
-	return r.appendTo(dst, &place{call: "AppendBinary", schema: SchemaStartMessage})
+	return r.appendTo(dst, &place{call: "StartMessage.AppendBinary", schema: SchemaStartMessage})
 }
 
 // UnmarshalBinary reads a payload, in any encoding. Bytes in the record are parts of it, without a copy, or of its
 // canonical encoding. The errors are those of Canonical.
 func (r *StartMessage) UnmarshalBinary(payload []byte) error {
-	return unmarshal(r, payload)
+	return readRecord("StartMessage.UnmarshalBinary", r, payload)
 }
 
 // Frame returns the message as a frame of a version: its header, and its canonical payload. The errors are those of MarshalBinary and Frame.
 func (r *StartMessage) Frame(version int) ([]byte, error) {
-	to, err := placeOfFrame("Frame", SchemaStartMessage, version, CodeStart)
-	if err != nil {
-		return nil, err
-	}
-	return r.appendTo(nil, &to)
+	return r.appendFrame("StartMessage.Frame", nil, version)
 }
 
-// AppendFrame appends the frame that Frame returns to a slice, as append does. The errors are those of Frame.
+// AppendFrame appends the frame that Frame returns to a slice, as append does, whose room has no bytes of the
+// record. The errors are those of Frame.
 func (r *StartMessage) AppendFrame(dst []byte, version int) ([]byte, error) {
-	to, err := placeOfFrame("AppendFrame", SchemaStartMessage, version, CodeStart)
+	return r.appendFrame("StartMessage.AppendFrame", dst, version)
+}
+
+func (r *StartMessage) appendFrame(call string, dst []byte, version int) ([]byte, error) {
+	to, err := placeOfFrame(call, SchemaStartMessage, version, CodeStart)
 	if err != nil {
 		return dst, err
 	}
@@ -755,28 +770,38 @@ func (r *SuspensionMessage) Schema() int {
 
 // MarshalBinary returns the canonical payload. The error is a *FieldError, ErrTooLong or ErrOutOfMemory.
 func (r *SuspensionMessage) MarshalBinary() ([]byte, error) {
-	return r.appendTo(nil, &place{call: "MarshalBinary", schema: SchemaSuspensionMessage})
+	return r.appendTo(nil, &place{call: "SuspensionMessage.MarshalBinary", schema: SchemaSuspensionMessage})
 }
 
-// AppendBinary appends the canonical payload to a slice, as append does. The errors are those of MarshalBinary.
+// AppendBinary appends the canonical payload to a slice, as append does, whose room has no bytes of the record.
+// The errors are those of MarshalBinary.
 func (r *SuspensionMessage) AppendBinary(dst []byte) ([]byte, error) {
-	return r.appendTo(dst, &place{call: "AppendBinary", schema: SchemaSuspensionMessage})
+	return r.appendTo(dst, &place{call: "SuspensionMessage.AppendBinary", schema: SchemaSuspensionMessage})
 }
 
 // UnmarshalBinary reads a payload, in any encoding. Bytes in the record are parts of it, without a copy, or of its
 // canonical encoding. The errors are those of Canonical.
 func (r *SuspensionMessage) UnmarshalBinary(payload []byte) error {
-	return unmarshal(r, payload)
+	return readRecord("SuspensionMessage.UnmarshalBinary", r, payload)
 }
 
 // Frame returns the message as a frame of a version: its header, and its canonical payload. The errors are those of MarshalBinary and Frame.
 func (r *SuspensionMessage) Frame(version int) ([]byte, error) {
-	return appendLaterRecord("Frame", nil, version, CodeSuspension, r)
+	return r.appendFrame("SuspensionMessage.Frame", nil, version)
 }
 
-// AppendFrame appends the frame that Frame returns to a slice, as append does. The errors are those of Frame.
+// AppendFrame appends the frame that Frame returns to a slice, as append does, whose room has no bytes of the
+// record. The errors are those of Frame.
 func (r *SuspensionMessage) AppendFrame(dst []byte, version int) ([]byte, error) {
-	return appendLaterRecord("AppendFrame", dst, version, CodeSuspension, r)
+	return r.appendFrame("SuspensionMessage.AppendFrame", dst, version)
+}
+
+func (r *SuspensionMessage) appendFrame(call string, dst []byte, version int) ([]byte, error) {
+	payload, err := r.appendTo(nil, &place{call: call, schema: SchemaSuspensionMessage})
+	if err != nil {
+		return dst, err
+	}
+	return appendFrame(call, dst, version, CodeSuspension, payload)
 }
 
 func (r *SuspensionMessage) read(table *fieldTable, level uint64) error {
@@ -820,29 +845,39 @@ func (r *SuspensionMessageV6) Schema() int {
 
 // MarshalBinary returns the canonical payload. The error is a *FieldError, ErrTooLong or ErrOutOfMemory.
 func (r *SuspensionMessageV6) MarshalBinary() ([]byte, error) {
-	return r.appendTo(nil, &place{call: "MarshalBinary", schema: SchemaSuspensionMessageV6})
+	return r.appendTo(nil, &place{call: "SuspensionMessageV6.MarshalBinary", schema: SchemaSuspensionMessageV6})
 }
 
-// AppendBinary appends the canonical payload to a slice, as append does. The errors are those of MarshalBinary.
+// AppendBinary appends the canonical payload to a slice, as append does, whose room has no bytes of the record.
+// The errors are those of MarshalBinary.
 func (r *SuspensionMessageV6) AppendBinary(dst []byte) ([]byte, error) {
-	return r.appendTo(dst, &place{call: "AppendBinary", schema: SchemaSuspensionMessageV6})
+	return r.appendTo(dst, &place{call: "SuspensionMessageV6.AppendBinary", schema: SchemaSuspensionMessageV6})
 }
 
 // UnmarshalBinary reads a payload, in any encoding. Bytes in the record are parts of it, without a copy, or of its
 // canonical encoding. The errors are those of Canonical.
 func (r *SuspensionMessageV6) UnmarshalBinary(payload []byte) error {
-	return unmarshal(r, payload)
+	return readRecord("SuspensionMessageV6.UnmarshalBinary", r, payload)
 }
 
 // Frame returns the message as a frame of a version: its header, and its canonical payload. The errors are those of MarshalBinary and Frame, and
 // ErrUnknown from version 7 on.
 func (r *SuspensionMessageV6) Frame(version int) ([]byte, error) {
-	return appendEarlierRecord("Frame", nil, version, CodeSuspension, r)
+	return r.appendFrame("SuspensionMessageV6.Frame", nil, version)
 }
 
-// AppendFrame appends the frame that Frame returns to a slice, as append does. The errors are those of Frame.
+// AppendFrame appends the frame that Frame returns to a slice, as append does, whose room has no bytes of the
+// record. The errors are those of Frame.
 func (r *SuspensionMessageV6) AppendFrame(dst []byte, version int) ([]byte, error) {
-	return appendEarlierRecord("AppendFrame", dst, version, CodeSuspension, r)
+	return r.appendFrame("SuspensionMessageV6.AppendFrame", dst, version)
+}
+
+func (r *SuspensionMessageV6) appendFrame(call string, dst []byte, version int) ([]byte, error) {
+	payload, err := r.appendTo(nil, &place{call: call, schema: SchemaSuspensionMessageV6})
+	if err != nil {
+		return dst, err
+	}
+	return appendEarlierFrame(call, dst, version, CodeSuspension, SchemaSuspensionMessageV6, payload)
 }
 
 func (r *SuspensionMessageV6) read(table *fieldTable, level uint64) error {
@@ -902,32 +937,34 @@ func (r *ErrorMessage) Schema() int {
 
 // MarshalBinary returns the canonical payload. The error is a *FieldError, ErrTooLong or ErrOutOfMemory.
 func (r *ErrorMessage) MarshalBinary() ([]byte, error) {
-	return r.appendTo(nil, &place{call: "MarshalBinary", schema: SchemaErrorMessage})
+	return r.appendTo(nil, &place{call: "ErrorMessage.MarshalBinary", schema: SchemaErrorMessage})
 }
 
-// AppendBinary appends the canonical payload to a slice, as append does. The errors are those of MarshalBinary.
+// AppendBinary appends the canonical payload to a slice, as append does, whose room has no bytes of the record.
+// The errors are those of MarshalBinary.
 func (r *ErrorMessage) AppendBinary(dst []byte) ([]byte, error) {
-	return r.appendTo(dst, &place{call: "AppendBinary", schema: SchemaErrorMessage})
+	return r.appendTo(dst, &place{call: "ErrorMessage.AppendBinary", schema: SchemaErrorMessage})
 }
 
 // UnmarshalBinary reads a payload, in any encoding. Bytes in the record are parts of it, without a copy, or of its
 // canonical encoding. The errors are those of Canonical.
 func (r *ErrorMessage) UnmarshalBinary(payload []byte) error {
-	return unmarshal(r, payload)
+	return readRecord("ErrorMessage.UnmarshalBinary", r, payload)
 }
 
 // Frame returns the message as a frame of a version: its header, and its canonical payload. The errors are those of MarshalBinary and Frame.
 func (r *ErrorMessage) Frame(version int) ([]byte, error) {
-	to, err := placeOfFrame("Frame", SchemaErrorMessage, version, CodeError)
-	if err != nil {
-		return nil, err
-	}
-	return r.appendTo(nil, &to)
+	return r.appendFrame("ErrorMessage.Frame", nil, version)
 }
 
-// AppendFrame appends the frame that Frame returns to a slice, as append does. The errors are those of Frame.
+// AppendFrame appends the frame that Frame returns to a slice, as append does, whose room has no bytes of the
+// record. The errors are those of Frame.
 func (r *ErrorMessage) AppendFrame(dst []byte, version int) ([]byte, error) {
-	to, err := placeOfFrame("AppendFrame", SchemaErrorMessage, version, CodeError)
+	return r.appendFrame("ErrorMessage.AppendFrame", dst, version)
+}
+
+func (r *ErrorMessage) appendFrame(call string, dst []byte, version int) ([]byte, error) {
+	to, err := placeOfFrame(call, SchemaErrorMessage, version, CodeError)
 	if err != nil {
 		return dst, err
 	}
@@ -1003,32 +1040,34 @@ func (r *EndMessage) Schema() int {
 
 // MarshalBinary returns the canonical payload. The error is a *FieldError, ErrTooLong or ErrOutOfMemory.
 func (r *EndMessage) MarshalBinary() ([]byte, error) {
-	return r.appendTo(nil, &place{call: "MarshalBinary", schema: SchemaEndMessage})
+	return r.appendTo(nil, &place{call: "EndMessage.MarshalBinary", schema: SchemaEndMessage})
 }
 
-// AppendBinary appends the canonical payload to a slice, as append does. The errors are those of MarshalBinary.
+// AppendBinary appends the canonical payload to a slice, as append does, whose room has no bytes of the record.
+// The errors are those of MarshalBinary.
 func (r *EndMessage) AppendBinary(dst []byte) ([]byte, error) {
-	return r.appendTo(dst, &place{call: "AppendBinary", schema: SchemaEndMessage})
+	return r.appendTo(dst, &place{call: "EndMessage.AppendBinary", schema: SchemaEndMessage})
 }
 
 // UnmarshalBinary reads a payload, in any encoding. Bytes in the record are parts of it, without a copy, or of its
 // canonical encoding. The errors are those of Canonical.
 func (r *EndMessage) UnmarshalBinary(payload []byte) error {
-	return unmarshal(r, payload)
+	return readRecord("EndMessage.UnmarshalBinary", r, payload)
 }
 
 // Frame returns the message as a frame of a version: its header, and its canonical payload. The errors are those of MarshalBinary and Frame.
 func (r *EndMessage) Frame(version int) ([]byte, error) {
-	to, err := placeOfFrame("Frame", SchemaEndMessage, version, CodeEnd)
-	if err != nil {
-		return nil, err
-	}
-	return r.appendTo(nil, &to)
+	return r.appendFrame("EndMessage.Frame", nil, version)
 }
 
-// AppendFrame appends the frame that Frame returns to a slice, as append does. The errors are those of Frame.
+// AppendFrame appends the frame that Frame returns to a slice, as append does, whose room has no bytes of the
+// record. The errors are those of Frame.
 func (r *EndMessage) AppendFrame(dst []byte, version int) ([]byte, error) {
-	to, err := placeOfFrame("AppendFrame", SchemaEndMessage, version, CodeEnd)
+	return r.appendFrame("EndMessage.AppendFrame", dst, version)
+}
+
+func (r *EndMessage) appendFrame(call string, dst []byte, version int) ([]byte, error) {
+	to, err := placeOfFrame(call, SchemaEndMessage, version, CodeEnd)
 	if err != nil {
 		return dst, err
 	}
@@ -1071,32 +1110,34 @@ func (r *ProposeRunCompletionMessage) Schema() int {
 
 // MarshalBinary returns the canonical payload. The error is a *FieldError, ErrTooLong or ErrOutOfMemory.
 func (r *ProposeRunCompletionMessage) MarshalBinary() ([]byte, error) {
-	return r.appendTo(nil, &place{call: "MarshalBinary", schema: SchemaProposeRunCompletionMessage})
+	return r.appendTo(nil, &place{call: "ProposeRunCompletionMessage.MarshalBinary", schema: SchemaProposeRunCompletionMessage})
 }
 
-// AppendBinary appends the canonical payload to a slice, as append does. The errors are those of MarshalBinary.
+// AppendBinary appends the canonical payload to a slice, as append does, whose room has no bytes of the record.
+// The errors are those of MarshalBinary.
 func (r *ProposeRunCompletionMessage) AppendBinary(dst []byte) ([]byte, error) {
-	return r.appendTo(dst, &place{call: "AppendBinary", schema: SchemaProposeRunCompletionMessage})
+	return r.appendTo(dst, &place{call: "ProposeRunCompletionMessage.AppendBinary", schema: SchemaProposeRunCompletionMessage})
 }
 
 // UnmarshalBinary reads a payload, in any encoding. Bytes in the record are parts of it, without a copy, or of its
 // canonical encoding. The errors are those of Canonical.
 func (r *ProposeRunCompletionMessage) UnmarshalBinary(payload []byte) error {
-	return unmarshal(r, payload)
+	return readRecord("ProposeRunCompletionMessage.UnmarshalBinary", r, payload)
 }
 
 // Frame returns the message as a frame of a version: its header, and its canonical payload. The errors are those of MarshalBinary and Frame.
 func (r *ProposeRunCompletionMessage) Frame(version int) ([]byte, error) {
-	to, err := placeOfFrame("Frame", SchemaProposeRunCompletionMessage, version, CodeProposeRunCompletion)
-	if err != nil {
-		return nil, err
-	}
-	return r.appendTo(nil, &to)
+	return r.appendFrame("ProposeRunCompletionMessage.Frame", nil, version)
 }
 
-// AppendFrame appends the frame that Frame returns to a slice, as append does. The errors are those of Frame.
+// AppendFrame appends the frame that Frame returns to a slice, as append does, whose room has no bytes of the
+// record. The errors are those of Frame.
 func (r *ProposeRunCompletionMessage) AppendFrame(dst []byte, version int) ([]byte, error) {
-	to, err := placeOfFrame("AppendFrame", SchemaProposeRunCompletionMessage, version, CodeProposeRunCompletion)
+	return r.appendFrame("ProposeRunCompletionMessage.AppendFrame", dst, version)
+}
+
+func (r *ProposeRunCompletionMessage) appendFrame(call string, dst []byte, version int) ([]byte, error) {
+	to, err := placeOfFrame(call, SchemaProposeRunCompletionMessage, version, CodeProposeRunCompletion)
 	if err != nil {
 		return dst, err
 	}
@@ -1155,32 +1196,34 @@ func (r *AwaitingOnMessage) Schema() int {
 
 // MarshalBinary returns the canonical payload. The error is a *FieldError, ErrTooLong or ErrOutOfMemory.
 func (r *AwaitingOnMessage) MarshalBinary() ([]byte, error) {
-	return r.appendTo(nil, &place{call: "MarshalBinary", schema: SchemaAwaitingOnMessage})
+	return r.appendTo(nil, &place{call: "AwaitingOnMessage.MarshalBinary", schema: SchemaAwaitingOnMessage})
 }
 
-// AppendBinary appends the canonical payload to a slice, as append does. The errors are those of MarshalBinary.
+// AppendBinary appends the canonical payload to a slice, as append does, whose room has no bytes of the record.
+// The errors are those of MarshalBinary.
 func (r *AwaitingOnMessage) AppendBinary(dst []byte) ([]byte, error) {
-	return r.appendTo(dst, &place{call: "AppendBinary", schema: SchemaAwaitingOnMessage})
+	return r.appendTo(dst, &place{call: "AwaitingOnMessage.AppendBinary", schema: SchemaAwaitingOnMessage})
 }
 
 // UnmarshalBinary reads a payload, in any encoding. Bytes in the record are parts of it, without a copy, or of its
 // canonical encoding. The errors are those of Canonical.
 func (r *AwaitingOnMessage) UnmarshalBinary(payload []byte) error {
-	return unmarshal(r, payload)
+	return readRecord("AwaitingOnMessage.UnmarshalBinary", r, payload)
 }
 
 // Frame returns the message as a frame of a version: its header, and its canonical payload. The errors are those of MarshalBinary and Frame.
 func (r *AwaitingOnMessage) Frame(version int) ([]byte, error) {
-	to, err := placeOfFrame("Frame", SchemaAwaitingOnMessage, version, CodeAwaitingOn)
-	if err != nil {
-		return nil, err
-	}
-	return r.appendTo(nil, &to)
+	return r.appendFrame("AwaitingOnMessage.Frame", nil, version)
 }
 
-// AppendFrame appends the frame that Frame returns to a slice, as append does. The errors are those of Frame.
+// AppendFrame appends the frame that Frame returns to a slice, as append does, whose room has no bytes of the
+// record. The errors are those of Frame.
 func (r *AwaitingOnMessage) AppendFrame(dst []byte, version int) ([]byte, error) {
-	to, err := placeOfFrame("AppendFrame", SchemaAwaitingOnMessage, version, CodeAwaitingOn)
+	return r.appendFrame("AwaitingOnMessage.AppendFrame", dst, version)
+}
+
+func (r *AwaitingOnMessage) appendFrame(call string, dst []byte, version int) ([]byte, error) {
+	to, err := placeOfFrame(call, SchemaAwaitingOnMessage, version, CodeAwaitingOn)
 	if err != nil {
 		return dst, err
 	}
@@ -1229,32 +1272,34 @@ func (r *ProposeRunCompletionAckMessage) Schema() int {
 
 // MarshalBinary returns the canonical payload. The error is a *FieldError, ErrTooLong or ErrOutOfMemory.
 func (r *ProposeRunCompletionAckMessage) MarshalBinary() ([]byte, error) {
-	return r.appendTo(nil, &place{call: "MarshalBinary", schema: SchemaProposeRunCompletionAckMessage})
+	return r.appendTo(nil, &place{call: "ProposeRunCompletionAckMessage.MarshalBinary", schema: SchemaProposeRunCompletionAckMessage})
 }
 
-// AppendBinary appends the canonical payload to a slice, as append does. The errors are those of MarshalBinary.
+// AppendBinary appends the canonical payload to a slice, as append does, whose room has no bytes of the record.
+// The errors are those of MarshalBinary.
 func (r *ProposeRunCompletionAckMessage) AppendBinary(dst []byte) ([]byte, error) {
-	return r.appendTo(dst, &place{call: "AppendBinary", schema: SchemaProposeRunCompletionAckMessage})
+	return r.appendTo(dst, &place{call: "ProposeRunCompletionAckMessage.AppendBinary", schema: SchemaProposeRunCompletionAckMessage})
 }
 
 // UnmarshalBinary reads a payload, in any encoding. Bytes in the record are parts of it, without a copy, or of its
 // canonical encoding. The errors are those of Canonical.
 func (r *ProposeRunCompletionAckMessage) UnmarshalBinary(payload []byte) error {
-	return unmarshal(r, payload)
+	return readRecord("ProposeRunCompletionAckMessage.UnmarshalBinary", r, payload)
 }
 
 // Frame returns the message as a frame of a version: its header, and its canonical payload. The errors are those of MarshalBinary and Frame.
 func (r *ProposeRunCompletionAckMessage) Frame(version int) ([]byte, error) {
-	to, err := placeOfFrame("Frame", SchemaProposeRunCompletionAckMessage, version, CodeProposeRunCompletionAck)
-	if err != nil {
-		return nil, err
-	}
-	return r.appendTo(nil, &to)
+	return r.appendFrame("ProposeRunCompletionAckMessage.Frame", nil, version)
 }
 
-// AppendFrame appends the frame that Frame returns to a slice, as append does. The errors are those of Frame.
+// AppendFrame appends the frame that Frame returns to a slice, as append does, whose room has no bytes of the
+// record. The errors are those of Frame.
 func (r *ProposeRunCompletionAckMessage) AppendFrame(dst []byte, version int) ([]byte, error) {
-	to, err := placeOfFrame("AppendFrame", SchemaProposeRunCompletionAckMessage, version, CodeProposeRunCompletionAck)
+	return r.appendFrame("ProposeRunCompletionAckMessage.AppendFrame", dst, version)
+}
+
+func (r *ProposeRunCompletionAckMessage) appendFrame(call string, dst []byte, version int) ([]byte, error) {
+	to, err := placeOfFrame(call, SchemaProposeRunCompletionAckMessage, version, CodeProposeRunCompletionAck)
 	if err != nil {
 		return dst, err
 	}
@@ -1296,32 +1341,34 @@ func (r *GetStateEphemeralCommandMessage) Schema() int {
 
 // MarshalBinary returns the canonical payload. The error is a *FieldError, ErrTooLong or ErrOutOfMemory.
 func (r *GetStateEphemeralCommandMessage) MarshalBinary() ([]byte, error) {
-	return r.appendTo(nil, &place{call: "MarshalBinary", schema: SchemaGetStateEphemeralCommandMessage})
+	return r.appendTo(nil, &place{call: "GetStateEphemeralCommandMessage.MarshalBinary", schema: SchemaGetStateEphemeralCommandMessage})
 }
 
-// AppendBinary appends the canonical payload to a slice, as append does. The errors are those of MarshalBinary.
+// AppendBinary appends the canonical payload to a slice, as append does, whose room has no bytes of the record.
+// The errors are those of MarshalBinary.
 func (r *GetStateEphemeralCommandMessage) AppendBinary(dst []byte) ([]byte, error) {
-	return r.appendTo(dst, &place{call: "AppendBinary", schema: SchemaGetStateEphemeralCommandMessage})
+	return r.appendTo(dst, &place{call: "GetStateEphemeralCommandMessage.AppendBinary", schema: SchemaGetStateEphemeralCommandMessage})
 }
 
 // UnmarshalBinary reads a payload, in any encoding. Bytes in the record are parts of it, without a copy, or of its
 // canonical encoding. The errors are those of Canonical.
 func (r *GetStateEphemeralCommandMessage) UnmarshalBinary(payload []byte) error {
-	return unmarshal(r, payload)
+	return readRecord("GetStateEphemeralCommandMessage.UnmarshalBinary", r, payload)
 }
 
 // Frame returns the message as a frame of a version: its header, and its canonical payload. The errors are those of MarshalBinary and Frame.
 func (r *GetStateEphemeralCommandMessage) Frame(version int) ([]byte, error) {
-	to, err := placeOfFrame("Frame", SchemaGetStateEphemeralCommandMessage, version, CodeGetStateEphemeralCommand)
-	if err != nil {
-		return nil, err
-	}
-	return r.appendTo(nil, &to)
+	return r.appendFrame("GetStateEphemeralCommandMessage.Frame", nil, version)
 }
 
-// AppendFrame appends the frame that Frame returns to a slice, as append does. The errors are those of Frame.
+// AppendFrame appends the frame that Frame returns to a slice, as append does, whose room has no bytes of the
+// record. The errors are those of Frame.
 func (r *GetStateEphemeralCommandMessage) AppendFrame(dst []byte, version int) ([]byte, error) {
-	to, err := placeOfFrame("AppendFrame", SchemaGetStateEphemeralCommandMessage, version, CodeGetStateEphemeralCommand)
+	return r.appendFrame("GetStateEphemeralCommandMessage.AppendFrame", dst, version)
+}
+
+func (r *GetStateEphemeralCommandMessage) appendFrame(call string, dst []byte, version int) ([]byte, error) {
+	to, err := placeOfFrame(call, SchemaGetStateEphemeralCommandMessage, version, CodeGetStateEphemeralCommand)
 	if err != nil {
 		return dst, err
 	}
@@ -1376,32 +1423,34 @@ func (r *GetStateEphemeralNotificationMessage) Schema() int {
 
 // MarshalBinary returns the canonical payload. The error is a *FieldError, ErrTooLong or ErrOutOfMemory.
 func (r *GetStateEphemeralNotificationMessage) MarshalBinary() ([]byte, error) {
-	return r.appendTo(nil, &place{call: "MarshalBinary", schema: SchemaGetStateEphemeralNotificationMessage})
+	return r.appendTo(nil, &place{call: "GetStateEphemeralNotificationMessage.MarshalBinary", schema: SchemaGetStateEphemeralNotificationMessage})
 }
 
-// AppendBinary appends the canonical payload to a slice, as append does. The errors are those of MarshalBinary.
+// AppendBinary appends the canonical payload to a slice, as append does, whose room has no bytes of the record.
+// The errors are those of MarshalBinary.
 func (r *GetStateEphemeralNotificationMessage) AppendBinary(dst []byte) ([]byte, error) {
-	return r.appendTo(dst, &place{call: "AppendBinary", schema: SchemaGetStateEphemeralNotificationMessage})
+	return r.appendTo(dst, &place{call: "GetStateEphemeralNotificationMessage.AppendBinary", schema: SchemaGetStateEphemeralNotificationMessage})
 }
 
 // UnmarshalBinary reads a payload, in any encoding. Bytes in the record are parts of it, without a copy, or of its
 // canonical encoding. The errors are those of Canonical.
 func (r *GetStateEphemeralNotificationMessage) UnmarshalBinary(payload []byte) error {
-	return unmarshal(r, payload)
+	return readRecord("GetStateEphemeralNotificationMessage.UnmarshalBinary", r, payload)
 }
 
 // Frame returns the message as a frame of a version: its header, and its canonical payload. The errors are those of MarshalBinary and Frame.
 func (r *GetStateEphemeralNotificationMessage) Frame(version int) ([]byte, error) {
-	to, err := placeOfFrame("Frame", SchemaGetStateEphemeralNotificationMessage, version, CodeGetStateEphemeralNotification)
-	if err != nil {
-		return nil, err
-	}
-	return r.appendTo(nil, &to)
+	return r.appendFrame("GetStateEphemeralNotificationMessage.Frame", nil, version)
 }
 
-// AppendFrame appends the frame that Frame returns to a slice, as append does. The errors are those of Frame.
+// AppendFrame appends the frame that Frame returns to a slice, as append does, whose room has no bytes of the
+// record. The errors are those of Frame.
 func (r *GetStateEphemeralNotificationMessage) AppendFrame(dst []byte, version int) ([]byte, error) {
-	to, err := placeOfFrame("AppendFrame", SchemaGetStateEphemeralNotificationMessage, version, CodeGetStateEphemeralNotification)
+	return r.appendFrame("GetStateEphemeralNotificationMessage.AppendFrame", dst, version)
+}
+
+func (r *GetStateEphemeralNotificationMessage) appendFrame(call string, dst []byte, version int) ([]byte, error) {
+	to, err := placeOfFrame(call, SchemaGetStateEphemeralNotificationMessage, version, CodeGetStateEphemeralNotification)
 	if err != nil {
 		return dst, err
 	}
@@ -1469,32 +1518,34 @@ func (r *InputCommandMessage) Schema() int {
 
 // MarshalBinary returns the canonical payload. The error is a *FieldError, ErrTooLong or ErrOutOfMemory.
 func (r *InputCommandMessage) MarshalBinary() ([]byte, error) {
-	return r.appendTo(nil, &place{call: "MarshalBinary", schema: SchemaInputCommandMessage})
+	return r.appendTo(nil, &place{call: "InputCommandMessage.MarshalBinary", schema: SchemaInputCommandMessage})
 }
 
-// AppendBinary appends the canonical payload to a slice, as append does. The errors are those of MarshalBinary.
+// AppendBinary appends the canonical payload to a slice, as append does, whose room has no bytes of the record.
+// The errors are those of MarshalBinary.
 func (r *InputCommandMessage) AppendBinary(dst []byte) ([]byte, error) {
-	return r.appendTo(dst, &place{call: "AppendBinary", schema: SchemaInputCommandMessage})
+	return r.appendTo(dst, &place{call: "InputCommandMessage.AppendBinary", schema: SchemaInputCommandMessage})
 }
 
 // UnmarshalBinary reads a payload, in any encoding. Bytes in the record are parts of it, without a copy, or of its
 // canonical encoding. The errors are those of Canonical.
 func (r *InputCommandMessage) UnmarshalBinary(payload []byte) error {
-	return unmarshal(r, payload)
+	return readRecord("InputCommandMessage.UnmarshalBinary", r, payload)
 }
 
 // Frame returns the message as a frame of a version: its header, and its canonical payload. The errors are those of MarshalBinary and Frame.
 func (r *InputCommandMessage) Frame(version int) ([]byte, error) {
-	to, err := placeOfFrame("Frame", SchemaInputCommandMessage, version, CodeInputCommand)
-	if err != nil {
-		return nil, err
-	}
-	return r.appendTo(nil, &to)
+	return r.appendFrame("InputCommandMessage.Frame", nil, version)
 }
 
-// AppendFrame appends the frame that Frame returns to a slice, as append does. The errors are those of Frame.
+// AppendFrame appends the frame that Frame returns to a slice, as append does, whose room has no bytes of the
+// record. The errors are those of Frame.
 func (r *InputCommandMessage) AppendFrame(dst []byte, version int) ([]byte, error) {
-	to, err := placeOfFrame("AppendFrame", SchemaInputCommandMessage, version, CodeInputCommand)
+	return r.appendFrame("InputCommandMessage.AppendFrame", dst, version)
+}
+
+func (r *InputCommandMessage) appendFrame(call string, dst []byte, version int) ([]byte, error) {
+	to, err := placeOfFrame(call, SchemaInputCommandMessage, version, CodeInputCommand)
 	if err != nil {
 		return dst, err
 	}
@@ -1562,32 +1613,34 @@ func (r *OutputCommandMessage) Schema() int {
 
 // MarshalBinary returns the canonical payload. The error is a *FieldError, ErrTooLong or ErrOutOfMemory.
 func (r *OutputCommandMessage) MarshalBinary() ([]byte, error) {
-	return r.appendTo(nil, &place{call: "MarshalBinary", schema: SchemaOutputCommandMessage})
+	return r.appendTo(nil, &place{call: "OutputCommandMessage.MarshalBinary", schema: SchemaOutputCommandMessage})
 }
 
-// AppendBinary appends the canonical payload to a slice, as append does. The errors are those of MarshalBinary.
+// AppendBinary appends the canonical payload to a slice, as append does, whose room has no bytes of the record.
+// The errors are those of MarshalBinary.
 func (r *OutputCommandMessage) AppendBinary(dst []byte) ([]byte, error) {
-	return r.appendTo(dst, &place{call: "AppendBinary", schema: SchemaOutputCommandMessage})
+	return r.appendTo(dst, &place{call: "OutputCommandMessage.AppendBinary", schema: SchemaOutputCommandMessage})
 }
 
 // UnmarshalBinary reads a payload, in any encoding. Bytes in the record are parts of it, without a copy, or of its
 // canonical encoding. The errors are those of Canonical.
 func (r *OutputCommandMessage) UnmarshalBinary(payload []byte) error {
-	return unmarshal(r, payload)
+	return readRecord("OutputCommandMessage.UnmarshalBinary", r, payload)
 }
 
 // Frame returns the message as a frame of a version: its header, and its canonical payload. The errors are those of MarshalBinary and Frame.
 func (r *OutputCommandMessage) Frame(version int) ([]byte, error) {
-	to, err := placeOfFrame("Frame", SchemaOutputCommandMessage, version, CodeOutputCommand)
-	if err != nil {
-		return nil, err
-	}
-	return r.appendTo(nil, &to)
+	return r.appendFrame("OutputCommandMessage.Frame", nil, version)
 }
 
-// AppendFrame appends the frame that Frame returns to a slice, as append does. The errors are those of Frame.
+// AppendFrame appends the frame that Frame returns to a slice, as append does, whose room has no bytes of the
+// record. The errors are those of Frame.
 func (r *OutputCommandMessage) AppendFrame(dst []byte, version int) ([]byte, error) {
-	to, err := placeOfFrame("AppendFrame", SchemaOutputCommandMessage, version, CodeOutputCommand)
+	return r.appendFrame("OutputCommandMessage.AppendFrame", dst, version)
+}
+
+func (r *OutputCommandMessage) appendFrame(call string, dst []byte, version int) ([]byte, error) {
+	to, err := placeOfFrame(call, SchemaOutputCommandMessage, version, CodeOutputCommand)
 	if err != nil {
 		return dst, err
 	}
@@ -1655,32 +1708,34 @@ func (r *GetLazyStateCommandMessage) Schema() int {
 
 // MarshalBinary returns the canonical payload. The error is a *FieldError, ErrTooLong or ErrOutOfMemory.
 func (r *GetLazyStateCommandMessage) MarshalBinary() ([]byte, error) {
-	return r.appendTo(nil, &place{call: "MarshalBinary", schema: SchemaGetLazyStateCommandMessage})
+	return r.appendTo(nil, &place{call: "GetLazyStateCommandMessage.MarshalBinary", schema: SchemaGetLazyStateCommandMessage})
 }
 
-// AppendBinary appends the canonical payload to a slice, as append does. The errors are those of MarshalBinary.
+// AppendBinary appends the canonical payload to a slice, as append does, whose room has no bytes of the record.
+// The errors are those of MarshalBinary.
 func (r *GetLazyStateCommandMessage) AppendBinary(dst []byte) ([]byte, error) {
-	return r.appendTo(dst, &place{call: "AppendBinary", schema: SchemaGetLazyStateCommandMessage})
+	return r.appendTo(dst, &place{call: "GetLazyStateCommandMessage.AppendBinary", schema: SchemaGetLazyStateCommandMessage})
 }
 
 // UnmarshalBinary reads a payload, in any encoding. Bytes in the record are parts of it, without a copy, or of its
 // canonical encoding. The errors are those of Canonical.
 func (r *GetLazyStateCommandMessage) UnmarshalBinary(payload []byte) error {
-	return unmarshal(r, payload)
+	return readRecord("GetLazyStateCommandMessage.UnmarshalBinary", r, payload)
 }
 
 // Frame returns the message as a frame of a version: its header, and its canonical payload. The errors are those of MarshalBinary and Frame.
 func (r *GetLazyStateCommandMessage) Frame(version int) ([]byte, error) {
-	to, err := placeOfFrame("Frame", SchemaGetLazyStateCommandMessage, version, CodeGetLazyStateCommand)
-	if err != nil {
-		return nil, err
-	}
-	return r.appendTo(nil, &to)
+	return r.appendFrame("GetLazyStateCommandMessage.Frame", nil, version)
 }
 
-// AppendFrame appends the frame that Frame returns to a slice, as append does. The errors are those of Frame.
+// AppendFrame appends the frame that Frame returns to a slice, as append does, whose room has no bytes of the
+// record. The errors are those of Frame.
 func (r *GetLazyStateCommandMessage) AppendFrame(dst []byte, version int) ([]byte, error) {
-	to, err := placeOfFrame("AppendFrame", SchemaGetLazyStateCommandMessage, version, CodeGetLazyStateCommand)
+	return r.appendFrame("GetLazyStateCommandMessage.AppendFrame", dst, version)
+}
+
+func (r *GetLazyStateCommandMessage) appendFrame(call string, dst []byte, version int) ([]byte, error) {
+	to, err := placeOfFrame(call, SchemaGetLazyStateCommandMessage, version, CodeGetLazyStateCommand)
 	if err != nil {
 		return dst, err
 	}
@@ -1734,32 +1789,34 @@ func (r *SetStateCommandMessage) Schema() int {
 
 // MarshalBinary returns the canonical payload. The error is a *FieldError, ErrTooLong or ErrOutOfMemory.
 func (r *SetStateCommandMessage) MarshalBinary() ([]byte, error) {
-	return r.appendTo(nil, &place{call: "MarshalBinary", schema: SchemaSetStateCommandMessage})
+	return r.appendTo(nil, &place{call: "SetStateCommandMessage.MarshalBinary", schema: SchemaSetStateCommandMessage})
 }
 
-// AppendBinary appends the canonical payload to a slice, as append does. The errors are those of MarshalBinary.
+// AppendBinary appends the canonical payload to a slice, as append does, whose room has no bytes of the record.
+// The errors are those of MarshalBinary.
 func (r *SetStateCommandMessage) AppendBinary(dst []byte) ([]byte, error) {
-	return r.appendTo(dst, &place{call: "AppendBinary", schema: SchemaSetStateCommandMessage})
+	return r.appendTo(dst, &place{call: "SetStateCommandMessage.AppendBinary", schema: SchemaSetStateCommandMessage})
 }
 
 // UnmarshalBinary reads a payload, in any encoding. Bytes in the record are parts of it, without a copy, or of its
 // canonical encoding. The errors are those of Canonical.
 func (r *SetStateCommandMessage) UnmarshalBinary(payload []byte) error {
-	return unmarshal(r, payload)
+	return readRecord("SetStateCommandMessage.UnmarshalBinary", r, payload)
 }
 
 // Frame returns the message as a frame of a version: its header, and its canonical payload. The errors are those of MarshalBinary and Frame.
 func (r *SetStateCommandMessage) Frame(version int) ([]byte, error) {
-	to, err := placeOfFrame("Frame", SchemaSetStateCommandMessage, version, CodeSetStateCommand)
-	if err != nil {
-		return nil, err
-	}
-	return r.appendTo(nil, &to)
+	return r.appendFrame("SetStateCommandMessage.Frame", nil, version)
 }
 
-// AppendFrame appends the frame that Frame returns to a slice, as append does. The errors are those of Frame.
+// AppendFrame appends the frame that Frame returns to a slice, as append does, whose room has no bytes of the
+// record. The errors are those of Frame.
 func (r *SetStateCommandMessage) AppendFrame(dst []byte, version int) ([]byte, error) {
-	to, err := placeOfFrame("AppendFrame", SchemaSetStateCommandMessage, version, CodeSetStateCommand)
+	return r.appendFrame("SetStateCommandMessage.AppendFrame", dst, version)
+}
+
+func (r *SetStateCommandMessage) appendFrame(call string, dst []byte, version int) ([]byte, error) {
+	to, err := placeOfFrame(call, SchemaSetStateCommandMessage, version, CodeSetStateCommand)
 	if err != nil {
 		return dst, err
 	}
@@ -1815,32 +1872,34 @@ func (r *ClearStateCommandMessage) Schema() int {
 
 // MarshalBinary returns the canonical payload. The error is a *FieldError, ErrTooLong or ErrOutOfMemory.
 func (r *ClearStateCommandMessage) MarshalBinary() ([]byte, error) {
-	return r.appendTo(nil, &place{call: "MarshalBinary", schema: SchemaClearStateCommandMessage})
+	return r.appendTo(nil, &place{call: "ClearStateCommandMessage.MarshalBinary", schema: SchemaClearStateCommandMessage})
 }
 
-// AppendBinary appends the canonical payload to a slice, as append does. The errors are those of MarshalBinary.
+// AppendBinary appends the canonical payload to a slice, as append does, whose room has no bytes of the record.
+// The errors are those of MarshalBinary.
 func (r *ClearStateCommandMessage) AppendBinary(dst []byte) ([]byte, error) {
-	return r.appendTo(dst, &place{call: "AppendBinary", schema: SchemaClearStateCommandMessage})
+	return r.appendTo(dst, &place{call: "ClearStateCommandMessage.AppendBinary", schema: SchemaClearStateCommandMessage})
 }
 
 // UnmarshalBinary reads a payload, in any encoding. Bytes in the record are parts of it, without a copy, or of its
 // canonical encoding. The errors are those of Canonical.
 func (r *ClearStateCommandMessage) UnmarshalBinary(payload []byte) error {
-	return unmarshal(r, payload)
+	return readRecord("ClearStateCommandMessage.UnmarshalBinary", r, payload)
 }
 
 // Frame returns the message as a frame of a version: its header, and its canonical payload. The errors are those of MarshalBinary and Frame.
 func (r *ClearStateCommandMessage) Frame(version int) ([]byte, error) {
-	to, err := placeOfFrame("Frame", SchemaClearStateCommandMessage, version, CodeClearStateCommand)
-	if err != nil {
-		return nil, err
-	}
-	return r.appendTo(nil, &to)
+	return r.appendFrame("ClearStateCommandMessage.Frame", nil, version)
 }
 
-// AppendFrame appends the frame that Frame returns to a slice, as append does. The errors are those of Frame.
+// AppendFrame appends the frame that Frame returns to a slice, as append does, whose room has no bytes of the
+// record. The errors are those of Frame.
 func (r *ClearStateCommandMessage) AppendFrame(dst []byte, version int) ([]byte, error) {
-	to, err := placeOfFrame("AppendFrame", SchemaClearStateCommandMessage, version, CodeClearStateCommand)
+	return r.appendFrame("ClearStateCommandMessage.AppendFrame", dst, version)
+}
+
+func (r *ClearStateCommandMessage) appendFrame(call string, dst []byte, version int) ([]byte, error) {
+	to, err := placeOfFrame(call, SchemaClearStateCommandMessage, version, CodeClearStateCommand)
 	if err != nil {
 		return dst, err
 	}
@@ -1885,32 +1944,34 @@ func (r *ClearAllStateCommandMessage) Schema() int {
 
 // MarshalBinary returns the canonical payload. The error is a *FieldError, ErrTooLong or ErrOutOfMemory.
 func (r *ClearAllStateCommandMessage) MarshalBinary() ([]byte, error) {
-	return r.appendTo(nil, &place{call: "MarshalBinary", schema: SchemaClearAllStateCommandMessage})
+	return r.appendTo(nil, &place{call: "ClearAllStateCommandMessage.MarshalBinary", schema: SchemaClearAllStateCommandMessage})
 }
 
-// AppendBinary appends the canonical payload to a slice, as append does. The errors are those of MarshalBinary.
+// AppendBinary appends the canonical payload to a slice, as append does, whose room has no bytes of the record.
+// The errors are those of MarshalBinary.
 func (r *ClearAllStateCommandMessage) AppendBinary(dst []byte) ([]byte, error) {
-	return r.appendTo(dst, &place{call: "AppendBinary", schema: SchemaClearAllStateCommandMessage})
+	return r.appendTo(dst, &place{call: "ClearAllStateCommandMessage.AppendBinary", schema: SchemaClearAllStateCommandMessage})
 }
 
 // UnmarshalBinary reads a payload, in any encoding. Bytes in the record are parts of it, without a copy, or of its
 // canonical encoding. The errors are those of Canonical.
 func (r *ClearAllStateCommandMessage) UnmarshalBinary(payload []byte) error {
-	return unmarshal(r, payload)
+	return readRecord("ClearAllStateCommandMessage.UnmarshalBinary", r, payload)
 }
 
 // Frame returns the message as a frame of a version: its header, and its canonical payload. The errors are those of MarshalBinary and Frame.
 func (r *ClearAllStateCommandMessage) Frame(version int) ([]byte, error) {
-	to, err := placeOfFrame("Frame", SchemaClearAllStateCommandMessage, version, CodeClearAllStateCommand)
-	if err != nil {
-		return nil, err
-	}
-	return r.appendTo(nil, &to)
+	return r.appendFrame("ClearAllStateCommandMessage.Frame", nil, version)
 }
 
-// AppendFrame appends the frame that Frame returns to a slice, as append does. The errors are those of Frame.
+// AppendFrame appends the frame that Frame returns to a slice, as append does, whose room has no bytes of the
+// record. The errors are those of Frame.
 func (r *ClearAllStateCommandMessage) AppendFrame(dst []byte, version int) ([]byte, error) {
-	to, err := placeOfFrame("AppendFrame", SchemaClearAllStateCommandMessage, version, CodeClearAllStateCommand)
+	return r.appendFrame("ClearAllStateCommandMessage.AppendFrame", dst, version)
+}
+
+func (r *ClearAllStateCommandMessage) appendFrame(call string, dst []byte, version int) ([]byte, error) {
+	to, err := placeOfFrame(call, SchemaClearAllStateCommandMessage, version, CodeClearAllStateCommand)
 	if err != nil {
 		return dst, err
 	}
@@ -1952,32 +2013,34 @@ func (r *GetLazyStateKeysCommandMessage) Schema() int {
 
 // MarshalBinary returns the canonical payload. The error is a *FieldError, ErrTooLong or ErrOutOfMemory.
 func (r *GetLazyStateKeysCommandMessage) MarshalBinary() ([]byte, error) {
-	return r.appendTo(nil, &place{call: "MarshalBinary", schema: SchemaGetLazyStateKeysCommandMessage})
+	return r.appendTo(nil, &place{call: "GetLazyStateKeysCommandMessage.MarshalBinary", schema: SchemaGetLazyStateKeysCommandMessage})
 }
 
-// AppendBinary appends the canonical payload to a slice, as append does. The errors are those of MarshalBinary.
+// AppendBinary appends the canonical payload to a slice, as append does, whose room has no bytes of the record.
+// The errors are those of MarshalBinary.
 func (r *GetLazyStateKeysCommandMessage) AppendBinary(dst []byte) ([]byte, error) {
-	return r.appendTo(dst, &place{call: "AppendBinary", schema: SchemaGetLazyStateKeysCommandMessage})
+	return r.appendTo(dst, &place{call: "GetLazyStateKeysCommandMessage.AppendBinary", schema: SchemaGetLazyStateKeysCommandMessage})
 }
 
 // UnmarshalBinary reads a payload, in any encoding. Bytes in the record are parts of it, without a copy, or of its
 // canonical encoding. The errors are those of Canonical.
 func (r *GetLazyStateKeysCommandMessage) UnmarshalBinary(payload []byte) error {
-	return unmarshal(r, payload)
+	return readRecord("GetLazyStateKeysCommandMessage.UnmarshalBinary", r, payload)
 }
 
 // Frame returns the message as a frame of a version: its header, and its canonical payload. The errors are those of MarshalBinary and Frame.
 func (r *GetLazyStateKeysCommandMessage) Frame(version int) ([]byte, error) {
-	to, err := placeOfFrame("Frame", SchemaGetLazyStateKeysCommandMessage, version, CodeGetLazyStateKeysCommand)
-	if err != nil {
-		return nil, err
-	}
-	return r.appendTo(nil, &to)
+	return r.appendFrame("GetLazyStateKeysCommandMessage.Frame", nil, version)
 }
 
-// AppendFrame appends the frame that Frame returns to a slice, as append does. The errors are those of Frame.
+// AppendFrame appends the frame that Frame returns to a slice, as append does, whose room has no bytes of the
+// record. The errors are those of Frame.
 func (r *GetLazyStateKeysCommandMessage) AppendFrame(dst []byte, version int) ([]byte, error) {
-	to, err := placeOfFrame("AppendFrame", SchemaGetLazyStateKeysCommandMessage, version, CodeGetLazyStateKeysCommand)
+	return r.appendFrame("GetLazyStateKeysCommandMessage.AppendFrame", dst, version)
+}
+
+func (r *GetLazyStateKeysCommandMessage) appendFrame(call string, dst []byte, version int) ([]byte, error) {
+	to, err := placeOfFrame(call, SchemaGetLazyStateKeysCommandMessage, version, CodeGetLazyStateKeysCommand)
 	if err != nil {
 		return dst, err
 	}
@@ -2034,32 +2097,34 @@ func (r *GetEagerStateCommandMessage) Schema() int {
 
 // MarshalBinary returns the canonical payload. The error is a *FieldError, ErrTooLong or ErrOutOfMemory.
 func (r *GetEagerStateCommandMessage) MarshalBinary() ([]byte, error) {
-	return r.appendTo(nil, &place{call: "MarshalBinary", schema: SchemaGetEagerStateCommandMessage})
+	return r.appendTo(nil, &place{call: "GetEagerStateCommandMessage.MarshalBinary", schema: SchemaGetEagerStateCommandMessage})
 }
 
-// AppendBinary appends the canonical payload to a slice, as append does. The errors are those of MarshalBinary.
+// AppendBinary appends the canonical payload to a slice, as append does, whose room has no bytes of the record.
+// The errors are those of MarshalBinary.
 func (r *GetEagerStateCommandMessage) AppendBinary(dst []byte) ([]byte, error) {
-	return r.appendTo(dst, &place{call: "AppendBinary", schema: SchemaGetEagerStateCommandMessage})
+	return r.appendTo(dst, &place{call: "GetEagerStateCommandMessage.AppendBinary", schema: SchemaGetEagerStateCommandMessage})
 }
 
 // UnmarshalBinary reads a payload, in any encoding. Bytes in the record are parts of it, without a copy, or of its
 // canonical encoding. The errors are those of Canonical.
 func (r *GetEagerStateCommandMessage) UnmarshalBinary(payload []byte) error {
-	return unmarshal(r, payload)
+	return readRecord("GetEagerStateCommandMessage.UnmarshalBinary", r, payload)
 }
 
 // Frame returns the message as a frame of a version: its header, and its canonical payload. The errors are those of MarshalBinary and Frame.
 func (r *GetEagerStateCommandMessage) Frame(version int) ([]byte, error) {
-	to, err := placeOfFrame("Frame", SchemaGetEagerStateCommandMessage, version, CodeGetEagerStateCommand)
-	if err != nil {
-		return nil, err
-	}
-	return r.appendTo(nil, &to)
+	return r.appendFrame("GetEagerStateCommandMessage.Frame", nil, version)
 }
 
-// AppendFrame appends the frame that Frame returns to a slice, as append does. The errors are those of Frame.
+// AppendFrame appends the frame that Frame returns to a slice, as append does, whose room has no bytes of the
+// record. The errors are those of Frame.
 func (r *GetEagerStateCommandMessage) AppendFrame(dst []byte, version int) ([]byte, error) {
-	to, err := placeOfFrame("AppendFrame", SchemaGetEagerStateCommandMessage, version, CodeGetEagerStateCommand)
+	return r.appendFrame("GetEagerStateCommandMessage.AppendFrame", dst, version)
+}
+
+func (r *GetEagerStateCommandMessage) appendFrame(call string, dst []byte, version int) ([]byte, error) {
+	to, err := placeOfFrame(call, SchemaGetEagerStateCommandMessage, version, CodeGetEagerStateCommand)
 	if err != nil {
 		return dst, err
 	}
@@ -2130,32 +2195,34 @@ func (r *GetEagerStateKeysCommandMessage) Schema() int {
 
 // MarshalBinary returns the canonical payload. The error is a *FieldError, ErrTooLong or ErrOutOfMemory.
 func (r *GetEagerStateKeysCommandMessage) MarshalBinary() ([]byte, error) {
-	return r.appendTo(nil, &place{call: "MarshalBinary", schema: SchemaGetEagerStateKeysCommandMessage})
+	return r.appendTo(nil, &place{call: "GetEagerStateKeysCommandMessage.MarshalBinary", schema: SchemaGetEagerStateKeysCommandMessage})
 }
 
-// AppendBinary appends the canonical payload to a slice, as append does. The errors are those of MarshalBinary.
+// AppendBinary appends the canonical payload to a slice, as append does, whose room has no bytes of the record.
+// The errors are those of MarshalBinary.
 func (r *GetEagerStateKeysCommandMessage) AppendBinary(dst []byte) ([]byte, error) {
-	return r.appendTo(dst, &place{call: "AppendBinary", schema: SchemaGetEagerStateKeysCommandMessage})
+	return r.appendTo(dst, &place{call: "GetEagerStateKeysCommandMessage.AppendBinary", schema: SchemaGetEagerStateKeysCommandMessage})
 }
 
 // UnmarshalBinary reads a payload, in any encoding. Bytes in the record are parts of it, without a copy, or of its
 // canonical encoding. The errors are those of Canonical.
 func (r *GetEagerStateKeysCommandMessage) UnmarshalBinary(payload []byte) error {
-	return unmarshal(r, payload)
+	return readRecord("GetEagerStateKeysCommandMessage.UnmarshalBinary", r, payload)
 }
 
 // Frame returns the message as a frame of a version: its header, and its canonical payload. The errors are those of MarshalBinary and Frame.
 func (r *GetEagerStateKeysCommandMessage) Frame(version int) ([]byte, error) {
-	to, err := placeOfFrame("Frame", SchemaGetEagerStateKeysCommandMessage, version, CodeGetEagerStateKeysCommand)
-	if err != nil {
-		return nil, err
-	}
-	return r.appendTo(nil, &to)
+	return r.appendFrame("GetEagerStateKeysCommandMessage.Frame", nil, version)
 }
 
-// AppendFrame appends the frame that Frame returns to a slice, as append does. The errors are those of Frame.
+// AppendFrame appends the frame that Frame returns to a slice, as append does, whose room has no bytes of the
+// record. The errors are those of Frame.
 func (r *GetEagerStateKeysCommandMessage) AppendFrame(dst []byte, version int) ([]byte, error) {
-	to, err := placeOfFrame("AppendFrame", SchemaGetEagerStateKeysCommandMessage, version, CodeGetEagerStateKeysCommand)
+	return r.appendFrame("GetEagerStateKeysCommandMessage.AppendFrame", dst, version)
+}
+
+func (r *GetEagerStateKeysCommandMessage) appendFrame(call string, dst []byte, version int) ([]byte, error) {
+	to, err := placeOfFrame(call, SchemaGetEagerStateKeysCommandMessage, version, CodeGetEagerStateKeysCommand)
 	if err != nil {
 		return dst, err
 	}
@@ -2208,32 +2275,34 @@ func (r *GetPromiseCommandMessage) Schema() int {
 
 // MarshalBinary returns the canonical payload. The error is a *FieldError, ErrTooLong or ErrOutOfMemory.
 func (r *GetPromiseCommandMessage) MarshalBinary() ([]byte, error) {
-	return r.appendTo(nil, &place{call: "MarshalBinary", schema: SchemaGetPromiseCommandMessage})
+	return r.appendTo(nil, &place{call: "GetPromiseCommandMessage.MarshalBinary", schema: SchemaGetPromiseCommandMessage})
 }
 
-// AppendBinary appends the canonical payload to a slice, as append does. The errors are those of MarshalBinary.
+// AppendBinary appends the canonical payload to a slice, as append does, whose room has no bytes of the record.
+// The errors are those of MarshalBinary.
 func (r *GetPromiseCommandMessage) AppendBinary(dst []byte) ([]byte, error) {
-	return r.appendTo(dst, &place{call: "AppendBinary", schema: SchemaGetPromiseCommandMessage})
+	return r.appendTo(dst, &place{call: "GetPromiseCommandMessage.AppendBinary", schema: SchemaGetPromiseCommandMessage})
 }
 
 // UnmarshalBinary reads a payload, in any encoding. Bytes in the record are parts of it, without a copy, or of its
 // canonical encoding. The errors are those of Canonical.
 func (r *GetPromiseCommandMessage) UnmarshalBinary(payload []byte) error {
-	return unmarshal(r, payload)
+	return readRecord("GetPromiseCommandMessage.UnmarshalBinary", r, payload)
 }
 
 // Frame returns the message as a frame of a version: its header, and its canonical payload. The errors are those of MarshalBinary and Frame.
 func (r *GetPromiseCommandMessage) Frame(version int) ([]byte, error) {
-	to, err := placeOfFrame("Frame", SchemaGetPromiseCommandMessage, version, CodeGetPromiseCommand)
-	if err != nil {
-		return nil, err
-	}
-	return r.appendTo(nil, &to)
+	return r.appendFrame("GetPromiseCommandMessage.Frame", nil, version)
 }
 
-// AppendFrame appends the frame that Frame returns to a slice, as append does. The errors are those of Frame.
+// AppendFrame appends the frame that Frame returns to a slice, as append does, whose room has no bytes of the
+// record. The errors are those of Frame.
 func (r *GetPromiseCommandMessage) AppendFrame(dst []byte, version int) ([]byte, error) {
-	to, err := placeOfFrame("AppendFrame", SchemaGetPromiseCommandMessage, version, CodeGetPromiseCommand)
+	return r.appendFrame("GetPromiseCommandMessage.AppendFrame", dst, version)
+}
+
+func (r *GetPromiseCommandMessage) appendFrame(call string, dst []byte, version int) ([]byte, error) {
+	to, err := placeOfFrame(call, SchemaGetPromiseCommandMessage, version, CodeGetPromiseCommand)
 	if err != nil {
 		return dst, err
 	}
@@ -2287,32 +2356,34 @@ func (r *PeekPromiseCommandMessage) Schema() int {
 
 // MarshalBinary returns the canonical payload. The error is a *FieldError, ErrTooLong or ErrOutOfMemory.
 func (r *PeekPromiseCommandMessage) MarshalBinary() ([]byte, error) {
-	return r.appendTo(nil, &place{call: "MarshalBinary", schema: SchemaPeekPromiseCommandMessage})
+	return r.appendTo(nil, &place{call: "PeekPromiseCommandMessage.MarshalBinary", schema: SchemaPeekPromiseCommandMessage})
 }
 
-// AppendBinary appends the canonical payload to a slice, as append does. The errors are those of MarshalBinary.
+// AppendBinary appends the canonical payload to a slice, as append does, whose room has no bytes of the record.
+// The errors are those of MarshalBinary.
 func (r *PeekPromiseCommandMessage) AppendBinary(dst []byte) ([]byte, error) {
-	return r.appendTo(dst, &place{call: "AppendBinary", schema: SchemaPeekPromiseCommandMessage})
+	return r.appendTo(dst, &place{call: "PeekPromiseCommandMessage.AppendBinary", schema: SchemaPeekPromiseCommandMessage})
 }
 
 // UnmarshalBinary reads a payload, in any encoding. Bytes in the record are parts of it, without a copy, or of its
 // canonical encoding. The errors are those of Canonical.
 func (r *PeekPromiseCommandMessage) UnmarshalBinary(payload []byte) error {
-	return unmarshal(r, payload)
+	return readRecord("PeekPromiseCommandMessage.UnmarshalBinary", r, payload)
 }
 
 // Frame returns the message as a frame of a version: its header, and its canonical payload. The errors are those of MarshalBinary and Frame.
 func (r *PeekPromiseCommandMessage) Frame(version int) ([]byte, error) {
-	to, err := placeOfFrame("Frame", SchemaPeekPromiseCommandMessage, version, CodePeekPromiseCommand)
-	if err != nil {
-		return nil, err
-	}
-	return r.appendTo(nil, &to)
+	return r.appendFrame("PeekPromiseCommandMessage.Frame", nil, version)
 }
 
-// AppendFrame appends the frame that Frame returns to a slice, as append does. The errors are those of Frame.
+// AppendFrame appends the frame that Frame returns to a slice, as append does, whose room has no bytes of the
+// record. The errors are those of Frame.
 func (r *PeekPromiseCommandMessage) AppendFrame(dst []byte, version int) ([]byte, error) {
-	to, err := placeOfFrame("AppendFrame", SchemaPeekPromiseCommandMessage, version, CodePeekPromiseCommand)
+	return r.appendFrame("PeekPromiseCommandMessage.AppendFrame", dst, version)
+}
+
+func (r *PeekPromiseCommandMessage) appendFrame(call string, dst []byte, version int) ([]byte, error) {
+	to, err := placeOfFrame(call, SchemaPeekPromiseCommandMessage, version, CodePeekPromiseCommand)
 	if err != nil {
 		return dst, err
 	}
@@ -2376,32 +2447,34 @@ func (r *CompletePromiseCommandMessage) Schema() int {
 
 // MarshalBinary returns the canonical payload. The error is a *FieldError, ErrTooLong or ErrOutOfMemory.
 func (r *CompletePromiseCommandMessage) MarshalBinary() ([]byte, error) {
-	return r.appendTo(nil, &place{call: "MarshalBinary", schema: SchemaCompletePromiseCommandMessage})
+	return r.appendTo(nil, &place{call: "CompletePromiseCommandMessage.MarshalBinary", schema: SchemaCompletePromiseCommandMessage})
 }
 
-// AppendBinary appends the canonical payload to a slice, as append does. The errors are those of MarshalBinary.
+// AppendBinary appends the canonical payload to a slice, as append does, whose room has no bytes of the record.
+// The errors are those of MarshalBinary.
 func (r *CompletePromiseCommandMessage) AppendBinary(dst []byte) ([]byte, error) {
-	return r.appendTo(dst, &place{call: "AppendBinary", schema: SchemaCompletePromiseCommandMessage})
+	return r.appendTo(dst, &place{call: "CompletePromiseCommandMessage.AppendBinary", schema: SchemaCompletePromiseCommandMessage})
 }
 
 // UnmarshalBinary reads a payload, in any encoding. Bytes in the record are parts of it, without a copy, or of its
 // canonical encoding. The errors are those of Canonical.
 func (r *CompletePromiseCommandMessage) UnmarshalBinary(payload []byte) error {
-	return unmarshal(r, payload)
+	return readRecord("CompletePromiseCommandMessage.UnmarshalBinary", r, payload)
 }
 
 // Frame returns the message as a frame of a version: its header, and its canonical payload. The errors are those of MarshalBinary and Frame.
 func (r *CompletePromiseCommandMessage) Frame(version int) ([]byte, error) {
-	to, err := placeOfFrame("Frame", SchemaCompletePromiseCommandMessage, version, CodeCompletePromiseCommand)
-	if err != nil {
-		return nil, err
-	}
-	return r.appendTo(nil, &to)
+	return r.appendFrame("CompletePromiseCommandMessage.Frame", nil, version)
 }
 
-// AppendFrame appends the frame that Frame returns to a slice, as append does. The errors are those of Frame.
+// AppendFrame appends the frame that Frame returns to a slice, as append does, whose room has no bytes of the
+// record. The errors are those of Frame.
 func (r *CompletePromiseCommandMessage) AppendFrame(dst []byte, version int) ([]byte, error) {
-	to, err := placeOfFrame("AppendFrame", SchemaCompletePromiseCommandMessage, version, CodeCompletePromiseCommand)
+	return r.appendFrame("CompletePromiseCommandMessage.AppendFrame", dst, version)
+}
+
+func (r *CompletePromiseCommandMessage) appendFrame(call string, dst []byte, version int) ([]byte, error) {
+	to, err := placeOfFrame(call, SchemaCompletePromiseCommandMessage, version, CodeCompletePromiseCommand)
 	if err != nil {
 		return dst, err
 	}
@@ -2479,32 +2552,34 @@ func (r *SleepCommandMessage) Schema() int {
 
 // MarshalBinary returns the canonical payload. The error is a *FieldError, ErrTooLong or ErrOutOfMemory.
 func (r *SleepCommandMessage) MarshalBinary() ([]byte, error) {
-	return r.appendTo(nil, &place{call: "MarshalBinary", schema: SchemaSleepCommandMessage})
+	return r.appendTo(nil, &place{call: "SleepCommandMessage.MarshalBinary", schema: SchemaSleepCommandMessage})
 }
 
-// AppendBinary appends the canonical payload to a slice, as append does. The errors are those of MarshalBinary.
+// AppendBinary appends the canonical payload to a slice, as append does, whose room has no bytes of the record.
+// The errors are those of MarshalBinary.
 func (r *SleepCommandMessage) AppendBinary(dst []byte) ([]byte, error) {
-	return r.appendTo(dst, &place{call: "AppendBinary", schema: SchemaSleepCommandMessage})
+	return r.appendTo(dst, &place{call: "SleepCommandMessage.AppendBinary", schema: SchemaSleepCommandMessage})
 }
 
 // UnmarshalBinary reads a payload, in any encoding. Bytes in the record are parts of it, without a copy, or of its
 // canonical encoding. The errors are those of Canonical.
 func (r *SleepCommandMessage) UnmarshalBinary(payload []byte) error {
-	return unmarshal(r, payload)
+	return readRecord("SleepCommandMessage.UnmarshalBinary", r, payload)
 }
 
 // Frame returns the message as a frame of a version: its header, and its canonical payload. The errors are those of MarshalBinary and Frame.
 func (r *SleepCommandMessage) Frame(version int) ([]byte, error) {
-	to, err := placeOfFrame("Frame", SchemaSleepCommandMessage, version, CodeSleepCommand)
-	if err != nil {
-		return nil, err
-	}
-	return r.appendTo(nil, &to)
+	return r.appendFrame("SleepCommandMessage.Frame", nil, version)
 }
 
-// AppendFrame appends the frame that Frame returns to a slice, as append does. The errors are those of Frame.
+// AppendFrame appends the frame that Frame returns to a slice, as append does, whose room has no bytes of the
+// record. The errors are those of Frame.
 func (r *SleepCommandMessage) AppendFrame(dst []byte, version int) ([]byte, error) {
-	to, err := placeOfFrame("AppendFrame", SchemaSleepCommandMessage, version, CodeSleepCommand)
+	return r.appendFrame("SleepCommandMessage.AppendFrame", dst, version)
+}
+
+func (r *SleepCommandMessage) appendFrame(call string, dst []byte, version int) ([]byte, error) {
+	to, err := placeOfFrame(call, SchemaSleepCommandMessage, version, CodeSleepCommand)
 	if err != nil {
 		return dst, err
 	}
@@ -2574,32 +2649,34 @@ func (r *CallCommandMessage) Schema() int {
 
 // MarshalBinary returns the canonical payload. The error is a *FieldError, ErrTooLong or ErrOutOfMemory.
 func (r *CallCommandMessage) MarshalBinary() ([]byte, error) {
-	return r.appendTo(nil, &place{call: "MarshalBinary", schema: SchemaCallCommandMessage})
+	return r.appendTo(nil, &place{call: "CallCommandMessage.MarshalBinary", schema: SchemaCallCommandMessage})
 }
 
-// AppendBinary appends the canonical payload to a slice, as append does. The errors are those of MarshalBinary.
+// AppendBinary appends the canonical payload to a slice, as append does, whose room has no bytes of the record.
+// The errors are those of MarshalBinary.
 func (r *CallCommandMessage) AppendBinary(dst []byte) ([]byte, error) {
-	return r.appendTo(dst, &place{call: "AppendBinary", schema: SchemaCallCommandMessage})
+	return r.appendTo(dst, &place{call: "CallCommandMessage.AppendBinary", schema: SchemaCallCommandMessage})
 }
 
 // UnmarshalBinary reads a payload, in any encoding. Bytes in the record are parts of it, without a copy, or of its
 // canonical encoding. The errors are those of Canonical.
 func (r *CallCommandMessage) UnmarshalBinary(payload []byte) error {
-	return unmarshal(r, payload)
+	return readRecord("CallCommandMessage.UnmarshalBinary", r, payload)
 }
 
 // Frame returns the message as a frame of a version: its header, and its canonical payload. The errors are those of MarshalBinary and Frame.
 func (r *CallCommandMessage) Frame(version int) ([]byte, error) {
-	to, err := placeOfFrame("Frame", SchemaCallCommandMessage, version, CodeCallCommand)
-	if err != nil {
-		return nil, err
-	}
-	return r.appendTo(nil, &to)
+	return r.appendFrame("CallCommandMessage.Frame", nil, version)
 }
 
-// AppendFrame appends the frame that Frame returns to a slice, as append does. The errors are those of Frame.
+// AppendFrame appends the frame that Frame returns to a slice, as append does, whose room has no bytes of the
+// record. The errors are those of Frame.
 func (r *CallCommandMessage) AppendFrame(dst []byte, version int) ([]byte, error) {
-	to, err := placeOfFrame("AppendFrame", SchemaCallCommandMessage, version, CodeCallCommand)
+	return r.appendFrame("CallCommandMessage.AppendFrame", dst, version)
+}
+
+func (r *CallCommandMessage) appendFrame(call string, dst []byte, version int) ([]byte, error) {
+	to, err := placeOfFrame(call, SchemaCallCommandMessage, version, CodeCallCommand)
 	if err != nil {
 		return dst, err
 	}
@@ -2716,32 +2793,34 @@ func (r *OneWayCallCommandMessage) Schema() int {
 
 // MarshalBinary returns the canonical payload. The error is a *FieldError, ErrTooLong or ErrOutOfMemory.
 func (r *OneWayCallCommandMessage) MarshalBinary() ([]byte, error) {
-	return r.appendTo(nil, &place{call: "MarshalBinary", schema: SchemaOneWayCallCommandMessage})
+	return r.appendTo(nil, &place{call: "OneWayCallCommandMessage.MarshalBinary", schema: SchemaOneWayCallCommandMessage})
 }
 
-// AppendBinary appends the canonical payload to a slice, as append does. The errors are those of MarshalBinary.
+// AppendBinary appends the canonical payload to a slice, as append does, whose room has no bytes of the record.
+// The errors are those of MarshalBinary.
 func (r *OneWayCallCommandMessage) AppendBinary(dst []byte) ([]byte, error) {
-	return r.appendTo(dst, &place{call: "AppendBinary", schema: SchemaOneWayCallCommandMessage})
+	return r.appendTo(dst, &place{call: "OneWayCallCommandMessage.AppendBinary", schema: SchemaOneWayCallCommandMessage})
 }
 
 // UnmarshalBinary reads a payload, in any encoding. Bytes in the record are parts of it, without a copy, or of its
 // canonical encoding. The errors are those of Canonical.
 func (r *OneWayCallCommandMessage) UnmarshalBinary(payload []byte) error {
-	return unmarshal(r, payload)
+	return readRecord("OneWayCallCommandMessage.UnmarshalBinary", r, payload)
 }
 
 // Frame returns the message as a frame of a version: its header, and its canonical payload. The errors are those of MarshalBinary and Frame.
 func (r *OneWayCallCommandMessage) Frame(version int) ([]byte, error) {
-	to, err := placeOfFrame("Frame", SchemaOneWayCallCommandMessage, version, CodeOneWayCallCommand)
-	if err != nil {
-		return nil, err
-	}
-	return r.appendTo(nil, &to)
+	return r.appendFrame("OneWayCallCommandMessage.Frame", nil, version)
 }
 
-// AppendFrame appends the frame that Frame returns to a slice, as append does. The errors are those of Frame.
+// AppendFrame appends the frame that Frame returns to a slice, as append does, whose room has no bytes of the
+// record. The errors are those of Frame.
 func (r *OneWayCallCommandMessage) AppendFrame(dst []byte, version int) ([]byte, error) {
-	to, err := placeOfFrame("AppendFrame", SchemaOneWayCallCommandMessage, version, CodeOneWayCallCommand)
+	return r.appendFrame("OneWayCallCommandMessage.AppendFrame", dst, version)
+}
+
+func (r *OneWayCallCommandMessage) appendFrame(call string, dst []byte, version int) ([]byte, error) {
+	to, err := placeOfFrame(call, SchemaOneWayCallCommandMessage, version, CodeOneWayCallCommand)
 	if err != nil {
 		return dst, err
 	}
@@ -2868,32 +2947,34 @@ func (r *SendSignalCommandMessage) Schema() int {
 
 // MarshalBinary returns the canonical payload. The error is a *FieldError, ErrTooLong or ErrOutOfMemory.
 func (r *SendSignalCommandMessage) MarshalBinary() ([]byte, error) {
-	return r.appendTo(nil, &place{call: "MarshalBinary", schema: SchemaSendSignalCommandMessage})
+	return r.appendTo(nil, &place{call: "SendSignalCommandMessage.MarshalBinary", schema: SchemaSendSignalCommandMessage})
 }
 
-// AppendBinary appends the canonical payload to a slice, as append does. The errors are those of MarshalBinary.
+// AppendBinary appends the canonical payload to a slice, as append does, whose room has no bytes of the record.
+// The errors are those of MarshalBinary.
 func (r *SendSignalCommandMessage) AppendBinary(dst []byte) ([]byte, error) {
-	return r.appendTo(dst, &place{call: "AppendBinary", schema: SchemaSendSignalCommandMessage})
+	return r.appendTo(dst, &place{call: "SendSignalCommandMessage.AppendBinary", schema: SchemaSendSignalCommandMessage})
 }
 
 // UnmarshalBinary reads a payload, in any encoding. Bytes in the record are parts of it, without a copy, or of its
 // canonical encoding. The errors are those of Canonical.
 func (r *SendSignalCommandMessage) UnmarshalBinary(payload []byte) error {
-	return unmarshal(r, payload)
+	return readRecord("SendSignalCommandMessage.UnmarshalBinary", r, payload)
 }
 
 // Frame returns the message as a frame of a version: its header, and its canonical payload. The errors are those of MarshalBinary and Frame.
 func (r *SendSignalCommandMessage) Frame(version int) ([]byte, error) {
-	to, err := placeOfFrame("Frame", SchemaSendSignalCommandMessage, version, CodeSendSignalCommand)
-	if err != nil {
-		return nil, err
-	}
-	return r.appendTo(nil, &to)
+	return r.appendFrame("SendSignalCommandMessage.Frame", nil, version)
 }
 
-// AppendFrame appends the frame that Frame returns to a slice, as append does. The errors are those of Frame.
+// AppendFrame appends the frame that Frame returns to a slice, as append does, whose room has no bytes of the
+// record. The errors are those of Frame.
 func (r *SendSignalCommandMessage) AppendFrame(dst []byte, version int) ([]byte, error) {
-	to, err := placeOfFrame("AppendFrame", SchemaSendSignalCommandMessage, version, CodeSendSignalCommand)
+	return r.appendFrame("SendSignalCommandMessage.AppendFrame", dst, version)
+}
+
+func (r *SendSignalCommandMessage) appendFrame(call string, dst []byte, version int) ([]byte, error) {
+	to, err := placeOfFrame(call, SchemaSendSignalCommandMessage, version, CodeSendSignalCommand)
 	if err != nil {
 		return dst, err
 	}
@@ -2985,32 +3066,34 @@ func (r *RunCommandMessage) Schema() int {
 
 // MarshalBinary returns the canonical payload. The error is a *FieldError, ErrTooLong or ErrOutOfMemory.
 func (r *RunCommandMessage) MarshalBinary() ([]byte, error) {
-	return r.appendTo(nil, &place{call: "MarshalBinary", schema: SchemaRunCommandMessage})
+	return r.appendTo(nil, &place{call: "RunCommandMessage.MarshalBinary", schema: SchemaRunCommandMessage})
 }
 
-// AppendBinary appends the canonical payload to a slice, as append does. The errors are those of MarshalBinary.
+// AppendBinary appends the canonical payload to a slice, as append does, whose room has no bytes of the record.
+// The errors are those of MarshalBinary.
 func (r *RunCommandMessage) AppendBinary(dst []byte) ([]byte, error) {
-	return r.appendTo(dst, &place{call: "AppendBinary", schema: SchemaRunCommandMessage})
+	return r.appendTo(dst, &place{call: "RunCommandMessage.AppendBinary", schema: SchemaRunCommandMessage})
 }
 
 // UnmarshalBinary reads a payload, in any encoding. Bytes in the record are parts of it, without a copy, or of its
 // canonical encoding. The errors are those of Canonical.
 func (r *RunCommandMessage) UnmarshalBinary(payload []byte) error {
-	return unmarshal(r, payload)
+	return readRecord("RunCommandMessage.UnmarshalBinary", r, payload)
 }
 
 // Frame returns the message as a frame of a version: its header, and its canonical payload. The errors are those of MarshalBinary and Frame.
 func (r *RunCommandMessage) Frame(version int) ([]byte, error) {
-	to, err := placeOfFrame("Frame", SchemaRunCommandMessage, version, CodeRunCommand)
-	if err != nil {
-		return nil, err
-	}
-	return r.appendTo(nil, &to)
+	return r.appendFrame("RunCommandMessage.Frame", nil, version)
 }
 
-// AppendFrame appends the frame that Frame returns to a slice, as append does. The errors are those of Frame.
+// AppendFrame appends the frame that Frame returns to a slice, as append does, whose room has no bytes of the
+// record. The errors are those of Frame.
 func (r *RunCommandMessage) AppendFrame(dst []byte, version int) ([]byte, error) {
-	to, err := placeOfFrame("AppendFrame", SchemaRunCommandMessage, version, CodeRunCommand)
+	return r.appendFrame("RunCommandMessage.AppendFrame", dst, version)
+}
+
+func (r *RunCommandMessage) appendFrame(call string, dst []byte, version int) ([]byte, error) {
+	to, err := placeOfFrame(call, SchemaRunCommandMessage, version, CodeRunCommand)
 	if err != nil {
 		return dst, err
 	}
@@ -3072,32 +3155,34 @@ func (r *AttachInvocationCommandMessage) Schema() int {
 
 // MarshalBinary returns the canonical payload. The error is a *FieldError, ErrTooLong or ErrOutOfMemory.
 func (r *AttachInvocationCommandMessage) MarshalBinary() ([]byte, error) {
-	return r.appendTo(nil, &place{call: "MarshalBinary", schema: SchemaAttachInvocationCommandMessage})
+	return r.appendTo(nil, &place{call: "AttachInvocationCommandMessage.MarshalBinary", schema: SchemaAttachInvocationCommandMessage})
 }
 
-// AppendBinary appends the canonical payload to a slice, as append does. The errors are those of MarshalBinary.
+// AppendBinary appends the canonical payload to a slice, as append does, whose room has no bytes of the record.
+// The errors are those of MarshalBinary.
 func (r *AttachInvocationCommandMessage) AppendBinary(dst []byte) ([]byte, error) {
-	return r.appendTo(dst, &place{call: "AppendBinary", schema: SchemaAttachInvocationCommandMessage})
+	return r.appendTo(dst, &place{call: "AttachInvocationCommandMessage.AppendBinary", schema: SchemaAttachInvocationCommandMessage})
 }
 
 // UnmarshalBinary reads a payload, in any encoding. Bytes in the record are parts of it, without a copy, or of its
 // canonical encoding. The errors are those of Canonical.
 func (r *AttachInvocationCommandMessage) UnmarshalBinary(payload []byte) error {
-	return unmarshal(r, payload)
+	return readRecord("AttachInvocationCommandMessage.UnmarshalBinary", r, payload)
 }
 
 // Frame returns the message as a frame of a version: its header, and its canonical payload. The errors are those of MarshalBinary and Frame.
 func (r *AttachInvocationCommandMessage) Frame(version int) ([]byte, error) {
-	to, err := placeOfFrame("Frame", SchemaAttachInvocationCommandMessage, version, CodeAttachInvocationCommand)
-	if err != nil {
-		return nil, err
-	}
-	return r.appendTo(nil, &to)
+	return r.appendFrame("AttachInvocationCommandMessage.Frame", nil, version)
 }
 
-// AppendFrame appends the frame that Frame returns to a slice, as append does. The errors are those of Frame.
+// AppendFrame appends the frame that Frame returns to a slice, as append does, whose room has no bytes of the
+// record. The errors are those of Frame.
 func (r *AttachInvocationCommandMessage) AppendFrame(dst []byte, version int) ([]byte, error) {
-	to, err := placeOfFrame("AppendFrame", SchemaAttachInvocationCommandMessage, version, CodeAttachInvocationCommand)
+	return r.appendFrame("AttachInvocationCommandMessage.AppendFrame", dst, version)
+}
+
+func (r *AttachInvocationCommandMessage) appendFrame(call string, dst []byte, version int) ([]byte, error) {
+	to, err := placeOfFrame(call, SchemaAttachInvocationCommandMessage, version, CodeAttachInvocationCommand)
 	if err != nil {
 		return dst, err
 	}
@@ -3187,32 +3272,34 @@ func (r *GetInvocationOutputCommandMessage) Schema() int {
 
 // MarshalBinary returns the canonical payload. The error is a *FieldError, ErrTooLong or ErrOutOfMemory.
 func (r *GetInvocationOutputCommandMessage) MarshalBinary() ([]byte, error) {
-	return r.appendTo(nil, &place{call: "MarshalBinary", schema: SchemaGetInvocationOutputCommandMessage})
+	return r.appendTo(nil, &place{call: "GetInvocationOutputCommandMessage.MarshalBinary", schema: SchemaGetInvocationOutputCommandMessage})
 }
 
-// AppendBinary appends the canonical payload to a slice, as append does. The errors are those of MarshalBinary.
+// AppendBinary appends the canonical payload to a slice, as append does, whose room has no bytes of the record.
+// The errors are those of MarshalBinary.
 func (r *GetInvocationOutputCommandMessage) AppendBinary(dst []byte) ([]byte, error) {
-	return r.appendTo(dst, &place{call: "AppendBinary", schema: SchemaGetInvocationOutputCommandMessage})
+	return r.appendTo(dst, &place{call: "GetInvocationOutputCommandMessage.AppendBinary", schema: SchemaGetInvocationOutputCommandMessage})
 }
 
 // UnmarshalBinary reads a payload, in any encoding. Bytes in the record are parts of it, without a copy, or of its
 // canonical encoding. The errors are those of Canonical.
 func (r *GetInvocationOutputCommandMessage) UnmarshalBinary(payload []byte) error {
-	return unmarshal(r, payload)
+	return readRecord("GetInvocationOutputCommandMessage.UnmarshalBinary", r, payload)
 }
 
 // Frame returns the message as a frame of a version: its header, and its canonical payload. The errors are those of MarshalBinary and Frame.
 func (r *GetInvocationOutputCommandMessage) Frame(version int) ([]byte, error) {
-	to, err := placeOfFrame("Frame", SchemaGetInvocationOutputCommandMessage, version, CodeGetInvocationOutputCommand)
-	if err != nil {
-		return nil, err
-	}
-	return r.appendTo(nil, &to)
+	return r.appendFrame("GetInvocationOutputCommandMessage.Frame", nil, version)
 }
 
-// AppendFrame appends the frame that Frame returns to a slice, as append does. The errors are those of Frame.
+// AppendFrame appends the frame that Frame returns to a slice, as append does, whose room has no bytes of the
+// record. The errors are those of Frame.
 func (r *GetInvocationOutputCommandMessage) AppendFrame(dst []byte, version int) ([]byte, error) {
-	to, err := placeOfFrame("AppendFrame", SchemaGetInvocationOutputCommandMessage, version, CodeGetInvocationOutputCommand)
+	return r.appendFrame("GetInvocationOutputCommandMessage.AppendFrame", dst, version)
+}
+
+func (r *GetInvocationOutputCommandMessage) appendFrame(call string, dst []byte, version int) ([]byte, error) {
+	to, err := placeOfFrame(call, SchemaGetInvocationOutputCommandMessage, version, CodeGetInvocationOutputCommand)
 	if err != nil {
 		return dst, err
 	}
@@ -3297,32 +3384,34 @@ func (r *CompleteAwakeableCommandMessage) Schema() int {
 
 // MarshalBinary returns the canonical payload. The error is a *FieldError, ErrTooLong or ErrOutOfMemory.
 func (r *CompleteAwakeableCommandMessage) MarshalBinary() ([]byte, error) {
-	return r.appendTo(nil, &place{call: "MarshalBinary", schema: SchemaCompleteAwakeableCommandMessage})
+	return r.appendTo(nil, &place{call: "CompleteAwakeableCommandMessage.MarshalBinary", schema: SchemaCompleteAwakeableCommandMessage})
 }
 
-// AppendBinary appends the canonical payload to a slice, as append does. The errors are those of MarshalBinary.
+// AppendBinary appends the canonical payload to a slice, as append does, whose room has no bytes of the record.
+// The errors are those of MarshalBinary.
 func (r *CompleteAwakeableCommandMessage) AppendBinary(dst []byte) ([]byte, error) {
-	return r.appendTo(dst, &place{call: "AppendBinary", schema: SchemaCompleteAwakeableCommandMessage})
+	return r.appendTo(dst, &place{call: "CompleteAwakeableCommandMessage.AppendBinary", schema: SchemaCompleteAwakeableCommandMessage})
 }
 
 // UnmarshalBinary reads a payload, in any encoding. Bytes in the record are parts of it, without a copy, or of its
 // canonical encoding. The errors are those of Canonical.
 func (r *CompleteAwakeableCommandMessage) UnmarshalBinary(payload []byte) error {
-	return unmarshal(r, payload)
+	return readRecord("CompleteAwakeableCommandMessage.UnmarshalBinary", r, payload)
 }
 
 // Frame returns the message as a frame of a version: its header, and its canonical payload. The errors are those of MarshalBinary and Frame.
 func (r *CompleteAwakeableCommandMessage) Frame(version int) ([]byte, error) {
-	to, err := placeOfFrame("Frame", SchemaCompleteAwakeableCommandMessage, version, CodeCompleteAwakeableCommand)
-	if err != nil {
-		return nil, err
-	}
-	return r.appendTo(nil, &to)
+	return r.appendFrame("CompleteAwakeableCommandMessage.Frame", nil, version)
 }
 
-// AppendFrame appends the frame that Frame returns to a slice, as append does. The errors are those of Frame.
+// AppendFrame appends the frame that Frame returns to a slice, as append does, whose room has no bytes of the
+// record. The errors are those of Frame.
 func (r *CompleteAwakeableCommandMessage) AppendFrame(dst []byte, version int) ([]byte, error) {
-	to, err := placeOfFrame("AppendFrame", SchemaCompleteAwakeableCommandMessage, version, CodeCompleteAwakeableCommand)
+	return r.appendFrame("CompleteAwakeableCommandMessage.AppendFrame", dst, version)
+}
+
+func (r *CompleteAwakeableCommandMessage) appendFrame(call string, dst []byte, version int) ([]byte, error) {
+	to, err := placeOfFrame(call, SchemaCompleteAwakeableCommandMessage, version, CodeCompleteAwakeableCommand)
 	if err != nil {
 		return dst, err
 	}
@@ -3401,32 +3490,34 @@ func (r *GetLazyStateCompletionNotificationMessage) Schema() int {
 
 // MarshalBinary returns the canonical payload. The error is a *FieldError, ErrTooLong or ErrOutOfMemory.
 func (r *GetLazyStateCompletionNotificationMessage) MarshalBinary() ([]byte, error) {
-	return r.appendTo(nil, &place{call: "MarshalBinary", schema: SchemaGetLazyStateCompletionNotificationMessage})
+	return r.appendTo(nil, &place{call: "GetLazyStateCompletionNotificationMessage.MarshalBinary", schema: SchemaGetLazyStateCompletionNotificationMessage})
 }
 
-// AppendBinary appends the canonical payload to a slice, as append does. The errors are those of MarshalBinary.
+// AppendBinary appends the canonical payload to a slice, as append does, whose room has no bytes of the record.
+// The errors are those of MarshalBinary.
 func (r *GetLazyStateCompletionNotificationMessage) AppendBinary(dst []byte) ([]byte, error) {
-	return r.appendTo(dst, &place{call: "AppendBinary", schema: SchemaGetLazyStateCompletionNotificationMessage})
+	return r.appendTo(dst, &place{call: "GetLazyStateCompletionNotificationMessage.AppendBinary", schema: SchemaGetLazyStateCompletionNotificationMessage})
 }
 
 // UnmarshalBinary reads a payload, in any encoding. Bytes in the record are parts of it, without a copy, or of its
 // canonical encoding. The errors are those of Canonical.
 func (r *GetLazyStateCompletionNotificationMessage) UnmarshalBinary(payload []byte) error {
-	return unmarshal(r, payload)
+	return readRecord("GetLazyStateCompletionNotificationMessage.UnmarshalBinary", r, payload)
 }
 
 // Frame returns the message as a frame of a version: its header, and its canonical payload. The errors are those of MarshalBinary and Frame.
 func (r *GetLazyStateCompletionNotificationMessage) Frame(version int) ([]byte, error) {
-	to, err := placeOfFrame("Frame", SchemaGetLazyStateCompletionNotificationMessage, version, CodeGetLazyStateCompletionNotification)
-	if err != nil {
-		return nil, err
-	}
-	return r.appendTo(nil, &to)
+	return r.appendFrame("GetLazyStateCompletionNotificationMessage.Frame", nil, version)
 }
 
-// AppendFrame appends the frame that Frame returns to a slice, as append does. The errors are those of Frame.
+// AppendFrame appends the frame that Frame returns to a slice, as append does, whose room has no bytes of the
+// record. The errors are those of Frame.
 func (r *GetLazyStateCompletionNotificationMessage) AppendFrame(dst []byte, version int) ([]byte, error) {
-	to, err := placeOfFrame("AppendFrame", SchemaGetLazyStateCompletionNotificationMessage, version, CodeGetLazyStateCompletionNotification)
+	return r.appendFrame("GetLazyStateCompletionNotificationMessage.AppendFrame", dst, version)
+}
+
+func (r *GetLazyStateCompletionNotificationMessage) appendFrame(call string, dst []byte, version int) ([]byte, error) {
+	to, err := placeOfFrame(call, SchemaGetLazyStateCompletionNotificationMessage, version, CodeGetLazyStateCompletionNotification)
 	if err != nil {
 		return dst, err
 	}
@@ -3501,32 +3592,34 @@ func (r *GetPromiseCompletionNotificationMessage) Schema() int {
 
 // MarshalBinary returns the canonical payload. The error is a *FieldError, ErrTooLong or ErrOutOfMemory.
 func (r *GetPromiseCompletionNotificationMessage) MarshalBinary() ([]byte, error) {
-	return r.appendTo(nil, &place{call: "MarshalBinary", schema: SchemaGetPromiseCompletionNotificationMessage})
+	return r.appendTo(nil, &place{call: "GetPromiseCompletionNotificationMessage.MarshalBinary", schema: SchemaGetPromiseCompletionNotificationMessage})
 }
 
-// AppendBinary appends the canonical payload to a slice, as append does. The errors are those of MarshalBinary.
+// AppendBinary appends the canonical payload to a slice, as append does, whose room has no bytes of the record.
+// The errors are those of MarshalBinary.
 func (r *GetPromiseCompletionNotificationMessage) AppendBinary(dst []byte) ([]byte, error) {
-	return r.appendTo(dst, &place{call: "AppendBinary", schema: SchemaGetPromiseCompletionNotificationMessage})
+	return r.appendTo(dst, &place{call: "GetPromiseCompletionNotificationMessage.AppendBinary", schema: SchemaGetPromiseCompletionNotificationMessage})
 }
 
 // UnmarshalBinary reads a payload, in any encoding. Bytes in the record are parts of it, without a copy, or of its
 // canonical encoding. The errors are those of Canonical.
 func (r *GetPromiseCompletionNotificationMessage) UnmarshalBinary(payload []byte) error {
-	return unmarshal(r, payload)
+	return readRecord("GetPromiseCompletionNotificationMessage.UnmarshalBinary", r, payload)
 }
 
 // Frame returns the message as a frame of a version: its header, and its canonical payload. The errors are those of MarshalBinary and Frame.
 func (r *GetPromiseCompletionNotificationMessage) Frame(version int) ([]byte, error) {
-	to, err := placeOfFrame("Frame", SchemaGetPromiseCompletionNotificationMessage, version, CodeGetPromiseCompletionNotification)
-	if err != nil {
-		return nil, err
-	}
-	return r.appendTo(nil, &to)
+	return r.appendFrame("GetPromiseCompletionNotificationMessage.Frame", nil, version)
 }
 
-// AppendFrame appends the frame that Frame returns to a slice, as append does. The errors are those of Frame.
+// AppendFrame appends the frame that Frame returns to a slice, as append does, whose room has no bytes of the
+// record. The errors are those of Frame.
 func (r *GetPromiseCompletionNotificationMessage) AppendFrame(dst []byte, version int) ([]byte, error) {
-	to, err := placeOfFrame("AppendFrame", SchemaGetPromiseCompletionNotificationMessage, version, CodeGetPromiseCompletionNotification)
+	return r.appendFrame("GetPromiseCompletionNotificationMessage.AppendFrame", dst, version)
+}
+
+func (r *GetPromiseCompletionNotificationMessage) appendFrame(call string, dst []byte, version int) ([]byte, error) {
+	to, err := placeOfFrame(call, SchemaGetPromiseCompletionNotificationMessage, version, CodeGetPromiseCompletionNotification)
 	if err != nil {
 		return dst, err
 	}
@@ -3612,32 +3705,34 @@ func (r *PeekPromiseCompletionNotificationMessage) Schema() int {
 
 // MarshalBinary returns the canonical payload. The error is a *FieldError, ErrTooLong or ErrOutOfMemory.
 func (r *PeekPromiseCompletionNotificationMessage) MarshalBinary() ([]byte, error) {
-	return r.appendTo(nil, &place{call: "MarshalBinary", schema: SchemaPeekPromiseCompletionNotificationMessage})
+	return r.appendTo(nil, &place{call: "PeekPromiseCompletionNotificationMessage.MarshalBinary", schema: SchemaPeekPromiseCompletionNotificationMessage})
 }
 
-// AppendBinary appends the canonical payload to a slice, as append does. The errors are those of MarshalBinary.
+// AppendBinary appends the canonical payload to a slice, as append does, whose room has no bytes of the record.
+// The errors are those of MarshalBinary.
 func (r *PeekPromiseCompletionNotificationMessage) AppendBinary(dst []byte) ([]byte, error) {
-	return r.appendTo(dst, &place{call: "AppendBinary", schema: SchemaPeekPromiseCompletionNotificationMessage})
+	return r.appendTo(dst, &place{call: "PeekPromiseCompletionNotificationMessage.AppendBinary", schema: SchemaPeekPromiseCompletionNotificationMessage})
 }
 
 // UnmarshalBinary reads a payload, in any encoding. Bytes in the record are parts of it, without a copy, or of its
 // canonical encoding. The errors are those of Canonical.
 func (r *PeekPromiseCompletionNotificationMessage) UnmarshalBinary(payload []byte) error {
-	return unmarshal(r, payload)
+	return readRecord("PeekPromiseCompletionNotificationMessage.UnmarshalBinary", r, payload)
 }
 
 // Frame returns the message as a frame of a version: its header, and its canonical payload. The errors are those of MarshalBinary and Frame.
 func (r *PeekPromiseCompletionNotificationMessage) Frame(version int) ([]byte, error) {
-	to, err := placeOfFrame("Frame", SchemaPeekPromiseCompletionNotificationMessage, version, CodePeekPromiseCompletionNotification)
-	if err != nil {
-		return nil, err
-	}
-	return r.appendTo(nil, &to)
+	return r.appendFrame("PeekPromiseCompletionNotificationMessage.Frame", nil, version)
 }
 
-// AppendFrame appends the frame that Frame returns to a slice, as append does. The errors are those of Frame.
+// AppendFrame appends the frame that Frame returns to a slice, as append does, whose room has no bytes of the
+// record. The errors are those of Frame.
 func (r *PeekPromiseCompletionNotificationMessage) AppendFrame(dst []byte, version int) ([]byte, error) {
-	to, err := placeOfFrame("AppendFrame", SchemaPeekPromiseCompletionNotificationMessage, version, CodePeekPromiseCompletionNotification)
+	return r.appendFrame("PeekPromiseCompletionNotificationMessage.AppendFrame", dst, version)
+}
+
+func (r *PeekPromiseCompletionNotificationMessage) appendFrame(call string, dst []byte, version int) ([]byte, error) {
+	to, err := placeOfFrame(call, SchemaPeekPromiseCompletionNotificationMessage, version, CodePeekPromiseCompletionNotification)
 	if err != nil {
 		return dst, err
 	}
@@ -3723,32 +3818,34 @@ func (r *GetInvocationOutputCompletionNotificationMessage) Schema() int {
 
 // MarshalBinary returns the canonical payload. The error is a *FieldError, ErrTooLong or ErrOutOfMemory.
 func (r *GetInvocationOutputCompletionNotificationMessage) MarshalBinary() ([]byte, error) {
-	return r.appendTo(nil, &place{call: "MarshalBinary", schema: SchemaGetInvocationOutputCompletionNotificationMessage})
+	return r.appendTo(nil, &place{call: "GetInvocationOutputCompletionNotificationMessage.MarshalBinary", schema: SchemaGetInvocationOutputCompletionNotificationMessage})
 }
 
-// AppendBinary appends the canonical payload to a slice, as append does. The errors are those of MarshalBinary.
+// AppendBinary appends the canonical payload to a slice, as append does, whose room has no bytes of the record.
+// The errors are those of MarshalBinary.
 func (r *GetInvocationOutputCompletionNotificationMessage) AppendBinary(dst []byte) ([]byte, error) {
-	return r.appendTo(dst, &place{call: "AppendBinary", schema: SchemaGetInvocationOutputCompletionNotificationMessage})
+	return r.appendTo(dst, &place{call: "GetInvocationOutputCompletionNotificationMessage.AppendBinary", schema: SchemaGetInvocationOutputCompletionNotificationMessage})
 }
 
 // UnmarshalBinary reads a payload, in any encoding. Bytes in the record are parts of it, without a copy, or of its
 // canonical encoding. The errors are those of Canonical.
 func (r *GetInvocationOutputCompletionNotificationMessage) UnmarshalBinary(payload []byte) error {
-	return unmarshal(r, payload)
+	return readRecord("GetInvocationOutputCompletionNotificationMessage.UnmarshalBinary", r, payload)
 }
 
 // Frame returns the message as a frame of a version: its header, and its canonical payload. The errors are those of MarshalBinary and Frame.
 func (r *GetInvocationOutputCompletionNotificationMessage) Frame(version int) ([]byte, error) {
-	to, err := placeOfFrame("Frame", SchemaGetInvocationOutputCompletionNotificationMessage, version, CodeGetInvocationOutputCompletionNotification)
-	if err != nil {
-		return nil, err
-	}
-	return r.appendTo(nil, &to)
+	return r.appendFrame("GetInvocationOutputCompletionNotificationMessage.Frame", nil, version)
 }
 
-// AppendFrame appends the frame that Frame returns to a slice, as append does. The errors are those of Frame.
+// AppendFrame appends the frame that Frame returns to a slice, as append does, whose room has no bytes of the
+// record. The errors are those of Frame.
 func (r *GetInvocationOutputCompletionNotificationMessage) AppendFrame(dst []byte, version int) ([]byte, error) {
-	to, err := placeOfFrame("AppendFrame", SchemaGetInvocationOutputCompletionNotificationMessage, version, CodeGetInvocationOutputCompletionNotification)
+	return r.appendFrame("GetInvocationOutputCompletionNotificationMessage.AppendFrame", dst, version)
+}
+
+func (r *GetInvocationOutputCompletionNotificationMessage) appendFrame(call string, dst []byte, version int) ([]byte, error) {
+	to, err := placeOfFrame(call, SchemaGetInvocationOutputCompletionNotificationMessage, version, CodeGetInvocationOutputCompletionNotification)
 	if err != nil {
 		return dst, err
 	}
@@ -3833,32 +3930,34 @@ func (r *CompletePromiseCompletionNotificationMessage) Schema() int {
 
 // MarshalBinary returns the canonical payload. The error is a *FieldError, ErrTooLong or ErrOutOfMemory.
 func (r *CompletePromiseCompletionNotificationMessage) MarshalBinary() ([]byte, error) {
-	return r.appendTo(nil, &place{call: "MarshalBinary", schema: SchemaCompletePromiseCompletionNotificationMessage})
+	return r.appendTo(nil, &place{call: "CompletePromiseCompletionNotificationMessage.MarshalBinary", schema: SchemaCompletePromiseCompletionNotificationMessage})
 }
 
-// AppendBinary appends the canonical payload to a slice, as append does. The errors are those of MarshalBinary.
+// AppendBinary appends the canonical payload to a slice, as append does, whose room has no bytes of the record.
+// The errors are those of MarshalBinary.
 func (r *CompletePromiseCompletionNotificationMessage) AppendBinary(dst []byte) ([]byte, error) {
-	return r.appendTo(dst, &place{call: "AppendBinary", schema: SchemaCompletePromiseCompletionNotificationMessage})
+	return r.appendTo(dst, &place{call: "CompletePromiseCompletionNotificationMessage.AppendBinary", schema: SchemaCompletePromiseCompletionNotificationMessage})
 }
 
 // UnmarshalBinary reads a payload, in any encoding. Bytes in the record are parts of it, without a copy, or of its
 // canonical encoding. The errors are those of Canonical.
 func (r *CompletePromiseCompletionNotificationMessage) UnmarshalBinary(payload []byte) error {
-	return unmarshal(r, payload)
+	return readRecord("CompletePromiseCompletionNotificationMessage.UnmarshalBinary", r, payload)
 }
 
 // Frame returns the message as a frame of a version: its header, and its canonical payload. The errors are those of MarshalBinary and Frame.
 func (r *CompletePromiseCompletionNotificationMessage) Frame(version int) ([]byte, error) {
-	to, err := placeOfFrame("Frame", SchemaCompletePromiseCompletionNotificationMessage, version, CodeCompletePromiseCompletionNotification)
-	if err != nil {
-		return nil, err
-	}
-	return r.appendTo(nil, &to)
+	return r.appendFrame("CompletePromiseCompletionNotificationMessage.Frame", nil, version)
 }
 
-// AppendFrame appends the frame that Frame returns to a slice, as append does. The errors are those of Frame.
+// AppendFrame appends the frame that Frame returns to a slice, as append does, whose room has no bytes of the
+// record. The errors are those of Frame.
 func (r *CompletePromiseCompletionNotificationMessage) AppendFrame(dst []byte, version int) ([]byte, error) {
-	to, err := placeOfFrame("AppendFrame", SchemaCompletePromiseCompletionNotificationMessage, version, CodeCompletePromiseCompletionNotification)
+	return r.appendFrame("CompletePromiseCompletionNotificationMessage.AppendFrame", dst, version)
+}
+
+func (r *CompletePromiseCompletionNotificationMessage) appendFrame(call string, dst []byte, version int) ([]byte, error) {
+	to, err := placeOfFrame(call, SchemaCompletePromiseCompletionNotificationMessage, version, CodeCompletePromiseCompletionNotification)
 	if err != nil {
 		return dst, err
 	}
@@ -3932,32 +4031,34 @@ func (r *CallCompletionNotificationMessage) Schema() int {
 
 // MarshalBinary returns the canonical payload. The error is a *FieldError, ErrTooLong or ErrOutOfMemory.
 func (r *CallCompletionNotificationMessage) MarshalBinary() ([]byte, error) {
-	return r.appendTo(nil, &place{call: "MarshalBinary", schema: SchemaCallCompletionNotificationMessage})
+	return r.appendTo(nil, &place{call: "CallCompletionNotificationMessage.MarshalBinary", schema: SchemaCallCompletionNotificationMessage})
 }
 
-// AppendBinary appends the canonical payload to a slice, as append does. The errors are those of MarshalBinary.
+// AppendBinary appends the canonical payload to a slice, as append does, whose room has no bytes of the record.
+// The errors are those of MarshalBinary.
 func (r *CallCompletionNotificationMessage) AppendBinary(dst []byte) ([]byte, error) {
-	return r.appendTo(dst, &place{call: "AppendBinary", schema: SchemaCallCompletionNotificationMessage})
+	return r.appendTo(dst, &place{call: "CallCompletionNotificationMessage.AppendBinary", schema: SchemaCallCompletionNotificationMessage})
 }
 
 // UnmarshalBinary reads a payload, in any encoding. Bytes in the record are parts of it, without a copy, or of its
 // canonical encoding. The errors are those of Canonical.
 func (r *CallCompletionNotificationMessage) UnmarshalBinary(payload []byte) error {
-	return unmarshal(r, payload)
+	return readRecord("CallCompletionNotificationMessage.UnmarshalBinary", r, payload)
 }
 
 // Frame returns the message as a frame of a version: its header, and its canonical payload. The errors are those of MarshalBinary and Frame.
 func (r *CallCompletionNotificationMessage) Frame(version int) ([]byte, error) {
-	to, err := placeOfFrame("Frame", SchemaCallCompletionNotificationMessage, version, CodeCallCompletionNotification)
-	if err != nil {
-		return nil, err
-	}
-	return r.appendTo(nil, &to)
+	return r.appendFrame("CallCompletionNotificationMessage.Frame", nil, version)
 }
 
-// AppendFrame appends the frame that Frame returns to a slice, as append does. The errors are those of Frame.
+// AppendFrame appends the frame that Frame returns to a slice, as append does, whose room has no bytes of the
+// record. The errors are those of Frame.
 func (r *CallCompletionNotificationMessage) AppendFrame(dst []byte, version int) ([]byte, error) {
-	to, err := placeOfFrame("AppendFrame", SchemaCallCompletionNotificationMessage, version, CodeCallCompletionNotification)
+	return r.appendFrame("CallCompletionNotificationMessage.AppendFrame", dst, version)
+}
+
+func (r *CallCompletionNotificationMessage) appendFrame(call string, dst []byte, version int) ([]byte, error) {
+	to, err := placeOfFrame(call, SchemaCallCompletionNotificationMessage, version, CodeCallCompletionNotification)
 	if err != nil {
 		return dst, err
 	}
@@ -4031,32 +4132,34 @@ func (r *RunCompletionNotificationMessage) Schema() int {
 
 // MarshalBinary returns the canonical payload. The error is a *FieldError, ErrTooLong or ErrOutOfMemory.
 func (r *RunCompletionNotificationMessage) MarshalBinary() ([]byte, error) {
-	return r.appendTo(nil, &place{call: "MarshalBinary", schema: SchemaRunCompletionNotificationMessage})
+	return r.appendTo(nil, &place{call: "RunCompletionNotificationMessage.MarshalBinary", schema: SchemaRunCompletionNotificationMessage})
 }
 
-// AppendBinary appends the canonical payload to a slice, as append does. The errors are those of MarshalBinary.
+// AppendBinary appends the canonical payload to a slice, as append does, whose room has no bytes of the record.
+// The errors are those of MarshalBinary.
 func (r *RunCompletionNotificationMessage) AppendBinary(dst []byte) ([]byte, error) {
-	return r.appendTo(dst, &place{call: "AppendBinary", schema: SchemaRunCompletionNotificationMessage})
+	return r.appendTo(dst, &place{call: "RunCompletionNotificationMessage.AppendBinary", schema: SchemaRunCompletionNotificationMessage})
 }
 
 // UnmarshalBinary reads a payload, in any encoding. Bytes in the record are parts of it, without a copy, or of its
 // canonical encoding. The errors are those of Canonical.
 func (r *RunCompletionNotificationMessage) UnmarshalBinary(payload []byte) error {
-	return unmarshal(r, payload)
+	return readRecord("RunCompletionNotificationMessage.UnmarshalBinary", r, payload)
 }
 
 // Frame returns the message as a frame of a version: its header, and its canonical payload. The errors are those of MarshalBinary and Frame.
 func (r *RunCompletionNotificationMessage) Frame(version int) ([]byte, error) {
-	to, err := placeOfFrame("Frame", SchemaRunCompletionNotificationMessage, version, CodeRunCompletionNotification)
-	if err != nil {
-		return nil, err
-	}
-	return r.appendTo(nil, &to)
+	return r.appendFrame("RunCompletionNotificationMessage.Frame", nil, version)
 }
 
-// AppendFrame appends the frame that Frame returns to a slice, as append does. The errors are those of Frame.
+// AppendFrame appends the frame that Frame returns to a slice, as append does, whose room has no bytes of the
+// record. The errors are those of Frame.
 func (r *RunCompletionNotificationMessage) AppendFrame(dst []byte, version int) ([]byte, error) {
-	to, err := placeOfFrame("AppendFrame", SchemaRunCompletionNotificationMessage, version, CodeRunCompletionNotification)
+	return r.appendFrame("RunCompletionNotificationMessage.AppendFrame", dst, version)
+}
+
+func (r *RunCompletionNotificationMessage) appendFrame(call string, dst []byte, version int) ([]byte, error) {
+	to, err := placeOfFrame(call, SchemaRunCompletionNotificationMessage, version, CodeRunCompletionNotification)
 	if err != nil {
 		return dst, err
 	}
@@ -4130,32 +4233,34 @@ func (r *AttachInvocationCompletionNotificationMessage) Schema() int {
 
 // MarshalBinary returns the canonical payload. The error is a *FieldError, ErrTooLong or ErrOutOfMemory.
 func (r *AttachInvocationCompletionNotificationMessage) MarshalBinary() ([]byte, error) {
-	return r.appendTo(nil, &place{call: "MarshalBinary", schema: SchemaAttachInvocationCompletionNotificationMessage})
+	return r.appendTo(nil, &place{call: "AttachInvocationCompletionNotificationMessage.MarshalBinary", schema: SchemaAttachInvocationCompletionNotificationMessage})
 }
 
-// AppendBinary appends the canonical payload to a slice, as append does. The errors are those of MarshalBinary.
+// AppendBinary appends the canonical payload to a slice, as append does, whose room has no bytes of the record.
+// The errors are those of MarshalBinary.
 func (r *AttachInvocationCompletionNotificationMessage) AppendBinary(dst []byte) ([]byte, error) {
-	return r.appendTo(dst, &place{call: "AppendBinary", schema: SchemaAttachInvocationCompletionNotificationMessage})
+	return r.appendTo(dst, &place{call: "AttachInvocationCompletionNotificationMessage.AppendBinary", schema: SchemaAttachInvocationCompletionNotificationMessage})
 }
 
 // UnmarshalBinary reads a payload, in any encoding. Bytes in the record are parts of it, without a copy, or of its
 // canonical encoding. The errors are those of Canonical.
 func (r *AttachInvocationCompletionNotificationMessage) UnmarshalBinary(payload []byte) error {
-	return unmarshal(r, payload)
+	return readRecord("AttachInvocationCompletionNotificationMessage.UnmarshalBinary", r, payload)
 }
 
 // Frame returns the message as a frame of a version: its header, and its canonical payload. The errors are those of MarshalBinary and Frame.
 func (r *AttachInvocationCompletionNotificationMessage) Frame(version int) ([]byte, error) {
-	to, err := placeOfFrame("Frame", SchemaAttachInvocationCompletionNotificationMessage, version, CodeAttachInvocationCompletionNotification)
-	if err != nil {
-		return nil, err
-	}
-	return r.appendTo(nil, &to)
+	return r.appendFrame("AttachInvocationCompletionNotificationMessage.Frame", nil, version)
 }
 
-// AppendFrame appends the frame that Frame returns to a slice, as append does. The errors are those of Frame.
+// AppendFrame appends the frame that Frame returns to a slice, as append does, whose room has no bytes of the
+// record. The errors are those of Frame.
 func (r *AttachInvocationCompletionNotificationMessage) AppendFrame(dst []byte, version int) ([]byte, error) {
-	to, err := placeOfFrame("AppendFrame", SchemaAttachInvocationCompletionNotificationMessage, version, CodeAttachInvocationCompletionNotification)
+	return r.appendFrame("AttachInvocationCompletionNotificationMessage.AppendFrame", dst, version)
+}
+
+func (r *AttachInvocationCompletionNotificationMessage) appendFrame(call string, dst []byte, version int) ([]byte, error) {
+	to, err := placeOfFrame(call, SchemaAttachInvocationCompletionNotificationMessage, version, CodeAttachInvocationCompletionNotification)
 	if err != nil {
 		return dst, err
 	}
@@ -4221,32 +4326,34 @@ func (r *SleepCompletionNotificationMessage) Schema() int {
 
 // MarshalBinary returns the canonical payload. The error is a *FieldError, ErrTooLong or ErrOutOfMemory.
 func (r *SleepCompletionNotificationMessage) MarshalBinary() ([]byte, error) {
-	return r.appendTo(nil, &place{call: "MarshalBinary", schema: SchemaSleepCompletionNotificationMessage})
+	return r.appendTo(nil, &place{call: "SleepCompletionNotificationMessage.MarshalBinary", schema: SchemaSleepCompletionNotificationMessage})
 }
 
-// AppendBinary appends the canonical payload to a slice, as append does. The errors are those of MarshalBinary.
+// AppendBinary appends the canonical payload to a slice, as append does, whose room has no bytes of the record.
+// The errors are those of MarshalBinary.
 func (r *SleepCompletionNotificationMessage) AppendBinary(dst []byte) ([]byte, error) {
-	return r.appendTo(dst, &place{call: "AppendBinary", schema: SchemaSleepCompletionNotificationMessage})
+	return r.appendTo(dst, &place{call: "SleepCompletionNotificationMessage.AppendBinary", schema: SchemaSleepCompletionNotificationMessage})
 }
 
 // UnmarshalBinary reads a payload, in any encoding. Bytes in the record are parts of it, without a copy, or of its
 // canonical encoding. The errors are those of Canonical.
 func (r *SleepCompletionNotificationMessage) UnmarshalBinary(payload []byte) error {
-	return unmarshal(r, payload)
+	return readRecord("SleepCompletionNotificationMessage.UnmarshalBinary", r, payload)
 }
 
 // Frame returns the message as a frame of a version: its header, and its canonical payload. The errors are those of MarshalBinary and Frame.
 func (r *SleepCompletionNotificationMessage) Frame(version int) ([]byte, error) {
-	to, err := placeOfFrame("Frame", SchemaSleepCompletionNotificationMessage, version, CodeSleepCompletionNotification)
-	if err != nil {
-		return nil, err
-	}
-	return r.appendTo(nil, &to)
+	return r.appendFrame("SleepCompletionNotificationMessage.Frame", nil, version)
 }
 
-// AppendFrame appends the frame that Frame returns to a slice, as append does. The errors are those of Frame.
+// AppendFrame appends the frame that Frame returns to a slice, as append does, whose room has no bytes of the
+// record. The errors are those of Frame.
 func (r *SleepCompletionNotificationMessage) AppendFrame(dst []byte, version int) ([]byte, error) {
-	to, err := placeOfFrame("AppendFrame", SchemaSleepCompletionNotificationMessage, version, CodeSleepCompletionNotification)
+	return r.appendFrame("SleepCompletionNotificationMessage.AppendFrame", dst, version)
+}
+
+func (r *SleepCompletionNotificationMessage) appendFrame(call string, dst []byte, version int) ([]byte, error) {
+	to, err := placeOfFrame(call, SchemaSleepCompletionNotificationMessage, version, CodeSleepCompletionNotification)
 	if err != nil {
 		return dst, err
 	}
@@ -4297,32 +4404,34 @@ func (r *GetLazyStateKeysCompletionNotificationMessage) Schema() int {
 
 // MarshalBinary returns the canonical payload. The error is a *FieldError, ErrTooLong or ErrOutOfMemory.
 func (r *GetLazyStateKeysCompletionNotificationMessage) MarshalBinary() ([]byte, error) {
-	return r.appendTo(nil, &place{call: "MarshalBinary", schema: SchemaGetLazyStateKeysCompletionNotificationMessage})
+	return r.appendTo(nil, &place{call: "GetLazyStateKeysCompletionNotificationMessage.MarshalBinary", schema: SchemaGetLazyStateKeysCompletionNotificationMessage})
 }
 
-// AppendBinary appends the canonical payload to a slice, as append does. The errors are those of MarshalBinary.
+// AppendBinary appends the canonical payload to a slice, as append does, whose room has no bytes of the record.
+// The errors are those of MarshalBinary.
 func (r *GetLazyStateKeysCompletionNotificationMessage) AppendBinary(dst []byte) ([]byte, error) {
-	return r.appendTo(dst, &place{call: "AppendBinary", schema: SchemaGetLazyStateKeysCompletionNotificationMessage})
+	return r.appendTo(dst, &place{call: "GetLazyStateKeysCompletionNotificationMessage.AppendBinary", schema: SchemaGetLazyStateKeysCompletionNotificationMessage})
 }
 
 // UnmarshalBinary reads a payload, in any encoding. Bytes in the record are parts of it, without a copy, or of its
 // canonical encoding. The errors are those of Canonical.
 func (r *GetLazyStateKeysCompletionNotificationMessage) UnmarshalBinary(payload []byte) error {
-	return unmarshal(r, payload)
+	return readRecord("GetLazyStateKeysCompletionNotificationMessage.UnmarshalBinary", r, payload)
 }
 
 // Frame returns the message as a frame of a version: its header, and its canonical payload. The errors are those of MarshalBinary and Frame.
 func (r *GetLazyStateKeysCompletionNotificationMessage) Frame(version int) ([]byte, error) {
-	to, err := placeOfFrame("Frame", SchemaGetLazyStateKeysCompletionNotificationMessage, version, CodeGetLazyStateKeysCompletionNotification)
-	if err != nil {
-		return nil, err
-	}
-	return r.appendTo(nil, &to)
+	return r.appendFrame("GetLazyStateKeysCompletionNotificationMessage.Frame", nil, version)
 }
 
-// AppendFrame appends the frame that Frame returns to a slice, as append does. The errors are those of Frame.
+// AppendFrame appends the frame that Frame returns to a slice, as append does, whose room has no bytes of the
+// record. The errors are those of Frame.
 func (r *GetLazyStateKeysCompletionNotificationMessage) AppendFrame(dst []byte, version int) ([]byte, error) {
-	to, err := placeOfFrame("AppendFrame", SchemaGetLazyStateKeysCompletionNotificationMessage, version, CodeGetLazyStateKeysCompletionNotification)
+	return r.appendFrame("GetLazyStateKeysCompletionNotificationMessage.AppendFrame", dst, version)
+}
+
+func (r *GetLazyStateKeysCompletionNotificationMessage) appendFrame(call string, dst []byte, version int) ([]byte, error) {
+	to, err := placeOfFrame(call, SchemaGetLazyStateKeysCompletionNotificationMessage, version, CodeGetLazyStateKeysCompletionNotification)
 	if err != nil {
 		return dst, err
 	}
@@ -4373,32 +4482,34 @@ func (r *CallInvocationIdCompletionNotificationMessage) Schema() int {
 
 // MarshalBinary returns the canonical payload. The error is a *FieldError, ErrTooLong or ErrOutOfMemory.
 func (r *CallInvocationIdCompletionNotificationMessage) MarshalBinary() ([]byte, error) {
-	return r.appendTo(nil, &place{call: "MarshalBinary", schema: SchemaCallInvocationIdCompletionNotificationMessage})
+	return r.appendTo(nil, &place{call: "CallInvocationIdCompletionNotificationMessage.MarshalBinary", schema: SchemaCallInvocationIdCompletionNotificationMessage})
 }
 
-// AppendBinary appends the canonical payload to a slice, as append does. The errors are those of MarshalBinary.
+// AppendBinary appends the canonical payload to a slice, as append does, whose room has no bytes of the record.
+// The errors are those of MarshalBinary.
 func (r *CallInvocationIdCompletionNotificationMessage) AppendBinary(dst []byte) ([]byte, error) {
-	return r.appendTo(dst, &place{call: "AppendBinary", schema: SchemaCallInvocationIdCompletionNotificationMessage})
+	return r.appendTo(dst, &place{call: "CallInvocationIdCompletionNotificationMessage.AppendBinary", schema: SchemaCallInvocationIdCompletionNotificationMessage})
 }
 
 // UnmarshalBinary reads a payload, in any encoding. Bytes in the record are parts of it, without a copy, or of its
 // canonical encoding. The errors are those of Canonical.
 func (r *CallInvocationIdCompletionNotificationMessage) UnmarshalBinary(payload []byte) error {
-	return unmarshal(r, payload)
+	return readRecord("CallInvocationIdCompletionNotificationMessage.UnmarshalBinary", r, payload)
 }
 
 // Frame returns the message as a frame of a version: its header, and its canonical payload. The errors are those of MarshalBinary and Frame.
 func (r *CallInvocationIdCompletionNotificationMessage) Frame(version int) ([]byte, error) {
-	to, err := placeOfFrame("Frame", SchemaCallInvocationIdCompletionNotificationMessage, version, CodeCallInvocationIdCompletionNotification)
-	if err != nil {
-		return nil, err
-	}
-	return r.appendTo(nil, &to)
+	return r.appendFrame("CallInvocationIdCompletionNotificationMessage.Frame", nil, version)
 }
 
-// AppendFrame appends the frame that Frame returns to a slice, as append does. The errors are those of Frame.
+// AppendFrame appends the frame that Frame returns to a slice, as append does, whose room has no bytes of the
+// record. The errors are those of Frame.
 func (r *CallInvocationIdCompletionNotificationMessage) AppendFrame(dst []byte, version int) ([]byte, error) {
-	to, err := placeOfFrame("AppendFrame", SchemaCallInvocationIdCompletionNotificationMessage, version, CodeCallInvocationIdCompletionNotification)
+	return r.appendFrame("CallInvocationIdCompletionNotificationMessage.AppendFrame", dst, version)
+}
+
+func (r *CallInvocationIdCompletionNotificationMessage) appendFrame(call string, dst []byte, version int) ([]byte, error) {
+	to, err := placeOfFrame(call, SchemaCallInvocationIdCompletionNotificationMessage, version, CodeCallInvocationIdCompletionNotification)
 	if err != nil {
 		return dst, err
 	}
@@ -4469,32 +4580,34 @@ func (r *SignalNotificationMessage) Schema() int {
 
 // MarshalBinary returns the canonical payload. The error is a *FieldError, ErrTooLong or ErrOutOfMemory.
 func (r *SignalNotificationMessage) MarshalBinary() ([]byte, error) {
-	return r.appendTo(nil, &place{call: "MarshalBinary", schema: SchemaSignalNotificationMessage})
+	return r.appendTo(nil, &place{call: "SignalNotificationMessage.MarshalBinary", schema: SchemaSignalNotificationMessage})
 }
 
-// AppendBinary appends the canonical payload to a slice, as append does. The errors are those of MarshalBinary.
+// AppendBinary appends the canonical payload to a slice, as append does, whose room has no bytes of the record.
+// The errors are those of MarshalBinary.
 func (r *SignalNotificationMessage) AppendBinary(dst []byte) ([]byte, error) {
-	return r.appendTo(dst, &place{call: "AppendBinary", schema: SchemaSignalNotificationMessage})
+	return r.appendTo(dst, &place{call: "SignalNotificationMessage.AppendBinary", schema: SchemaSignalNotificationMessage})
 }
 
 // UnmarshalBinary reads a payload, in any encoding. Bytes in the record are parts of it, without a copy, or of its
 // canonical encoding. The errors are those of Canonical.
 func (r *SignalNotificationMessage) UnmarshalBinary(payload []byte) error {
-	return unmarshal(r, payload)
+	return readRecord("SignalNotificationMessage.UnmarshalBinary", r, payload)
 }
 
 // Frame returns the message as a frame of a version: its header, and its canonical payload. The errors are those of MarshalBinary and Frame.
 func (r *SignalNotificationMessage) Frame(version int) ([]byte, error) {
-	to, err := placeOfFrame("Frame", SchemaSignalNotificationMessage, version, CodeSignalNotification)
-	if err != nil {
-		return nil, err
-	}
-	return r.appendTo(nil, &to)
+	return r.appendFrame("SignalNotificationMessage.Frame", nil, version)
 }
 
-// AppendFrame appends the frame that Frame returns to a slice, as append does. The errors are those of Frame.
+// AppendFrame appends the frame that Frame returns to a slice, as append does, whose room has no bytes of the
+// record. The errors are those of Frame.
 func (r *SignalNotificationMessage) AppendFrame(dst []byte, version int) ([]byte, error) {
-	to, err := placeOfFrame("AppendFrame", SchemaSignalNotificationMessage, version, CodeSignalNotification)
+	return r.appendFrame("SignalNotificationMessage.AppendFrame", dst, version)
+}
+
+func (r *SignalNotificationMessage) appendFrame(call string, dst []byte, version int) ([]byte, error) {
+	to, err := placeOfFrame(call, SchemaSignalNotificationMessage, version, CodeSignalNotification)
 	if err != nil {
 		return dst, err
 	}
@@ -4610,18 +4723,19 @@ func (r *NotificationTemplate) Schema() int {
 
 // MarshalBinary returns the canonical payload. The error is a *FieldError, ErrTooLong or ErrOutOfMemory.
 func (r *NotificationTemplate) MarshalBinary() ([]byte, error) {
-	return r.appendTo(nil, &place{call: "MarshalBinary", schema: SchemaNotificationTemplate})
+	return r.appendTo(nil, &place{call: "NotificationTemplate.MarshalBinary", schema: SchemaNotificationTemplate})
 }
 
-// AppendBinary appends the canonical payload to a slice, as append does. The errors are those of MarshalBinary.
+// AppendBinary appends the canonical payload to a slice, as append does, whose room has no bytes of the record.
+// The errors are those of MarshalBinary.
 func (r *NotificationTemplate) AppendBinary(dst []byte) ([]byte, error) {
-	return r.appendTo(dst, &place{call: "AppendBinary", schema: SchemaNotificationTemplate})
+	return r.appendTo(dst, &place{call: "NotificationTemplate.AppendBinary", schema: SchemaNotificationTemplate})
 }
 
 // UnmarshalBinary reads a payload, in any encoding. Bytes in the record are parts of it, without a copy, or of its
 // canonical encoding. The errors are those of Canonical.
 func (r *NotificationTemplate) UnmarshalBinary(payload []byte) error {
-	return unmarshal(r, payload)
+	return readRecord("NotificationTemplate.UnmarshalBinary", r, payload)
 }
 
 func (r *NotificationTemplate) read(table *fieldTable, level uint64) error {

@@ -298,8 +298,8 @@ func TestErrorsLeaveTheSliceAsItWas(t *testing.T) {
 		}
 	}
 	for version, text := range map[int]string{
-		4:  "pendratsoa: AppendFrame: unknown protocol version 4 (5 to 9)",
-		-1: "pendratsoa: AppendFrame: unknown protocol version -1 (5 to 9)",
+		4:  "pendratsoa: SetStateCommandMessage.AppendFrame: unknown protocol version 4 (5 to 9)",
+		-1: "pendratsoa: SetStateCommandMessage.AppendFrame: unknown protocol version -1 (5 to 9)",
 	} {
 		found, err := new(SetStateCommandMessage).AppendFrame(dst, version)
 		if len(found) != 3 {

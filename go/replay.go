@@ -31,6 +31,8 @@ type Mismatch struct {
 }
 
 // A Replay checks a replay by its recording, item by item as it comes. It keeps nothing of the replay.
+//
+// NewReplay makes one. Several goroutines may use it only one at a time.
 type Replay struct {
 	version  int
 	recorded []byte

@@ -4,6 +4,7 @@ import (
 	"fmt"
 	"strings"
 	"sync/atomic"
+	"unsafe"
 )
 
 // LibraryVersion returns the version of the library, as "0.3.0".
@@ -115,20 +116,25 @@ const (
 // Header returns the eight bytes that come before a payload of this length. ErrUnknown for an unknown version and for
 // an unassigned code; ErrTooLong for a length of more than 4,294,967,295 bytes, ErrNegative for one below 0.
 func Header(version int, code uint16, payloadLength int) ([]byte, error) {
-	number, err := unsigned("Header", versionName, version)
+	return headerOf("Header", version, code, payloadLength)
+}
+
+// headerOf is Header for a call, which an error names.
+func headerOf(call string, version int, code uint16, payloadLength int) ([]byte, error) {
+	number, err := unsigned(call, versionName, version)
 	if err != nil {
 		return nil, err
 	}
 	if payloadLength < 0 {
-		return nil, &Error{"Header", named("length", payloadLength), ErrNegative}
+		return nil, &Error{call, named("length", payloadLength), ErrNegative}
 	}
-	length, err := unsigned("Header", "length", payloadLength)
+	length, err := unsigned(call, "length", payloadLength)
 	if err != nil {
-		return nil, &Error{"Header", named("length", payloadLength), ErrTooLong}
+		return nil, &Error{call, named("length", payloadLength), ErrTooLong}
 	}
 	header, result := written(headerSize, func(out []byte) int64 { return journalHeader(number, code, length, out) })
 	if result < 0 {
-		return nil, versionAndCode(version, code).refusal("Header", result)
+		return nil, versionAndCode(version, code).refusal(call, result)
 	}
 	return header, nil
 }
@@ -152,7 +158,7 @@ func appendFrame(call string, dst []byte, version int, code uint16, payload []by
 	if err != nil {
 		return dst, err
 	}
-	extended, result := appended(dst, headerSize+len(payload), func(out []byte) int64 {
+	extended, result := appended(apart(dst, payload), headerSize+len(payload), func(out []byte) int64 {
 		return journalFrame(number, code, payload, out)
 	})
 	if result < 0 {
@@ -176,7 +182,7 @@ func earlierSchema(version int, code uint16) (schema int, isEarlier bool) {
 // appendEarlierFrame appends the frame of a payload whose schema the type has at earlier versions only, and which Frame
 // would read by the later one. ErrUnknown if the version has another.
 func appendEarlierFrame(call string, dst []byte, version int, code uint16, schema int, payload []byte) ([]byte, error) {
-	found, err := Schema(version, code)
+	found, err := schemaOf(call, version, code)
 	if err != nil {
 		return dst, err
 	}
@@ -184,11 +190,11 @@ func appendEarlierFrame(call string, dst []byte, version int, code uint16, schem
 		given := named(versionName, version)
 		return dst, &Error{call, given, unknownError(given + " has no message of this record")}
 	}
-	canonical, err := Canonical(schema, payload)
+	canonical, err := canonicalOf(call, schema, payload)
 	if err != nil {
 		return dst, err
 	}
-	header, err := Header(version, code, len(canonical))
+	header, err := headerOf(call, version, code, len(canonical))
 	if err != nil {
 		return dst, err
 	}
@@ -231,6 +237,20 @@ func appended(dst []byte, room int, call func(out []byte) int64) ([]byte, int64)
 		}
 		dst = withRoom(dst, int(length))
 	}
+}
+
+// apart returns a slice without the room after it if a source has bytes there: the library reads nothing that it
+// writes to.
+func apart(dst, source []byte) []byte {
+	room := dst[len(dst):cap(dst)]
+	if len(room) == 0 || len(source) == 0 {
+		return dst
+	}
+	begin, from := uintptr(unsafe.Pointer(&room[0])), uintptr(unsafe.Pointer(&source[0]))
+	if from < begin+uintptr(len(room)) && begin < from+uintptr(len(source)) {
+		return dst[:len(dst):len(dst)]
+	}
+	return dst
 }
 
 // roomFor returns the slice with room for at least a number of further bytes, and for about as many more as come next
