@@ -51,6 +51,6 @@ trap 'rm -f build/new.node' EXIT
 # shellcheck disable=SC2086 # the flags are split
 $compiler -std=c11 -O2 -fPIC -fvisibility=hidden -Wall -Wextra -Wpedantic -Wconversion -Wshadow ${CFLAGS-} \
   -isystem "$folder" -I "$header_folder" -shared -Wl,--exclude-libs,ALL -Wl,-z,now \
-  -o build/new.node src/addon.c src/arguments.c "$library"
+  -o build/new.node src/addon.c src/arguments.c src/room.c "$library"
 mv build/new.node build/pendratsoa.node
 echo 'build.sh: built build/pendratsoa.node'

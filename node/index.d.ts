@@ -11,8 +11,13 @@
  * ```
  *
  * Bytes are a `Uint8Array` (a `Buffer` is one). One over a `SharedArrayBuffer`, which another thread may change
- * meanwhile, or whose buffer is detached, is a `TypeError`, as is any value of another kind than is declared here. What
- * is returned is the caller's, in memory of its own.
+ * meanwhile, or whose buffer is detached, is a `TypeError`, as is any value of another kind than is declared here.
+ *
+ * What is returned is the caller's: it is never written to again, and shares none of its bytes with another result.
+ * Only the bytes in a record are parts of its payload. Any other array of less than 4,096 bytes is a part of a block of
+ * 8,192 with other results, as Node has its Buffers in a pool: `buffer` is the block, `byteOffset` where the part
+ * begins in it. A part that is kept keeps its block. Nothing is to transfer a block: `bytes.slice()` and
+ * `Uint8Array.from(bytes)` have memory of their own.
  *
  * Options are an object. A name in it that the call does not take is a `TypeError`, so that no misspelled option is
  * ignored.
@@ -124,7 +129,7 @@ export class Message<T extends TypeName = TypeName> {
   get offset(): number | undefined;
 
   /**
-   * The message as received, byte for byte, in an array of its own: what a proxy passes on if it does not change it. If
+   * The message as received, byte for byte, a copy at each access: what a proxy passes on if it does not change it. If
    * it came in no stream, its payload as it is after the header of its type.
    * @throws {Unknown} it came in no stream, and there is no such version or type
    */
@@ -135,7 +140,7 @@ export class Message<T extends TypeName = TypeName> {
 
   /**
    * The record that its payload means, which is decoded at each access; undefined of a custom entry, which has no
-   * record. Bytes in it are parts of the payload, or of its canonical encoding; those of a short payload may be copies.
+   * record. Bytes in it are parts of the payload, or of its canonical encoding.
    * @throws {Malformed} the payload is not well-formed for its schema
    * @throws {Unknown} it came in no stream, and there is no such version or type
    */
@@ -270,7 +275,7 @@ export class Skipped {
   /** Undefined: no record is known of its type. */
   record<N extends MessageName>(name: N): Records[N] | undefined;
 
-  /** The message as received, byte for byte, in an array of its own. */
+  /** The message as received, byte for byte, a copy at each access. */
   get bytes(): Uint8Array;
 
   /** A line of a listing, as `'skipped 0x8 2'`. */
@@ -287,27 +292,27 @@ export interface StreamOptions {
    * message with a larger payload is a `MessageTooLong` as soon as its header came, and ends the stream: what came is
    * dropped, and from then on each loop, `feed` and `finish` throw that error.
    */
-  maxMessageSize?: number;
+  maxMessageSize?: number | undefined;
 
   /**
    * By which payloads are read that are at other field numbers; without it they are at those of the protocol. A payload
    * that cannot be read is `Malformed`, with the type and the offset of its message; the next loop goes on after it.
    */
-  numbering?: Numbering;
+  numbering?: Numbering | undefined;
 }
 
 /** What a frame is written by. Any other name is a `TypeError`. */
 export interface FrameOptions {
   /** By which a payload is written at other field numbers; without it it is at those of the protocol. */
-  numbering?: Numbering;
+  numbering?: Numbering | undefined;
 }
 
 /**
  * A stream that comes in chunks of any size. It iterates over the items that are there as a whole: each loop continues
  * where the one before stopped, and ends when no whole item is left; a chunk may be fed meanwhile.
  *
- * A chunk is copied as it is fed, and a payload as it is taken, so that neither changes with the other, and either may
- * be transferred to a worker. The memory of a stream is proportional to the pending bytes.
+ * A chunk is copied as it is fed, and a payload as it is taken, so that neither changes with the other, and a chunk may
+ * be transferred to a worker then. The memory of a stream is proportional to the pending bytes.
  */
 export class Stream implements Iterable<Item> {
   /**
@@ -324,9 +329,8 @@ export class Stream implements Iterable<Item> {
   get rest(): number;
 
   /**
-   * The pending bytes, in an array of their own. Once the whole items are taken, they are the beginning of the next
-   * one. At the end of a stream a proxy passes them on after the last item: `finish` leaves them. After a
-   * `MessageTooLong` there are none.
+   * A copy of the pending bytes. Once the whole items are taken, they are the beginning of the next one. At the end of
+   * a stream a proxy passes them on after the last item: `finish` leaves them. After a `MessageTooLong` there are none.
    */
   get trailing(): Uint8Array;
 
@@ -474,7 +478,7 @@ export function writeRecord<N extends SchemaName>(schema: N, record: Init<Record
 /** What a numbering is made of, besides a descriptor set. Any other name is a `TypeError`. */
 export interface NumberingOptions {
   /** The names that messages have in the set, each with its name in the protocol; by default none. */
-  readonly renames?: Readonly<Record<string, string>>;
+  readonly renames?: Readonly<Record<string, string>> | undefined;
 }
 
 /**
@@ -577,7 +581,7 @@ export interface CompareOptions {
    * Whether the content of user data (values, parameters) is left out of the comparison, but not that of a signal; by
    * default it is not.
    */
-  readonly ignorePayloads?: boolean;
+  readonly ignorePayloads?: boolean | undefined;
 }
 
 /** How a replay is checked. Any other name is a `TypeError`. */
@@ -586,7 +590,7 @@ export interface ReplayOptions extends CompareOptions {
    * Whether completion ids are left out of the comparison, which shift behind an inserted command; by default they are
    * not.
    */
-  readonly ignoreIds?: boolean;
+  readonly ignoreIds?: boolean | undefined;
 }
 
 /**
@@ -732,8 +736,9 @@ export class Replay {
 // Errors.
 
 /**
- * A call failed. The message names the call, the argument that it failed for, and its value. Of this class itself is
- * the error that the library returned a number which this module does not know, as a later one may.
+ * A call failed. The message names the call, the argument that it failed for, and its value; no call if what is wrong
+ * is not an argument, as the payload of an item. Of this class itself is the error that the library returned a number
+ * which this module does not know, as a later one may.
  */
 export class JournalError extends Error {
   constructor(message?: string, details?: { call?: string; argument?: string; value?: unknown });

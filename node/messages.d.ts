@@ -10,6 +10,7 @@ export type CombinatorType = number;
 
 /** The names of the values of `CombinatorType`. */
 export const CombinatorType: {
+  /** The number 0, which is the only one with a name. */
   readonly COMBINATOR_TYPE_ZERO: 0;
 };
 
@@ -18,7 +19,9 @@ export type ErrorBehavior = number;
 
 /** The names of the values of `ErrorBehavior`. */
 export const ErrorBehavior: {
+  /** The service retries the invocation. */
   readonly RETRY: 0;
+  /** The service pauses the invocation. */
   readonly PAUSE: 1;
 };
 

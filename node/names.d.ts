@@ -59,44 +59,85 @@ export type SchemaName =
 
 /** The name of a named type. */
 export type NamedType =
+  /** Starts or resumes an invocation. */
   | 'Start'
+  /** Suspends the invocation until something that it awaits is there. */
   | 'Suspension'
+  /** Ends the attempt with an error, after which the service may retry. */
   | 'Error'
+  /** Ends the invocation. */
   | 'End'
+  /** Proposes the result of a run. */
   | 'ProposeRunCompletion'
+  /** Says what the invocation waits for. */
   | 'AwaitingOn'
+  /** Says that the proposed result of a run was recorded. */
   | 'ProposeRunCompletionAck'
+  /** Reads the value of a key, without recording it in the journal. */
   | 'GetStateEphemeralCommand'
+  /** The value of a key that was read without recording it. */
   | 'GetStateEphemeralNotification'
+  /** The input of the handler. */
   | 'InputCommand'
+  /** The output of the handler. */
   | 'OutputCommand'
+  /** Reads the value of a key. */
   | 'GetLazyStateCommand'
+  /** Sets the value of a key. */
   | 'SetStateCommand'
+  /** Clears a key. */
   | 'ClearStateCommand'
+  /** Clears all keys. */
   | 'ClearAllStateCommand'
+  /** Reads all keys. */
   | 'GetLazyStateKeysCommand'
+  /** Reads the value of a key from the state in the start message. */
   | 'GetEagerStateCommand'
+  /** Reads all keys from the state in the start message. */
   | 'GetEagerStateKeysCommand'
+  /** Awaits a promise. */
   | 'GetPromiseCommand'
+  /** Reads the result of a promise, without awaiting it. */
   | 'PeekPromiseCommand'
+  /** Completes a promise. */
   | 'CompletePromiseCommand'
+  /** Sleeps until a time. */
   | 'SleepCommand'
+  /** Calls a handler and awaits its result. */
   | 'CallCommand'
+  /** Calls a handler without awaiting its result. */
   | 'OneWayCallCommand'
+  /** Sends a signal to an invocation. */
   | 'SendSignalCommand'
+  /** Runs a side effect, whose result is recorded. */
   | 'RunCommand'
+  /** Awaits the result of an invocation. */
   | 'AttachInvocationCommand'
+  /** Reads the result of an invocation, without awaiting it. */
   | 'GetInvocationOutputCommand'
+  /** Completes an awakeable. */
   | 'CompleteAwakeableCommand'
+  /** The value of a key that was read. */
   | 'GetLazyStateCompletionNotification'
+  /** All keys that were read. */
   | 'GetLazyStateKeysCompletionNotification'
+  /** The result of an awaited promise. */
   | 'GetPromiseCompletionNotification'
+  /** The result of a promise, which was read without awaiting it. */
   | 'PeekPromiseCompletionNotification'
+  /** Whether a promise was completed. */
   | 'CompletePromiseCompletionNotification'
+  /** A sleep is over. */
   | 'SleepCompletionNotification'
+  /** The result of a call. */
   | 'CallCompletionNotification'
+  /** The id of the invocation that a call started. */
   | 'CallInvocationIdCompletionNotification'
+  /** The recorded result of a run. */
   | 'RunCompletionNotification'
+  /** The result of an awaited invocation. */
   | 'AttachInvocationCompletionNotification'
+  /** The result of an invocation, which was read without awaiting it. */
   | 'GetInvocationOutputCompletionNotification'
+  /** A signal. */
   | 'SignalNotification';

@@ -173,7 +173,7 @@ uint64_t pendratsoa_blocks(void) {
     return taken - (room_block != NULL);
 }
 
-/* From now on the memory does not become larger than this many bytes; what it has it keeps. */
+/* From now on no more than this many bytes, up to the end of their page, are taken; what the memory has it keeps. */
 EXPORT(pendratsoa_limit)
 void pendratsoa_limit(size_t bytes) {
     limit = bytes < MOST ? bytes : MOST;

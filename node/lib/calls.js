@@ -16,6 +16,7 @@ import {
 } from './declared.js';
 import { Unknown, notKnown, notTaken, refusal, wrongKind } from './errors.js';
 import { optionsOf } from './options.js';
+import { Scratch, copied, copiedFrom } from './pool.js';
 import { schemaNumber } from './schemas.js';
 import { isText, texts } from './text.js';
 
@@ -25,7 +26,7 @@ const encoder = new TextEncoder();
 
 // What calls write to, and read of texts that are short. No JavaScript of others runs between a call and the reading of
 // it.
-const scratch = new Uint8Array(65536);
+const scratch = new Scratch(new ArrayBuffer(65536));
 const head = new Uint8Array(8);
 const SHORT_TEXT = 4096;
 let scratchText;
@@ -37,12 +38,15 @@ export function libraryVersion() {
   return filled((out) => addon.libraryVersion(out), { call: 'libraryVersion' }, textOf);
 }
 
-// What the library returned of types, and would return again: of named ones by version and code, and the names and the
-// codes of the first so many, since custom entries have some sixty thousand.
-const typesOf = new Map();
+// What the library returned of types, and would return again: of named ones by version and code or name, and the names
+// and the codes of the first so many, since custom entries have some sixty thousand.
+const typesOf = [];
+const namedOf = [];
 const namesOf = new Map();
 const codesOf = new Map();
 const MOST_REMEMBERED = 256;
+// The greatest length of a payload.
+const MOST_LENGTH = 0xffffffff;
 
 /** What a map has of a key, or what a call returns, which is then in the map. */
 function remembered(map, key, call) {
@@ -59,13 +63,31 @@ function remembered(map, key, call) {
 
 /** What is remembered of a named type at a version. */
 function typeOf(version, code) {
-  const found = typesOf.get(version)?.get(code);
+  const found = foundIn(typesOf, version, code);
   if (found !== undefined) {
     return found;
   }
   const number = checked(addon.schema(version, code), { call: 'schema', version, code });
-  const type = { schema: number, requestsAck: undefined, heads: [] };
-  typesOf.set(version, (typesOf.get(version) ?? new Map()).set(code, type));
+  return remember(typesOf, version, code, { code, schema: number, high: undefined });
+}
+
+/** The same of a type by its name, or by its code. */
+export function typeNamed(version, name) {
+  if (typeof name !== 'string') {
+    return typeOf(version, name);
+  }
+  return foundIn(namedOf, version, name) ?? remember(namedOf, version, name, typeOf(version, typeCode(name)));
+}
+
+/** What is remembered of a key at a version, which is a number. */
+function foundIn(types, version, key) {
+  return typeof version === 'number' ? types[version]?.get(key) : undefined;
+}
+
+/** Remembers a type by a key at a version that there is. */
+function remember(types, version, key, type) {
+  types[version] ??= new Map();
+  types[version].set(key, type);
   return type;
 }
 
@@ -73,12 +95,28 @@ export function schema(version, code) {
   return typeOf(version, code).schema;
 }
 
-/** Whether the header of a named type requests an acknowledgement at a version. */
-export function requestsAck(version, code) {
-  const type = typeOf(version, code);
-  // the flag is the high bit of the third byte
-  type.requestsAck ??= headOf(version, code, 0)[2] >= 0x80;
-  return type.requestsAck;
+/** The upper half of the header of a named type at a version. The lower one is the length of the payload. */
+export function highOf(version, type) {
+  type.high ??= highIn(headOf(version, type.code, 0));
+  return type.high;
+}
+
+/** The same of any type by its code, for a payload of a length. */
+export function highFor(version, code, payloadLength) {
+  const type = foundIn(typesOf, version, code);
+  // the library rejects any other length
+  const isKnown = type !== undefined && payloadLength <= MOST_LENGTH;
+  return isKnown ? highOf(version, type) : highIn(headOf(version, code, payloadLength));
+}
+
+/** Whether a header requests an acknowledgement, by its upper half. */
+export function requestsAck(high) {
+  return (high & 0x8000) !== 0;
+}
+
+/** The upper half of the bytes of a header, with the sign of its first bit, so that V8 needs no memory for it. */
+function highIn([first, second, third, fourth]) {
+  return (first << 24) | (second << 16) | (third << 8) | fourth;
 }
 
 export function typeName(code) {
@@ -126,17 +164,7 @@ export function schemaOf(version, code) {
 }
 
 export function header(version, code, payloadLength) {
-  return headOf(version, code, payloadLength).slice();
-}
-
-/** The header of a message, which is not to be changed: that of a named type is remembered for each short length. */
-export function headFor(version, code, payloadLength) {
-  const heads = typesOf.get(version)?.get(code)?.heads;
-  if (heads === undefined || payloadLength >= MOST_REMEMBERED) {
-    return headOf(version, code, payloadLength);
-  }
-  heads[payloadLength] ??= header(version, code, payloadLength);
-  return heads[payloadLength];
+  return copied(headOf(version, code, payloadLength), 0, head.length);
 }
 
 /** A header, in bytes that the next one is written to. */
@@ -151,6 +179,14 @@ export function frame(version, code, payload, call = 'frame') {
 }
 
 export function frameInto(version, code, payload, out) {
+  if (out instanceof Uint8Array && payload?.buffer === out.buffer) {
+    // the library does not take what it writes to as what it reads
+    const found = frame(version, code, payload, 'frameInto');
+    if (found.length <= out.length) {
+      out.set(found);
+    }
+    return found.length;
+  }
   return checked(addon.frame(version, code, payload, out), { call: 'frameInto', version, code, payload });
 }
 
@@ -199,7 +235,7 @@ export function notification(code, payload) {
   const idKind = kindOf(ID_KINDS, idNumber, given, 'kind of id');
   const resultKind = kindOf(RESULT_KINDS, resultNumber, given, 'kind of result');
   const id = idKind === 'signalName' ? text(found.subarray(0, nameLength)) : number;
-  return { idKind, id, resultKind, result: found.slice(nameLength) };
+  return { idKind, id, resultKind, result: copied(found, nameLength, found.length) };
 }
 
 export function headerEq(code, first, second, options) {
@@ -236,7 +272,7 @@ export function checked(returned, given) {
  * array for it, up to a length.
  */
 function filled(call, given, take) {
-  let out = scratch;
+  let out = scratch.bytes;
   for (;;) {
     const needed = checked(call(out), given);
     if (needed <= out.length) {
@@ -251,14 +287,14 @@ export function written(call, given) {
   return filled(call, given, (out, length) => out.subarray(0, length));
 }
 
-/** The same in an array of their own. */
+/** The same, which are the caller's. */
 export function bytesWritten(call, given) {
   return filled(call, given, bytesOf);
 }
 
-/** Bytes that were written, in an array of their own. */
+/** Bytes that were written, which are the caller's. */
 function bytesOf(out, length) {
-  return out === scratch ? out.slice(0, length) : out.subarray(0, length);
+  return out === scratch.bytes ? copiedFrom(scratch, length) : out.subarray(0, length);
 }
 
 function textOf(out, length) {

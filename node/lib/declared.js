@@ -5,96 +5,147 @@
 export const FIRST_VERSION = 5;
 export const LAST_VERSION = 9;
 
-/** The kinds of items: a message; before version 9 an unassigned code, whose eight bytes are skipped; at version 9 a message of an unknown type, skipped with its payload. */
+/** The kinds of items. */
 export const ITEM_KINDS = [
+  /** A message. */
   'message',
+  /** Before version 9 an unassigned code, whose eight bytes are skipped. */
   'unknownCode',
+  /** From version 9 on a message of an unknown type, skipped with its payload. */
   'skipped',
 ];
 
 /** What kind of a result it is when a JSON text is read: a payload, or why there is none. */
 export const READINGS = [
+  /** The text means a value, whose canonical payload is written. */
   'read',
+  /** It is not JSON, or not UTF-8, or nested more than one thousand levels deep. */
   'notJson',
+  /** A member has no name of a field of its message. */
   'unknownMember',
+  /** Two members have a name of the same field. */
   'repeatedMember',
+  /** Two members of one oneof are there. */
   'severalMembers',
+  /** A value is of another kind than its field. */
   'wrongKind',
+  /** A number is not whole, or not in the range of its field. */
   'outOfRange',
+  /** A string for bytes is not base64. */
   'notBase64',
+  /** A message is nested more than one hundred levels deep. */
   'tooDeep',
 ];
 
 /** The kinds of fields. */
 export const FIELD_KINDS = [
   undefined,
+  /** The value is the number. */
   'fieldUint32',
+  /** The value is the number. */
   'fieldUint64',
+  /** The value is 0 or 1. */
   'fieldBool',
+  /** The value is the number, an int32, sign-extended to 64 bits. */
   'fieldEnum',
+  /** UTF-8, at the offset. */
   'fieldString',
+  /** At the offset. */
   'fieldBytes',
+  /** A payload, at the offset; the value is the number of its schema. */
   'fieldMessage',
 ];
 
 /** What kind of a result it is when a payload is written from a table: written, or why an entry may not come. */
 export const WRITINGS = [
+  /** The payload is written. */
   'written',
+  /** The schema of its message has no field of its number. */
   'unknownField',
+  /** Its field is before the last one, or is that one, not repeated and in no oneof. */
   'outOfOrder',
+  /** The last field is in the same oneof, also if it is its own field. */
   'severalMembers',
+  /** Its kind is not that of its field, or it is a message of another schema. */
   'wrongKind',
+  /** Its value is not in the range of its kind. */
   'outOfRange',
+  /** Its bytes should be a text, and are not UTF-8. */
   'notUtf8',
+  /** Its bytes are not within those that are given. */
   'outOfBounds',
+  /** It is deeper than the last entry, and no field of that. */
   'wrongLevel',
+  /** It is a message that is nested more than one hundred levels deep. */
   'tooDeep',
 ];
 
 /** The kinds of a notification's id. */
 export const ID_KINDS = [
+  /** The id is that of a completion, a number. */
   'completionId',
+  /** The id is that of a signal, a number. */
   'signalId',
+  /** The id is the name of a signal, a text. */
   'signalName',
 ];
 
 /** The kinds of a notification's result. */
 export const RESULT_KINDS = [
+  /** The result says that there is no value; it is empty. */
   'void',
+  /** The result is the canonical payload of a Value. */
   'value',
+  /** The result is the canonical payload of a Failure. */
   'failure',
+  /** The result is the text of an invocation id. */
   'invocationId',
+  /** The result is the canonical payload of StateKeys. */
   'stateKeys',
 ];
 
 /** How two journals compare. */
 export const VERDICT_KINDS = [
+  /** Each command is the same as the other's at its index; the index is their count. */
   'same',
+  /** The replayed journal has a command more, at this index. */
   'recordedEnded',
+  /** The recorded journal has a command more, at this index. */
   'replayedEnded',
+  /** The first commands that differ, at this index, are of two types. */
   'typeMismatch',
+  /** The first commands that differ, at this index, are of one type. */
   'headerMismatch',
+  /** The recorded command at this index is malformed; all before it are the same. */
   'badRecorded',
+  /** The replayed command at this index is malformed, the recorded one is not. */
   'badReplayed',
 ];
 
 /** The options of a replay. Any of them may be set. */
 export const REPLAY_OPTIONS = [
   undefined,
+  /** The content of user data is not compared, but that of a signal is. */
   'ignorePayloads',
+  /** Completion ids are not compared, which shift behind an inserted command. */
   'ignoreIds',
 ];
 
 /** The directions of a numbering. */
 export const NUMBERING_DIRECTIONS = [
+  /** From the numbers of a descriptor set to the protocol's. */
   'reading',
+  /** From the protocol's numbers to those of a descriptor set. */
   'writing',
 ];
 
 /** What the text of a numbering is. */
 export const LIST_KINDS = [
+  /** Which messages and fields are the protocol's, as `journal schema` prints them. */
   'listed',
+  /** Why no numbering comes of the set, with the message and the field. */
   'noSet',
+  /** What is wrong with a rename. */
   'noRename',
 ];
 

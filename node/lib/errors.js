@@ -223,10 +223,14 @@ const NUMBERS = ` (0 to ${SCHEMA_NAMES.length - 1})`;
 const NOT_MEANT = ', or not of the kind that the call is for';
 const NO_FRAME = ': a custom entry has no frame of its own, and `bytes` of its message has it as received';
 
+/** Whether a call is for a frame, and takes the version of that. */
+function isFrame(call) {
+  return call === 'frame' || call === 'frameInto';
+}
+
 /** Whether a call is for a frame of a custom entry, whose code is one that no named type has. */
 function isCustomFrame(code, call) {
-  const isFrame = call === 'frame' || call === 'frameInto';
-  return isFrame && Number.isInteger(code) && code >= FIRST_CUSTOM && code <= LAST_CODE;
+  return isFrame(call) && Number.isInteger(code) && code >= FIRST_CUSTOM && code <= LAST_CODE;
 }
 
 /** The question whether a type was meant by the name of its record; nothing if it is of none. */
@@ -265,7 +269,7 @@ export function refusal(number, given) {
 
 /** The error that the library returned the number of an error, or of a kind, which only a later one has. */
 export function notKnown(call, what, number) {
-  const message = `${call}: the library returned the ${what} ${number}, which this module does not know`;
+  const message = `the library returned the ${what} ${number}, which this module does not know`;
   return new JournalError(message, { call });
 }
 
@@ -288,7 +292,7 @@ export function noNumbering({ call, set }, { reason, text }) {
 export function messageTooLong({ call, maxMessageSize: limit }, { name, typeCode, length, offset }) {
   const type = name === undefined ? codeText(typeCode) : `${name} (${codeText(typeCode)})`;
   const what = `a message of type ${type} at offset ${offset} has ${length} bytes`;
-  return new MessageTooLong(`${call}: ${what}, more than the limit of ${limit}`, {
+  return new MessageTooLong(`${what}, more than the limit of ${limit}`, {
     call,
     argument: 'maxMessageSize',
     value: limit,
@@ -301,25 +305,31 @@ export function messageTooLong({ call, maxMessageSize: limit }, { name, typeCode
 
 /** The error that a field cannot be encoded: what leads to it, and why. */
 export function fieldError(path, reason) {
-  return new FieldError(`payload: ${path}: ${REASONS[reason]}`, { call: 'payload', reason, path });
+  return new FieldError(`${path}: ${REASONS[reason]}`, { call: 'payload', reason, path });
 }
 
-/** An error of the payload of a message, with its type and its offset in its stream; any other error as it is. */
+/**
+ * An error of what a message has, without the name of a call: one of its payload with its type and its
+ * offset in its stream, and one of its code or its version. Any other error as it is.
+ */
 export function ofMessage(error, typeCode, name, offset) {
-  if (!(error instanceof PayloadError)) {
-    return error;
-  }
   const { call, argument, value, message } = error;
-  const where = offset === undefined ? '' : ` at offset ${offset}`;
-  const text = `${call}: ${name}${where}${message.slice(call.length)}`;
-  return new error.constructor(text, { call, argument, value, typeCode, offset });
+  if (error instanceof PayloadError) {
+    const where = offset === undefined ? '' : ` at offset ${offset}`;
+    const text = `${name}${where}${message.slice(call.length)}`;
+    return new error.constructor(text, { call, argument, value, typeCode, offset });
+  }
+  if (error instanceof Unknown && (argument === 'code' || !isFrame(call))) {
+    return new Unknown(message.slice(`${call}: `.length), { call, argument, value });
+  }
+  return error;
 }
 
 /** The error that a source ended within an item: its name or "an item", its type, its offset, and what came of it. */
 export function incomplete(call, { name, typeCode, offset, trailing }) {
   const what = call === 'finish' ? 'stream' : 'source';
   const came = byteCount(trailing.length);
-  const message = `${call}: the ${what} ended within ${name} at offset ${offset}, after ${came} of it`;
+  const message = `the ${what} ended within ${name} at offset ${offset}, after ${came} of it`;
   return new Incomplete(message, { call, typeCode, offset, trailing });
 }
 

@@ -1,23 +1,17 @@
 // Records and the table of fields: a record is read from the fields that the library finds in a payload, and written as
 // those of which the library makes one. Nothing is known here of how a payload is encoded.
 
-import { addon } from './addon.js';
 import { canonical, checked } from './calls.js';
-import {
-  FIELD,
-  FIELD_KINDS,
-  FIELD_NUMBERS,
-  UNKNOWN_SCHEMA,
-  WRITING,
-  WRITINGS,
-  WRITING_NUMBERS,
-} from './declared.js';
+import { FIELD, FIELD_KINDS, FIELD_NUMBERS, UNKNOWN_SCHEMA, WRITINGS } from './declared.js';
 import { NOT_CANONICAL, fieldError, notKnown, wrongKind } from './errors.js';
+import { copiedFrom, lengthOf } from './pool.js';
 import { RECORDS } from './records.js';
+import { FIRST, Room } from './room.js';
 import { schemaNumber } from './schemas.js';
 import { isText, texts } from './text.js';
 
 // The kinds of fields that are told apart here, by the numbers of the library.
+const U32 = FIELD_KINDS.indexOf('fieldUint32');
 const U64 = FIELD_KINDS.indexOf('fieldUint64');
 const BOOL = FIELD_KINDS.indexOf('fieldBool');
 const ENUM = FIELD_KINDS.indexOf('fieldEnum');
@@ -25,10 +19,12 @@ const TEXT = FIELD_KINDS.indexOf('fieldString');
 const BYTES = FIELD_KINDS.indexOf('fieldBytes');
 const MESSAGE = FIELD_KINDS.indexOf('fieldMessage');
 
-// How many entries there is room for at first.
-const ENTRIES = 512;
+const MOST_U32 = 0xffff_ffff;
 
-// Where the lower half of each number of an entry is, and how many halves there are.
+// The method itself, since V8 looks one up at each access.
+const { set } = Uint8Array.prototype;
+
+// Where the lower half of each number of an entry is.
 const LEVEL = 2 * FIELD.level;
 const NUMBER = 2 * FIELD.number;
 const KIND = 2 * FIELD.kind;
@@ -37,99 +33,143 @@ const OFFSET = 2 * FIELD.offset;
 const LENGTH = 2 * FIELD.length;
 const HALVES = 2 * FIELD_NUMBERS;
 
+// How many entries there is room for at first in what is read, and how many entries and bytes in what is written.
+const READ_ENTRIES = 512;
+const WRITTEN_ENTRIES = 16;
+const WRITTEN_BYTES = 1024;
+
 // Up to how many bytes a payload is made a text at once, and up to how many units a text is looked through here: of
 // what is short the calls are most of the time.
 const SHORT_PAYLOAD = 1024;
 const SHORT_TEXT = 128;
 
-// Up to how many bytes a payload that no one else has is copied for the call, and its bytes out of the copy. Memory of
-// so few bytes is given to native code and to views only after it was moved, which takes longer than both.
-const SHORT_BYTES = 64;
+// Up to how many bytes a payload that no one else has is copied for the call, and up to how many of them a loop copies.
+const SHORT_BYTES = 128;
+const FEW_BYTES = 12;
 
-/** The numbers of entries, each also as its two halves, which are numbers of JavaScript. */
-function Table(entries) {
-  this.numbers = new BigUint64Array(FIELD_NUMBERS * entries);
-  this.halves = new Uint32Array(this.numbers.buffer);
-}
+// The room for what is read, once it was needed and while no record is read.
+let reading;
 
-// What calls write to, and read from. No JavaScript of others runs between.
-const scratch = new Table(ENTRIES);
-const scratchBytes = new Uint8Array(16384);
-const writing = new BigUint64Array(WRITING_NUMBERS);
-const writingHalves = new Uint32Array(writing.buffer);
-
-// A copy of a short payload, and its parts of each length once they were needed.
-const shortBytes = new Uint8Array(SHORT_BYTES);
-const shortParts = [];
-
-for (const record of RECORDS) {
-  record.byNumber = [];
-  record.members = new Map();
-  for (const [name, number, kind, shape, holds, member] of record.rows) {
-    const row = { name, number, kind, shape, holds, member };
-    record.byNumber[number] = row;
-    if (shape !== 'member') {
-      record.members.set(name, row);
-    } else if (record.members.has(name)) {
-      record.members.get(name).cases.set(member, row);
-    } else {
-      record.members.set(name, { name, shape, cases: new Map([[member, row]]) });
-    }
+/** A field of a record, or a member of a oneof; the fields of a oneof are one, with its members as its cases. */
+class Row {
+  constructor([name, number, kind, shape, holds, member]) {
+    this.name = name;
+    this.number = number;
+    this.kind = kind;
+    this.shape = shape;
+    this.holds = holds;
+    this.member = member;
+    // whether it is left out where it is empty or 0, and whether it has one value of one kind
+    this.isPlain = shape === 'plain';
+    this.isOne = shape === 'plain' || shape === 'optional';
+    this.cases = undefined;
   }
-  record.entries = [...record.members.values()];
 }
+
+/** A record. All have the same class, and so V8 finds what they have at the same places. */
+class Schema {
+  constructor({ name, make, rows }) {
+    this.name = name;
+    this.make = make;
+    this.byNumber = [];
+    this.members = new Map();
+    for (const fields of rows) {
+      this.add(new Row(fields), new Row(fields));
+    }
+    this.entries = [...this.members.values()];
+  }
+
+  /** Adds a row, and a second one for its oneof if it is the first member of that. */
+  add(row, first) {
+    this.byNumber[row.number] = row;
+    if (row.shape !== 'member') {
+      this.members.set(row.name, row);
+      return;
+    }
+    if (!this.members.has(row.name)) {
+      first.cases = [];
+      this.members.set(row.name, first);
+    }
+    this.members.get(row.name).cases.push(row);
+  }
+}
+
+const SCHEMAS = RECORDS.map((record) => new Schema(record));
 
 /**
- * The record that a payload means, in any encoding. Bytes in it are parts of the payload, or of its canonical one, or
- * copies if the payload is short and `isOwn`: an array that a stream has made.
+ * The record that a payload means, in any encoding, for a call. Bytes in it are parts of the payload, or of its
+ * canonical one. One that `isOwn` is an array that a stream has made.
  */
-export function recordOf(schema, payload, isOwn = false) {
-  const given = { call: 'message', schema, payload };
-  let table = scratch;
-  let data = isOwn && payload.length <= SHORT_BYTES ? copyOf(payload) : payload;
-  let count = addon.fields(schema, data, table.numbers);
-  if (count === NOT_CANONICAL) {
-    data = canonical(schema, payload);
-    count = addon.fields(schema, data, table.numbers);
+export function recordOf(call, schema, payload, isOwn = false) {
+  const room = reading ?? new Room(READ_ENTRIES, SHORT_BYTES);
+  // a class of arrays may have methods of its own, which may come here again
+  reading = undefined;
+  try {
+    return recordBy(room, { call, schema, payload }, isOwn);
+  } finally {
+    reading = room;
   }
-  if (checked(count, given) > ENTRIES) {
-    table = new Table(count);
-    checked(addon.fields(schema, data, table.numbers), given);
-  }
-  if (schema >= RECORDS.length) {
-    throw notKnown('message', 'schema', schema);
-  }
-  return new Reader(table, count, data).record(RECORDS[schema], 0);
 }
 
-/** A copy of a short payload, which is only there until the next one. */
-function copyOf(payload) {
+/** The same by a room, or by a larger one if it has too few entries. */
+function recordBy(first, given, isOwn) {
+  const { call, schema, payload } = given;
+  let room = first;
+  let data = payload;
+  let count = isOwn && isShort(payload) ? readCopy(room, schema, payload) : room.read(schema, payload);
+  if (count === NOT_CANONICAL) {
+    data = canonical(schema, payload);
+    count = room.read(schema, data);
+  }
+  if (checked(count, given) > room.entries) {
+    room = new Room(count, 0);
+    checked(room.read(schema, data), given);
+  }
+  if (schema >= SCHEMAS.length) {
+    throw notKnown(call, 'schema', schema);
+  }
+  return new Reader(call, room, count, data).record(SCHEMAS[schema], 0);
+}
+
+/** Whether a payload is short, and not that of a detached buffer, which seems to be empty. */
+function isShort({ length }) {
+  return length > 0 && length <= SHORT_BYTES;
+}
+
+/** Reads a copy of a payload. */
+function readCopy(room, schema, payload) {
+  const { bytes } = room;
   const { length } = payload;
-  shortParts[length] ??= shortBytes.subarray(0, length);
-  shortParts[length].set(payload);
-  return shortParts[length];
+  if (length > FEW_BYTES) {
+    set.call(bytes, payload);
+  } else {
+    for (let at = 0; at < length; at += 1) {
+      bytes[at] = payload[at];
+    }
+  }
+  return room.readOwn(schema, length);
 }
 
 class Reader {
-  constructor(table, count, data) {
-    this.table = table;
-    this.end = HALVES * count;
+  constructor(call, room, count, data) {
+    this.call = call;
+    this.room = room;
+    this.end = FIRST + HALVES * count;
     this.data = data;
-    this.isCopy = data === shortParts[data.length];
     // each byte of a short payload as a unit, once a text is read
     this.units = undefined;
-    this.at = 0;
+    this.at = FIRST;
   }
 
   /** The record of the entries of a level, from the next one on. */
   record(record, level) {
     const found = record.make();
-    const { halves } = this.table;
+    const { halves } = this.room;
     while (this.at < this.end && halves[this.at + LEVEL] === level) {
       const { at } = this;
       const row = record.byNumber[halves[at + NUMBER]];
       if (row === undefined) {
-        throw notKnown('message', `field of ${record.name}`, halves[at + NUMBER]);
+        throw notKnown(this.call, `field of ${record.name}`, halves[at + NUMBER]);
       }
       this.at += HALVES;
       const value = this.value(row, halves, at, level);
@@ -145,7 +185,7 @@ class Reader {
   }
 
   bytes(begin, end) {
-    return this.isCopy ? this.data.slice(begin, end) : this.data.subarray(begin, end);
+    return this.data.subarray(begin, end);
   }
 
   text(begin, end) {
@@ -164,13 +204,13 @@ class Reader {
       case TEXT:
         return this.text(halves[at + OFFSET], halves[at + OFFSET] + halves[at + LENGTH]);
       case MESSAGE:
-        return this.record(RECORDS[holds], level + 1);
+        return this.record(SCHEMAS[holds], level + 1);
       case BOOL:
         return halves[at + VALUE] !== 0;
       case ENUM:
         return halves[at + VALUE] | 0;
       case U64:
-        return this.table.numbers[at / 2 + FIELD.value];
+        return this.room.numbers[(at + VALUE) / 2];
       default:
         return halves[at + VALUE];
     }
@@ -189,45 +229,25 @@ function areAscii(data, begin, end) {
 
 /** The canonical payload of a record. */
 export function payloadOf(schema, value) {
+  const writer = spare ?? new Writer();
   // a value may have getters, which may come here again
-  const writer = writers.pop() ?? new Writer();
+  spare = undefined;
   try {
     return writer.payload(schema, value);
   } finally {
     // one that a long record made large is not kept
-    if (writer.bytes.length <= 65536 && writer.table.numbers.length <= 8192) {
-      writers.push(writer);
-    }
+    spare = writer.bytes.length <= 65536 && writer.room.entries <= 1024 ? writer : undefined;
   }
 }
 
-/** What is not in use now. */
-const writers = [];
+/** What writes the next record, if it is not in use. */
+let spare;
 
 // The row of a record that is in no other one.
 const ROOT = { name: 'record', member: undefined };
 
-/** The payload that the table of a writer means. */
-function written(schema, writer) {
-  // places are within what the bytes have room for
-  const { bytes, size, count, table } = writer;
-  const fields = writer.fields(count);
-  let out = scratchBytes.length < size + 10 * count + 16 ? new Uint8Array(size + 10 * count + 16) : scratchBytes;
-  for (;;) {
-    const length = checked(addon.payloadOfFields(schema, fields, bytes, writing, out), { call: 'payload', schema });
-    const kind = writingHalves[2 * WRITING.kind];
-    if (kind !== 0) {
-      throw rejected(RECORDS[schema], table, writingHalves[2 * WRITING.index], kind);
-    }
-    if (length <= out.length) {
-      return out.slice(0, length);
-    }
-    out = new Uint8Array(length);
-  }
-}
-
 export function readRecord(schema, payload) {
-  return recordOf(known(schema, 'readRecord'), payload);
+  return recordOf('readRecord', known(schema, 'readRecord'), payload);
 }
 
 export function writeRecord(schema, record) {
@@ -236,30 +256,33 @@ export function writeRecord(schema, record) {
 
 /** The number of a schema that is given by its number or its name. */
 function known(schema, call) {
+  if (typeof schema !== 'string' && typeof schema !== 'number') {
+    throw wrongKind('schema', schema, 'a number or a name');
+  }
   const number = schemaNumber(schema);
-  return RECORDS[number] === undefined ? checked(UNKNOWN_SCHEMA, { call, schema }) : number;
+  return SCHEMAS[number] === undefined ? checked(UNKNOWN_SCHEMA, { call, schema }) : number;
 }
 
 class Writer {
   schema = 0;
-  table = new Table(16);
-  // the numbers of a table of so many entries, once they were needed
-  parts = [];
+  room = new Room(WRITTEN_ENTRIES, WRITTEN_BYTES);
+  // those of the room
+  halves = this.room.halves;
+  bytes = this.room.bytes;
   count = 0;
-  bytes = texts.unwritten(1024);
   size = 0;
 
   payload(schema, value) {
     this.schema = schema;
     this.count = 0;
     this.size = 0;
-    this.record(RECORDS[schema], value, 0, ROOT);
-    return written(schema, this);
-  }
-
-  fields(count) {
-    this.parts[count] ??= this.table.numbers.subarray(0, FIELD_NUMBERS * count);
-    return this.parts[count];
+    this.record(SCHEMAS[schema], value, 0, ROOT);
+    const { room } = this;
+    const length = checked(room.write(schema, this.count, this.size), { call: 'payload', schema });
+    if (room.kind !== 0) {
+      throw rejected(SCHEMAS[schema], room, room.index, room.kind);
+    }
+    return copiedFrom(room.out, length);
   }
 
   /** Appends the entries of a record, which is the value of a row. */
@@ -267,142 +290,214 @@ class Writer {
     if (typeof values !== 'object' || values === null) {
       throw notRecord(record, values, row);
     }
-    // the names of a record that was read are those of its fields, in their order
+    const { entries } = record;
     let next = 0;
+    // the names of a record that was read are those of its fields, in their order
     for (const name in values) {
-      if (record.entries[next]?.name === name) {
+      const entry = entries[next];
+      if (entry === undefined || entry.name !== name) {
+        next = this.passed(record, values, name, next, level, row);
+      } else {
         next += 1;
-      } else if (!record.members.has(name) && Object.hasOwn(values, name)) {
-        if (!mayBeRecord(record, values)) {
-          throw notRecord(record, values, row);
+        const value = values[name];
+        if (value === undefined) {
+          continue;
         }
-        throw wrongKind(name, values[name], `a field of ${record.name}, which has none of this name`);
+        if (entry.isOne) {
+          this.value(entry, value, level);
+        } else {
+          this.several(entry, value, level);
+        }
       }
     }
     // only what does not begin with its first field is looked at, so that a whole record takes no longer
     if (next === 0 && !mayBeRecord(record, values)) {
       throw notRecord(record, values, row);
     }
-    for (const entry of record.entries) {
+    if (next < entries.length) {
+      this.fields(entries, next, entries.length, values, level);
+    }
+  }
+
+  /** Appends the entries of the fields up to that of a name, which is not next, and returns which one is. */
+  passed(record, values, name, next, level, row) {
+    const { entries } = record;
+    const entry = record.members.get(name);
+    const isUnknown = entry === undefined && Object.hasOwn(values, name);
+    if ((isUnknown || next === 0) && !mayBeRecord(record, values)) {
+      throw notRecord(record, values, row);
+    }
+    if (isUnknown) {
+      throw wrongKind(name, values[name], `a field of ${record.name}, which has none of this name`);
+    }
+    const end = entry === undefined ? next : Math.max(next, entries.indexOf(entry) + 1);
+    this.fields(entries, next, end, values, level);
+    return end;
+  }
+
+  /** Appends the entries of the fields from one on to an end. */
+  fields(entries, begin, end, values, level) {
+    for (let index = begin; index < end; index += 1) {
+      const entry = entries[index];
       const value = values[entry.name];
       if (value !== undefined) {
-        this.field(entry, value, level);
+        if (entry.isOne) {
+          this.value(entry, value, level);
+        } else {
+          this.several(entry, value, level);
+        }
       }
     }
   }
 
-  /** Appends the entries of a field that is there. */
-  field(row, value, level) {
-    if (row.shape === 'repeated') {
-      if (!Array.isArray(value)) {
-        throw wrongKind(row.name, value, 'an array');
-      }
-      for (const element of value) {
-        this.value(row, element, level);
-      }
-    } else if (row.shape === 'member') {
-      const chosen = row.cases.get(value?.case);
+  /** Appends the entries of a field that may have several, or of one of several kinds. */
+  several(row, value, level) {
+    if (row.shape === 'member') {
+      const chosen = caseOf(row.cases, value?.case);
       if (chosen === undefined) {
-        throw wrongKind(row.name, value, `{ case, value } of ${[...row.cases.keys()].join(', ')}`);
+        throw wrongKind(row.name, value, `{ case, value } of ${row.cases.map(({ member }) => member).join(', ')}`);
       }
       this.value(chosen, value.value, level);
-    } else {
-      this.value(row, value, level);
+      return;
+    }
+    if (!Array.isArray(value)) {
+      throw wrongKind(row.name, value, 'an array');
+    }
+    for (const element of value) {
+      this.value(row, element, level);
     }
   }
 
   value(row, value, level) {
     switch (row.kind) {
-      case MESSAGE:
-        this.entry(row, level, row.holds);
-        this.record(RECORDS[row.holds], value, level + 1, row);
-        break;
       case BYTES:
         if (!(value instanceof Uint8Array)) {
-          throw wrongKind(row.member ?? row.name, value, 'a Uint8Array');
+          throw notOf(row, value, 'a Uint8Array');
         }
-        this.room(value.length);
-        this.bytes.set(value, this.size);
-        this.place(row, level, value.length);
+        this.entry(row, level, 0, this.put(value));
         break;
       case TEXT:
         if (typeof value !== 'string') {
-          throw wrongKind(row.member ?? row.name, value, 'a string');
+          throw notOf(row, value, 'a string');
         }
-        this.text(row, level, value);
+        if (value !== '' || !row.isPlain) {
+          this.entry(row, level, 0, this.text(value));
+        }
         break;
+      case MESSAGE:
+        this.entry(row, level, row.holds, 0);
+        this.record(SCHEMAS[row.holds], value, level + 1, row);
+        break;
+      case U32:
+        this.whole(row, value, level);
+        break;
+      default:
+        this.number(row, value, level);
+    }
+  }
+
+  /** Appends the entry of a number of 32 bits, if it is one that has an entry; most are. */
+  whole(row, value, level) {
+    if (typeof value === 'number' && value > 0 && value <= MOST_U32 && Number.isInteger(value)) {
+      this.entry(row, level, value, 0);
+    } else {
+      this.number(row, value, level);
+    }
+  }
+
+  /** Appends the entry of a number or a boolean. */
+  number(row, value, level) {
+    switch (row.kind) {
       case BOOL:
         if (typeof value !== 'boolean') {
-          throw wrongKind(row.member ?? row.name, value, 'a boolean');
+          throw notOf(row, value, 'a boolean');
         }
-        this.entry(row, level, value ? 1 : 0);
+        this.entry(row, level, value ? 1 : 0, 0);
         break;
       case U64:
         if (typeof value !== 'bigint') {
-          throw wrongKind(row.member ?? row.name, value, 'a bigint');
+          throw notOf(row, value, 'a bigint');
         }
-        this.entry(row, level, 0);
+        this.entry(row, level, 0, 0);
         if (value !== BigInt.asUintN(64, value)) {
-          throw fieldError(pathOf(RECORDS[this.schema], this.table, this.count - 1), 'outOfRange');
+          throw fieldError(pathOf(SCHEMAS[this.schema], this.room, this.count - 1), 'outOfRange');
         }
-        this.table.numbers[FIELD_NUMBERS * (this.count - 1) + FIELD.value] = value;
+        this.room.numbers[(this.last + VALUE) / 2] = value;
         break;
-      default: {
+      default:
         if (typeof value !== 'number') {
-          throw wrongKind(row.member ?? row.name, value, 'a number');
+          throw notOf(row, value, 'a number');
         }
         if (!Number.isSafeInteger(value)) {
-          throw wrongKind(row.member ?? row.name, value, 'a whole number');
+          throw notOf(row, value, 'a whole number');
         }
-        // which the library rejects if its kind cannot have it
-        this.entry(row, level, value);
-        this.table.halves[HALVES * (this.count - 1) + VALUE + 1] = Math.floor(value / 0x1_0000_0000);
-      }
+        if (value !== 0 || !row.isPlain) {
+          // which the library rejects if its kind cannot have it
+          this.entry(row, level, value, 0);
+          if (value < 0 || value > MOST_U32) {
+            this.halves[this.last + VALUE + 1] = Math.floor(value / 0x1_0000_0000);
+          }
+        }
     }
   }
 
-  /** Appends an entry with a value below 2^32. */
-  entry({ number, kind }, level, value) {
-    let { table } = this;
-    let at = HALVES * this.count;
-    if (at === table.halves.length) {
-      table = new Table((2 * at) / HALVES);
-      table.numbers.set(this.table.numbers);
-      this.table = table;
-      this.parts = [];
+  /** Where the last entry is. */
+  get last() {
+    return FIRST + HALVES * (this.count - 1);
+  }
+
+  /** Appends an entry with a value below 2^32, and with so many of the bytes that were written. */
+  entry({ number, kind }, level, value, length) {
+    if (this.count === this.room.entries) {
+      this.grow(2 * this.count, this.bytes.length);
     }
-    table.halves[at + LEVEL] = level;
-    table.halves[at + NUMBER] = number;
-    table.halves[at + KIND] = kind;
-    table.halves[at + VALUE] = value;
-    // the table had other entries before; the upper halves of their places are never set
-    table.halves[at + VALUE + 1] = 0;
-    table.halves[at + OFFSET] = 0;
-    table.halves[at + LENGTH] = 0;
+    const { halves } = this;
+    const at = FIRST + HALVES * this.count;
+    halves[at + LEVEL] = level;
+    halves[at + NUMBER] = number;
+    halves[at + KIND] = kind;
+    halves[at + VALUE] = value;
+    // the room had other entries before; the upper halves of their places are never set
+    halves[at + VALUE + 1] = 0;
+    halves[at + OFFSET] = this.size;
+    halves[at + LENGTH] = length;
+    this.size += length;
     this.count += 1;
   }
 
-  /** Appends an entry of bytes, which were written. */
-  place(row, level, length) {
-    this.entry(row, level, 0);
-    const at = HALVES * (this.count - 1);
-    this.table.halves[at + OFFSET] = this.size;
-    this.table.halves[at + LENGTH] = length;
-    this.size += length;
+  /** Writes bytes after those that have an entry, and returns how many. */
+  put(value) {
+    const length = lengthOf(value);
+    if (length > this.bytes.length - this.size) {
+      this.reserve(length);
+    }
+    const { bytes, size } = this;
+    // a view on a detached buffer seems to be empty; the call throws then
+    if (length === 0 || length > FEW_BYTES) {
+      set.call(bytes, value, size);
+      return length;
+    }
+    for (let at = 0; at < length; at += 1) {
+      bytes[size + at] = value[at];
+    }
+    return length;
   }
 
-  text(row, level, value) {
-    this.room(3 * value.length + 1);
+  /** Writes a text after the bytes that have an entry, and returns how many bytes it has. */
+  text(value) {
+    const most = 3 * value.length + 1;
+    if (most > this.bytes.length - this.size) {
+      this.reserve(most);
+    }
     if (value.length <= SHORT_TEXT && this.ascii(value)) {
-      this.place(row, level, value.length);
-      return;
+      return value.length;
     }
     const written = texts.writeUtf8(this.bytes, value, this.size);
     if (!isText(value)) {
       // half a surrogate is in no text; the library says so of a byte that is in none
       this.bytes[this.size] = 0xff;
     }
-    this.place(row, level, written);
+    return written;
   }
 
   /** Writes a text after the bytes, and returns whether all of it is ASCII. */
@@ -418,12 +513,21 @@ class Writer {
     return true;
   }
 
-  room(count) {
-    if (this.bytes.length - this.size < count) {
-      const bytes = texts.unwritten(2 * (this.size + count));
-      bytes.set(this.bytes.subarray(0, this.size));
-      this.bytes = bytes;
-    }
+  /** Makes room for more bytes. */
+  reserve(count) {
+    // a multiple of 8
+    this.grow(this.room.entries, 16 * Math.ceil((this.size + count) / 8));
+  }
+
+  /** Takes a larger room, with what is in this one. */
+  grow(entries, size) {
+    const room = new Room(entries, size);
+    room.halves.set(this.halves.subarray(FIRST), FIRST);
+    // also those that have no entry yet
+    room.bytes.set(this.bytes);
+    this.room = room;
+    this.halves = room.halves;
+    this.bytes = room.bytes;
   }
 }
 
@@ -440,24 +544,39 @@ function mayBeRecord({ entries }, values) {
   return isOfNoClass || entries.length === 0 || entries.some(({ name }) => name in values);
 }
 
+/** The row of a member among those of its oneof. */
+function caseOf(rows, member) {
+  for (let index = 0; index < rows.length; index += 1) {
+    if (rows[index].member === member) {
+      return rows[index];
+    }
+  }
+  return undefined;
+}
+
+/** The error that a value is of another kind than its row. */
+function notOf(row, value, wanted) {
+  return wrongKind(row.member ?? row.name, value, wanted);
+}
+
 /** The error that the value of a row is not a record. */
 function notRecord(record, values, row) {
-  return wrongKind(row.member ?? row.name, values, `an object of ${record.name}`);
+  return notOf(row, values, `an object of ${record.name}`);
 }
 
 /** The error that a field cannot be encoded, with the path that leads to it. */
-function rejected(record, table, index, kind) {
+function rejected(record, room, index, kind) {
   return kind < WRITINGS.length
-    ? fieldError(pathOf(record, table, index), WRITINGS[kind])
+    ? fieldError(pathOf(record, room, index), WRITINGS[kind])
     : notKnown('payload', 'kind of table', kind);
 }
 
-/** What leads to an entry of a table, as 'headers[2].key'. */
+/** What leads to an entry of a room, as 'headers[2].key'. */
 function pathOf(record, { halves }, index) {
   const records = [record];
   const counts = [new Map()];
   const names = [];
-  for (let at = 0; at <= HALVES * index; at += HALVES) {
+  for (let at = FIRST; at <= FIRST + HALVES * index; at += HALVES) {
     const level = halves[at + LEVEL];
     const row = records[level].byNumber[halves[at + NUMBER]];
     records.length = level + 1;
@@ -471,7 +590,7 @@ function pathOf(record, { halves }, index) {
     }
     names.push(name);
     if (row.kind === MESSAGE) {
-      records.push(RECORDS[row.holds]);
+      records.push(SCHEMAS[row.holds]);
       counts.push(new Map());
     }
   }

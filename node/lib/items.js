@@ -4,28 +4,32 @@ import { addon } from './addon.js';
 import {
   LAST_VERSION,
   canonical,
+  checked,
   frame,
   frameInto,
   fromJson,
-  headFor,
-  header,
+  highFor,
+  highOf,
   nameOf,
   notification,
   requestsAck,
   schema,
   schemaOf,
   toJson,
-  typeCode,
   typeName,
+  typeNamed,
 } from './calls.js';
 import { Unknown, notKnown, ofMessage, recordMeant, wrongKind } from './errors.js';
 import { payloadOf, recordOf } from './fields.js';
 import { frameAt, into } from './frames.js';
+import { headed } from './pool.js';
 import { isCommandCode, isNotificationCode } from './protocol.js';
 import { RECORDS } from './records.js';
 import { numberingOf } from './renumber.js';
 import { schemaNumber } from './schemas.js';
 import { texts } from './text.js';
+
+const NOTHING = new Uint8Array(0);
 
 // The items of a stream, each with the offset at which it begins there. One class for what they share would make each
 // seven times as slow to construct.
@@ -38,7 +42,7 @@ export let receivedLength;
 
 /** A message of a stream. */
 export class Message {
-  // the word in halves, of a message of a stream
+  // the word in halves, each with the sign of its first bit, of a message of a stream
   #high;
   #low;
   #offset;
@@ -71,18 +75,16 @@ export class Message {
   }
 
   static of(type, record, version = 8) {
-    const code = typeof type === 'string' ? typeCode(type) : type;
-    const number = schema(version, code);
-    if (number >= RECORDS.length) {
-      throw notKnown('Message.of', 'schema', number);
+    const found = typeNamed(version, type);
+    if (found.schema >= RECORDS.length) {
+      throw notKnown('Message.of', 'schema', found.schema);
     }
-    return made(version, code, payloadOf(number, record));
+    return made(version, found, payloadOf(found.schema, record));
   }
 
   static fromJson(type, json, version = 8) {
-    const code = typeof type === 'string' ? typeCode(type) : type;
-    const read = fromJson(schema(version, code), isPlainObject(json) ? JSON.stringify(json) : json);
-    return made(version, code, read);
+    const found = typeNamed(version, type);
+    return made(version, found, fromJson(found.schema, isPlainObject(json) ? JSON.stringify(json) : json));
   }
 
   get word() {
@@ -94,31 +96,55 @@ export class Message {
   }
 
   get bytes() {
-    // what came in no stream has the header of its type
-    const { version, code } = this;
     const payload = this.#received ?? this.payload;
-    return joined(this.#high === undefined ? headFor(version, code, payload.length) : this.#head(), payload);
+    if (this.#high !== undefined) {
+      return headed(this.#high, this.#low, payload);
+    }
+    let high;
+    try {
+      // what came in no stream has the header of its type
+      high = highFor(this.version, this.code, payload.length);
+    } catch (error) {
+      throw this.#ofThis(error);
+    }
+    return headed(high, payload.length, payload);
   }
 
   get type() {
-    return typeName(this.code);
+    try {
+      return typeName(this.code);
+    } catch (error) {
+      throw this.#ofThis(error);
+    }
   }
 
   get message() {
-    const number = schemaOf(this.version, this.code);
-    return number === undefined ? undefined : this.#record(number);
+    try {
+      const number = schemaOf(this.version, this.code);
+      return number === undefined ? undefined : this.#record(number);
+    } catch (error) {
+      throw this.#ofThis(error);
+    }
   }
 
   record(name) {
     const wanted = messageSchema(name);
-    if (this.code !== RECORDS[wanted].code || schema(this.version, this.code) !== wanted) {
+    if (this.code !== RECORDS[wanted].code || this.schema !== wanted) {
       return undefined;
     }
-    return this.#record(wanted);
+    try {
+      return this.#record(wanted);
+    } catch (error) {
+      throw this.#ofThis(error);
+    }
   }
 
   get schema() {
-    return schema(this.version, this.code);
+    try {
+      return schema(this.version, this.code);
+    } catch (error) {
+      throw this.#ofThis(error);
+    }
   }
 
   get isCommand() {
@@ -130,11 +156,11 @@ export class Message {
   }
 
   json() {
-    return JSON.parse(this.#read(() => toJson(this.schema, this.payload)));
+    return JSON.parse(this.#read(() => toJson(schema(this.version, this.code), this.payload)));
   }
 
   canonical() {
-    return this.#read(() => canonical(this.schema, this.payload));
+    return this.#read(() => canonical(schema(this.version, this.code), this.payload));
   }
 
   frame(version = this.version, options) {
@@ -164,30 +190,23 @@ export class Message {
     return this.#read(() => notification(this.code, this.payload));
   }
 
-  /** What reads the payload. An error of the payload says of which message it is. */
+  /** What reads the message. */
   #read(read) {
     try {
       return read();
     } catch (error) {
-      throw ofMessage(error, this.code, nameOf(this.code), this.#offset);
+      throw this.#ofThis(error);
     }
+  }
+
+  /** An error, which says of which message it is. */
+  #ofThis(error) {
+    return ofMessage(error, this.code, nameOf(this.code), this.#offset);
   }
 
   /** The record of the payload, by the number of its schema. */
   #record(number) {
-    try {
-      return recordOf(number, this.payload, this.payload === this.#own);
-    } catch (error) {
-      throw ofMessage(error, this.code, nameOf(this.code), this.#offset);
-    }
-  }
-
-  /** The header of a message of a stream. */
-  #head() {
-    const view = new DataView(new ArrayBuffer(8));
-    view.setUint32(0, this.#high);
-    view.setUint32(4, this.#low);
-    return new Uint8Array(view.buffer);
+    return recordOf('message', number, this.payload, this.payload === this.#own);
   }
 
   toString() {
@@ -210,8 +229,9 @@ function messageSchema(name) {
   return number;
 }
 
-function made(version, code, payload) {
-  return new Message(version, code, payload, requestsAck(version, code));
+/** A message of a type that is remembered. */
+function made(version, type, payload) {
+  return new Message(version, type.code, payload, requestsAck(highOf(version, type)));
 }
 
 /** The codes of types that have another schema at earlier versions. */
@@ -228,34 +248,25 @@ function earlierSchema(version, code) {
 
 /** The frame of a payload whose schema its type has at earlier versions only; `frame` reads it by the later one. */
 function earlierFrame(call, version, code, earlier, payload) {
-  if (schema(version, code) !== earlier) {
+  if (checked(addon.schema(version, code), { call, version, code }) !== earlier) {
     throw new Unknown(`${call}: there is no ${RECORDS[earlier].name} at version ${version}`, { call });
   }
   const found = canonical(earlier, payload);
-  return joined(header(version, code, found.length), found);
+  return headed(highFor(version, code, found.length), found.length, found);
 }
 
 function hexOf(code) {
   return `0x${code.toString(16)}`;
 }
 
-/** The word of two halves of 32 bits. */
+/** The word of two halves of 32 bits, with a sign or without. */
 export function wordOf(high, low) {
-  return (BigInt(high) << 32n) | BigInt(low);
+  return (BigInt(high >>> 0) << 32n) | BigInt(low >>> 0);
 }
 
-/** The eight bytes of a word. */
-function wordBytes(word) {
-  const bytes = new Uint8Array(8);
-  new DataView(bytes.buffer).setBigUint64(0, word);
-  return bytes;
-}
-
-function joined(first, second) {
-  const bytes = new Uint8Array(first.length + second.length);
-  bytes.set(first);
-  bytes.set(second, first.length);
-  return bytes;
+/** The eight bytes of a word, and after them a payload. */
+function wordAnd(word, payload) {
+  return headed(Number(BigInt.asUintN(32, word >> 32n)), Number(BigInt.asUintN(32, word)), payload);
 }
 
 /** Whether a value is an object as JSON has them, and of no class. */
@@ -292,7 +303,7 @@ export class UnknownCode {
   }
 
   get bytes() {
-    return wordBytes(this.word);
+    return wordAnd(this.word, NOTHING);
   }
 
   toString() {
@@ -335,7 +346,7 @@ export class Skipped {
   }
 
   get bytes() {
-    return joined(wordBytes(this.word), this.payload);
+    return wordAnd(this.word, this.payload);
   }
 
   toString() {

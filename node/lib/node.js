@@ -5,10 +5,12 @@
 import { readFileSync } from 'node:fs';
 import { createRequire } from 'node:module';
 import { inspect } from 'node:util';
+import * as workers from 'node:worker_threads';
 
 import { useCalls } from './addon.js';
 import { files } from './files.js';
 import { callsOf } from './module.js';
+import { blocks } from './pool.js';
 import { texts } from './text.js';
 
 // As build.sh makes it, and as a release has it for several machines.
@@ -59,17 +61,37 @@ function load() {
   throw new Error(`${said}; 'sh build.sh' in the folder of the package builds the addon`, { cause });
 }
 
-const { latin1Slice, utf8Slice } = Buffer.prototype;
+const { latin1Slice, utf8Slice, utf8Write } = Buffer.prototype;
 
 Object.assign(texts, {
   utf8: (bytes, begin, end) => utf8Slice.call(bytes, begin, end),
   latin1: (bytes) => latin1Slice.call(bytes, 0, bytes.length),
   base64: (bytes) => Buffer.from(bytes.buffer, bytes.byteOffset, bytes.byteLength).toString('base64'),
-  writeUtf8: (bytes, text, at) => bytes.utf8Write(text, at),
+  writeUtf8: (bytes, text, at) => utf8Write.call(bytes, text, at),
   unwritten: (size) => Buffer.allocUnsafeSlow(size),
   shown: (value) => inspect(value, { breakLength: Infinity, customInspect: false, depth: 0, maxStringLength: 64 }),
 });
 
 files.read = readFileSync;
+
+/** A block that is copied to a worker, not moved there with the parts of others, as Node's own pool. */
+function untransferable(size) {
+  const block = new ArrayBuffer(size);
+  workers.markAsUntransferable(block);
+  return block;
+}
+
+/** Whether there are such blocks here. */
+function canMark() {
+  try {
+    return untransferable(0) !== undefined;
+  } catch {
+    return false;
+  }
+}
+
+if (canMark()) {
+  blocks.make = untransferable;
+}
 
 useCalls(load());

@@ -33,7 +33,8 @@ export class Numbering {
       throw noNumbering(given, { reason: kind, text: text(found) });
     }
     this.#text = text(found);
-    this.#set = set.slice();
+    // a slice of a Buffer would share its memory
+    this.#set = new Uint8Array(set);
     this.#lines = lines;
     makeTables(this, this.#set, lines);
   }
@@ -102,12 +103,19 @@ export class Numbering {
 
 /** Renames as the library takes them: one per line, with the name there and the name here. */
 function linesOf(renames) {
-  if (typeof renames !== 'object' || renames === null) {
+  // a list or a map has its names elsewhere
+  if (typeof renames !== 'object' || renames === null || Symbol.iterator in renames) {
     throw wrongKind('renames', renames, 'an object');
   }
   const lines = Object.entries(renames).map(([theirs, ours]) => {
     if (typeof ours !== 'string') {
       throw wrongKind(`renames.${theirs}`, ours, 'a string');
+    }
+    // the library takes a rename per line
+    const name = [theirs, ours].find((one) => /[=\n]/.test(one));
+    if (name !== undefined) {
+      const fault = `${JSON.stringify(name)} is not the name of a message`;
+      throw noNumbering({ call: 'Numbering' }, { reason: 'noRename', text: fault });
     }
     return `${theirs}=${ours}`;
   });

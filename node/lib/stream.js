@@ -6,6 +6,7 @@ import { ITEM, ITEM_KINDS, ITEM_NUMBERS } from './declared.js';
 import { Malformed, TooLong, incomplete, messageTooLong, notKnown } from './errors.js';
 import { messageThatCame, skippedThatCame, unknownCodeThatCame, wordOf } from './items.js';
 import { optionsOf } from './options.js';
+import { LONG, Run, copied, roomFor } from './pool.js';
 import { numberingOf, renumberedMessage } from './renumber.js';
 
 const NOTHING = new Uint8Array(0);
@@ -44,6 +45,8 @@ export class Stream {
   // the halves of the numbers of the items that were found; those from #at on are not taken yet
   #found = NONE_FOUND;
   #at = 0;
+  // the copy of some of these items: their payloads are parts of it
+  #run;
   // the number of bytes before which the next item is not whole
   #needed = HEADER_SIZE;
 
@@ -68,7 +71,7 @@ export class Stream {
   }
 
   get trailing() {
-    return this.#bytes.slice(this.#begin, this.#end);
+    return copied(this.#bytes, this.#begin, this.#end);
   }
 
   feed(chunk) {
@@ -164,6 +167,7 @@ export class Stream {
     this.#end = 0;
     this.#found = NONE_FOUND;
     this.#at = 0;
+    this.#run = undefined;
   }
 
   /** Moves what is in no item yet to the beginning of new memory, with room for more bytes. */
@@ -175,6 +179,7 @@ export class Stream {
     this.#bytes = bytes;
     this.#begin = 0;
     this.#end = rest.length;
+    this.#run = undefined;
   }
 
   /** Takes the item that the rest begins with, if it is whole, or if its payload cannot be read. */
@@ -184,10 +189,10 @@ export class Stream {
       return undefined;
     }
     const size = wholeOf(this.#found, this.#at + 2 * ITEM.size);
-    const [version, offset, numbering] = [this.#version, this.#offset, this.#numbering];
+    const payload = this.#payload(size);
     let item;
     try {
-      item = itemOf(version, offset, this.#found, this.#at, this.#bytes, this.#begin, size, numbering);
+      item = itemOf(this.#version, this.#offset, this.#found, this.#at, payload, this.#numbering);
     } catch (error) {
       if (error instanceof Malformed) {
         this.#pass(size);
@@ -196,6 +201,33 @@ export class Stream {
     }
     this.#pass(size);
     return item;
+  }
+
+  /** The payload of the next item, which has a size. */
+  #payload(size) {
+    const begin = this.#begin + this.#found[this.#at + 2 * ITEM.payload];
+    const end = this.#begin + size;
+    if (size >= LONG) {
+      return copied(this.#bytes, begin, end);
+    }
+    if (this.#run === undefined || end > this.#run.end) {
+      this.#run = new Run(this.#bytes, this.#begin, this.#endOfRun(roomFor(size)));
+    }
+    return this.#run.part(begin, end);
+  }
+
+  /** Where the items end that are next, are not long, and have not more bytes than there is room for. */
+  #endOfRun(room) {
+    const most = this.#begin + room;
+    let end = this.#begin;
+    for (let at = this.#at; at < this.#found.length; at += HALVES) {
+      const size = wholeOf(this.#found, at + 2 * ITEM.size);
+      if (size >= LONG || end + size > most) {
+        break;
+      }
+      end += size;
+    }
+    return end;
   }
 
   /** Passes an item of a size. */
@@ -215,18 +247,14 @@ function wholeOf(found, at) {
 }
 
 /**
- * The item at an offset whose numbers are in a table, and which bytes have from an index on, with a payload in memory
- * of its own. The word of a message stays in halves, since few callers read it and a bigint takes long to make.
+ * The item at an offset whose numbers are in a table, with its payload. The word of a message stays in halves, since
+ * few callers read it and a bigint takes long to make.
  */
-function itemOf(version, offset, found, at, bytes, begin, size, numbering) {
+function itemOf(version, offset, found, at, payload, numbering) {
   const code = found[at + 2 * ITEM.code];
-  const low = found[at + 2 * ITEM.word];
-  const high = found[at + 2 * ITEM.word + 1];
+  const low = found[at + 2 * ITEM.word] | 0;
+  const high = found[at + 2 * ITEM.word + 1] | 0;
   const kind = wholeOf(found, at + 2 * ITEM.kind);
-  if (ITEM_KINDS[kind] === 'unknownCode') {
-    return unknownCodeThatCame(offset, version, code, wordOf(high, low));
-  }
-  const payload = bytes.slice(begin + found[at + 2 * ITEM.payload], begin + size);
   switch (ITEM_KINDS[kind]) {
     case 'message': {
       const requestedAck = found[at + 2 * ITEM.requestedAck] === 1;
@@ -234,6 +262,8 @@ function itemOf(version, offset, found, at, bytes, begin, size, numbering) {
         numbering && renumberedMessage(numbering, 'reading', 'Stream', { version, code, payload, offset });
       return messageThatCame(offset, high, low, version, code, payload, requestedAck, read);
     }
+    case 'unknownCode':
+      return unknownCodeThatCame(offset, version, code, wordOf(high, low));
     case 'skipped':
       return skippedThatCame(offset, version, code, wordOf(high, low), payload);
     default:
@@ -244,7 +274,7 @@ function itemOf(version, offset, found, at, bytes, begin, size, numbering) {
 /** The item that bytes are, which begins at an offset of its stream. */
 export function itemAt(version, bytes, offset) {
   checked(addon.next(version, bytes, numbers), { call: 'expected', version });
-  return itemOf(version, offset, halves, 0, bytes, 0, bytes.length);
+  return itemOf(version, offset, halves, 0, copied(bytes, halves[2 * ITEM.payload], bytes.length));
 }
 
 /** How many bytes follow the last whole item of bytes, which an item begins. */

@@ -6,6 +6,7 @@
 #include <pendratsoa.h>
 
 #include "arguments.h"
+#include "room.h"
 
 /* A function: its name, what makes the call, and its parameters. */
 struct function {
@@ -64,6 +65,14 @@ static napi_value run(napi_env env, napi_callback_info info) {
     return succeeded(env, napi_create_int64(env, returned, &result)) ? result : NULL;
 }
 
+/* Sets the function that makes the functions of a room. */
+static bool set_room(napi_env env, napi_value exports) {
+    napi_value function = NULL;
+
+    return succeeded(env, napi_create_function(env, "room", NAPI_AUTO_LENGTH, room_functions, NULL, &function)) &&
+           succeeded(env, napi_set_named_property(env, exports, "room", function));
+}
+
 NAPI_MODULE_INIT() {
     for (size_t i = 0; i < sizeof FUNCTIONS / sizeof FUNCTIONS[0]; i++) {
         napi_value function = NULL;
@@ -74,5 +83,5 @@ NAPI_MODULE_INIT() {
             return NULL;
         }
     }
-    return exports;
+    return set_room(env, exports) ? exports : NULL;
 }

@@ -239,7 +239,7 @@ test('a view that is out of the bounds of its buffer is empty', { skip: !('resiz
 
 test('the calls themselves take any values', () => {
   assert.deepEqual(
-    Object.keys(addon).filter((name) => typeof addon[name] === 'function').sort(),
+    Object.keys(addon).filter((name) => typeof addon[name] === 'function' && name !== 'room').sort(),
     Object.keys(ADDON_CALLS).sort(),
   );
   const values = [...NO_NUMBERS, ...NO_BYTES, 0, 8, -1, 2 ** 16, 2 ** 32, NaN, NONE, new BigUint64Array(6), false];
@@ -259,6 +259,25 @@ test('the calls themselves take any values', () => {
     // what is given beyond the parameters is not looked at
     assert.ok(addon[name](...given, ...values) >= 0, name);
     assert.throws(() => new addon[name](), TypeError);
+  }
+});
+
+test('a room has what fits into it', () => {
+  const values = [...NO_NUMBERS, ...NO_BYTES, 0, -1, 2 ** 16, 2 ** 32, NaN, NONE];
+  const given = [new ArrayBuffer(48 + 2 * 48 + 16 + 8), 2, 16];
+  assert.deepEqual(Object.keys(addon.room(...given)).sort(), ['read', 'readOwn', 'write']);
+  if (addon.copies) {
+    return;
+  }
+  for (const [entries, size] of [[3, 16], [2, 32], [2 ** 31, 0], [0, 2 ** 32 - 1]]) {
+    assert.throws(() => addon.room(given[0], entries, size), RangeError);
+  }
+  for (const value of values) {
+    assert.throws(() => addon.room(value, 2, 16), Error);
+  }
+  const { read } = addon.room(...given);
+  for (const value of NO_BYTES) {
+    assert.throws(() => read(value), TypeError);
   }
 });
 

@@ -196,6 +196,10 @@ outcome('two journals', compareJournals(8, bytes, bytes).kind === 'same');
 const message = Message.of('SetStateCommand', { key: hex('61') });
 const shown = JSON.parse(JSON.stringify(message)).payload;
 outcome('a message', shown === btoa(String.fromCharCode(...message.payload)) && shown !== '');
+const { payload } = message;
+structuredClone(payload, { transfer: [payload.buffer] });
+const again = Message.of('SetStateCommand', { key: hex('61') });
+outcome('a block that was transferred', payload.length === 0 && digitsOf(again.bytes) === '04030000000000030a0161');
 outcome('the version', /^\d+\.\d+\.\d+$/.test(libraryVersion()));
 for (const wrong of ['text', 5n, Symbol('5'), null, undefined, {}, [1], () => 1, 'x'.repeat(100)]) {
   for (const call of [() => canonical(wrong, bytes), () => canonical(0, wrong), () => typeCode(wrong)]) {

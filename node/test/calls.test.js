@@ -97,13 +97,13 @@ test('payloads by the number and the name of a schema', () => {
 });
 
 test('results of any length', () => {
-  for (const length of [0, 1, 4000, 65_530, 65_536, 65_537, 1_000_000]) {
+  for (const length of [0, 1, 3990, 4096, 65_530, 65_536, 65_537, 1_000_000]) {
     const text = 'x'.repeat(length);
     const payload = pendratsoa.merge(ERROR_MESSAGE, errorMessage(text), hex(''));
     assert.deepEqual(payload, pendratsoa.canonical(ERROR_MESSAGE, payload));
     assert.deepEqual(JSON.parse(pendratsoa.toJson(ERROR_MESSAGE, payload)), length > 0 ? { message: text } : {});
     assert.equal(pendratsoa.frame(8, 2, payload).length, 8 + payload.length);
-    assert.equal(payload.buffer.byteLength, payload.length);
+    assert.equal(payload.buffer.byteLength, length < 4000 ? 8192 : payload.length);
   }
 });
 
@@ -112,17 +112,15 @@ test('a text that is not ASCII', () => {
   assert.deepEqual(JSON.parse(pendratsoa.toJson(ERROR_MESSAGE, errorMessage(text))), { message: text });
 });
 
-test('results are in memory of their own', () => {
+test('results do not share their bytes', () => {
   const first = pendratsoa.canonical(12, hex('0801'));
   const second = pendratsoa.canonical(12, hex('0802'));
-  assert.notEqual(first.buffer, second.buffer);
   first.fill(0);
   assert.deepEqual(second, hex('0a0102'));
   assert.deepEqual(pendratsoa.canonical(12, hex('0801')), hex('0a0101'));
   const { result } = pendratsoa.notification(SIGNAL_NOTIFICATION, hex('1a0173 2a030a0178'));
   pendratsoa.canonical(12, hex('0801'));
   assert.deepEqual(result, hex('0a0178'));
-  assert.equal(result.buffer.byteLength, result.length);
 });
 
 test('a view of any memory', () => {
@@ -369,7 +367,7 @@ test('a malformed payload is named', () => {
       code: 'JOURNAL_MALFORMED',
       argument,
       value: bad,
-      message: new RegExp(`^\\w+: (CallCommand: )?${argument} of 1 byte: not well-formed for its schema$`),
+      message: new RegExp(`^\\w+: ${argument} of 1 byte: not well-formed for its schema$`),
     });
   }
 });

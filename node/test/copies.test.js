@@ -47,6 +47,15 @@ test('a message that is made has the header of its type', () => {
   assert.deepEqual(new Skipped(9, 8, 1n, hex('ff')).bytes, hex('0000000000000001 ff'));
 });
 
+test('a frame over its own payload', () => {
+  for (let at = 0; at < 12; at += 1) {
+    const out = new Uint8Array(64);
+    out.set(PAYLOAD, at);
+    const size = frameInto(8, 0x0400, out.subarray(at, at + PAYLOAD.length), out);
+    assert.deepEqual(out.slice(0, size), FRAME, `at ${at}`);
+  }
+});
+
 test('frames with a destination', () => {
   const message = new Message(8, 0x0400, PAYLOAD);
   const size = FRAME.length;
@@ -122,7 +131,7 @@ test('the end of a stream', () => {
   stream.feed(hex('04'));
   assert.throws(() => stream.finish(), (error) => {
     assert.ok(error instanceof Incomplete);
-    const text = `finish: the stream ended within an item at offset ${FRAME.length}, after 1 byte of it`;
+    const text = `the stream ended within an item at offset ${FRAME.length}, after 1 byte of it`;
     assert.equal(error.message, text);
     assert.deepEqual([error.call, error.rest, error.offset, error.typeCode], ['finish', 1, FRAME.length, undefined]);
     assert.deepEqual(error.trailing, hex('04'));

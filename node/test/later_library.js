@@ -17,7 +17,7 @@ function notKnown(call, what) {
   return (error) => {
     assert.equal(Object.getPrototypeOf(error), JournalError.prototype);
     assert.equal(error.code, 'JOURNAL_ERROR');
-    assert.equal(error.message, `${call}: the library returned the ${what}, which this module does not know`);
+    assert.equal(error.message, `the library returned the ${what}, which this module does not know`);
     assert.equal(error.call, call);
     return true;
   };
@@ -75,7 +75,7 @@ test('tables of other kinds, and of other fields', () => {
   const write = (kind) => () => pendratsoa.writeRecord('Value', { content: Uint8Array.of(kind) });
   assert.throws(write(3), { name: 'FieldError', reason: 'severalMembers', path: 'content' });
   assert.throws(write(10), notKnown('payload', 'kind of table 10'));
-  assert.throws(() => pendratsoa.readRecord('Value', NONE), notKnown('message', 'field of Value 9999'));
+  assert.throws(() => pendratsoa.readRecord('Value', NONE), notKnown('readRecord', 'field of Value 9999'));
 });
 
 test('JSON texts of other kinds', () => {

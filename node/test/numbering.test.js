@@ -111,7 +111,7 @@ test('streams are read and written', () => {
     name: 'Malformed',
     typeCode: 0x0403,
     offset: 8,
-    message: 'readStream: SetStateCommand at offset 8: payload of 1 byte: not well-formed for its schema',
+    message: 'SetStateCommand at offset 8: payload of 1 byte: not well-formed for its schema',
   });
 });
 
@@ -278,6 +278,8 @@ test('renames, and what no numbering comes of', () => {
     [SET, { Pause: 'SlepCommandMessage' }, 'noRename'],
     [SET, { Pause: '' }, 'noRename'],
     [SET, { '': '' }, 'noRename'],
+    [SET, { Pause: 'SleepCommandMessage\n' }, 'noRename'],
+    [SET, { 'Pause=SleepCommandMessage\nPause': 'SleepCommandMessage' }, 'noRename'],
     [SET, { '\ud800': 'Value' }, 'noRename'],
   ]) {
     assert.throws(
@@ -352,7 +354,7 @@ test('arguments of wrong kinds', () => {
   for (const set of [undefined, null, 'set', 5, {}, new ArrayBuffer(8), new Uint8Array(new SharedArrayBuffer(8))]) {
     assert.throws(() => new Numbering(set), wrong);
   }
-  for (const renames of [null, 5, 'a=b', { a: 5 }, { a: undefined }]) {
+  for (const renames of [null, 5, 'a=b', { a: 5 }, { a: undefined }, new Map([['a', 'b']]), ['a=b']]) {
     assert.throws(() => new Numbering(SET, { renames }), wrong);
   }
   for (const other of [null, 5, {}, SET, Object.create(Numbering.prototype)]) {

@@ -241,7 +241,7 @@ function failure(error, message) {
     throw error;
   }
   assert.equal(error.typeCode, message.code);
-  assert.ok(error.message.startsWith(`${error.call}: ${message.type} at offset ${message.offset}: `), error.message);
+  assert.ok(error.message.startsWith(`${message.type} at offset ${message.offset}: `), error.message);
   return `${snake(kind.name).slice(1)} ${nameOf(error.typeCode)} ${error.offset}`;
 }
 
@@ -263,7 +263,7 @@ const KINDS = {
     stream.feed(bytesOf(word));
     const error = thrown(() => [...stream]);
     assert.ok(error instanceof MessageTooLong, `${error}`);
-    return error.message.slice(`${error.call}: `.length);
+    return error.message;
   },
 
   read(call, version, word) {
@@ -510,7 +510,7 @@ test('items that came in no stream', () => {
     argument: 'payload',
     typeCode: 0x0403,
     offset: undefined,
-    message: 'toJson: SetStateCommand: payload of 3 bytes: not well-formed for its schema',
+    message: 'SetStateCommand: payload of 3 bytes: not well-formed for its schema',
   });
 });
 

@@ -68,6 +68,9 @@ test('another encoding, and many fields', () => {
   const keys = Array.from({ length: 5000 }, (_, number) => Buffer.from(String(number)));
   const found = readRecord('StateKeys', writeRecord('StateKeys', { keys }));
   assert.deepEqual(found.keys.map(text), keys.map(text));
+  const texts = Array.from({ length: 3000 }, (_, number) => '\u00fc'.repeat(number % 300));
+  const headers = texts.map((value, number) => ({ key: String(number), value }));
+  assert.deepEqual(readRecord('InputCommandMessage', writeRecord('InputCommandMessage', { headers })).headers, headers);
   const long = { content: new Uint8Array(100000).fill(7) };
   assert.deepEqual(readRecord('Value', writeRecord('Value', long)), long);
 });
@@ -105,6 +108,8 @@ test('fields that cannot be encoded', () => {
 test('values of another kind', () => {
   for (const [name, record] of [
     ['Failure', { code: '1' }],
+    ['Failure', { code: Symbol('1') }],
+    ['Failure', { code: { valueOf: () => 1 } }],
     ['Failure', { code: 1.5 }],
     ['Failure', { code: 2 ** 64 }],
     ['Failure', { kode: 1 }],
@@ -171,15 +176,17 @@ test('objects of a class that have fields, and of no class', () => {
 test('a custom entry has no frame of its own', () => {
   const custom = new Message(8, 0xfc01, hex('ff'));
   const said = 'a custom entry has no frame of its own, and `bytes` of its message has it as received';
-  for (const [call, make] of [
-    ['frame', () => custom.frame()],
-    ['frameInto', () => custom.frameInto(new Uint8Array(20))],
-    ['frame', () => frame(8, 0x0415, hex(''))],
-    ['frameInto', () => frameInto(9, 0xffff, hex(''), hex(''))],
+  // the code is not an argument of a method
+  for (const [call, begin, make] of [
+    ['frame', '', () => custom.frame()],
+    ['frameInto', '', () => custom.frameInto(new Uint8Array(20))],
+    ['frame', 'frame: ', () => frame(8, 0x0415, hex(''))],
+    ['frameInto', 'frameInto: ', () => frameInto(9, 0xffff, hex(''), hex(''))],
   ]) {
     assert.throws(make, (error) => {
       assert.ok(error instanceof Unknown);
-      assert.equal(error.message, `${call}: unknown code 0x${error.value.toString(16).padStart(4, '0')}: ${said}`);
+      assert.equal(error.call, call);
+      assert.equal(error.message, `${begin}unknown code 0x${error.value.toString(16).padStart(4, '0')}: ${said}`);
       return true;
     });
   }
@@ -202,6 +209,35 @@ test('a custom entry has no record', () => {
     assert.deepEqual([found[0], found[2]].map(({ key }) => text(key)), ['a', 'a']);
     stream.finish();
   }
+});
+
+test('what is neither a number nor a name is no schema', () => {
+  for (const schema of [[1], new Number(1), { toString: () => '1', valueOf: () => 1 }, 1n, undefined, null, true]) {
+    assert.throws(() => readRecord(schema, hex('')), TypeError);
+    assert.throws(() => writeRecord(schema, {}), TypeError);
+  }
+});
+
+test('an array whose class has a length of its own', () => {
+  class Odd extends Uint8Array {
+    get length() {
+      return -5;
+    }
+  }
+  assert.deepEqual(writeRecord('Value', { content: hex('010203') }), hex('0a03010203'));
+  assert.deepEqual(writeRecord('Value', { content: new Odd(3) }), hex('0a03000000'));
+});
+
+test('a payload whose class reads another record', () => {
+  const keys = ['61', '62', '63'].map((key) => hex(key));
+  class Odd extends Uint8Array {
+    subarray(begin, end) {
+      readRecord('Value', hex('0a0101'));
+      return super.subarray(begin, end);
+    }
+  }
+  const payload = new Odd(writeRecord('StateKeys', { keys }));
+  assert.deepEqual(readRecord('StateKeys', payload).keys.map(digits), ['61', '62', '63']);
 });
 
 test('a getter that writes another record', () => {

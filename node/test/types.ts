@@ -270,6 +270,10 @@ export function renumbered(set: Uint8Array): Uint8Array[] {
   const numbering = new Numbering(set, { renames: { Pause: 'SleepCommandMessage' } });
   const stream = new Stream(8, { maxMessageSize: 5, numbering });
   const lines: string = numbering.dump(8, set);
+  // an option that is undefined is left out
+  new Stream(8, { maxMessageSize: undefined, numbering: undefined });
+  new Replay(8, set, { ignorePayloads: undefined, ignoreIds: undefined });
+  new Numbering(set, { renames: undefined });
   // @ts-expect-error a set is bytes
   new Numbering('set.binpb');
   // @ts-expect-error a name is a text

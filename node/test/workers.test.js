@@ -28,7 +28,8 @@ if (!isMainThread && workerData === 'vectors') {
   parentPort.on('message', (chunk) => {
     stream.feed(chunk);
     for (const { payload } of stream) {
-      parentPort.postMessage(payload, [payload.buffer]);
+      const own = payload.slice();
+      parentPort.postMessage(own, [own.buffer]);
     }
   });
 } else if (!isMainThread) {
@@ -60,7 +61,7 @@ if (!isMainThread && workerData === 'vectors') {
     }
   });
 
-  test('chunks and payloads that are transferred between threads', async () => {
+  test('chunks, and payloads of their own memory, that are transferred between threads', async () => {
     const worker = start('transfer');
     for (let i = 0; i < 100; i += 1) {
       const chunk = INPUT.slice();
