@@ -301,54 +301,113 @@ class JsonReason(Kind):
     """Why a JSON text is rejected."""
 
     NOT_JSON = "not_json", 1
+    """It is not JSON, or not UTF-8, or nested more than one thousand levels deep."""
+
     UNKNOWN_MEMBER = "unknown_member", 2
+    """A member has no name of a field of its message."""
+
     REPEATED_MEMBER = "repeated_member", 3
+    """Two members have a name of the same field."""
+
     SEVERAL_MEMBERS = "several_members", 4
+    """Two members of one oneof are there."""
+
     WRONG_KIND = "wrong_kind", 5
+    """A value is of another kind than its field."""
+
     OUT_OF_RANGE = "out_of_range", 6
+    """A number is not whole, or not in the range of its field."""
+
     NOT_BASE64 = "not_base64", 7
+    """A string for bytes is not base64."""
+
     TOO_DEEP = "too_deep", 8
+    """A message is nested more than one hundred levels deep."""
 
 
 class FieldReason(Kind):
     """Why an entry of a table of fields may not come."""
 
     UNKNOWN_FIELD = "unknown_field", 1
+    """The schema of its message has no field of its number."""
+
     OUT_OF_ORDER = "out_of_order", 2
+    """Its field is before the last one, or is that one, not repeated and in no oneof."""
+
     SEVERAL_MEMBERS = "several_members", 3
+    """The last field is in the same oneof, also if it is its own field."""
+
     WRONG_KIND = "wrong_kind", 4
+    """Its kind is not that of its field, or it is a message of another schema."""
+
     OUT_OF_RANGE = "out_of_range", 5
+    """Its value is not in the range of its kind."""
+
     NOT_UTF8 = "not_utf8", 6
+    """Its bytes should be a text, and are not UTF-8."""
+
     OUT_OF_BOUNDS = "out_of_bounds", 7
+    """Its bytes are not within those that are given."""
+
     WRONG_LEVEL = "wrong_level", 8
+    """It is deeper than the last entry, and no field of that."""
+
     TOO_DEEP = "too_deep", 9
+    """It is a message that is nested more than one hundred levels deep."""
 
 
 class IdKind(Kind):
     """The kinds of a notification's id."""
 
     COMPLETION_ID = "completion_id", 0
+    """The id is that of a completion, a number."""
+
     SIGNAL_ID = "signal_id", 1
+    """The id is that of a signal, a number."""
+
     SIGNAL_NAME = "signal_name", 2
+    """The id is the name of a signal, a text."""
 
 
 class ResultKind(Kind):
     """The kinds of a notification's result."""
 
     VOID = "void", 0
+    """The result says that there is no value; it is empty."""
+
     VALUE = "value", 1
+    """The result is the canonical payload of a Value."""
+
     FAILURE = "failure", 2
+    """The result is the canonical payload of a Failure."""
+
     INVOCATION_ID = "invocation_id", 3
+    """The result is the text of an invocation id."""
+
     STATE_KEYS = "state_keys", 4
+    """The result is the canonical payload of StateKeys."""
 
 
 class VerdictKind(Kind):
     """How two journals compare."""
 
     SAME = "same", 0
+    """Each command is the same as the other's at its index; the index is their count."""
+
     RECORDED_ENDED = "recorded_ended", 1
+    """The replayed journal has a command more, at this index."""
+
     REPLAYED_ENDED = "replayed_ended", 2
+    """The recorded journal has a command more, at this index."""
+
     TYPE_MISMATCH = "type_mismatch", 3
+    """The first commands that differ, at this index, are of two types."""
+
     HEADER_MISMATCH = "header_mismatch", 4
+    """The first commands that differ, at this index, are of one type."""
+
     BAD_RECORDED = "bad_recorded", 5
+    """The recorded command at this index is malformed; all before it are the same."""
+
     BAD_REPLAYED = "bad_replayed", 6
+    """The replayed command at this index is malformed, the recorded one is not."""

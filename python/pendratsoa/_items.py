@@ -40,6 +40,21 @@ class _Item:
     def __bytes__(self) -> bytes:
         raise NotImplementedError
 
+    @property
+    def type(self) -> Optional[str]:
+        """The name of its type, which only a message has; otherwise None."""
+        return None
+
+    @property
+    def is_command(self) -> bool:
+        """Whether it is a message whose code is that of a command."""
+        return False
+
+    @property
+    def is_notification(self) -> bool:
+        """Whether it is a message whose code is that of a notification."""
+        return False
+
     def record(self, record: Type[M], /) -> Optional[M]:
         """The record that its payload means, if it is a message whose record is of this class; otherwise None."""
         _check_class(record)
@@ -95,11 +110,7 @@ class Message(_Item):
         It requests an acknowledgement if the header of its type does at this version. The payload is taken as it is:
         `frame` rejects one that is malformed. `Unknown` if there is no such version or type.
         """
-        code = _calls.type_code(type) if isinstance(type, str) else type
-        data = Request("Message.of", payload=payload).data("payload")
-        header = _calls.header(version, code, len(data))
-        # the flag is the high bit of the third byte
-        return cls(version, code, data, header[2] >= 0x80)
+        return cls._of(Request("Message.of", version=version, type=type, payload=payload))
 
     @classmethod
     def from_json(
@@ -111,8 +122,15 @@ class Message(_Item):
         `JsonError` if the text means no such message; `Unknown` if there is no such version or type, or the type is
         that of a custom entry.
         """
-        code = _calls.type_code(type) if isinstance(type, str) else type
-        return cls.of(code, _calls.from_json(_calls.schema(version, code), _text_of(json)), version)
+        request = Request("Message.from_json", version=version, type=type)
+        code = _code_of(request)
+        schema = request.step(_calls.schema, request.version(), code)
+        text = _text_of(json)
+        if not isinstance(text, str):
+            # a TypeError names this call
+            Request("Message.from_json", json=text).json("json")
+        payload = request.step(_calls.from_json, schema, text)
+        return cls._of(Request("Message.from_json", version=version, type=code, payload=payload))
 
     @property
     def type(self) -> str:
@@ -166,17 +184,18 @@ class Message(_Item):
     @classmethod
     def of_record(cls, record: MessageRecord, version: int = 8) -> Message:
         """The message of a record at a version. `Unknown` if there is no such version, or it is none of the version."""
-        stream = record.frame(version)
-        return cls.of(record.CODE, stream[8:], version)
+        request = Request("Message.of_record", version=version)
+        number = request.version()
+        return cls.of(record.CODE, request.step(record.frame, number)[8:], number)
 
     def json(self) -> Any:
         """What its payload means, as protobuf's JSON has it: dicts, lists, texts and numbers. A custom entry has no
         schema: `Unknown`."""
-        return json.loads(self._read("json", _calls.to_json, self.schema, self.payload))
+        return json.loads(self._read("json", lambda: _calls.to_json(self.schema, self.payload)))
 
     def canonical(self) -> bytes:
         """The canonical encoding of its payload. A custom entry has no schema: `Unknown`."""
-        return self._read("canonical", _calls.canonical, self.schema, self.payload)
+        return self._read("canonical", lambda: _calls.canonical(self.schema, self.payload))
 
     def frame(self, version: Optional[int] = None, *, numbering: Optional[Numbering] = None) -> bytes:
         """Its frame at a version, or at its own: the header, and after it the canonical payload, at the field numbers
@@ -220,6 +239,14 @@ class Message(_Item):
         """Its id and its result, if it is a notification."""
         return self._read("notification", _calls.notification, self.code, self.payload)
 
+    @classmethod
+    def _of(cls, request: Request) -> Message:
+        """The message of a version, a type and a payload that a call is given."""
+        version, code, data = request.version(), _code_of(request), request.data("payload")
+        header = request.step(_calls.header, version, code, len(data))
+        # the flag is the high bit of the third byte
+        return cls(version, code, data, header[2] >= 0x80)
+
     def _frame(self, call: str, function: Callable[[int, int, builtins.bytes], builtins.bytes], version: int) -> bytes:
         """Its frame at a version, which a function returns."""
         schema = earlier_schema(self.version, self.code)
@@ -238,11 +265,14 @@ class Message(_Item):
             return function(*arguments)
         except _PayloadError as error:
             where = "" if self.offset is None else f" at offset {self.offset}"
-            text = f"{call}: {name_of(self.code)}{where}: {str(error).partition(': ')[2]}"
+            text = f"{name_of(self.code)}{where}: {error}"
             argument, value = error.argument, error.value
             raise type(error)(
                 text, call=call, argument=argument, value=value, code=self.code, offset=self.offset
             ) from None
+        except JournalError as error:
+            error.call = call
+            raise
 
     def __str__(self) -> str:
         return f"{name_of(self.code)} {len(self.payload)}{' ack' if self.requested_ack else ''}"
@@ -357,8 +387,16 @@ def _class_of(version: int, code: int) -> Optional[Type[MessageRecord]]:
         raise
     record: Optional[Type[Record]] = RECORDS[schema] if schema < len(RECORDS) else None
     if record is None or not issubclass(record, MessageRecord):
-        raise JournalError(f"message: the schema {schema} is of no record that this package knows", call="message")
+        raise JournalError(f"the schema {schema} is of no record that this package knows", call="message")
     return record
+
+
+def _code_of(request: Request) -> int:
+    """The code of the type that a call is given by its code or by its name."""
+    type = request.arguments["type"]
+    if isinstance(type, str):
+        return request.step(_calls.type_code, type)
+    return request.integer("type", "an int or a str")
 
 
 def _is_custom_entry(version: int, code: int) -> bool:

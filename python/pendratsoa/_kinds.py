@@ -17,6 +17,9 @@ K = TypeVar("K", bound="Kind")
 class Kind(str, Enum):
     """A kind, which is its word: it equals the word, and is printed as it. `number` is what the library calls it."""
 
+    # the type of `value`
+    _value_: str
+
     number: int
     """The number by which the library returns it."""
 

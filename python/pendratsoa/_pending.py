@@ -32,7 +32,9 @@ class Pending:
     def __init__(self, version: int, limit: Optional[int]) -> None:
         self._version = version
         self._limit = limit
-        self._lock = threading.Lock()
+        # of one thread; whether it is within a call that changes what came, as where a signal comes
+        self._lock = threading.RLock()
+        self._within = False
         # the numbers of the items that were found last, how many they are, and how many of them were taken
         self._table = Table()
         self._found = 0
@@ -53,33 +55,36 @@ class Pending:
     def feed(self, chunk: bytes) -> None:
         """Appends bytes, which are kept."""
         with self._lock:
-            self._chunks.append(chunk)
-            self._chunks_size += len(chunk)
+            self._alone()
+            self._within = True
+            try:
+                self._chunks.append(chunk)
+                self._chunks_size += len(chunk)
+            finally:
+                self._within = False
 
     def take(self) -> Union[Item, int, None]:
         """The next item, or None if not all of it came; or a number: an error of the library, or a kind of items that
         is not known."""
         with self._lock:
-            if self._taken < self._found:
-                return self._cut()
-            missing = self._ended or self._missing or self._look()
-            if 0 < missing <= self._chunks_size:
-                self._join()
-                missing = self._look()
-            self._missing = max(0, missing)
-            if missing == TOO_LONG and self._limit is not None and self._ended == 0:
-                self._end(missing)
-            return self._cut() if missing == 0 else missing if missing < 0 else None
+            self._alone()
+            self._within = True
+            try:
+                return self._take()
+            finally:
+                self._within = False
 
     def rest(self) -> int:
         """The number of pending bytes: those received that no item has yet."""
         with self._lock:
+            self._alone()
             data, _, begin = self._left
             return len(data) - begin + self._chunks_size
 
     def trailing(self) -> bytes:
         """The pending bytes."""
         with self._lock:
+            self._alone()
             data, _, begin = self._left
             return b"".join((data[begin:], *self._chunks))
 
@@ -91,6 +96,7 @@ class Pending:
         """The first eight bytes of what is in no item yet, or fewer if fewer came; once a message is longer than the
         limit, its header."""
         with self._lock:
+            self._alone()
             if self._ended:
                 return self._head
             data, _, begin = self._left
@@ -100,6 +106,25 @@ class Pending:
                     break
                 head += chunk[: HEADER - len(head)]
             return head
+
+    def _alone(self) -> None:
+        """An error in a finalizer or the handler of a signal that uses a stream within `feed` or `take` of the same
+        thread: what came is not whole there, and to wait would be without an end."""
+        if self._within:
+            raise RuntimeError("a stream is used within a call of it, which has not ended")
+
+    def _take(self) -> Union[Item, int, None]:
+        """What `take` returns."""
+        if self._taken < self._found:
+            return self._cut()
+        missing = self._ended or self._missing or self._look()
+        if 0 < missing <= self._chunks_size:
+            self._join()
+            missing = self._look()
+        self._missing = max(0, missing)
+        if missing == TOO_LONG and self._limit is not None and self._ended == 0:
+            self._end(missing)
+        return self._cut() if missing == 0 else missing if missing < 0 else None
 
     def _look(self) -> int:
         """Looks for items: 0 if some were found, otherwise how many bytes are missing at least, or an error."""

@@ -66,46 +66,127 @@ class TypeCode(IntEnum):
     """The code of each named type."""
 
     START = 0x0000
+    """Starts or resumes an invocation."""
+
     SUSPENSION = 0x0001
+    """Suspends the invocation until something that it awaits is there."""
+
     ERROR = 0x0002
+    """Ends the attempt with an error, after which the service may retry."""
+
     END = 0x0003
+    """Ends the invocation."""
+
     PROPOSE_RUN_COMPLETION = 0x0005
+    """Proposes the result of a run."""
+
     AWAITING_ON = 0x0006
+    """Says what the invocation waits for."""
+
     PROPOSE_RUN_COMPLETION_ACK = 0x0007
+    """Says that the proposed result of a run was recorded."""
+
     GET_STATE_EPHEMERAL_COMMAND = 0x0200
+    """Reads the value of a key, without recording it in the journal."""
+
     GET_STATE_EPHEMERAL_NOTIFICATION = 0x0300
+    """The value of a key that was read without recording it."""
+
     INPUT_COMMAND = 0x0400
+    """The input of the handler."""
+
     OUTPUT_COMMAND = 0x0401
+    """The output of the handler."""
+
     GET_LAZY_STATE_COMMAND = 0x0402
+    """Reads the value of a key."""
+
     SET_STATE_COMMAND = 0x0403
+    """Sets the value of a key."""
+
     CLEAR_STATE_COMMAND = 0x0404
+    """Clears a key."""
+
     CLEAR_ALL_STATE_COMMAND = 0x0405
+    """Clears all keys."""
+
     GET_LAZY_STATE_KEYS_COMMAND = 0x0406
+    """Reads all keys."""
+
     GET_EAGER_STATE_COMMAND = 0x0407
+    """Reads the value of a key from the state in the start message."""
+
     GET_EAGER_STATE_KEYS_COMMAND = 0x0408
+    """Reads all keys from the state in the start message."""
+
     GET_PROMISE_COMMAND = 0x0409
+    """Awaits a promise."""
+
     PEEK_PROMISE_COMMAND = 0x040A
+    """Reads the result of a promise, without awaiting it."""
+
     COMPLETE_PROMISE_COMMAND = 0x040B
+    """Completes a promise."""
+
     SLEEP_COMMAND = 0x040C
+    """Sleeps until a time."""
+
     CALL_COMMAND = 0x040D
+    """Calls a handler and awaits its result."""
+
     ONE_WAY_CALL_COMMAND = 0x040E
+    """Calls a handler without awaiting its result."""
+
     SEND_SIGNAL_COMMAND = 0x0410
+    """Sends a signal to an invocation."""
+
     RUN_COMMAND = 0x0411
+    """Runs a side effect, whose result is recorded."""
+
     ATTACH_INVOCATION_COMMAND = 0x0412
+    """Awaits the result of an invocation."""
+
     GET_INVOCATION_OUTPUT_COMMAND = 0x0413
+    """Reads the result of an invocation, without awaiting it."""
+
     COMPLETE_AWAKEABLE_COMMAND = 0x0414
+    """Completes an awakeable."""
+
     GET_LAZY_STATE_COMPLETION_NOTIFICATION = 0x8002
+    """The value of a key that was read."""
+
     GET_LAZY_STATE_KEYS_COMPLETION_NOTIFICATION = 0x8006
+    """All keys that were read."""
+
     GET_PROMISE_COMPLETION_NOTIFICATION = 0x8009
+    """The result of an awaited promise."""
+
     PEEK_PROMISE_COMPLETION_NOTIFICATION = 0x800A
+    """The result of a promise, which was read without awaiting it."""
+
     COMPLETE_PROMISE_COMPLETION_NOTIFICATION = 0x800B
+    """Whether a promise was completed."""
+
     SLEEP_COMPLETION_NOTIFICATION = 0x800C
+    """A sleep is over."""
+
     CALL_COMPLETION_NOTIFICATION = 0x800D
+    """The result of a call."""
+
     CALL_INVOCATION_ID_COMPLETION_NOTIFICATION = 0x800E
+    """The id of the invocation that a call started."""
+
     RUN_COMPLETION_NOTIFICATION = 0x8011
+    """The recorded result of a run."""
+
     ATTACH_INVOCATION_COMPLETION_NOTIFICATION = 0x8012
+    """The result of an awaited invocation."""
+
     GET_INVOCATION_OUTPUT_COMPLETION_NOTIFICATION = 0x8013
+    """The result of an invocation, which was read without awaiting it."""
+
     SIGNAL_NOTIFICATION = 0xFBFF
+    """A signal."""
 
 
 # the codes of commands and of notifications, those of custom entries among them

@@ -6,7 +6,6 @@ from __future__ import annotations
 import ctypes
 import dataclasses
 import functools
-import threading
 from array import array
 from enum import IntEnum
 from typing import TYPE_CHECKING, Any, ClassVar, Dict, List, NamedTuple
@@ -83,6 +82,11 @@ class Record:
     # what the compiled module has for it, where that is in use
     _compiled: ClassVar[Optional[RecordCodec]] = None
 
+    def __init_subclass__(cls, **given: Any) -> None:
+        super().__init_subclass__(**given)
+        # it makes records of its own class, and not of one below that
+        cls._compiled = None
+
     @classmethod
     def decode(cls: Type[R], payload: BytesLike) -> R:
         """The record that a payload means, in any encoding. `Malformed` if it is not well-formed."""
@@ -92,10 +96,11 @@ class Record:
                 return made
         schema = cls.SCHEMA
         data = payload if type(payload) is bytes else Request("decode", payload=payload).data("payload")
-        count = library.journal_fields(schema, data, len(data), _scratch.table, ENTRIES)
-        if 0 <= count <= ENTRIES:
-            table = _scratch.numbers[: NUMBERS * count].tolist()
-        else:
+        scratch = _taken()
+        count = library.journal_fields(schema, data, len(data), scratch.table, ENTRIES)
+        table = scratch.numbers[: NUMBERS * min(max(0, count), ENTRIES)].tolist()
+        _spare.append(scratch)
+        if not 0 <= count <= ENTRIES:
             table, data = _table_of(schema, data, count)
         return _read(cls, table, 0, 0, data)[0]
 
@@ -115,13 +120,16 @@ class Record:
         except OverflowError:
             raise writer.out_of_range() from None
         data = b"".join(writer.parts)
-        scratch = _scratch
+        scratch = _taken()
         count = len(table) // NUMBERS
         parameters = schema, entries.buffer_info()[0], count, data, len(data), scratch.writing, WRITING_NUMBERS
         length = library.journal_payload_of_fields(*parameters, scratch.out, BYTES)
         if length < 0 or length > BYTES or scratch.written[0] != 0:
-            return _long_payload(writer, parameters, length, scratch)
-        return scratch.bytes[:length].tobytes()
+            payload = _long_payload(writer, parameters, length, scratch)
+        else:
+            payload = scratch.bytes[:length].tobytes()
+        _spare.append(scratch)
+        return payload
 
 
 class MessageRecord(Record):
@@ -179,15 +187,17 @@ def earlier_schema(version: int, code: int) -> Optional[int]:
 def earlier_frame(call: str, version: int, code: int, schema: int, payload: bytes) -> bytes:
     """The frame at a version of a payload whose schema the type has at earlier versions only: `frame` of the library
     would read it by the later one. `Unknown` if the version has another."""
-    if _calls.schema(version, code) != schema:
-        raise Unknown(f"{call}: there is no {SCHEMA_NAMES[schema]} at version {version}", call=call)
-    found = _calls.canonical(schema, payload)
-    return _calls.header(version, code, len(found)) + found
+    request = Request(call, version=version)
+    number = request.version()
+    if request.step(_calls.schema, number, code) != schema:
+        raise Unknown(f"there is no {SCHEMA_NAMES[schema]} at version {version}", call=call)
+    found = request.step(_calls.canonical, schema, payload)
+    return request.step(_calls.header, number, code, len(found)) + found
 
 
-class _Scratch(threading.local):
-    """What a thread has for calls that need no more room: for the numbers of a table, for a payload, and for what a
-    table is written as; of each the address, and a view."""
+class _Scratch:
+    """What a call has that needs no more room: for the numbers of a table, for a payload, and for what a table is
+    written as; of each the address, and a view."""
 
     def __init__(self) -> None:
         self._numbers = (ctypes.c_uint64 * (NUMBERS * ENTRIES))()
@@ -201,7 +211,18 @@ class _Scratch(threading.local):
         self.written = memoryview(self._writing).cast("B").cast("Q")
 
 
-_scratch = _Scratch()
+# those that no call has: another thread, and a finalizer or the handler of a signal within a call, have their own
+_spare: List[_Scratch] = []
+
+
+def _taken() -> _Scratch:
+    """A scratch that no other call has."""
+    try:
+        return _spare.pop()
+    except IndexError:
+        return _Scratch()
+
+
 _NOT_CANONICAL = next(number for number, (kind, _) in ERRORS.items() if kind is NotCanonical)
 
 
@@ -283,7 +304,7 @@ def signed(number: int) -> int:
 def unknown(name: str, number: int) -> JournalError:
     """The error that a later library knows a further field."""
     text = f"the library returned the field {number} of {name}, which this module does not know"
-    return JournalError(f"decode: {text}", call="decode")
+    return JournalError(text, call="decode")
 
 
 class Writer:
@@ -353,8 +374,8 @@ class Writer:
             self.wrong(number, level, value, bytes)
 
     def unsigned(self, number: int) -> int:
-        """The number of an enum as the table has it; one below any of an enum stays negative, and is refused."""
-        return number + U64_END if -I64_END <= number < 0 else number
+        """The number of an enum as the table has it; one that is not of 64 bits is negative, and is refused."""
+        return number % U64_END if -I64_END <= number < I64_END else -1
 
     def wrong(self, number: int, level: int, value: Any, *wanted: type) -> NoReturn:
         """Says that a value is of none of the types that its field has."""
@@ -362,7 +383,7 @@ class Writer:
         path = _path(self.of, table, len(table) // NUMBERS - 1, len(wanted) > 1)
         names = ", ".join(one.__name__ for one in wanted)
         what = f"one of {names}" if len(wanted) > 1 else names
-        raise TypeError(f"encode: {path} must be {what}, not {type(value).__name__}")
+        raise TypeError(f"{self.of.__name__}.{path} must be {what}, not {type(value).__name__}")
 
     def out_of_range(self) -> FieldError:
         """The error that a number has not 64 bits."""
@@ -372,8 +393,8 @@ class Writer:
 
 def _field_error(record: Type[Record], table: List[int], index: int, reason: FieldReason) -> FieldError:
     path = _path(record, table, index)
-    text = reason.replace("_", " ")
-    return FieldError(f"encode: {path}: {text}", call="encode", reason=reason, path=path)
+    text = "not UTF-8" if reason is FieldReason.NOT_UTF8 else reason.replace("_", " ")
+    return FieldError(f"{record.__name__}.{path}: {text}", call="encode", reason=reason, path=path)
 
 
 def _path(record: Type[Record], table: List[int], index: int, is_oneof: bool = False) -> str:

@@ -91,7 +91,9 @@ class Replay:
         self._replay = NUMBERS.pack(version, options, 0, 0, 0, 0)
         # how many bytes longer the items were as received
         self._longer = 0
-        self._lock = threading.Lock()
+        # of one thread; whether it is within `check`, as where a signal comes
+        self._lock = threading.RLock()
+        self._within = False
 
     @property
     def version(self) -> int:
@@ -128,12 +130,18 @@ class Replay:
             raise TypeError(f"check: item must be an item of a stream, not {type(item).__name__}")
         payload = b"" if isinstance(item, UnknownCode) else item.payload
         with self._lock:
-            is_said, numbers, replay = named.check(item.code, self._recorded, payload, self._replay)
-            found = self._mismatch("check", item.code, payload, numbers) if is_said else None
-            # the replay goes on once all of the mismatch is there
-            self._replay = replay
-            self._longer += longer_by(item)
-            return found
+            if self._within:
+                raise RuntimeError("check: the replay is within another check, which has not ended")
+            self._within = True
+            try:
+                is_said, numbers, replay = named.check(item.code, self._recorded, payload, self._replay)
+                found = self._mismatch("check", item.code, payload, numbers) if is_said else None
+                # the replay goes on once all of the mismatch is there
+                self._replay = replay
+                self._longer += longer_by(item)
+                return found
+            finally:
+                self._within = False
 
     def expected(self) -> Optional[Message]:
         """The command that comes next in the recording, which is not taken; None if there is none.

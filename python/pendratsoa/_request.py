@@ -3,7 +3,7 @@
 from __future__ import annotations
 
 import operator
-from typing import Any, Callable, Dict, Optional, SupportsIndex, Tuple, Type, cast
+from typing import Any, Callable, Dict, Optional, SupportsIndex, Tuple, Type, TypeVar, cast
 
 from ._declared import FIRST_VERSION, LAST_VERSION, JsonReason
 from ._errors import (
@@ -21,6 +21,8 @@ from ._errors import (
 )
 from ._kinds import BytesLike
 from ._protocol import SCHEMA_NAMES
+
+T = TypeVar("T")
 
 # the number of schemas, whose numbers begin at 0
 SCHEMAS = len(SCHEMA_NAMES)
@@ -111,7 +113,7 @@ class Request:
         """The number of a schema, which may be given by the name of its record."""
         name = self.arguments[argument]
         if not isinstance(name, str):
-            return self._unsigned(argument, U32_END)
+            return self._unsigned(argument, U32_END, "an int or a str")
         if name not in SCHEMA_NAMES:
             raise self._unknown(argument)
         return SCHEMA_NAMES.index(name)
@@ -125,7 +127,7 @@ class Request:
 
     def length(self, argument: str) -> int:
         """The length of a payload in bytes."""
-        number = self._integer(argument)
+        number = self.integer(argument)
         if number < 0:
             raise ValueError(f"{self.call}: {argument} {shown(number)} is negative")
         if number >= U32_END:
@@ -160,6 +162,17 @@ class Request:
         except TypeError:
             raise TypeError(f"{self.call}: {argument} must be {what}, not {type(data).__name__}") from None
 
+    def step(self, function: Callable[..., T], *given: Any) -> T:
+        """What a function returns, which this call makes: its errors are those of this call."""
+        try:
+            return function(*given)
+        except JournalError as error:
+            error.call = self.call
+            # a step has a type by its code or by its name
+            if error.argument in ("code", "name") and "type" in self.arguments:
+                error.argument = "type"
+            raise
+
     def refused(self, number: int) -> JournalError:
         """The error of a negative number. A later library may have further ones."""
         if number not in ERRORS:
@@ -170,12 +183,14 @@ class Request:
             return self.error(kind, TEXTS[kind])
         if kind is Unknown:
             return self._unknown(argument)
-        return self.error(kind, f"{argument} {shown(self.arguments[argument])} {TEXTS[kind]}", argument)
+        what = argument if argument == "payload" else f"{argument} payload"
+        return self.error(kind, f"{what} {shown(self.arguments[argument])} {TEXTS[kind]}", argument)
 
     def error(self, kind: Type[JournalError], text: str, argument: Optional[str] = None) -> JournalError:
-        """An error of this call, about one of its arguments or none."""
+        """An error of this call, about one of its arguments or none. Its text does not name the call, which may be one
+        that another makes; that of a TypeError or of a ValueError does."""
         value = self.arguments.get(argument) if argument else None
-        return kind(f"{self.call}: {text}", call=self.call, argument=argument, value=value)
+        return kind(text, call=self.call, argument=argument, value=value)
 
     def not_taken(self, reason: JsonReason, offset: int, path: str) -> JsonError:
         """The error of a rejected JSON text."""
@@ -183,7 +198,7 @@ class Request:
         is_json = reason is not JsonReason.NOT_JSON
         why = f"{path}: {REASONS[reason]}" if path else REASONS[reason]
         return JsonError(
-            f"{self.call}: json {shown(value)}: {why if is_json else f'{why} at byte {offset}'}",
+            f"json {shown(value)}: {why if is_json else f'{why} at byte {offset}'}",
             call=self.call,
             argument="json",
             value=value,
@@ -196,16 +211,17 @@ class Request:
         """The error that a later library may return something new."""
         return self.error(JournalError, f"the library returned {what}, which this module does not know")
 
-    def _integer(self, argument: str) -> int:
+    def integer(self, argument: str, what: str = "an int") -> int:
+        """A number."""
         value = self.arguments[argument]
         try:
             return operator.index(cast(SupportsIndex, value))
         except TypeError:
-            raise TypeError(f"{self.call}: {argument} must be an int, not {type(value).__name__}") from None
+            raise TypeError(f"{self.call}: {argument} must be {what}, not {type(value).__name__}") from None
 
-    def _unsigned(self, argument: str, end: int) -> int:
+    def _unsigned(self, argument: str, end: int, what: str = "an int") -> int:
         """A number that fits its parameter, below an end; ctypes would cut another."""
-        number = self._integer(argument)
+        number = self.integer(argument, what)
         if not 0 <= number < end:
             raise self._unknown(argument)
         return number

@@ -2,11 +2,13 @@
 
 from __future__ import annotations
 
+import contextlib
 import inspect
-from typing import TYPE_CHECKING, AsyncIterator, Awaitable, Callable, Iterator, List, NoReturn, Optional, Protocol
+import os
+from typing import TYPE_CHECKING, Any, AsyncIterator, Awaitable, Callable, Iterator, List, NoReturn, Optional, Protocol
 from typing import Union, cast
 
-from ._errors import Incomplete, MessageTooLong, OutOfMemory, TooLong
+from ._errors import Incomplete, MessageTooLong, TooLong
 from ._fast import pending_of
 from ._items import Item, Message, name_of, read_as, renumbered, type_of
 from ._kinds import BytesLike
@@ -138,7 +140,8 @@ class Stream:
 
     def _check(self) -> None:
         if self._ended is not None:
-            raise self._ended
+            # each time it is raised it would hold further frames
+            raise self._ended.with_traceback(None)
 
     def _finish(self, call: str) -> None:
         self._check()
@@ -147,7 +150,7 @@ class Stream:
             offset, code = self._pending.offset(), self._code_of_rest()
             item = "an item" if code is None else name_of(code)
             what = "1 byte" if rest == 1 else f"{rest} bytes"
-            text = f"{call}: the stream ended within {item} at offset {offset}, after {what} of it"
+            text = f"the stream ended within {item} at offset {offset}, after {what} of it"
             raise Incomplete(text, call=call, rest=rest, offset=offset, code=code)
 
     def _code_of_rest(self) -> Optional[int]:
@@ -160,7 +163,7 @@ class Stream:
         while True:
             data = receive(size)
             if data is None:
-                raise BlockingIOError("read: the file has no bytes yet")
+                raise BlockingIOError("the file has no bytes yet")
             if inspect.isawaitable(data):
                 if inspect.iscoroutine(data):
                     data.close()
@@ -187,12 +190,18 @@ class Stream:
 
     def _take_at(self) -> Union[Item, int, None]:
         """What `take` of what came returns, with the payload of a message read by the numbering."""
-        item = self._unread.pop() if self._unread else self._pending.take()
+        item: Union[Item, int, None] = None
+        if self._unread:
+            # another thread may have taken it
+            with contextlib.suppress(IndexError):
+                item = self._unread.pop()
+        if item is None:
+            item = self._pending.take()
         if self._tables is None or not isinstance(item, Message):
             return item
         try:
             payload = renumbered("Stream", item, named.Stream, self._tables._reading)
-        except OutOfMemory:
+        except MemoryError:
             self._unread.append(item)
             raise
         return item if payload is None else read_as(item, payload)
@@ -232,10 +241,32 @@ def _checked(call: str, size: int) -> int:
     return size
 
 
+def _waiting(file: Any, read1: Callable[[int], Optional[bytes]]) -> Callable[[int], Optional[bytes]]:
+    """`read1` of a buffered file. Where that does not block, `read1` has no bytes also if none came yet, but `read`
+    says None then."""
+
+    def receive(size: int) -> Optional[bytes]:
+        data = read1(size)
+        if data or not hasattr(file, "raw") or _blocks(file):
+            return data
+        found: Optional[bytes] = file.read(1)
+        return found
+
+    return receive
+
+
+def _blocks(file: Any) -> bool:
+    try:
+        return os.get_blocking(file.fileno())
+    except (AttributeError, OSError, ValueError):
+        # there is no descriptor, as of a file in a tar archive
+        return True
+
+
 def _receiver(file: Source) -> Callable[[int], Optional[bytes]]:
     """What reads from a file: of a buffered one the method that does not wait until all bytes are there."""
     for name in ("recv", "read1", "read"):
         receive: Optional[Callable[[int], Optional[bytes]]] = getattr(file, name, None)
         if receive is not None:
-            return receive
+            return _waiting(file, receive) if name == "read1" else receive
     raise TypeError(f"read: file must have a method read or recv, which {type(file).__name__} has not")

@@ -18,13 +18,17 @@ class CombinatorType(OpenEnum):
     """How the parts of a future are combined. Numbers without a name are kept."""
 
     COMBINATOR_TYPE_ZERO = 0
+    """The number 0, which is the only one with a name."""
 
 
 class ErrorBehavior(OpenEnum):
     """What the service does after an error."""
 
     RETRY = 0
+    """The service retries the invocation."""
+
     PAUSE = 1
+    """The service pauses the invocation."""
 
 
 @dataclass(frozen=True)

@@ -165,11 +165,12 @@ static int64_t fields_of(const struct record_codec *self, const struct reading *
     return count;
 }
 
-/* None, unless there is an exception: what is wrong is said in Python. Memory that is not there is said here. */
+/* None, unless there is an exception: what is wrong is said in Python. Memory that is not there, and an interrupt, are
+ * said here. */
 static PyObject *left_to_python(void)
 {
     if (PyErr_Occurred()) {
-        if (PyErr_ExceptionMatches(PyExc_MemoryError)) {
+        if (PyErr_ExceptionMatches(PyExc_MemoryError) || !PyErr_ExceptionMatches(PyExc_Exception)) {
             return NULL;
         }
         PyErr_Clear();

@@ -172,7 +172,11 @@ static PyObject *take(struct pending *self, PyObject *none)
             return NULL;
         }
         uint64_t changes = self->changes;
+        /* where memory is collected, what runs meanwhile may take the last item, and drop the bytes */
+        PyObject *data = self->data;
+        Py_INCREF(data);
         PyObject *made = item_of(self, &item);
+        Py_DECREF(data);
         if (made == NULL) {
             return NULL;
         }

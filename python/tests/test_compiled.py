@@ -10,6 +10,7 @@ import subprocess
 import sys
 import threading
 import unittest
+from unittest import mock
 
 import pendratsoa
 from pendratsoa import JournalError, Message, Skipped, Unknown, UnknownCode, _fast, _library, _named
@@ -217,8 +218,9 @@ class TestCompiled(unittest.TestCase):
             self.assertRaises(TypeError, header, *given)
         self.assertRaises(TypeError, header, 8, INPUT_COMMAND, payload_length=0)
         self.assertEqual(header(8, INPUT_COMMAND, 9), INPUT[:8])
-        with self.assertRaisesRegex(Unknown, "^name: code 1037 is not that of a notification$"):
+        with self.assertRaisesRegex(Unknown, "^code 1037 is not that of a notification$") as unknown:
             native.call(_named.PLACES["notification"], "name")(CALL_COMMAND, b"")
+        self.assertEqual(unknown.exception.call, "name")
 
     def test_what_is_left_of_a_stream(self):
         pending = _fast.native().pending(8, None)
@@ -281,6 +283,32 @@ class TestCompiled(unittest.TestCase):
                 Taking()
         gc.set_threshold(*thresholds)
         self.assertEqual(sorted(found), [*range(0, 5000 * len(INPUT), len(INPUT))])
+
+    def test_the_last_item_is_taken_while_memory_is_collected(self):
+        pending = _fast.native().pending(8, None)
+        take, found, wanted = pending.take, [], [True]
+
+        def collected(phase, _):
+            if wanted:
+                wanted.clear()
+                found.append(take())
+
+        pending.feed(InputCommandMessage(value=Value(bytes(4 << 20))).frame(8))
+        # a new dict takes memory, and is none that was freed
+        held = [{} for _ in range(500)]
+        thresholds = gc.get_threshold()
+        gc.callbacks.append(collected)
+        gc.set_threshold(1)
+        found.append(take())
+        gc.set_threshold(*thresholds)
+        gc.callbacks.remove(collected)
+        del held
+        self.assertEqual([item.offset for item in found if item is not None], [0])
+
+    def test_an_interrupt_reaches_the_caller(self):
+        payload = ErrorMessage(behavior=7).encode()
+        with mock.patch.object(ErrorBehavior, "_missing_", side_effect=KeyboardInterrupt):
+            self.assertRaises(KeyboardInterrupt, ErrorMessage._compiled.decode, payload)
 
     def test_references(self):
         record = ErrorMessage(behavior=ErrorBehavior.PAUSE, message="text")

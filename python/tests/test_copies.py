@@ -100,7 +100,7 @@ class TestFrames(unittest.TestCase):
                 self.assertEqual(message.append_frame(out, version), len(frame))
                 self.assertEqual(out, b"\xff" + frame)
                 self.assertEqual(message.message.frame(version), frame)
-        text = "^frame: there is no SuspensionMessageV6 at version 8$"
+        text = "^there is no SuspensionMessageV6 at version 8$"
         self.assertRaisesRegex(Unknown, text, Message(6, 1, b"").frame, 8)
         text = "^append_frame: out must be a bytearray"
         self.assertRaisesRegex(TypeError, text, Message(6, 1, b"").append_frame, b"")
@@ -161,7 +161,7 @@ class TestEnd(unittest.TestCase):
         stream.feed(b"\x04")
         with self.assertRaises(Incomplete) as caught:
             stream.finish()
-        text = f"finish: the stream ended within an item at offset {len(INPUT)}, after 1 byte of it"
+        text = f"the stream ended within an item at offset {len(INPUT)}, after 1 byte of it"
         self.assertEqual(str(caught.exception), text)
         error = caught.exception
         self.assertEqual((error.call, error.rest, error.offset), ("finish", 1, len(INPUT)))
@@ -182,7 +182,7 @@ class TestEnd(unittest.TestCase):
                 with self.assertRaises(Incomplete) as caught:
                     stream.finish()
                 self.assertEqual((caught.exception.code, caught.exception.rest), (code, len(data)))
-                text = f"finish: the stream ended within {name} at offset 0, after {len(data)} byte"
+                text = f"the stream ended within {name} at offset 0, after {len(data)} byte"
                 self.assertTrue(str(caught.exception).startswith(text), caught.exception)
 
     def test_finish_before_items_are_taken(self):
@@ -192,7 +192,7 @@ class TestEnd(unittest.TestCase):
                 stream.feed(INPUT[begin : begin + size])
             with self.assertRaises(Incomplete) as caught:
                 stream.finish()
-            text = f"finish: the stream ended within InputCommand at offset 0, after {len(INPUT)} bytes of it"
+            text = f"the stream ended within InputCommand at offset 0, after {len(INPUT)} bytes of it"
             self.assertEqual(str(caught.exception), text)
             self.assertEqual((caught.exception.code, caught.exception.rest), (INPUT_COMMAND, len(INPUT)))
             self.assertEqual(len(list(stream)), 1)
@@ -200,7 +200,7 @@ class TestEnd(unittest.TestCase):
     def test_strict(self):
         items = Stream().read(io.BytesIO(INPUT + INPUT[:5]), strict=True)
         self.assertEqual(str(next(items)), f"InputCommand {INPUT_LENGTH}")
-        text = rf"^read: the stream ended within InputCommand at offset {len(INPUT)}, after 5 bytes of it$"
+        text = rf"^the stream ended within InputCommand at offset {len(INPUT)}, after 5 bytes of it$"
         with self.assertRaisesRegex(Incomplete, text):
             next(items)
         self.assertEqual(len(list(Stream().read(io.BytesIO(INPUT), strict=True))), 1)
@@ -231,7 +231,7 @@ class TestAsync(unittest.IsolatedAsyncioTestCase):
         reader.feed_eof()
         items = Stream().read_async(reader, strict=True)
         self.assertEqual(str(await items.__anext__()), f"InputCommand {INPUT_LENGTH}")
-        with self.assertRaisesRegex(Incomplete, "^read_async: the stream ended"):
+        with self.assertRaisesRegex(Incomplete, "^the stream ended"):
             await items.__anext__()
 
     async def test_a_connection(self):

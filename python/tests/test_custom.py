@@ -57,6 +57,14 @@ class TestCustomEntries(unittest.TestCase):
         self.assertEqual(found, RECORDS)
         self.assertEqual(b"".join(item.bytes for item in items_of(*PARTS)), b"".join(PARTS))
 
+    def test_the_type_of_each_item(self):
+        found = [(item.type, item.is_command, item.is_notification) for item in items_of(*PARTS)]
+        self.assertEqual(found[0], ("InputCommand", True, False))
+        self.assertEqual(found[4], (None, False, False))
+        self.assertEqual(found[6], ("CustomEntry(34048)", False, True))
+        for item in (UnknownCode(8, 0x0408, 0), Skipped(9, 0x8008, 0, b"")):
+            self.assertEqual((item.type, item.is_command, item.is_notification), (None, False, False))
+
     def test_each_code_that_is_of_no_named_type(self):
         for version in range(pendratsoa.FIRST_VERSION, pendratsoa.LAST_VERSION + 1):
             for code in (0x0400 + 0x1F, 0x0500, 0x3F3F, 0x7FFF, 0x8500, CUSTOM_ENTRY, 0xFFFF):
@@ -149,7 +157,7 @@ class TestOffsets(unittest.TestCase):
                 with self.assertRaises(Malformed) as raised:
                     call()
                 error = raised.exception
-                text = f"{name}: SetStateCommand{where}: payload b'\\n' is not well-formed"
+                text = f"SetStateCommand{where}: payload b'\\n' is not well-formed"
                 self.assertEqual((str(error), error.code, error.offset), (text, SET_STATE_COMMAND, offset))
                 self.assertEqual((error.call, error.argument, error.value), (name, "payload", b"\n"))
             self.assertEqual(out, b"")
@@ -163,7 +171,7 @@ class TestOffsets(unittest.TestCase):
             (message,) = items_of(header + payload)
             with self.assertRaises(kind) as raised:
                 message.notification()
-            text = f"notification: SignalNotification at offset 0: payload {payload!r} {what}"
+            text = f"SignalNotification at offset 0: payload {payload!r} {what}"
             error = raised.exception
             self.assertEqual((str(error), error.code, error.offset), (text, SIGNAL_NOTIFICATION, 0))
 
@@ -171,7 +179,8 @@ class TestOffsets(unittest.TestCase):
         for call in ("frame", "append_frame"):
             with self.assertRaises(Malformed) as raised:
                 getattr(Message(6, SUSPENSION, b"\n"), call)(*([bytearray()] if call == "append_frame" else []))
-            self.assertEqual(str(raised.exception), f"{call}: Suspension: payload b'\\n' is not well-formed")
+            self.assertEqual(str(raised.exception), "Suspension: payload b'\\n' is not well-formed")
+            self.assertEqual(raised.exception.call, call)
 
     def test_a_call_by_itself_knows_no_message(self):
         with self.assertRaises(Malformed) as raised:

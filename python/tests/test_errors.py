@@ -10,6 +10,7 @@ from pendratsoa import (
     JournalError,
     JsonError,
     Malformed,
+    Message,
     NoId,
     NoResult,
     MessageTooLong,
@@ -31,139 +32,205 @@ NO_ID, NO_RESULT = b"\x22\x00", b"\x10\x11"
 class TestErrors(unittest.TestCase):
     def test_each_names_the_call_the_argument_and_its_value(self):
         long = b"\xff" * 1000
-        for call, kind, argument, value, text in (
-            (lambda: pendratsoa.type_name(8), Unknown, "code", 8, "type_name: code 8 is not that of a type"),
+        for call, kind, argument, value, name, text in (
+            (lambda: pendratsoa.type_name(8), Unknown, "code", 8, "type_name", "code 8 is not that of a type"),
             (
                 lambda: pendratsoa.type_code("Sleep"),
                 Unknown,
                 "name",
                 "Sleep",
-                "type_code: unknown type name 'Sleep'",
+                "type_code",
+                "unknown type name 'Sleep'",
             ),
             (
                 lambda: pendratsoa.type_code("\ud800"),
                 Unknown,
                 "name",
                 "\ud800",
-                "type_code: unknown type name '\\ud800'",
+                "type_code",
+                "unknown type name '\\ud800'",
             ),
-            (lambda: pendratsoa.schema(4, 0), Unknown, "version", 4, "schema: unknown protocol version 4 (5 to 9)"),
-            (lambda: pendratsoa.schema(8, 8), Unknown, "code", 8, "schema: code 8 is not that of a named type"),
-            (lambda: pendratsoa.header(4, 8, 0), Unknown, "version", 4, "header: unknown protocol version 4 (5 to 9)"),
-            (lambda: pendratsoa.header(8, 8, 0), Unknown, "code", 8, "header: code 8 is not that of a type"),
+            (lambda: pendratsoa.schema(4, 0), Unknown, "version", 4, "schema", "unknown protocol version 4 (5 to 9)"),
+            (lambda: pendratsoa.schema(8, 8), Unknown, "code", 8, "schema", "code 8 is not that of a named type"),
+            (
+                lambda: pendratsoa.header(4, 8, 0),
+                Unknown,
+                "version",
+                4,
+                "header",
+                "unknown protocol version 4 (5 to 9)",
+            ),
+            (lambda: pendratsoa.header(8, 8, 0), Unknown, "code", 8, "header", "code 8 is not that of a type"),
             (
                 lambda: pendratsoa.header(8, 0, 1 << 32),
                 TooLong,
                 "payload_length",
                 1 << 32,
-                "header: payload_length 4294967296 is more than 4,294,967,295",
+                "header",
+                "payload_length 4294967296 is more than 4,294,967,295",
             ),
             (
                 lambda: pendratsoa.frame(8, CUSTOM_ENTRY, b""),
                 Unknown,
                 "code",
                 CUSTOM_ENTRY,
-                "frame: code 64513 is not that of a named type",
+                "frame",
+                "code 64513 is not that of a named type",
             ),
             (
                 lambda: pendratsoa.frame(8, 2, BAD),
                 Malformed,
                 "payload",
                 BAD,
-                "frame: payload b'\\x12' is not well-formed",
+                "frame",
+                "payload b'\\x12' is not well-formed",
             ),
             (
                 lambda: pendratsoa.canonical(pendratsoa.SCHEMAS, b""),
                 Unknown,
                 "schema",
                 pendratsoa.SCHEMAS,
-                f"canonical: unknown schema {pendratsoa.SCHEMAS} (0 to {pendratsoa.SCHEMAS - 1})",
+                "canonical",
+                f"unknown schema {pendratsoa.SCHEMAS} (0 to {pendratsoa.SCHEMAS - 1})",
             ),
             (
                 lambda: pendratsoa.to_json("Sleep", b""),
                 Unknown,
                 "schema",
                 "Sleep",
-                "to_json: unknown schema 'Sleep'",
+                "to_json",
+                "unknown schema 'Sleep'",
             ),
             (
                 lambda: pendratsoa.canonical(13, long),
                 Malformed,
                 "payload",
                 long,
-                f"canonical: payload {long[:16]!r}.. (1000 bytes) is not well-formed",
+                "canonical",
+                f"payload {long[:16]!r}.. (1000 bytes) is not well-formed",
             ),
             (
                 lambda: pendratsoa.merge(13, BAD, b""),
                 Malformed,
                 "first",
                 BAD,
-                "merge: first b'\\x12' is not well-formed",
+                "merge",
+                "first payload b'\\x12' is not well-formed",
             ),
             (
                 lambda: pendratsoa.merge("ErrorMessage", b"", BAD),
                 Malformed,
                 "second",
                 BAD,
-                "merge: second b'\\x12' is not well-formed",
+                "merge",
+                "second payload b'\\x12' is not well-formed",
             ),
             (
                 lambda: pendratsoa.header_eq(SET_STATE_COMMAND, b"", BAD),
                 Malformed,
                 "second",
                 BAD,
-                "header_eq: second b'\\x12' is not well-formed",
+                "header_eq",
+                "second payload b'\\x12' is not well-formed",
             ),
             (
                 lambda: pendratsoa.difference(SET_STATE_COMMAND, BAD, b""),
                 Malformed,
                 "first",
                 BAD,
-                "difference: first b'\\x12' is not well-formed",
+                "difference",
+                "first payload b'\\x12' is not well-formed",
             ),
             (
                 lambda: pendratsoa.difference(2, b"", b""),
                 Unknown,
                 "code",
                 2,
-                "difference: code 2 is not that of a command",
+                "difference",
+                "code 2 is not that of a command",
             ),
             (
                 lambda: pendratsoa.notification(CALL_COMMAND, b""),
                 Unknown,
                 "code",
                 CALL_COMMAND,
-                "notification: code 1037 is not that of a notification",
+                "notification",
+                "code 1037 is not that of a notification",
             ),
             (
                 lambda: pendratsoa.notification(SIGNAL_NOTIFICATION, NO_ID),
                 NoId,
                 "payload",
                 NO_ID,
-                f"notification: payload {NO_ID!r} has no id",
+                "notification",
+                f"payload {NO_ID!r} has no id",
             ),
             (
                 lambda: pendratsoa.notification(SIGNAL_NOTIFICATION, NO_RESULT),
                 NoResult,
                 "payload",
                 NO_RESULT,
-                f"notification: payload {NO_RESULT!r} has an id, and no result",
+                "notification",
+                f"payload {NO_RESULT!r} has an id, and no result",
             ),
             (
                 lambda: pendratsoa.compare_journals(10, b"", b""),
                 Unknown,
                 "version",
                 10,
-                "compare_journals: unknown protocol version 10 (5 to 9)",
+                "compare_journals",
+                "unknown protocol version 10 (5 to 9)",
             ),
-            (lambda: Stream(10), Unknown, "version", 10, "Stream: unknown protocol version 10 (5 to 9)"),
+            (lambda: Stream(10), Unknown, "version", 10, "Stream", "unknown protocol version 10 (5 to 9)"),
         ):
             with self.subTest(text), self.assertRaises(kind) as raised:
                 call()
             error = raised.exception
             self.assertIs(type(error), kind)
             self.assertEqual((str(error), error.argument, error.value), (text, argument, value))
-            self.assertEqual(error.call, text.partition(":")[0])
+            self.assertEqual(error.call, name)
+
+    def test_the_call_is_the_one_that_was_made(self):
+        entry, earlier = Message(8, CUSTOM_ENTRY, b""), messages.SuspensionMessageV6()
+        for name, *calls in (
+            (
+                "Message.of",
+                lambda: Message.of("Sleep"),
+                lambda: Message.of(8),
+                lambda: Message.of("SleepCommand", b"", 4),
+            ),
+            (
+                "Message.from_json",
+                lambda: Message.from_json("Sleep", "{}"),
+                lambda: Message.from_json(CUSTOM_ENTRY, "{}"),
+                lambda: Message.from_json("SleepCommand", "{"),
+                lambda: Message.from_json("SleepCommand", "{}", 4),
+            ),
+            (
+                "Message.of_record",
+                lambda: Message.of_record(messages.EndMessage(), 4),
+                lambda: Message.of_record(earlier, 7),
+                lambda: Message.of_record(messages.ErrorMessage(code=-1)),
+            ),
+            ("frame", entry.frame, lambda: earlier.frame(7), lambda: earlier.frame(4)),
+            ("json", entry.json),
+            ("canonical", entry.canonical),
+        ):
+            for call in calls:
+                with self.subTest(name), self.assertRaises(JournalError) as raised:
+                    call()
+                self.assertEqual(raised.exception.call, name)
+                self.assertNotIn(name, str(raised.exception))
+        for call, value in (
+            (lambda: Message.of("Sleep"), "Sleep"),
+            (lambda: Message.of(8), 8),
+            (lambda: Message.from_json("Sleep", "{}"), "Sleep"),
+        ):
+            with self.assertRaises(Unknown) as unknown:
+                call()
+            self.assertEqual((unknown.exception.argument, unknown.exception.value), ("type", value))
+        with self.assertRaisesRegex(TypeError, "^Message.from_json: json must be "):
+            Message.from_json("SleepCommand", 5)
 
     def test_a_number_that_python_does_not_write(self):
         for number in (1 << 100_000, -1 << 100_000):
@@ -174,9 +241,9 @@ class TestErrors(unittest.TestCase):
 
     def test_what_fails_without_an_argument(self):
         for number, kind, text in (
-            (-2, OutOfMemory, "canonical: an allocation failed"),
-            (-3, NoRoom, "canonical: a slice for numbers was too short"),
-            (-4, TooLong, "canonical: the result would have more than 4,294,967,295 bytes"),
+            (-2, OutOfMemory, "an allocation failed"),
+            (-3, NoRoom, "a slice for numbers was too short"),
+            (-4, TooLong, "the result would have more than 4,294,967,295 bytes"),
         ):
             with replaced("journal_canonical", returning(number)), self.assertRaises(kind) as raised:
                 pendratsoa.canonical(0, b"")
@@ -215,7 +282,7 @@ class TestErrors(unittest.TestCase):
             with replaced(function, found), self.assertRaises(JournalError) as later:
                 call()
             self.assertIs(type(later.exception), JournalError)
-            self.assertEqual(str(later.exception), f"{later.exception.call}: {unknown.format(what)}")
+            self.assertEqual(str(later.exception), unknown.format(what))
 
     def test_they_are_errors_of_python_too(self):
         for kind, other in (

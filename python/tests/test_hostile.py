@@ -11,6 +11,7 @@ import unittest
 
 import pendratsoa
 from pendratsoa import JournalError, Message, Numbering, Stream
+from pendratsoa.messages import EndMessage, SuspensionMessageV6
 from descriptors import ALL
 from support import CALL_COMMAND, INPUT, RECORDED, SIGNAL_NOTIFICATION
 
@@ -118,11 +119,18 @@ class TestArguments(unittest.TestCase):
             (lambda: pendratsoa.schema(8.0, 0), "schema: version must be an int, not float"),
             (lambda: pendratsoa.type_code(8), "type_code: name must be a str, not int"),
             (lambda: pendratsoa.canonical(0, "text"), "canonical: payload must be bytes-like, not str"),
-            (lambda: pendratsoa.canonical(None, b""), "canonical: schema must be an int, not NoneType"),
+            (lambda: pendratsoa.canonical(None, b""), "canonical: schema must be an int or a str, not NoneType"),
             (lambda: pendratsoa.merge(0, b"", 5), "merge: second must be bytes-like, not int"),
             (lambda: pendratsoa.from_json(0, 5), "from_json: json must be a str or bytes-like, not int"),
             (lambda: Stream().feed("text"), "feed: data must be bytes-like, not str"),
             (lambda: Stream("8"), "Stream: version must be an int, not str"),
+            (lambda: Message.of(8.0), "Message.of: type must be an int or a str, not float"),
+            (lambda: Message.of("SleepCommand", 5), "Message.of: payload must be bytes-like, not int"),
+            (lambda: Message.of("SleepCommand", b"", "8"), "Message.of: version must be an int, not str"),
+            (lambda: Message.from_json(8.0, "{}"), "Message.from_json: type must be an int or a str, not float"),
+            (lambda: Message.from_json(0, "{}", "8"), "Message.from_json: version must be an int, not str"),
+            (lambda: Message.of_record(EndMessage(), "8"), "Message.of_record: version must be an int, not str"),
+            (lambda: SuspensionMessageV6().frame("8"), "frame: version must be an int, not str"),
         ):
             with self.assertRaises(TypeError) as error:
                 call()

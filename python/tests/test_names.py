@@ -69,9 +69,9 @@ class TestNames(unittest.TestCase):
                 (lambda: pendratsoa.from_json(schema, "{}"), "schema", schema),
                 (lambda: pendratsoa.compare_journals(version, b"", b""), "version", version),
                 (lambda: Stream(version), "version", version),
-                (lambda: Message.of(code), "code", code),
+                (lambda: Message.of(code), "type", code),
                 (lambda: Message.of(CALL_COMMAND, b"", version), "version", version),
-                (lambda: Message.from_json(code, "{}"), "code", code),
+                (lambda: Message.from_json(code, "{}"), "type", code),
                 (lambda: Message.from_json(CALL_COMMAND, "{}", version), "version", version),
             ):
                 with self.assertRaises(pendratsoa.Unknown) as unknown:

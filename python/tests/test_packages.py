@@ -216,10 +216,11 @@ class TestPackages(unittest.TestCase):
                 self.assertIs(raised(call), ended)
         elif ended is not None:
             again = raised(stream.finish)
-            self.assertEqual(str(again).partition(": ")[2], str(ended).partition(": ")[2])
+            self.assertEqual(str(again), str(ended))
             name = name_of(ended.code) if ended.code is not None else "an item"
             name = f"code {ended.code:#x}" if name == "-" else name
-            self.assertIn(f": the stream ended within {name} at offset {ended.offset}, after ", str(ended))
+            text = f"the stream ended within {name} at offset {ended.offset}, after "
+            self.assertTrue(str(ended).startswith(text), ended)
         came, whole = b"".join(map(bytes, found)), b"".join(chunks)
         self.assertTrue(whole.startswith(came))
         self.assertEqual(stream.trailing, b"" if isinstance(ended, MessageTooLong) else whole[len(came) :])
@@ -230,7 +231,7 @@ class TestPackages(unittest.TestCase):
         stream.feed(bytes_of(word))
         with self.assertRaises(MessageTooLong) as error:
             list(stream)
-        return str(error.exception).partition(": ")[2]
+        return str(error.exception)
 
     def read_result(self, call, version, word):
         return ", ".join(self.reading(item, READS[call]) for item in items_of(version, word))
@@ -249,7 +250,7 @@ class TestPackages(unittest.TestCase):
         if type(error) is Unknown:
             return "unknown"
         self.assertEqual((error.code, error.offset), (item.code, item.offset))
-        self.assertTrue(str(error).startswith(f"{error.call}: {item.type} at offset {item.offset}: payload "), error)
+        self.assertTrue(str(error).startswith(f"{item.type} at offset {item.offset}: payload "), error)
         return f"{KINDS[type(error)]} {name_of(error.code)} {error.offset}"
 
     def as_result(self, name, version, word):
@@ -388,7 +389,7 @@ class TestNumberings(unittest.TestCase):
             sets[name] = Numbering(bytes_of(word), renames=dict(line.split("=") for line in lines))
         except NumberingError as error:
             kind = {"descriptor_set": "no_set", "renames": "no_rename"}[error.argument]
-            return f"{kind} {str(error).partition(': ')[2].encode().hex()}"
+            return f"{kind} {str(error).encode().hex()}"
         return "ok"
 
     def read_result(self, sets, name, schema, word):
@@ -431,7 +432,7 @@ class TestMadeByHand(unittest.TestCase):
         with self.assertRaises(Malformed) as error:
             message.json()
         self.assertEqual((error.exception.code, error.exception.offset), (SET_STATE_COMMAND, None))
-        self.assertEqual(str(error.exception), "json: SetStateCommand: payload b'\\n\\x05a' is not well-formed")
+        self.assertEqual(str(error.exception), "SetStateCommand: payload b'\\n\\x05a' is not well-formed")
 
 
 if __name__ == "__main__":

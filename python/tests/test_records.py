@@ -10,10 +10,11 @@ import sys
 import threading
 import typing
 import unittest
+from unittest import mock
 
 import pendratsoa
 from pendratsoa import FieldError, FieldReason, JournalError, Malformed, Message, Stream, Unknown, messages
-from pendratsoa import _items, _records
+from pendratsoa import _items, _library, _records
 from pendratsoa.messages import (
     RECORDS,
     CallCompletionNotificationMessage,
@@ -41,6 +42,7 @@ from pendratsoa.messages import (
     Void,
 )
 
+from test_compiled import in_python
 from support import CUSTOM_ENTRY, RECORDED, SUSPENSION, replaced, returning, types
 
 MATCH = """
@@ -89,7 +91,7 @@ class TestDecoding(unittest.TestCase):
         self.assertEqual(SetStateCommandMessage.decode(memoryview(b"")), SetStateCommandMessage())
 
     def test_what_is_malformed(self):
-        self.assertRaisesRegex(Malformed, r"^decode: payload b'\\n' is not well-formed$", Value.decode, b"\n")
+        self.assertRaisesRegex(Malformed, r"^payload b'\\n' is not well-formed$", Value.decode, b"\n")
         self.assertRaises(TypeError, Value.decode, "text")
         self.assertIsNone(Message(8, CUSTOM_ENTRY, b"").message)
 
@@ -111,14 +113,14 @@ class TestDecoding(unittest.TestCase):
             return 0
 
         with replaced("journal_payload_of_fields", of_another_kind):
-            text = "^encode: the library returned a table of fields of the kind 10, which this module does not know$"
+            text = "^the library returned a table of fields of the kind 10, which this module does not know$"
             self.assertRaisesRegex(JournalError, text, Value(b"x").encode)
         for kept in (_records.schema_of, _items._class_of):
             kept.cache_clear()
             self.addCleanup(kept.cache_clear)
         with replaced("journal_schema", returning(len(RECORDS))), self.assertRaises(JournalError) as raised:
             Message(8, 0x7FFF, b"").message
-        self.assertRegex(str(raised.exception), "^message: the schema [0-9]+ is of no record that this package knows$")
+        self.assertRegex(str(raised.exception), "^the schema [0-9]+ is of no record that this package knows$")
 
     def test_threads(self):
         payload = Future(waiting_signals=tuple(range(60)), nested_futures=(Future(),)).encode()
@@ -135,6 +137,34 @@ class TestDecoding(unittest.TestCase):
         for thread in threads:
             thread.join()
         self.assertEqual(wrong, [])
+
+
+    def test_a_call_within_a_call(self):
+        record = SetStateCommandMessage(key=b"counter", value=Value(b"1"), name="one")
+        other = SetStateCommandMessage(key=b"another", value=Value(b"22"), name="other")
+        payload, another = record.encode(), other.encode()
+        # a finalizer, or the handler of a signal, that runs before what the library wrote is read
+        for function in ("journal_fields", "journal_payload_of_fields"):
+            made, wanted, inner = getattr(_library.library, function), [True], []
+
+            def interrupted(*given):
+                result = made(*given)
+                if wanted:
+                    wanted.clear()
+                    inner.append((SetStateCommandMessage.decode(another), other.encode()))
+                return result
+
+            with in_python(), mock.patch.object(_library.library, function, interrupted):
+                self.assertEqual((SetStateCommandMessage.decode(payload), record.encode()), (record, payload))
+            self.assertEqual(inner, [(other, another)])
+
+    def test_a_class_below_that_of_a_record(self):
+        class Command(SetStateCommandMessage):
+            """A class of a caller."""
+
+        payload = SetStateCommandMessage(name="name").encode()
+        found = Command.decode(payload)
+        self.assertEqual((type(found), found.name, found.encode()), (Command, "name", payload))
 
 
 class TestValues(unittest.TestCase):
@@ -180,6 +210,9 @@ class TestValues(unittest.TestCase):
             self.assertEqual((found, type(found)), (number, ErrorBehavior))
         self.assertIs(ErrorMessage.decode(ErrorMessage(behavior=1).encode()).behavior, ErrorBehavior.PAUSE)
         self.assertRaises(ValueError, CombinatorType, 1 << 31)
+        for number in (1 << 31, (1 << 63) - 1, 1 << 63, (1 << 64) - (1 << 31), (1 << 64) - 1, 1 << 64):
+            with self.assertRaisesRegex(FieldError, r"^ErrorMessage\.behavior: out of range$"):
+                ErrorMessage(behavior=number).encode()
 
     def test_numbers_of_64_bits(self):
         record = SleepCommandMessage(wake_up_time=(1 << 64) - 1)
@@ -199,14 +232,14 @@ class TestFrames(unittest.TestCase):
                 wanted = pendratsoa.frame(version, record.CODE, record.encode())
                 self.assertEqual(record.frame(version), wanted)
             for version in (4, 10):
-                text = rf"^frame: unknown protocol version {version} \(5 to 9\)$"
+                text = rf"^unknown protocol version {version} \(5 to 9\)$"
                 self.assertRaisesRegex(Unknown, text, record.frame, version)
 
     def test_a_record_of_earlier_versions(self):
         record = SuspensionMessageV6(waiting_completions=(1, 2))
         self.assertEqual(record.frame(6), bytes.fromhex("0001000000000004" "0a020102"))
         self.assertEqual(Message(6, SUSPENSION, record.encode()).message, record)
-        self.assertRaisesRegex(Unknown, "^frame: there is no SuspensionMessageV6 at version 7$", record.frame, 7)
+        self.assertRaisesRegex(Unknown, "^there is no SuspensionMessageV6 at version 7$", record.frame, 7)
         self.assertRaises(Unknown, record.frame, 4)
         later = SuspensionMessage.decode(b"").frame(6)
         self.assertEqual(later, SuspensionMessageV6().frame(6))
@@ -228,7 +261,9 @@ class TestWrongFields(unittest.TestCase):
             with self.subTest(record), self.assertRaises(FieldError) as caught:
                 record.encode()
             self.assertEqual((caught.exception.path, caught.exception.reason), (path, reason))
-            self.assertIn(f"encode: {path}: ", str(caught.exception))
+            why = {FieldReason.OUT_OF_RANGE: "out of range", FieldReason.NOT_UTF8: "not UTF-8"}[reason]
+            text = f"{type(record).__name__}.{path}: {why}"
+            self.assertEqual((str(caught.exception), caught.exception.call), (text, "encode"))
             self.assertIsInstance(caught.exception, ValueError)
 
     def test_the_type(self):
@@ -243,7 +278,7 @@ class TestWrongFields(unittest.TestCase):
             (SendSignalCommandMessage(result=b""), r"result must be one of \w+, \w+, \w+, not bytes"),
         ):
             with self.subTest(text):
-                self.assertRaisesRegex(TypeError, f"^encode: {text}$", record.encode)
+                self.assertRaisesRegex(TypeError, rf"^{type(record).__name__}\.{text}$", record.encode)
 
     def test_too_deep(self):
         deep = Future()

@@ -165,11 +165,11 @@ class TestReplay(unittest.TestCase):
 
     def test_arguments(self):
         for version in (0, 4, 10, -1, 1 << 32):
-            with self.assertRaisesRegex(Unknown, r"^Replay: unknown protocol version "):
+            with self.assertRaisesRegex(Unknown, r"^unknown protocol version "):
                 Replay(version, b"")
         for call in (lambda: Replay("8", b""), lambda: Replay(8, "recorded"), lambda: Replay(8, b"").check(b"")):
             self.assertRaises(TypeError, call)
-        with self.assertRaisesRegex(Unknown, "^check: code 65536 "):
+        with self.assertRaisesRegex(Unknown, "^code 65536 "):
             Replay(8, b"").check(Message(8, 1 << 16, b""))
         replay = Replay(7, b"")
         self.assertEqual((replay.version, repr(replay)), (7, "<Replay of version 7, 0 commands the same>"))
@@ -193,10 +193,10 @@ class TestReplay(unittest.TestCase):
         replay = Replay(8, b"")
         # two calls have two structs of six numbers each, and the last one is that of the mismatch
         with replaced("journal_replay_finish", returning(1, 7, 0, 0, 0, 0, 0)):
-            with self.assertRaisesRegex(JournalError, "^finish: the library returned a verdict of the kind 7, "):
+            with self.assertRaisesRegex(JournalError, "^the library returned a verdict of the kind 7, "):
                 replay.finish()
         with replaced("journal_replay_check", returning(-99)):
-            with self.assertRaisesRegex(JournalError, "^check: the library returned -99"):
+            with self.assertRaisesRegex(JournalError, "^the library returned -99"):
                 replay.check(items_of(8, INPUT)[0])
 
     def test_memory_does_not_grow(self):

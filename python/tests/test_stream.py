@@ -6,13 +6,17 @@ import io
 import os
 import socket
 import sys
+import tarfile
 import threading
+import traceback
 import tracemalloc
 import unittest
+from unittest import mock
 
 from pendratsoa import Incomplete, JournalError, Malformed, Message, MessageTooLong, Skipped, Stream, TooLong
 from pendratsoa import UnknownCode, canonical
 from pendratsoa._library import library
+from pendratsoa._pending import Pending
 from support import CALL_COMMAND, INPUT, INPUT_COMMAND, INPUT_LENGTH, RECORDED, STREAM, UNKNOWN_WORD
 from support import replaced, returning
 
@@ -121,6 +125,32 @@ class TestFeeding(unittest.TestCase):
         del data[3:]
         self.assertEqual(list(stream), EXPECTED)
 
+    def test_an_error_that_is_raised_again_holds_no_more(self):
+        stream = Stream(8, max_message_size=1)
+        stream.feed(INPUT)
+        lengths = []
+        # assertRaises would clear the frames
+        for _ in range(10):
+            try:
+                list(stream) if not lengths else stream.finish()
+            except MessageTooLong as error:
+                lengths.append(len(traceback.extract_tb(error.__traceback__)))
+        self.assertEqual(lengths, [3, *[4] * 9])
+
+    def test_a_call_within_a_call(self):
+        pending = Pending(8, None)
+        pending.feed(INPUT)
+        look, found = pending._look, []
+
+        def looked():
+            for call in (pending.take, pending.rest, pending.trailing, pending.head, lambda: pending.feed(INPUT)):
+                self.assertRaises(RuntimeError, call)
+            return look()
+
+        with mock.patch.object(pending, "_look", looked):
+            found.append(pending.take())
+        self.assertEqual((found, pending.rest()), (EXPECTED[:1], 0))
+
     def test_an_error_that_is_kept_locks_nothing(self):
         stream = Stream()
         stream.feed(INPUT)
@@ -155,7 +185,7 @@ class TestFeeding(unittest.TestCase):
                 with self.assertRaises(JournalError) as later:
                     next(iter(stream))
                 self.assertIs(type(later.exception), JournalError)
-                text = "Stream: the library returned an item of the kind 3, which this module does not know"
+                text = "the library returned an item of the kind 3, which this module does not know"
                 self.assertEqual(str(later.exception), text)
         self.assertEqual(list(stream), EXPECTED)
 
@@ -169,7 +199,7 @@ class TestFeeding(unittest.TestCase):
                 for item in stream:
                     found.append(item)
             what = f"a message of type Start (0x0000) at offset {len(INPUT)} has 4294967295 bytes"
-            self.assertEqual(str(ended.exception), f"Stream: {what}, more than the limit of {INPUT_LENGTH}")
+            self.assertEqual(str(ended.exception), f"{what}, more than the limit of {INPUT_LENGTH}")
             error = ended.exception
             self.assertEqual((error.argument, error.value), ("max_message_size", INPUT_LENGTH))
             self.assertEqual((error.code, error.length, error.limit), (0, 0xFFFF_FFFF, INPUT_LENGTH))
@@ -271,6 +301,27 @@ class TestReading(unittest.TestCase):
                 waited += 1
         self.assertEqual((found, stream.rest), (EXPECTED, 8))
         self.assertGreater(waited, 3)
+
+    def test_a_buffered_file_that_does_not_block(self):
+        reading, writing = os.pipe()
+        os.set_blocking(reading, False)
+        with open(reading, "rb") as file:
+            stream = Stream()
+            os.write(writing, STREAM[:20])
+            self.assertRaises(BlockingIOError, list, stream.read(file, strict=True))
+            os.write(writing, STREAM[20:])
+            os.close(writing)
+            self.assertEqual((list(stream.read(file)), stream.rest), (EXPECTED[1:], 8))
+
+    def test_a_buffered_file_without_a_descriptor(self):
+        data = io.BytesIO()
+        with tarfile.open(fileobj=data, mode="w") as archive:
+            entry = tarfile.TarInfo("journal")
+            entry.size = len(STREAM)
+            archive.addfile(entry, io.BytesIO(STREAM))
+        data.seek(0)
+        with tarfile.open(fileobj=data) as archive:
+            self.assertEqual(list(Stream().read(archive.extractfile("journal"))), EXPECTED)
 
     def test_what_cannot_be_read(self):
         for file, text in ((b"bytes", "bytes has not"), (None, "NoneType has not")):
