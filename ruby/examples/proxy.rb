@@ -11,7 +11,6 @@ require "socket"
 
 # What takes the place of an item.
 def passed_on(item)
-  item.check
   case item
   in Pendratsoa::Message[type: "SetStateCommand", version:, message: { value: { content: } } => command]
     command.with(value: Pendratsoa::Value.new(content: (Integer(content, 10) + 1).to_s)).frame(version)

@@ -36,7 +36,7 @@ module Helper
   # of several times counts: Ruby and malloc take more pages now and then, and what is never freed grows each time.
   def assert_keeps_no_memory(rounds, &)
     skip "not run: there is no /proc" unless File.exist?("/proc/self/statm")
-    grown = Array.new(6) do
+    grown = Array.new(12) do
       before = resident
       rounds.times(&)
       growth = resident - before

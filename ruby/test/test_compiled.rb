@@ -25,7 +25,18 @@ class TestCompiled < Minitest::Test
     ProposeRunCompletionMessage.new(result: "bytes"),
     ProposeRunCompletionMessage.new(result: Failure.new(code: 500, message: "text")),
     StateKeys.new(keys: Array.new(500, &:to_s)),
-    OutputCommandMessage.new(result: Value.new(content: "\0" * 70_000))
+    OutputCommandMessage.new(result: Value.new(content: "\0" * 70_000)),
+    # as long as what is written as a struct, and longer; as many elements as there is memory for, and more
+    *[1016, 1017, 1024, 1025].map { |length| SetStateCommandMessage.new(name: "x" * length) },
+    *[254, 255, 256].map { |count| StateKeys.new(keys: [""] * count) },
+    *[126, 127, 128].map { |count| Failure.new(metadata: [FailureMetadata.new] * count) },
+    # the greatest numbers of each kind, and the least
+    Failure.new(code: (1 << 32) - 1),
+    SleepCommandMessage.new(wake_up_time: (1 << 64) - 1),
+    *[(1 << 31) - 1, -(1 << 31)].map { |number| ErrorMessage.new(behavior: number) },
+    SignalNotificationMessage.new(signal_id: 0, result: Void.new),
+    SignalNotificationMessage.new(signal_id: ""),
+    CallCommandMessage.new(idempotency_key: "", headers: [])
   ].freeze
 
   # What no field can have, or what is of another encoding.
@@ -36,8 +47,12 @@ class TestCompiled < Minitest::Test
     Value.new(content: 5),
     SleepCommandMessage.new(wake_up_time: 1 << 64),
     SleepCommandMessage.new(wake_up_time: -1),
-    ErrorMessage.new(behavior: 1 << 63),
+    Failure.new(code: 1 << 32),
+    *[(1 << 64) - 1, 1 << 63, 1 << 31, -(1 << 31) - 1].map { |number| ErrorMessage.new(behavior: number) },
     ErrorMessage.new(behavior: :NONE),
+    CallCommandMessage.new(headers: [nil]),
+    StartMessage.new(partial_state: 1),
+    SignalNotificationMessage.new(signal_id: :text),
     InputCommandMessage.new(headers: [5]),
     InputCommandMessage.new(value: Failure.new),
     Future.new(nested_futures: [Future.new, Future.new(nested_futures: [DEEP])])
@@ -48,6 +63,28 @@ class TestCompiled < Minitest::Test
     yield
   rescue StandardError => error
     [error.class, error.message]
+  end
+
+  def test_the_records_that_are_written_as_structs
+    addresses = Pendratsoa.send(:const_get, :Library).record_writers
+    others = RECORDS.zip(addresses).filter_map { |record, address| record if address.zero? }
+    assert_equal [Future, SuspensionMessage, AwaitingOnMessage], others
+  end
+
+  # With the fields that the test vectors set, which are all.
+  def test_each_record_is_the_same_in_ruby
+    lines = File.readlines(File.join(Helper::TOP, "conformance/records.txt")).grep(/\Arecord /)
+    records = lines.map do |line|
+      _, name, word = line.split
+      Pendratsoa.const_get(name).decode(unhex(word.delete_prefix("-")))
+    end
+    assert_equal RECORDS.length, records.map(&:class).uniq.length
+    records.each do |record|
+      assert_equal record.send(:encode_in_ruby), record.encode
+      next unless record.is_a?(MessageRecord)
+
+      assert_equal(ends { record.send(:frame_in_ruby, 6) }, ends { record.frame(6) })
+    end
   end
 
   def test_each_is_the_same_in_ruby
@@ -79,6 +116,21 @@ class TestCompiled < Minitest::Test
     below = Class.new(Value).of_values(["x"])
     assert_raises(NoMethodError) { below.encode }
     assert_raises(TypeError) { InputCommandMessage.new(value: below).encode }
+  end
+
+  # The objects of a class may have another variable before their values, if it came first.
+  def test_another_variable
+    library = File.expand_path("../lib", __dir__)
+    program = <<~RUBY
+      value = Pendratsoa::Value.allocate
+      value.instance_variable_set(:@other, ["y"])
+      Pendratsoa.library_version
+      value.instance_variable_set(:@values, ["x"].freeze)
+      record = Pendratsoa::SetStateCommandMessage.new(value: value)
+      print record.encode == record.send(:encode_in_ruby)
+    RUBY
+    output, = Open3.capture2e(RbConfig.ruby, "-w", "-I", library, "-rpendratsoa", "-e", program)
+    assert_equal "true", output
   end
 
   def test_a_record_that_has_itself

@@ -87,12 +87,12 @@ class TestCopies < Minitest::Test
   def test_the_end_of_a_stream
     stream = Pendratsoa::Stream.new
     assert_same stream, stream.feed(INPUT).each(&:bytes).finish
-    text = "finish: the stream ended within an item at offset 17, after 1 byte of it"
+    text = "the stream ended within an item at offset 17, after 1 byte of it"
     error = assert_error(Pendratsoa::Incomplete, text) { stream.feed("x").finish }
     assert_equal [1, 17, nil], [error.rest, error.offset, error.code]
     items = Pendratsoa::Stream.read(StringIO.new(INPUT + INPUT[0, 5]), strict: true)
     assert_equal "InputCommand 9", items.next.to_s
-    text = "read: the stream ended within InputCommand at offset 17, after 5 bytes of it"
+    text = "the stream ended within InputCommand at offset 17, after 5 bytes of it"
     error = assert_error(Pendratsoa::Incomplete, text) { items.next }
     assert_equal ["read", 5, CODES[:input]], [error.call, error.rest, error.code]
   end
@@ -104,14 +104,14 @@ class TestCopies < Minitest::Test
       assert_empty stream.to_a
       error = assert_raises(Pendratsoa::Incomplete) { stream.finish }
       assert_equal [code, digits.length / 2], [error.code, error.rest]
-      assert_operator error.message, :start_with?, "finish: the stream ended within #{name} at offset 0, after "
+      assert_operator error.message, :start_with?, "the stream ended within #{name} at offset 0, after "
     end
   end
 
   def test_the_end_of_a_stream_whose_items_are_not_taken
     stream = Pendratsoa::Stream.new
     INPUT.each_char { |byte| stream.feed(byte) }
-    text = "finish: the stream ended within InputCommand at offset 0, after 17 bytes of it"
+    text = "the stream ended within InputCommand at offset 0, after 17 bytes of it"
     error = assert_error(Pendratsoa::Incomplete, text) { stream.finish }
     assert_equal [17, 0, CODES[:input]], [error.rest, error.offset, error.code]
     assert_equal 1, stream.count

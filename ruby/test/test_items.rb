@@ -17,22 +17,24 @@ class TestItems < Minitest::Test
   def test_items_that_are_no_messages
     [Pendratsoa::UnknownCode.new(8, 8, 8 << 48), Pendratsoa::Skipped.new(9, 8, 8 << 48, "\n")].each do |item|
       assert_equal [nil, false, false], [item.type, item.command?, item.notification?]
-      assert_same item, item.check
     end
   end
 
-  def test_checks_of_payloads
-    assert_empty(Pendratsoa::Stream.new.feed(read("examples/streams/recorded")).reject { |item| item.check == item })
-    custom = Pendratsoa::Message.of(CODES[:custom_entry], "\n")
-    assert_same custom, custom.check
-    text = "check: SetStateCommand at offset 17: payload \"\\n\" is not well-formed"
-    error = assert_error(Pendratsoa::Malformed, text) do
-      Pendratsoa::Message.new(8, CODES[:set_state], "\n", offset: 17).check
+  def test_errors_of_the_code_of_a_message
+    custom = Pendratsoa::Message.of(CODES[:custom_entry])
+    {
+      "code 64513 is not that of a named type" => [custom, %i[schema json canonical frame]],
+      "code 64513 is not that of a notification" => [custom, %i[notification]],
+      "code 8 is not that of a type" => [Pendratsoa::Message.new(8, 8, ""), %i[type]],
+      "code 8 is not that of a named type" => [Pendratsoa::Message.new(8, 8, ""), %i[schema message]]
+    }.each do |text, (message, calls)|
+      calls.each do |call|
+        error = assert_error(Pendratsoa::Unknown, text) { message.public_send(call) }
+        assert_equal [:code, message.code], [error.argument, error.value]
+      end
     end
-    assert_equal ["check", CODES[:set_state], 17], [error.call, error.code, error.offset]
-    [[8, 8], [4, CODES[:set_state]]].each do |version, code|
-      assert_raises(Pendratsoa::Unknown) { Pendratsoa::Message.new(version, code, "").check }
-    end
+    error = assert_error(Pendratsoa::Unknown, "frame: unknown protocol version 4 (5 to 9)") { custom.frame(4) }
+    assert_equal ["frame", :version, 4], [error.call, error.argument, error.value]
   end
 
   def test_items_are_frozen
@@ -45,6 +47,24 @@ class TestItems < Minitest::Test
     end
     [message, skipped].each { |item| assert_raises(FrozenError) { item.payload << "more" } }
     assert Ractor.shareable?(message)
+  end
+
+  def test_copies_of_items_are_frozen
+    message = Pendratsoa::Stream.new.feed(read("examples/streams/recorded")).first
+    [message, Pendratsoa::UnknownCode.new(8, 8, 0), Pendratsoa::Skipped.new(9, 8, 0, "")].each do |item|
+      [item.dup, item.clone(freeze: false)].each do |copy|
+        assert_predicate copy, :frozen?
+        assert_equal [item, item.bytes], [copy, copy.bytes]
+      end
+    end
+    assert_raises(FrozenError) { message.dup.payload = "" }
+  end
+
+  def test_a_skipped_message_has_a_copy
+    text = +"\u00e9"
+    skipped = Pendratsoa::Skipped.new(9, 0xfff0, (0xfff0 << 48) | 2, text)
+    refute_predicate text, :frozen?
+    assert_equal "\xff\xf0\0\0\0\0\0\x02\xc3\xa9".b, skipped.bytes
   end
 
   def test_a_message_of_ones_own

@@ -198,7 +198,7 @@ class TestNumbering < Minitest::Test
   end
 
   def test_errors_of_streams
-    text = "read_stream: SetStateCommand at offset 17: payload \"\\n\" is not well-formed"
+    text = "SetStateCommand at offset 17: payload \"\\n\" is not well-formed"
     error = assert_error(Pendratsoa::Malformed, text) { small.read_stream(8, OTHERS + framed("\n")) }
     assert_equal [CODES[:set_state], 17], [error.code, error.offset]
     %i[read_stream write_stream].each do |call|
@@ -268,7 +268,7 @@ class TestNumbering < Minitest::Test
   def test_a_payload_that_is_none_in_a_stream
     stream = Pendratsoa::Stream.new(numbering: small).feed(framed(THEIRS) + framed("\n") + framed(THEIRS))
     found = []
-    text = "Stream: SetStateCommand at offset 19: payload \"\\n\" is not well-formed"
+    text = "SetStateCommand at offset 19: payload \"\\n\" is not well-formed"
     error = assert_error(Pendratsoa::Malformed, text) { stream.each { |item| found << item.offset } }
     assert_equal [CODES[:set_state], 19, [0]], [error.code, error.offset, found]
     # the next loop goes on after it

@@ -17,6 +17,14 @@ class TestRecords < Minitest::Test
     assert_equal [%w[counter 1], "hi"], found
   end
 
+  def test_eql_is_as_hash
+    one, other = [1, 1.0].map { |code| Pendratsoa::Failure.new(code: code) }
+    assert_equal one, other
+    refute one.eql?(other)
+    assert one.eql?(Pendratsoa::Failure.new(code: 1))
+    assert_equal one.hash, Pendratsoa::Failure.new(code: 1).hash
+  end
+
   def test_each_schema
     names = Pendratsoa::RECORDS.map { |record| record.name.delete_prefix("Pendratsoa::") }
     assert_equal Pendratsoa::SCHEMA_NAMES, names

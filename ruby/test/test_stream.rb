@@ -4,6 +4,7 @@ require_relative "helper"
 require "objspace"
 require "socket"
 require "stringio"
+require "tmpdir"
 
 class TestStream < Minitest::Test
   STREAM = "#{Helper::INPUT}#{["000800000000000000058000000000050801720178040000000000001401"].pack("H*")}"
@@ -39,6 +40,15 @@ class TestStream < Minitest::Test
     found = []
     Pendratsoa::Stream.read(StringIO.new(STREAM), version: 8, size: 1) { |item| found << item }
     assert_equal ITEMS, found
+  end
+
+  def test_the_files_of_argf
+    Dir.mktmpdir do |folder|
+      paths = [STREAM.byteslice(0, 20), "", STREAM.byteslice(20..)].each_with_index.map do |part, index|
+        File.join(folder, index.to_s).tap { |path| File.binwrite(path, part) }
+      end
+      assert_equal ITEMS, Pendratsoa::Stream.read(ARGF.class.new(*paths), version: 8).to_a
+    end
   end
 
   def test_an_input_is_read_as_items_are_taken
@@ -78,14 +88,12 @@ class TestStream < Minitest::Test
   def test_a_loop_goes_on_after_a_payload_that_is_malformed
     stream = Pendratsoa::Stream.new
     bad = unhex("04030000000000010a")
-    %i[check message].each do |call|
-      stream.feed(bad + Helper::INPUT)
-      assert_raises(Pendratsoa::Malformed) { stream.each(&call) }
-      assert_equal [ITEMS[0]], stream.to_a
-      input = StringIO.new(bad + Helper::INPUT)
-      assert_raises(Pendratsoa::Malformed) { stream.read(input, &call) }
-      assert_equal [ITEMS[0]], stream.read(input).to_a
-    end
+    stream.feed(bad + Helper::INPUT)
+    assert_raises(Pendratsoa::Malformed) { stream.each(&:message) }
+    assert_equal [ITEMS[0]], stream.to_a
+    input = StringIO.new(bad + Helper::INPUT)
+    assert_raises(Pendratsoa::Malformed) { stream.read(input, &:message) }
+    assert_equal [ITEMS[0]], stream.read(input).to_a
   end
 
   def test_a_loop_that_feeds
@@ -237,7 +245,7 @@ class TestStream < Minitest::Test
     2.times do
       error = assert_raises(Pendratsoa::MessageTooLong) { stream.each { |item| items << item } }
       text = "a message of type Start (0x0000) at offset 17 has 4294967295 bytes, more than the limit of 9"
-      assert_equal "Stream: #{text}", error.message
+      assert_equal text, error.message
       assert_equal [0, 0xffff_ffff, 9, 17], [error.code, error.length, error.limit, error.offset]
       assert_equal ["Stream", :max_message_size, 9], [error.call, error.argument, error.value]
       assert_equal 0, stream.rest

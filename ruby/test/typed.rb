@@ -79,7 +79,6 @@ module Typed
     used(item.offset, item.bytes, item.version, item.code, item.write_to(StringIO.new))
     used(item.command?, item.notification?, item.deconstruct_keys(%i[code]), item.deconstruct_keys(nil))
     tried { item.type }
-    tried { item.check }
     item.record(Pendratsoa::SetStateCommandMessage)
     message(item) if item.is_a?(Pendratsoa::Message)
   end

@@ -3,6 +3,7 @@
 
 struct native native;
 int binary, utf8, us_ascii;
+ID values_variable, value_variable;
 
 static VALUE library_module;
 static ID functions;
@@ -49,29 +50,40 @@ static void take_row(struct field *field, struct row *row, VALUE given)
 /* Says of each field where its value is, and which field comes after it; those of a oneof have the same name. */
 static void place_values(struct record *record)
 {
-    long slots = 0;
     for (long end, at = 0; at < record->count; at = end) {
         for (end = at + 1; record->fields[at].shape == MEMBER && end < record->count &&
                            record->rows[end].name == record->rows[at].name;) {
             end += 1;
         }
         for (long one = at; one < end; one += 1) {
-            record->rows[one].slot = slots;
+            record->rows[one].slot = record->slots;
             record->rows[one].end = end;
         }
         record->has_lists = record->has_lists || record->fields[at].shape == REPEATED;
-        slots += 1;
+        record->slots += 1;
     }
-    if (slots != RARRAY_LEN(record->defaults)) {
+    if (record->slots != RARRAY_LEN(record->defaults)) {
         rb_raise(rb_eArgError, "a record whose fields are not as many as its values");
     }
 }
 
-/* A record: its class, the code of its type or -1, the values of its fields by default and its rows. */
+/* Whether the objects of a class have their values where their first variable is. */
+static bool has_values_first(VALUE class)
+{
+    VALUE made = rb_obj_alloc(class);
+    VALUE values = rb_ary_new();
+    Check_Type(made, T_OBJECT);
+    rb_ivar_set(made, values_variable, values);
+    return FIRST_VARIABLE(made) == values;
+}
+
+/* A record: its class, the code of its type or -1, the values of its fields by default, its rows, and the address of
+ * the function that writes its struct, or 0. */
 static void take_record(struct record *record, long schema, VALUE given)
 {
     Check_Type(given, T_ARRAY);
     VALUE rows = rb_ary_entry(given, 3);
+    uintptr_t address = (uintptr_t)NUM2ULL(rb_ary_entry(given, 4));
     record->class = kept(given, 0);
     record->code = NUM2LONG(rb_ary_entry(given, 1));
     record->defaults = kept(given, 2);
@@ -85,6 +97,19 @@ static void take_record(struct record *record, long schema, VALUE given)
         take_row(&record->fields[record->count], &record->rows[record->count], rb_ary_entry(rows, record->count));
     }
     place_values(record);
+    record->is_first = has_values_first(record->class);
+    lay_out(record);
+    record->write = record->size > 0 && address != 0 ? (write_record_call *)address : NULL;
+}
+
+/* Puts a record where it is found by its class, or after that if another one is there. */
+static void put_by_class(const struct record *record)
+{
+    size_t at = place_of_class(record->class);
+    while (native.by_class[at] != NULL) {
+        at = (at + 1) % CLASSES;
+    }
+    native.by_class[at] = record;
 }
 
 /* Takes the addresses of the functions, in the order of the header. */
@@ -110,8 +135,8 @@ static VALUE use(VALUE module, VALUE addresses, VALUE records, VALUE items, VALU
     Check_Type(records, T_ARRAY);
     Check_Type(items, T_ARRAY);
     Check_Type(schemas, T_HASH);
-    if (native.records != NULL || RARRAY_LEN(items) != ITEM_CLASSES) {
-        rb_raise(rb_eArgError, "the records are there already, or there are not three classes of items");
+    if (native.records != NULL || RARRAY_LEN(items) != ITEM_CLASSES || RARRAY_LEN(records) >= CLASSES) {
+        rb_raise(rb_eArgError, "the records are there already, or are too many, or items have not three classes");
     }
     point_to(module, addresses);
     for (long at = 0; at < ITEM_CLASSES; at += 1) {
@@ -122,13 +147,12 @@ static VALUE use(VALUE module, VALUE addresses, VALUE records, VALUE items, VALU
     rb_gc_register_mark_object(schemas);
     native.count = RARRAY_LEN(records);
     native.records = ZALLOC_N(struct record, (size_t)native.count);
-    st_table *by_class = st_init_numtable();
     for (long schema = 0; schema < native.count; schema += 1) {
-        struct record *record = &native.records[schema];
-        take_record(record, schema, rb_ary_entry(records, schema));
-        st_insert(by_class, (st_data_t)record->class, (st_data_t)record);
+        take_record(&native.records[schema], schema, rb_ary_entry(records, schema));
     }
-    native.by_class = by_class;
+    for (long schema = 0; schema < native.count; schema += 1) {
+        put_by_class(&native.records[schema]);
+    }
     native.is_there = true;
     return module;
 }
@@ -140,10 +164,13 @@ void Init_compiled(void)
     VALUE pendratsoa = rb_const_get(rb_cObject, rb_intern("Pendratsoa"));
     VALUE module = rb_define_module_under(pendratsoa, "Compiled");
     library_module = rb_const_get(pendratsoa, rb_intern("Library"));
+    rb_gc_register_mark_object(library_module);
     functions = rb_intern("functions");
     binary = rb_ascii8bit_encindex();
     utf8 = rb_utf8_encindex();
     us_ascii = rb_usascii_encindex();
+    values_variable = rb_intern("@values");
+    value_variable = rb_intern("@value");
     rb_define_singleton_method(module, "use", use, 4);
     rb_define_singleton_method(module, "point", point_to, 1);
     define_records(pendratsoa);

@@ -271,6 +271,7 @@ static VALUE call(int count, VALUE *values, VALUE self)
 void define_calls(VALUE pendratsoa)
 {
     named = rb_const_get(pendratsoa, rb_intern("Named"));
+    rb_gc_register_mark_object(named);
     checked = rb_intern("checked");
     refused = rb_intern("refused");
     rb_define_singleton_method(named, "call", call, -1);

@@ -247,13 +247,10 @@ int64_t journal_type_code(const uint8_t *name, size_t name_length);
  * Streams.
  */
 
-/*
- * The kinds of items: a message; before version 9 an unassigned code, whose eight bytes are skipped; at version 9 a
- * message of an unknown type, skipped with its payload.
- */
-#define JOURNAL_ITEM_MESSAGE 0
-#define JOURNAL_ITEM_UNKNOWN_CODE 1
-#define JOURNAL_ITEM_SKIPPED 2
+/* The kinds of items. */
+#define JOURNAL_ITEM_MESSAGE 0      /* a message */
+#define JOURNAL_ITEM_UNKNOWN_CODE 1 /* before version 9 an unassigned code, whose eight bytes are skipped */
+#define JOURNAL_ITEM_SKIPPED 2      /* from version 9 on a message of an unknown type, skipped with its payload */
 
 /* An item of a stream. */
 struct journal_item {
@@ -475,16 +472,16 @@ int64_t journal_payload_of_fields(uint32_t schema, const struct journal_field *f
  */
 
 /* The kinds of a notification's id. */
-#define JOURNAL_COMPLETION_ID 0
-#define JOURNAL_SIGNAL_ID 1
-#define JOURNAL_SIGNAL_NAME 2
+#define JOURNAL_COMPLETION_ID 0 /* the id is that of a completion, a number */
+#define JOURNAL_SIGNAL_ID 1     /* the id is that of a signal, a number */
+#define JOURNAL_SIGNAL_NAME 2   /* the id is the name of a signal, a text */
 
 /* The kinds of a notification's result. */
-#define JOURNAL_RESULT_VOID 0
-#define JOURNAL_RESULT_VALUE 1
-#define JOURNAL_RESULT_FAILURE 2
-#define JOURNAL_RESULT_INVOCATION_ID 3
-#define JOURNAL_RESULT_STATE_KEYS 4
+#define JOURNAL_RESULT_VOID 0          /* the result says that there is no value; it is empty */
+#define JOURNAL_RESULT_VALUE 1         /* the result is the canonical payload of a Value */
+#define JOURNAL_RESULT_FAILURE 2       /* the result is the canonical payload of a Failure */
+#define JOURNAL_RESULT_INVOCATION_ID 3 /* the result is the text of an invocation id */
+#define JOURNAL_RESULT_STATE_KEYS 4    /* the result is the canonical payload of StateKeys */
 
 /* The id and the result of a notification. */
 struct journal_notification {
@@ -585,7 +582,7 @@ int64_t journal_changed_field(uint16_t code, uint32_t index, const uint8_t *firs
 #define JOURNAL_VERDICT_TYPE_MISMATCH 3   /* the first commands that differ, at this index, are of two types */
 #define JOURNAL_VERDICT_HEADER_MISMATCH 4 /* the first commands that differ, at this index, are of one type */
 #define JOURNAL_VERDICT_BAD_RECORDED 5    /* the recorded command at this index is malformed; all before it are the same */
-#define JOURNAL_VERDICT_BAD_REPLAYED 6    /* the same for the replayed command, if the recorded one is not malformed */
+#define JOURNAL_VERDICT_BAD_REPLAYED 6    /* the replayed command at this index is malformed, the recorded one is not */
 
 /* The verdict on two journals. */
 struct journal_verdict {

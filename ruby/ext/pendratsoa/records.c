@@ -1,16 +1,8 @@
-/* Records, read from the table of fields and written as one. */
+/* Records, read from the table of fields, and written as structs or as such a table. */
 #include "module.h"
 
-/* The methods in Ruby, and the variables of records and of members. */
-static ID decode_in_ruby, encode_in_ruby, frame_in_ruby, values_variable, value_variable;
-
-/* The record of a class, or NULL, as for a class below one. */
-static const struct record *record_of(VALUE class)
-{
-    st_data_t found;
-    bool is_there = native.by_class != NULL && st_lookup(native.by_class, (st_data_t)class, &found);
-    return is_there ? (const struct record *)found : NULL;
-}
+/* The methods in Ruby. */
+static ID decode_in_ruby, encode_in_ruby, frame_in_ruby;
 
 /*
  * Reading.
@@ -230,31 +222,6 @@ static void add_string(struct writing *writing, const struct field *field, uint6
     writing->size += length;
 }
 
-/* Whether the bytes of a text are UTF-8 as they are, if they are a text. */
-static bool is_plain_text(VALUE string)
-{
-    int encoding = ENCODING_GET(string);
-    return encoding == utf8 || encoding == binary || encoding == us_ascii;
-}
-
-/* The number of a value as the table has it, of an enum with its sign extended; false if it has none. */
-static bool number_of(const struct record *record, long place, VALUE value, uint64_t *number)
-{
-    bool is_enum = record->fields[place].kind == JOURNAL_FIELD_ENUM;
-    if (is_enum && SYMBOL_P(value)) {
-        value = rb_hash_lookup2(record->rows[place].numbers, value, Qnil);
-    }
-    if (FIXNUM_P(value)) {
-        *number = (uint64_t)FIX2LONG(value);
-        return is_enum || FIX2LONG(value) >= 0;
-    }
-    if (!RB_TYPE_P(value, T_BIGNUM)) {
-        return false;
-    }
-    int flags = INTEGER_PACK_LSWORD_FIRST | INTEGER_PACK_NATIVE_BYTE_ORDER;
-    return rb_integer_pack(value, number, 1, sizeof *number, 0, flags) == 1;
-}
-
 /* Appends the entries of a value of the field at a place; false where it is left to Ruby. */
 static bool write_value(struct writing *writing, const struct record *record, long place, uint64_t level, VALUE value)
 {
@@ -283,7 +250,7 @@ static bool write_value(struct writing *writing, const struct record *record, lo
         add_entry(writing, field, level, value == Qtrue, 0);
         return true;
     default:
-        if (!number_of(record, place, value, &number)) {
+        if (!number_of_value(field, &record->rows[place], value, &number)) {
             return false;
         }
         add_entry(writing, field, level, number, 0);
@@ -291,28 +258,12 @@ static bool write_value(struct writing *writing, const struct record *record, lo
     }
 }
 
-/* Appends the entry of the member of a oneof that a value is of, among the fields from a place to an end. */
-static bool write_member(struct writing *writing, const struct record *record, long place, long end, uint64_t level,
-                         VALUE value)
-{
-    for (; place < end; place += 1) {
-        const struct row *row = &record->rows[place];
-        bool is_of = NIL_P(row->member_class) ? value == Qtrue || value == Qfalse
-                                              : RTEST(rb_obj_is_kind_of(value, row->member_class));
-        if (is_of) {
-            return write_value(writing, record, place, level,
-                               row->is_wrapped ? rb_ivar_get(value, value_variable) : value);
-        }
-    }
-    return false;
-}
-
-/* Appends the entries of a value, which is that of the field at a place, or of those of a oneof up to an end. */
-static bool write_fields(struct writing *writing, const struct record *record, long place, long end, uint64_t level,
-                         VALUE value)
+/* Appends the entries of a value, which is that of the field at a place, or of those of the oneof that begins there. */
+static bool write_fields(struct writing *writing, const struct record *record, long place, uint64_t level, VALUE value)
 {
     if (record->fields[place].shape == MEMBER) {
-        return write_member(writing, record, place, end, level, value);
+        long found = member_of_value(record, place, value);
+        return found >= 0 && write_value(writing, record, found, level, held_by(&record->rows[found], value));
     }
     if (record->fields[place].shape != REPEATED) {
         return write_value(writing, record, place, level, value);
@@ -331,15 +282,13 @@ static bool write_fields(struct writing *writing, const struct record *record, l
 /* Appends the entries of a record, whose values are in the order of its fields; false where it is left to Ruby. */
 static bool write_record(struct writing *writing, const struct record *record, VALUE object, uint64_t level)
 {
-    VALUE values = rb_ivar_get(object, values_variable);
-    if (!RB_TYPE_P(values, T_ARRAY) || RARRAY_LEN(values) != RARRAY_LEN(record->defaults) || ruby_stack_check()) {
+    VALUE values = values_of(record, object);
+    if (values == Qundef || ruby_stack_check()) {
         return false;
     }
-    for (long place = 0, end; place < record->count; place = end) {
-        const struct row *row = &record->rows[place];
-        VALUE value = RARRAY_AREF(values, row->slot);
-        end = row->end;
-        if (!NIL_P(value) && !write_fields(writing, record, place, end, level, value)) {
+    for (long place = 0; place < record->count; place = record->rows[place].end) {
+        VALUE value = RARRAY_AREF(values, record->rows[place].slot);
+        if (!NIL_P(value) && !write_fields(writing, record, place, level, value)) {
             return false;
         }
     }
@@ -379,30 +328,39 @@ struct wanted {
 };
 
 /* Writes the header of a frame before its payload; false if the library has none. */
-static bool write_header(const struct making *making, const struct wanted *wanted)
+static bool write_header(const struct record *record, const struct wanted *wanted, uint8_t *payload, int64_t length)
 {
     if (!wanted->is_frame) {
         return true;
     }
-    return making->length <= UINT32_MAX &&
-           native.library.header(wanted->version, (uint16_t)making->record->code, (uint32_t)making->length,
-                                 making->payload - HEADER, HEADER) == HEADER;
+    return length <= UINT32_MAX &&
+           native.library.header(wanted->version, (uint16_t)record->code, (uint32_t)length, payload - HEADER,
+                                 HEADER) == HEADER;
 }
 
-/* What is written of a table, or Qundef. A long one is made while other threads run. */
-static VALUE bytes_of(const struct record *record, const struct writing *writing, const struct wanted *wanted)
+/* What is written, with a payload that is where there is room for a header before it; Qundef if there is none. */
+static VALUE short_bytes(const struct record *record, const struct wanted *wanted, uint8_t *payload, int64_t length)
+{
+    long front = wanted->is_frame ? HEADER : 0;
+    if (length < 0 || !write_header(record, wanted, payload, length)) {
+        return Qundef;
+    }
+    return rb_str_new((const char *)payload - front, front + (long)length);
+}
+
+/* What is written of a table, or Qundef; there is room for a payload of BYTES. A long one is made while other threads
+ * run. */
+static VALUE bytes_of(const struct record *record, const struct writing *writing, const struct wanted *wanted,
+                      uint8_t *payload)
 {
     long front = wanted->is_frame ? HEADER : 0;
     /* what is enough for most */
     size_t room = writing->size + 6 * writing->count;
     if (room <= BYTES) {
-        uint8_t out[HEADER + BYTES];
-        struct making making = {record, writing, out + front, BYTES, -1};
+        struct making making = {record, writing, payload, BYTES, -1};
         make_payload(&making);
         if (making.length <= BYTES) {
-            return making.length < 0 || !write_header(&making, wanted)
-                       ? Qundef
-                       : rb_str_new((const char *)out, front + (long)making.length);
+            return short_bytes(record, wanted, payload, making.length);
         }
         room = (size_t)making.length;
     }
@@ -414,10 +372,11 @@ static VALUE bytes_of(const struct record *record, const struct writing *writing
         } else {
             rb_thread_call_without_gvl(make_payload, &making, NULL, NULL);
         }
-        if (making.length < 0 || ((size_t)making.length <= room && !write_header(&making, wanted))) {
+        bool is_whole = making.length >= 0 && (size_t)making.length <= room;
+        if (making.length < 0 || (is_whole && !write_header(record, wanted, making.payload, making.length))) {
             return Qundef;
         }
-        if ((size_t)making.length <= room) {
+        if (is_whole) {
             rb_str_set_len(found, front + (long)making.length);
             return found;
         }
@@ -426,8 +385,8 @@ static VALUE bytes_of(const struct record *record, const struct writing *writing
     }
 }
 
-/* What is written of a record, or Qundef. */
-static VALUE written(const struct record *record, VALUE object, const struct wanted *wanted)
+/* What is written of a record by its table, or Qundef. */
+static VALUE written_by_table(const struct record *record, VALUE object, const struct wanted *wanted, uint8_t *payload)
 {
     VALUE found = Qundef;
     struct writing writing;
@@ -440,11 +399,21 @@ static VALUE written(const struct record *record, VALUE object, const struct wan
     writing.entries_holder = Qfalse;
     writing.bytes_holder = Qfalse;
     if (write_record(&writing, record, object, 0)) {
-        found = bytes_of(record, &writing, wanted);
+        found = bytes_of(record, &writing, wanted, payload);
     }
     RB_GC_GUARD(writing.entries_holder);
     RB_GC_GUARD(writing.bytes_holder);
     return found;
+}
+
+/* What is written of a record, or Qundef. */
+static VALUE written(const struct record *record, VALUE object, const struct wanted *wanted)
+{
+    uint8_t out[HEADER + BYTES];
+    uint8_t *payload = out + HEADER;
+    long length = write_struct(record, object, payload);
+    return length < 0 ? written_by_table(record, object, wanted, payload)
+                      : short_bytes(record, wanted, payload, length);
 }
 
 static VALUE encode(VALUE object)
@@ -484,8 +453,6 @@ void define_records(VALUE pendratsoa)
     decode_in_ruby = rb_intern("decode_in_ruby");
     encode_in_ruby = rb_intern("encode_in_ruby");
     frame_in_ruby = rb_intern("frame_in_ruby");
-    values_variable = rb_intern("@values");
-    value_variable = rb_intern("@value");
     rb_define_singleton_method(record, "decode", decode, 1);
     rb_define_method(record, "encode", encode, 0);
     rb_define_method(rb_const_get(pendratsoa, rb_intern("MessageRecord")), "frame", frame, -1);

@@ -130,8 +130,9 @@ module Pendratsoa
     # The error of a message that is longer than the limit of a stream.
     def message_too_long(code, offset, length, limit)
       what = "a message of type #{Shown.type_and_code(code)} at offset #{offset} has #{length} bytes"
-      error(MessageTooLong, "#{what}, more than the limit of #{limit}", :max_message_size,
-            code: code, length: length, limit: limit, offset: offset)
+      details = { call: @name, argument: :max_message_size, value: @arguments.fetch(:max_message_size) }
+      MessageTooLong.new("#{what}, more than the limit of #{limit}",
+                         code: code, length: length, limit: limit, offset: offset, **details)
     end
 
     # Raises the error of a number in place of an item: a negative one, or that of a kind of items that is not known.
@@ -169,10 +170,11 @@ module Pendratsoa
       error(Unknown, "unknown #{name} #{Shown.value(value)}#{more}", argument)
     end
 
-    # An error of this call, about one of its arguments or none.
+    # An error of this call. Its text begins with the name of the call if it is about one of the arguments.
     def error(kind, text, argument = nil, **details)
-      value = argument && @arguments.fetch(argument)
-      kind.new("#{@name}: #{text}", call: @name, argument: argument, value: value, **details)
+      return kind.new(text, call: @name, **details) unless argument
+
+      kind.new("#{@name}: #{text}", call: @name, argument: argument, value: @arguments.fetch(argument), **details)
     end
 
     private

@@ -1,5 +1,7 @@
 # frozen_string_literal: true
 
+require "rbconfig"
+
 module Pendratsoa
   # The compiled module, where it is there for this Ruby: it makes all calls of the library, reads and writes records,
   # and takes items from streams. Where it is not, since there was no compiler or it is of another Ruby, or where
@@ -11,9 +13,10 @@ module Pendratsoa
 
     # The records, as the module takes them.
     def self.records
-      RECORDS.map do |record|
+      addresses = Library.record_writers
+      RECORDS.zip(addresses).map do |record, address|
         code = record < MessageRecord ? record::CODE : -1
-        [record, code, record.defaults.values.freeze, record.entries.values.flatten.map { |row| row_of(row) }]
+        [record, code, record.defaults.values.freeze, record.entries.values.flatten.map { |row| row_of(row) }, address]
       end
     end
 

@@ -8,38 +8,96 @@ module Pendratsoa
   # The last protocol version. A later library may have further ones.
   LAST_VERSION = 9
 
-  # The kinds of items: a message; before version 9 an unassigned code, whose eight bytes are skipped; at version 9 a
-  # message of an unknown type, skipped with its payload.
+  # The kinds of items.
+  #
+  # - `:message`: a message.
+  # - `:unknown_code`: before version 9 an unassigned code, whose eight bytes are skipped.
+  # - `:skipped`: from version 9 on a message of an unknown type, skipped with its payload.
   ITEM_KINDS = %i[message unknown_code skipped].freeze
 
   # Why a JSON text is rejected.
+  #
+  # - `:not_json`: it is not JSON, or not UTF-8, or nested more than one thousand levels deep.
+  # - `:unknown_member`: a member has no name of a field of its message.
+  # - `:repeated_member`: two members have a name of the same field.
+  # - `:several_members`: two members of one oneof are there.
+  # - `:wrong_kind`: a value is of another kind than its field.
+  # - `:out_of_range`: a number is not whole, or not in the range of its field.
+  # - `:not_base64`: a string for bytes is not base64.
+  # - `:too_deep`: a message is nested more than one hundred levels deep.
   JSON_REASONS = %i[not_json unknown_member repeated_member several_members wrong_kind out_of_range not_base64
     too_deep].freeze
 
   # The kinds of fields.
+  #
+  # - `:field_uint32`: the value is the number.
+  # - `:field_uint64`: the value is the number.
+  # - `:field_bool`: the value is 0 or 1.
+  # - `:field_enum`: the value is the number, an int32, sign-extended to 64 bits.
+  # - `:field_string`: UTF-8, at the offset.
+  # - `:field_bytes`: at the offset.
+  # - `:field_message`: a payload, at the offset; the value is the number of its schema.
   FIELD_KINDS = [nil, *%i[field_uint32 field_uint64 field_bool field_enum field_string field_bytes
     field_message]].freeze
 
   # Why an entry of a table of fields may not come.
+  #
+  # - `:unknown_field`: the schema of its message has no field of its number.
+  # - `:out_of_order`: its field is before the last one, or is that one, not repeated and in no oneof.
+  # - `:several_members`: the last field is in the same oneof, also if it is its own field.
+  # - `:wrong_kind`: its kind is not that of its field, or it is a message of another schema.
+  # - `:out_of_range`: its value is not in the range of its kind.
+  # - `:not_utf8`: its bytes should be a text, and are not UTF-8.
+  # - `:out_of_bounds`: its bytes are not within those that are given.
+  # - `:wrong_level`: it is deeper than the last entry, and no field of that.
+  # - `:too_deep`: it is a message that is nested more than one hundred levels deep.
   FIELD_REASONS = %i[unknown_field out_of_order several_members wrong_kind out_of_range not_utf8 out_of_bounds
     wrong_level too_deep].freeze
 
   # The kinds of a notification's id.
+  #
+  # - `:completion_id`: the id is that of a completion, a number.
+  # - `:signal_id`: the id is that of a signal, a number.
+  # - `:signal_name`: the id is the name of a signal, a text.
   ID_KINDS = %i[completion_id signal_id signal_name].freeze
 
   # The kinds of a notification's result.
+  #
+  # - `:void`: the result says that there is no value; it is empty.
+  # - `:value`: the result is the canonical payload of a Value.
+  # - `:failure`: the result is the canonical payload of a Failure.
+  # - `:invocation_id`: the result is the text of an invocation id.
+  # - `:state_keys`: the result is the canonical payload of StateKeys.
   RESULT_KINDS = %i[void value failure invocation_id state_keys].freeze
 
   # How two journals compare.
+  #
+  # - `:same`: each command is the same as the other's at its index; the index is their count.
+  # - `:recorded_ended`: the replayed journal has a command more, at this index.
+  # - `:replayed_ended`: the recorded journal has a command more, at this index.
+  # - `:type_mismatch`: the first commands that differ, at this index, are of two types.
+  # - `:header_mismatch`: the first commands that differ, at this index, are of one type.
+  # - `:bad_recorded`: the recorded command at this index is malformed; all before it are the same.
+  # - `:bad_replayed`: the replayed command at this index is malformed, the recorded one is not.
   VERDICT_KINDS = %i[same recorded_ended replayed_ended type_mismatch header_mismatch bad_recorded bad_replayed].freeze
 
   # The options of a replay. Any of them may be set.
+  #
+  # - `:ignore_payloads`: the content of user data is not compared, but that of a signal is.
+  # - `:ignore_ids`: completion ids are not compared, which shift behind an inserted command.
   REPLAY_OPTIONS = [nil, *%i[ignore_payloads ignore_ids]].freeze
 
   # The directions of a numbering.
+  #
+  # - `:reading`: from the numbers of a descriptor set to the protocol's.
+  # - `:writing`: from the protocol's numbers to those of a descriptor set.
   NUMBERING_DIRECTIONS = %i[reading writing].freeze
 
   # What the text of a numbering is.
+  #
+  # - `:listed`: which messages and fields are the protocol's, as `journal schema` prints them.
+  # - `:no_set`: why no numbering comes of the set, with the message and the field.
+  # - `:no_rename`: what is wrong with a rename.
   LIST_KINDS = %i[listed no_set no_rename].freeze
   private_constant :ITEM_KINDS
   private_constant :FIELD_KINDS

@@ -19,7 +19,8 @@ module Pendratsoa
     # The frame at a version of a payload of such a schema. Unknown if the version has another.
     def self.frame(call, version, code, schema, payload)
       if Pendratsoa.schema(version, code) != schema
-        raise Unknown.new("#{call}: there is no #{SCHEMA_NAMES[schema]} at version #{version}", call: call)
+        text = "#{call}: there is no #{SCHEMA_NAMES[schema]} at version #{version}"
+        raise Unknown.new(text, call: call, argument: :version, value: version)
       end
 
       found = Pendratsoa.canonical(schema, payload)

@@ -4,7 +4,8 @@ module Pendratsoa
   # A call failed, or the library returned what this gem does not know.
   class Error < StandardError
     # The name of the function, the name of the argument that is at fault, and its value; the argument is nil if none is
-    # at fault.
+    # at fault. The text begins with the name of the function if it is about an argument of that, except of a
+    # MessageTooLong.
     attr_reader :call, :argument, :value
 
     def initialize(message = nil, call: nil, argument: nil, value: nil)

@@ -106,8 +106,7 @@ module Pendratsoa
       end
 
       def unknown(record, number)
-        Error.new("decode: the library returned the field #{number} of #{record}, which this gem does not know",
-                  call: "decode")
+        Error.new("the library returned the field #{number} of #{record}, which this gem does not know", call: "decode")
       end
     end
 
@@ -195,8 +194,8 @@ module Pendratsoa
         found = row.kind == Kinds::ENUM && value.is_a?(Symbol) ? row.held[value] : value
         taken = row.holds ? "a name of #{row.holds} or an Integer" : "an Integer"
         wrong(row, level, value, taken) unless found.is_a?(Integer)
-        # as the table has a negative number; one below any enum's stays negative, and is refused
-        found += 1 << 64 if row.kind == Kinds::ENUM && found.between?(-(1 << 63), -1)
+        # as the table has a negative number; one below or above any enum's is none of 64 bits, and is refused
+        found += 1 << 64 if row.kind == Kinds::ENUM && (found.between?(-(1 << 63), -1) || found >= 1 << 63)
         @numbers.push(level, row.number, row.kind, found, 0, 0)
       end
 

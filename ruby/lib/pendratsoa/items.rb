@@ -17,10 +17,6 @@ module Pendratsoa
     # Whether it is a message whose code is that of a notification.
     def notification? = false
 
-    # Checks the payload of a message, and returns the item: Malformed, with its code and its offset, if the payload is
-    # not well-formed. No record is made. A custom entry, an unknown code and a skipped message have nothing to check.
-    def check = self
-
     # The record that its payload means, if it is a message whose record is of this class; otherwise nil.
     def record(record)
       return if record.is_a?(Class) && record < MessageRecord
@@ -43,6 +39,12 @@ module Pendratsoa
       [word].pack("Q>") << payload
     end
 
+    # A copy is frozen too, since its header has the length of its payload.
+    def initialize_copy(original)
+      super
+      freeze
+    end
+
     # Writes the item as received to an IO or the like, and returns the item.
     def write_to(output)
       output.write(bytes)
@@ -50,17 +52,28 @@ module Pendratsoa
     end
   end
 
-  # Errors of the payloads of messages.
+  # Errors of the codes and the payloads of messages. Their texts name no call, since neither is an argument.
   module OfMessage
-    # What a block returns that reads the payload of a message. An error of the payload says of which message it is.
+    # What a block returns that reads a message. An error of the payload says of which message it is.
     def self.reading(call, message)
       yield
     rescue Malformed, NoId, NoResult => error
       where = " at offset #{message.offset}" if message.offset
-      text = "#{call}: #{Shown.type(message.code)}#{where}: #{error.message.partition(": ").last}"
+      text = "#{Shown.type(message.code)}#{where}: #{text_of(error)}"
       details = { argument: error.argument, value: error.value, code: message.code, offset: message.offset }
       raise error.class.new(text, call: call, **details)
+    rescue Unknown => error
+      # an argument of the call itself is named with it
+      raise unless error.argument == :code || error.call != call
+
+      raise Unknown.new(text_of(error), call: call, argument: error.argument, value: error.value)
     end
+
+    # The text of an error without the name of its call.
+    def self.text_of(error)
+      error.message.delete_prefix("#{error.call}: ")
+    end
+    private_class_method :text_of
   end
   private_constant :OfMessage
 
@@ -136,7 +149,7 @@ module Pendratsoa
 
     # The name of its type, as "SleepCommand", or "CustomEntry(64513)". Unknown if no type has its code.
     def type
-      Pendratsoa.type_name(code)
+      reading("type") { Pendratsoa.type_name(code) }
     end
 
     # The record that its payload means, which is decoded each time. A custom entry has none: nil. Malformed if the
@@ -144,16 +157,6 @@ module Pendratsoa
     def message
       found = class_of_record
       found && reading("message") { found.decode(payload) }
-    end
-
-    # Checks its payload without making a record, and returns the message: Malformed, with its code and its offset, if
-    # the payload is not well-formed. A custom entry has nothing to check. Unknown if there is no such version or type.
-    def check
-      found = class_of_record
-      return self if found.nil? || Pendratsoa.well_formed?(found::SCHEMA, payload)
-
-      # raises the error
-      reading("check") { found.decode(payload) }
     end
 
     # The record that its payload means, if it is of this class; otherwise nil, and nothing is decoded. Malformed if the
@@ -167,7 +170,7 @@ module Pendratsoa
 
     # The number of its payload's schema. A custom entry has none: Unknown.
     def schema
-      Pendratsoa.schema(version, code)
+      reading("schema") { Pendratsoa.schema(version, code) }
     end
 
     # Whether its code is that of a command.
@@ -251,12 +254,12 @@ module Pendratsoa
 
     # The class of its record; a custom entry has none. Unknown if there is no such version or type.
     def class_of_record
-      number = schema
+      number = Pendratsoa.schema(version, code)
       RECORDS[number] ||
-        raise(Error.new("message: the schema #{number} is of no record that this gem knows", call: "message"))
+        raise(Error.new("the schema #{number} is of no record that this gem knows", call: "message"))
     rescue Unknown
-      # what has a header and no schema is a custom entry
-      raise unless custom_entry?
+      # what has a header and no schema is a custom entry; of anything else `schema` raises the error
+      reading("message") { schema } unless custom_entry?
     end
 
     def custom_entry?
@@ -276,7 +279,7 @@ module Pendratsoa
       end
     end
 
-    # What a block returns that reads its payload. An error of the payload says of which message it is.
+    # What a block returns that reads it. An error of its payload says of which message it is.
     def reading(call, &)
       OfMessage.reading(call, self, &)
     end
@@ -317,9 +320,8 @@ module Pendratsoa
   Skipped = Struct.new(:version, :code, :word, :payload) do
     include Item
 
-    def initialize(*members, offset: nil)
-      super(*members)
-      payload.freeze
+    def initialize(version, code, word, payload, offset: nil)
+      super(version, code, word, Call.new("Skipped.new", payload: payload).data(:payload))
       @offset = offset
       freeze
     end

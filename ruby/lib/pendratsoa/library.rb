@@ -46,6 +46,20 @@ module Pendratsoa
       raise LoadError, "pendratsoa: the library #{name} cannot be used: #{error.message}; #{SOURCES}"
     end
 
+    # The addresses of the functions that write the records as structs, by their schemas; 0 if there is none.
+    def self.record_writers
+      handle = Fiddle.dlopen(find)
+      SCHEMA_NAMES.map { |name| address_of(handle, "journal_encode_#{name}") }
+    end
+
+    # The address of a function, or 0.
+    def self.address_of(handle, name)
+      handle[name]
+    rescue Fiddle::DLError
+      0
+    end
+    private_class_method :address_of
+
     # The functions, which are loaded once. A LoadError if there is no library.
     def self.functions
       @functions || LOCK.synchronize { @functions ||= load(find).tap { |found| Compiled.start(found) } }

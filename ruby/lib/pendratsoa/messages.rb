@@ -4,9 +4,14 @@
 module Pendratsoa
   # How the parts of a future are combined. Numbers without a name are kept. A value is one of these names, or the
   # number of one that has none.
+  #
+  # - `:COMBINATOR_TYPE_ZERO`: the number 0, which is the only one with a name.
   CombinatorType = { COMBINATOR_TYPE_ZERO: 0 }.freeze
 
   # What the service does after an error. A value is one of these names, or the number of one that has none.
+  #
+  # - `:RETRY`: the service retries the invocation.
+  # - `:PAUSE`: the service pauses the invocation.
   ErrorBehavior = { RETRY: 0, PAUSE: 1 }.freeze
 
   # Nothing: the result that there is no value.

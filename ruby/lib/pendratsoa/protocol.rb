@@ -59,47 +59,89 @@ module Pendratsoa
     NotificationTemplate
   ].freeze
 
-  # The code of each named type.
+  # The codes of the named types follow, each with what its message is.
+
+  # Starts or resumes an invocation.
   CODE_START = 0x0000
+  # Suspends the invocation until something that it awaits is there.
   CODE_SUSPENSION = 0x0001
+  # Ends the attempt with an error, after which the service may retry.
   CODE_ERROR = 0x0002
+  # Ends the invocation.
   CODE_END = 0x0003
+  # Proposes the result of a run.
   CODE_PROPOSE_RUN_COMPLETION = 0x0005
+  # Says what the invocation waits for.
   CODE_AWAITING_ON = 0x0006
+  # Says that the proposed result of a run was recorded.
   CODE_PROPOSE_RUN_COMPLETION_ACK = 0x0007
+  # Reads the value of a key, without recording it in the journal.
   CODE_GET_STATE_EPHEMERAL_COMMAND = 0x0200
+  # The value of a key that was read without recording it.
   CODE_GET_STATE_EPHEMERAL_NOTIFICATION = 0x0300
+  # The input of the handler.
   CODE_INPUT_COMMAND = 0x0400
+  # The output of the handler.
   CODE_OUTPUT_COMMAND = 0x0401
+  # Reads the value of a key.
   CODE_GET_LAZY_STATE_COMMAND = 0x0402
+  # Sets the value of a key.
   CODE_SET_STATE_COMMAND = 0x0403
+  # Clears a key.
   CODE_CLEAR_STATE_COMMAND = 0x0404
+  # Clears all keys.
   CODE_CLEAR_ALL_STATE_COMMAND = 0x0405
+  # Reads all keys.
   CODE_GET_LAZY_STATE_KEYS_COMMAND = 0x0406
+  # Reads the value of a key from the state in the start message.
   CODE_GET_EAGER_STATE_COMMAND = 0x0407
+  # Reads all keys from the state in the start message.
   CODE_GET_EAGER_STATE_KEYS_COMMAND = 0x0408
+  # Awaits a promise.
   CODE_GET_PROMISE_COMMAND = 0x0409
+  # Reads the result of a promise, without awaiting it.
   CODE_PEEK_PROMISE_COMMAND = 0x040a
+  # Completes a promise.
   CODE_COMPLETE_PROMISE_COMMAND = 0x040b
+  # Sleeps until a time.
   CODE_SLEEP_COMMAND = 0x040c
+  # Calls a handler and awaits its result.
   CODE_CALL_COMMAND = 0x040d
+  # Calls a handler without awaiting its result.
   CODE_ONE_WAY_CALL_COMMAND = 0x040e
+  # Sends a signal to an invocation.
   CODE_SEND_SIGNAL_COMMAND = 0x0410
+  # Runs a side effect, whose result is recorded.
   CODE_RUN_COMMAND = 0x0411
+  # Awaits the result of an invocation.
   CODE_ATTACH_INVOCATION_COMMAND = 0x0412
+  # Reads the result of an invocation, without awaiting it.
   CODE_GET_INVOCATION_OUTPUT_COMMAND = 0x0413
+  # Completes an awakeable.
   CODE_COMPLETE_AWAKEABLE_COMMAND = 0x0414
+  # The value of a key that was read.
   CODE_GET_LAZY_STATE_COMPLETION_NOTIFICATION = 0x8002
+  # All keys that were read.
   CODE_GET_LAZY_STATE_KEYS_COMPLETION_NOTIFICATION = 0x8006
+  # The result of an awaited promise.
   CODE_GET_PROMISE_COMPLETION_NOTIFICATION = 0x8009
+  # The result of a promise, which was read without awaiting it.
   CODE_PEEK_PROMISE_COMPLETION_NOTIFICATION = 0x800a
+  # Whether a promise was completed.
   CODE_COMPLETE_PROMISE_COMPLETION_NOTIFICATION = 0x800b
+  # A sleep is over.
   CODE_SLEEP_COMPLETION_NOTIFICATION = 0x800c
+  # The result of a call.
   CODE_CALL_COMPLETION_NOTIFICATION = 0x800d
+  # The id of the invocation that a call started.
   CODE_CALL_INVOCATION_ID_COMPLETION_NOTIFICATION = 0x800e
+  # The recorded result of a run.
   CODE_RUN_COMPLETION_NOTIFICATION = 0x8011
+  # The result of an awaited invocation.
   CODE_ATTACH_INVOCATION_COMPLETION_NOTIFICATION = 0x8012
+  # The result of an invocation, which was read without awaiting it.
   CODE_GET_INVOCATION_OUTPUT_COMPLETION_NOTIFICATION = 0x8013
+  # A signal.
   CODE_SIGNAL_NOTIFICATION = 0xfbff
 
   # The codes of commands, those of custom entries among them.

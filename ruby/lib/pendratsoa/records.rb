@@ -36,7 +36,10 @@ module Pendratsoa
     def ==(other)
       other.instance_of?(self.class) && other.value == value
     end
-    alias eql? ==
+
+    def eql?(other)
+      other.instance_of?(self.class) && other.value.eql?(value)
+    end
 
     def hash
       [self.class, value].hash
@@ -170,7 +173,11 @@ module Pendratsoa
     def ==(other)
       other.instance_of?(self.class) && other.to_h == to_h
     end
-    alias eql? ==
+
+    # As `hash` has it: 1 and 1.0 are two.
+    def eql?(other)
+      other.instance_of?(self.class) && other.to_h.eql?(to_h)
+    end
 
     def hash
       [self.class, @values].hash

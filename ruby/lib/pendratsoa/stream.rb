@@ -14,7 +14,7 @@ module Pendratsoa
   # ends the stream: what came is dropped, and from then on each loop, `feed`, `read` and `finish` raise the same error.
   # The eight bytes of its header do not count. nil is not a limit.
   #
-  # Payloads are not checked: `check` of an item does that.
+  # Payloads are not checked: `message` of an item does that.
   #
   # With a `numbering` the payload of each message is at the protocol's own field numbers, and `bytes` and `offset` are
   # those of the stream that is read. A payload that cannot be read so is Malformed, which names its message; a next
@@ -123,7 +123,7 @@ module Pendratsoa
       code = code_of_rest
       where = "#{code ? Shown.type(code) : "an item"} at offset #{offset}"
       text = "the stream ended within #{where}, after #{count} byte#{"s" if count > 1} of it"
-      raise Incomplete.new("#{call}: #{text}", call: call, rest: count, offset: offset, code: code)
+      raise Incomplete.new(text, call: call, rest: count, offset: offset, code: code)
     end
 
     # The code of the item that the rest begins, which is its first two bytes; nil if they are not both there.
@@ -141,6 +141,8 @@ module Pendratsoa
     # The next bytes of an input, and nil at its end.
     def chunk(input, size)
       data = input.respond_to?(:readpartial) ? input.readpartial(size) : input.read(size)
+      # ARGF has an empty String where one of its files ends
+      data = input.read(size) if data&.empty? && input.respond_to?(:read)
       data unless data.nil? || data.empty?
     rescue EOFError
       nil
