@@ -185,9 +185,9 @@ function undump(kind, value) {
   return typeof kind === 'string' ? value : undumped(kind, value);
 }
 
-/** A part of a Buffer in memory of its own, as the payloads of the package are; its own slice shares the memory. */
-function ownOf(bytes, begin, end) {
-  return Uint8Array.prototype.slice.call(bytes, begin, end);
+/** A copy of a part of a Buffer, in Node's pool if it is short, as the payloads of the package are in theirs. */
+function copyOf(bytes, begin, end) {
+  return Buffer.from(bytes.subarray(begin, end));
 }
 
 /** The messages of a stream that comes in chunks. */
@@ -206,7 +206,7 @@ export function* messagesOf(chunks, limit = 2 ** 24) {
       if (end > bytes.length) {
         break;
       }
-      yield { code, flags: bytes.readUInt16BE(begin + 2), payload: ownOf(bytes, begin + 8, end) };
+      yield { code, flags: bytes.readUInt16BE(begin + 2), payload: copyOf(bytes, begin + 8, end) };
       begin = end;
     }
     rest = bytes.subarray(begin);

@@ -22,7 +22,6 @@ impl From<Error> for Refusal {
         match error {
             Error::Malformed(_) => Refusal::Malformed,
             Error::OutOfMemory => Refusal::OutOfMemory,
-            Error::NoRoom => Refusal::NoRoom,
             Error::TooLong(_) => Refusal::TooLong,
             Error::Unknown(_) => Refusal::Unknown,
             other => Refusal::Unlisted(other.to_string()),
@@ -272,7 +271,7 @@ pub fn merge(schema: usize, first: &[u8], second: &[u8]) -> Result<Vec<u8>, Refu
 
 /// The frame of the message that a payload holds.
 pub fn frame_once(version: u32, code: u16, payload: &[u8]) -> Result<Vec<u8>, Refusal> {
-    Ok(pendratsoa::frame(version, code, payload)?)
+    Ok(pendratsoa::frame(version.try_into()?, code, payload)?)
 }
 
 /// A call that returns a frame's length, and writes it where there is room for it.

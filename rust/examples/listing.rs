@@ -7,11 +7,13 @@ use std::env;
 use std::error::Error;
 use std::io::{self, Write};
 
-use pendratsoa::Decoder;
+use pendratsoa::{Decoder, Version};
 
 fn main() -> Result<(), Box<dyn Error>> {
-    let version = env::args().nth(1).map_or(Ok(8), |word| word.parse())?;
-    let mut decoder = Decoder::new(version)?;
+    let version = env::args_os()
+        .nth(1)
+        .map_or(Ok(Version::V8), |word| word.to_string_lossy().parse())?;
+    let mut decoder = Decoder::new(version);
     let mut input = io::stdin().lock();
     let mut output = io::stdout().lock();
     while decoder.read_from(&mut input)? > 0 {

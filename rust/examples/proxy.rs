@@ -9,16 +9,19 @@ use std::error::Error;
 use std::io::{Read, Write};
 use std::net::{TcpListener, TcpStream};
 
-use pendratsoa::messages::{MessageRecord, Record, SetStateCommandMessage};
-use pendratsoa::{Decoder, Item, MessageType};
+use pendratsoa::messages::{MessageRecord, SetStateCommandMessage};
+use pendratsoa::{Decoder, Item};
 
 fn main() -> Result<(), Box<dyn Error>> {
-    let words: Vec<String> = env::args().skip(1).collect();
+    let words: Vec<String> = env::args_os()
+        .skip(1)
+        .map(|word| word.to_string_lossy().into_owned())
+        .collect();
     let (version, host, port) = match words.as_slice() {
         [version, host, port] => (version, host.as_str(), port),
         _ => return Err("usage: proxy 5..9 HOST PORT".into()),
     };
-    let decoder = Decoder::new(version.parse()?)?;
+    let decoder = Decoder::new(version.parse()?);
     let listener = TcpListener::bind("127.0.0.1:0")?;
     println!("{}", listener.local_addr()?.port());
     let (source, _) = listener.accept()?;
@@ -34,11 +37,13 @@ fn pass_on(
 ) -> Result<(), Box<dyn Error>> {
     let mut out = Vec::new();
     while decoder.read_from(&mut source)? > 0 {
-        for item in decoder.items() {
-            append(&item?, &mut out)?;
-        }
+        let appended = decoder
+            .items()
+            .try_for_each(|item| append(&item?, &mut out));
+        // what came before an item that is an error is passed on too
         target.write_all(&out)?;
         out.clear();
+        appended?;
     }
     target.write_all(decoder.trailing())?;
     Ok(decoder.finish()?)
@@ -46,16 +51,16 @@ fn pass_on(
 
 /// Appends what takes the place of an item.
 fn append(item: &Item<'_>, out: &mut Vec<u8>) -> Result<(), Box<dyn Error>> {
-    match item {
-        Item::Message(message) if message.code == MessageType::SetStateCommand.code() => {
-            let mut command = SetStateCommandMessage::decode(message.payload)?;
+    match item.record::<SetStateCommandMessage>()? {
+        Some(mut command) => {
             if let Some(value) = &mut command.value {
                 let number: i64 = std::str::from_utf8(&value.content)?.parse()?;
-                value.content = (number + 1).to_string().into_bytes().into();
+                let greater = number.checked_add(1).ok_or("the state is too great")?;
+                value.content = greater.to_string().into_bytes().into();
             }
-            out.extend(command.frame(message.version)?);
+            out.extend(command.frame(item.version())?);
         }
-        other => other.append_to(out)?,
+        None => item.append_to(out)?,
     }
     Ok(())
 }

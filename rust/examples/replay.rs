@@ -8,16 +8,18 @@
 
 use std::env;
 use std::error::Error;
+use std::ffi::OsString;
 use std::fs;
 use std::io::{self, Read, Write};
 use std::process::ExitCode;
 
-use pendratsoa::{Decoder, Ignored, Item, Mismatch, Replay, VerdictKind};
+use pendratsoa::{Decoder, Ignored, Item, Mismatch, Replay, VerdictKind, Version};
 
 const LIMIT: u32 = 1 << 20;
 
 fn main() -> ExitCode {
-    let words: Vec<String> = env::args().skip(1).collect();
+    // the name of a file need not be UTF-8
+    let words: Vec<OsString> = env::args_os().skip(1).collect();
     run(&words).unwrap_or_else(|error| {
         eprintln!("replay: {error}");
         ExitCode::from(2)
@@ -25,14 +27,14 @@ fn main() -> ExitCode {
 }
 
 /// Checks a replay by the recording that the words say.
-fn run(words: &[String]) -> Result<ExitCode, Box<dyn Error>> {
+fn run(words: &[OsString]) -> Result<ExitCode, Box<dyn Error>> {
     let (name, version) = match words {
-        [name] => (name, 8),
-        [name, version] => (name, version.parse()?),
+        [name] => (name, Version::V8),
+        [name, version] => (name, version.to_string_lossy().parse()?),
         _ => return Err("usage: replay RECORDING [5..9]".into()),
     };
     let recorded = fs::read(name)?;
-    let mut replay = Replay::new(version, &recorded, Ignored::default())?;
+    let mut replay = Replay::new(version, &recorded, Ignored::default());
     let mut output = io::stdout().lock();
     let mismatch = match check(&mut replay, io::stdin().lock(), &mut output)? {
         Some(mismatch) => mismatch,
@@ -56,7 +58,7 @@ fn check(
     mut input: impl Read,
     output: &mut impl Write,
 ) -> Result<Option<Mismatch>, Box<dyn Error>> {
-    let mut decoder = Decoder::with_max_message_size(replay.version(), LIMIT)?;
+    let mut decoder = Decoder::with_max_message_size(replay.version(), LIMIT);
     while decoder.read_from(&mut input)? > 0 {
         for item in decoder.items() {
             let item = item?;

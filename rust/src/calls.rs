@@ -2,7 +2,7 @@
 
 use crate::error::{Argument, Error};
 use crate::ffi::{self, About, Refusal};
-use crate::LAST_VERSION;
+use crate::version::Version;
 
 /// The version of the library, as `0.3.0`.
 ///
@@ -19,25 +19,25 @@ pub fn library_version() -> Result<String, Error> {
 
 /// The number of the schema that payloads of a type have at a version.
 ///
-/// A suspension has another schema before version 7 than later. `Error::Unknown` if the number is not a version's or
-/// the code no named type's; a custom entry has no schema.
+/// A suspension has another schema before version 7 than later. [`Error::Unknown`] if no named type has the code; a
+/// custom entry has no schema.
 ///
 /// ```
-/// use pendratsoa::{schema, MessageType, Schema};
+/// use pendratsoa::{schema, MessageType, Schema, Version};
 ///
-/// assert_eq!(schema(8, MessageType::SleepCommand.code())?, Schema::SleepCommandMessage.number());
+/// let number = schema(Version::V8, MessageType::SleepCommand.code())?;
+/// assert_eq!(number, Schema::SleepCommandMessage.number());
 /// # Ok::<(), pendratsoa::Error>(())
 /// ```
-pub fn schema(version: u32, code: u16) -> Result<u32, Error> {
-    let number =
-        ffi::schema(version, code).map_err(|refusal| of_type(refusal, version, code, 0))?;
+pub fn schema(version: Version, code: u16) -> Result<u32, Error> {
+    let number = ffi::schema(version.into(), code).map_err(|refusal| of_type(refusal, code, 0))?;
     u32::try_from(number).map_err(|_| Error::unexpected("the schema", number))
 }
 
 /// The name of the type that has the code, as `SleepCommand`, or `CustomEntry(64513)` of a custom entry.
 ///
 /// It calls the library, which may be later than this crate; [`MessageType`](crate::MessageType) does not.
-/// `Error::Unknown` if no type has the code.
+/// [`Error::Unknown`] if no type has the code.
 ///
 /// ```
 /// assert_eq!(pendratsoa::type_name(0x040C)?, "SleepCommand");
@@ -49,7 +49,7 @@ pub fn type_name(code: u16) -> Result<String, Error> {
     text(name)
 }
 
-/// The code of the named type that has the name, as `SleepCommand`. `Error::Unknown` if none has.
+/// The code of the named type that has the name, as `SleepCommand`. [`Error::Unknown`] if none has.
 ///
 /// ```
 /// assert_eq!(pendratsoa::type_code("SleepCommand")?, 0x040C);
@@ -63,36 +63,39 @@ pub fn type_code(name: &str) -> Result<u16, Error> {
 
 /// The header that a message of a type has at a version, by the length of its payload in bytes.
 ///
-/// `Error::Unknown` if the number is not a version's or the code unassigned; a custom entry has a header.
-/// `Error::TooLong` if the payload has more than 4,294,967,295 bytes.
+/// [`Error::Unknown`] if the code is unassigned; a custom entry has a header. [`Error::TooLong`] if the payload has
+/// more than 4,294,967,295 bytes.
 ///
 /// ```
-/// assert_eq!(pendratsoa::header(8, 0x0400, 9)?, [0x04, 0, 0, 0, 0, 0, 0, 9]);
+/// use pendratsoa::{header, Version};
+///
+/// assert_eq!(header(Version::V8, 0x0400, 9)?, [0x04, 0, 0, 0, 0, 0, 0, 9]);
 /// # Ok::<(), pendratsoa::Error>(())
 /// ```
-pub fn header(version: u32, code: u16, payload_length: usize) -> Result<[u8; 8], Error> {
+pub fn header(version: Version, code: u16, payload_length: usize) -> Result<[u8; 8], Error> {
     let too_long = |_| Error::TooLong(Argument::PayloadLength(payload_length));
     let length = u32::try_from(payload_length).map_err(too_long)?;
     let mut header = [0; 8];
-    match ffi::header(version, code, length, &mut header) {
+    match ffi::header(version.into(), code, length, &mut header) {
         Ok(8) => Ok(header),
         Ok(length) => Err(Error::unexpected("a header's length", length)),
-        Err(refusal) => Err(of_type(refusal, version, code, payload_length)),
+        Err(refusal) => Err(of_type(refusal, code, payload_length)),
     }
 }
 
 /// The frame, at a version, of the message of a named type that a payload holds: a header, and the canonical payload
 /// after it.
 ///
-/// A suspension is decoded by its schema from version 7 on, and written by that of the version. `Error::Malformed`,
-/// `Error::TooLong`, `Error::OutOfMemory`; `Error::Unknown` if the number is not a version's or the code no named
-/// type's.
+/// A suspension is decoded by its schema from version 7 on, and written by that of the version. [`Error::Malformed`],
+/// [`Error::TooLong`], [`Error::OutOfMemory`]; [`Error::Unknown`] if no named type has the code.
 ///
 /// ```
-/// assert_eq!(pendratsoa::frame(8, 0x0003, &[])?, [0, 3, 0, 0, 0, 0, 0, 0]);
+/// use pendratsoa::{frame, Version};
+///
+/// assert_eq!(frame(Version::V8, 0x0003, &[])?, [0, 3, 0, 0, 0, 0, 0, 0]);
 /// # Ok::<(), pendratsoa::Error>(())
 /// ```
-pub fn frame(version: u32, code: u16, payload: &[u8]) -> Result<Vec<u8>, Error> {
+pub fn frame(version: Version, code: u16, payload: &[u8]) -> Result<Vec<u8>, Error> {
     let mut out = Vec::new();
     append_frame(version, code, payload, &mut out)?;
     Ok(out)
@@ -103,38 +106,40 @@ pub fn frame(version: u32, code: u16, payload: &[u8]) -> Result<Vec<u8>, Error> 
 /// The errors are those of [`frame`], and leave the vector as it was.
 ///
 /// ```
+/// use pendratsoa::{append_frame, Version};
+///
 /// let mut out = vec![7];
-/// assert_eq!(pendratsoa::append_frame(8, 0x0003, &[], &mut out)?, 8);
+/// assert_eq!(append_frame(Version::V8, 0x0003, &[], &mut out)?, 8);
 /// assert_eq!(out, [7, 0, 3, 0, 0, 0, 0, 0, 0]);
 /// # Ok::<(), pendratsoa::Error>(())
 /// ```
 pub fn append_frame(
-    version: u32,
+    version: Version,
     code: u16,
     payload: &[u8],
     out: &mut Vec<u8>,
 ) -> Result<usize, Error> {
-    ffi::frame(version, code, payload, out)
-        .map_err(|refusal| of_type(refusal, version, code, payload.len()))
+    ffi::frame(version.into(), code, payload, out)
+        .map_err(|refusal| of_type(refusal, code, payload.len()))
 }
 
 /// The schema of a type at a version, if the type has another one since.
-pub(crate) fn earlier_schema(version: u32, code: u16) -> Option<u32> {
+pub(crate) fn earlier_schema(version: Version, code: u16) -> Option<u32> {
     let found = schema(version, code).ok()?;
-    Some(found).filter(|_| schema(LAST_VERSION, code) != Ok(found))
+    Some(found).filter(|_| schema(Version::LAST, code) != Ok(found))
 }
 
 /// Appends the frame of a canonical payload whose schema the type has at earlier versions only, and which [`frame`]
-/// would read by the later one. `Error::Unknown` if the version has another.
+/// would read by the later one. [`Error::NoFrame`] if the version has another.
 pub(crate) fn append_earlier_frame(
-    version: u32,
+    version: Version,
     code: u16,
     earlier: u32,
     payload: &[u8],
     out: &mut Vec<u8>,
 ) -> Result<usize, Error> {
     if schema(version, code)? != earlier {
-        return Err(Error::Unknown(Argument::Version(version)));
+        return Err(Error::NoFrame(version));
     }
     let header = header(version, code, payload.len())?;
     let length = header.len() + payload.len();
@@ -146,7 +151,7 @@ pub(crate) fn append_earlier_frame(
 
 /// Whether a payload is well-formed for the schema that has the number.
 ///
-/// `Error::Unknown` if no schema has it.
+/// [`Error::Unknown`] if no schema has it.
 ///
 /// ```
 /// use pendratsoa::{is_well_formed, Schema};
@@ -164,7 +169,7 @@ pub fn is_well_formed(schema: u32, payload: &[u8]) -> Result<bool, Error> {
 
 /// The canonical payload of what a payload means, for the schema that has the number.
 ///
-/// `Error::Malformed`, `Error::TooLong`, `Error::OutOfMemory`; `Error::Unknown` if no schema has the number.
+/// [`Error::Malformed`], [`Error::TooLong`], [`Error::OutOfMemory`]; [`Error::Unknown`] if no schema has the number.
 ///
 /// ```
 /// use pendratsoa::{canonical, Schema};
@@ -178,8 +183,8 @@ pub fn canonical(schema: u32, payload: &[u8]) -> Result<Vec<u8>, Error> {
 
 /// The canonical payload of the result of merging the second payload into the first, as protobuf merges messages.
 ///
-/// `Error::Malformed` if one of the two is not well-formed by itself, `Error::TooLong`, `Error::OutOfMemory`;
-/// `Error::Unknown` if no schema has the number.
+/// [`Error::Malformed`] if one of the two is not well-formed by itself, [`Error::TooLong`], [`Error::OutOfMemory`];
+/// [`Error::Unknown`] if no schema has the number.
 ///
 /// ```
 /// use pendratsoa::{merge, Schema};
@@ -200,7 +205,7 @@ pub fn merge(schema: u32, first: &[u8], second: &[u8]) -> Result<Vec<u8>, Error>
 
 /// The JSON of what a payload means, in protobuf's own form, for the schema that has the number.
 ///
-/// `Error::Malformed`, `Error::TooLong`, `Error::OutOfMemory`; `Error::Unknown` if no schema has the number.
+/// [`Error::Malformed`], [`Error::TooLong`], [`Error::OutOfMemory`]; [`Error::Unknown`] if no schema has the number.
 ///
 /// ```
 /// use pendratsoa::{to_json, Schema};
@@ -215,8 +220,8 @@ pub fn to_json(schema: u32, payload: &[u8]) -> Result<String, Error> {
 /// Whether two commands of the type that has the code are the same for a replay.
 ///
 /// If `ignore_payloads`, the content of user data is not compared, but that of a signal is; that there is a value, and
-/// no failure or nothing, is compared in any case. `Error::Unknown` if the code is that of no command,
-/// `Error::Malformed` if one of the payloads is not well-formed, `Error::OutOfMemory`.
+/// no failure or nothing, is compared in any case. [`Error::Unknown`] if the code is that of no command,
+/// [`Error::Malformed`] if one of the payloads is not well-formed, [`Error::OutOfMemory`].
 ///
 /// ```
 /// use pendratsoa::{header_eq, MessageType};
@@ -277,10 +282,9 @@ fn truth(number: usize) -> Result<bool, Error> {
     }
 }
 
-/// The error of a call that takes a version, a code and a payload of a length.
-fn of_type(refusal: Refusal, version: u32, code: u16, length: usize) -> Error {
+/// The error of a call that takes a code and a payload of a length.
+fn of_type(refusal: Refusal, code: u16, length: usize) -> Error {
     Error::of(refusal, |about| match about {
-        About::Version => Argument::Version(version),
         About::Type => Argument::Code(code),
         _ => Argument::Payload(length),
     })

@@ -5,8 +5,9 @@ use std::iter::FusedIterator;
 
 use crate::error::{Argument, Error, Incomplete, MessageTooLong};
 use crate::ffi::{Found, Refusal};
-use crate::item::{copied, item_of, message_of, next_item_within, Item, Message, OwnedItem, Place};
+use crate::item::{copied, item_of, message_of, Item, Message, OwnedItem, Place};
 use crate::numbering::{keep, Kept, Numbering, Payload};
+use crate::version::Version;
 
 /// The most bytes that are read at once.
 const CHUNK: usize = 64 << 10;
@@ -16,9 +17,9 @@ const CHUNK: usize = 64 << 10;
 /// The items do not depend on how the stream was split into chunks.
 ///
 /// ```
-/// use pendratsoa::{Decoder, Item};
+/// use pendratsoa::{Decoder, Item, Version};
 ///
-/// let mut decoder = Decoder::new(8)?;
+/// let mut decoder = Decoder::new(Version::V8);
 /// for chunk in [&[0xFC, 1, 0, 0, 0, 0][..], &[0, 3, b'o', b'n'], &[b'e', 0, 3]] {
 ///     decoder.feed(chunk)?;
 ///     for item in decoder.items() {
@@ -34,7 +35,7 @@ const CHUNK: usize = 64 << 10;
 /// Items borrow the bytes that the decoder holds, so that it cannot be fed while one is used:
 ///
 /// ```compile_fail,E0499
-/// # let mut decoder = pendratsoa::Decoder::new(8)?;
+/// # let mut decoder = pendratsoa::Decoder::new(pendratsoa::Version::V8);
 /// let item = decoder.items().next();
 /// decoder.feed(&[0])?;
 /// drop(item);
@@ -42,7 +43,7 @@ const CHUNK: usize = 64 << 10;
 /// ```
 #[derive(Clone, Debug)]
 pub struct Decoder {
-    version: u32,
+    version: Version,
     max_message_size: u32,
     /// What came, and after it room.
     bytes: Vec<u8>,
@@ -63,14 +64,15 @@ pub struct Decoder {
 }
 
 impl Decoder {
-    /// A decoder at a version from 5 to 9, without a limit on the size of a message: `Error::Unknown` at another.
-    pub fn new(version: u32) -> Result<Decoder, Error> {
+    /// A decoder of a stream of a version, without a limit on the size of a message.
+    #[must_use]
+    pub fn new(version: Version) -> Decoder {
         Decoder::with_max_message_size(version, u32::MAX)
     }
 
-    /// A decoder at a version from 5 to 9 that takes no message whose payload has more bytes than this.
+    /// A decoder of a stream of a version that takes no message whose payload has more bytes than this.
     ///
-    /// A longer message is `Error::MessageTooLong` as soon as its header came, with its code, the length that the
+    /// A longer message is [`Error::MessageTooLong`] as soon as its header came, with its code, the length that the
     /// header announces, and its offset in the stream. It ends the stream, and what came of it is dropped: from then on
     /// each iteration, `feed`, `room`, `read_from` and `finish` return this error, and no bytes are pending.
     ///
@@ -78,9 +80,9 @@ impl Decoder {
     /// is taken.
     ///
     /// ```
-    /// use pendratsoa::{Decoder, Error};
+    /// use pendratsoa::{Decoder, Error, Version};
     ///
-    /// let mut decoder = Decoder::with_max_message_size(8, 1_000)?;
+    /// let mut decoder = Decoder::with_max_message_size(Version::V8, 1_000);
     /// decoder.feed(&[0, 3, 0, 0, 0, 0, 0, 0, 4, 0, 0, 0, 0, 0, 4, 0])?;
     /// let mut items = decoder.items();
     /// assert!(items.next().unwrap().is_ok());
@@ -95,9 +97,9 @@ impl Decoder {
     /// assert_eq!(decoder.finish(), decoder.feed(&[0]));
     /// # Ok::<(), Error>(())
     /// ```
-    pub fn with_max_message_size(version: u32, max_message_size: u32) -> Result<Decoder, Error> {
-        next_item_within(version, max_message_size, &[])?;
-        Ok(Decoder {
+    #[must_use]
+    pub fn with_max_message_size(version: Version, max_message_size: u32) -> Decoder {
+        Decoder {
             version,
             max_message_size,
             taken: 0,
@@ -108,23 +110,23 @@ impl Decoder {
             found: Found::new(),
             numbering: None,
             kept: Kept::default(),
-        })
+        }
     }
 
     /// The decoder of a stream whose payloads are at the field numbers of a descriptor set. The payload of each message
     /// is read by the numbering, so that everything of the message works. Its offset, its header and its bytes are
     /// those of the stream, which the limit is on too.
     ///
-    /// A payload that cannot be read is `Error::Malformed`, with the type and the offset of its message, and ends the
+    /// A payload that cannot be read is [`Error::Malformed`], with the type and the offset of its message, and ends the
     /// iteration; the next one goes on after this message.
     ///
     /// ```
-    /// use pendratsoa::{Decoder, Item, Numbering};
+    /// use pendratsoa::{Decoder, Item, Numbering, Version};
     ///
     /// // the set of a file with `message SetStateCommandMessage { bytes key = 3; }`
     /// let set = b"\n=\n\x07a.proto\"*\n\x16SetStateCommandMessage\
     ///     \x12\x10\n\x03key\x18\x03 \x01(\x0cR\x03keyb\x06proto3";
-    /// let mut decoder = Decoder::new(8)?.with_numbering(&Numbering::new(set, &[])?);
+    /// let mut decoder = Decoder::new(Version::V8).with_numbering(&Numbering::new(set, &[])?);
     /// let stream = b"\x04\x03\0\0\0\0\0\x03\x1a\x01a";
     /// decoder.feed(stream)?;
     /// for item in decoder.items() {
@@ -144,7 +146,7 @@ impl Decoder {
 
     /// The version of the stream.
     #[must_use]
-    pub fn version(&self) -> u32 {
+    pub fn version(&self) -> Version {
         self.version
     }
 
@@ -154,7 +156,7 @@ impl Decoder {
         self.taken
     }
 
-    /// Appends bytes of the stream to those received. `Error::OutOfMemory` leaves these unchanged.
+    /// Appends bytes of the stream to those received. [`Error::OutOfMemory`] leaves these unchanged.
     pub fn feed(&mut self, bytes: &[u8]) -> Result<(), Error> {
         self.check()?;
         self.make_room(bytes.len())?;
@@ -168,15 +170,15 @@ impl Decoder {
     /// An error of the reader, or a failed allocation, leaves the bytes received unchanged.
     ///
     /// An error of the reader is returned as it is. Any other is an [`io::Error`] that holds an [`Error`]:
-    /// `Error::OutOfMemory`, or the `Error::MessageTooLong` that ended the stream. `?` takes it in a function that
+    /// [`Error::OutOfMemory`], or the [`Error::MessageTooLong`] that ended the stream. `?` takes it in a function that
     /// returns an [`io::Result`] or a boxed error, and takes the errors of [`Decoder::items`] there too. There is no
     /// conversion from an [`io::Error`] to an [`Error`]; this finds the one that is held:
     ///
     /// ```
-    /// use pendratsoa::{Decoder, Error};
+    /// use pendratsoa::{Decoder, Error, Version};
     ///
     /// # fn read() -> std::io::Result<()> {
-    /// let mut decoder = Decoder::with_max_message_size(8, 0)?;
+    /// let mut decoder = Decoder::with_max_message_size(Version::V8, 0);
     /// let mut input = &[4, 0, 0, 0, 0, 0, 0, 1][..];
     /// decoder.read_from(&mut input)?;
     /// assert!(matches!(decoder.items().next(), Some(Err(Error::MessageTooLong(_)))));
@@ -191,10 +193,10 @@ impl Decoder {
     /// A stream is read in two loops:
     ///
     /// ```
-    /// use pendratsoa::Decoder;
+    /// use pendratsoa::{Decoder, Version};
     ///
     /// let mut input = &[0, 3, 0, 0, 0, 0, 0, 0, 0, 3][..];
-    /// let mut decoder = Decoder::new(8)?;
+    /// let mut decoder = Decoder::new(Version::V8);
     /// while decoder.read_from(&mut input)? > 0 {
     ///     for item in decoder.items() {
     ///         println!("{:?}", item?);
@@ -223,10 +225,10 @@ impl Decoder {
     /// [`Error`] in it, and ends the iteration.
     ///
     /// ```
-    /// use pendratsoa::{Decoder, Item};
+    /// use pendratsoa::{Decoder, Item, Version};
     ///
     /// let input = &[0, 3, 0, 0, 0, 0, 0, 0, 0, 3, 0, 0, 0, 0, 0, 0][..];
-    /// for item in Decoder::new(8)?.read(input) {
+    /// for item in Decoder::new(Version::V8).read(input) {
     ///     let item = item?;
     ///     if let Item::Message(message) = item.item() {
     ///         assert_eq!(message.type_name()?, "End");
@@ -243,15 +245,15 @@ impl Decoder {
     }
 
     /// Room for more bytes of the stream, of this number, for a reader that [`Decoder::read_from`] cannot take, as one
-    /// that is read asynchronously. [`Decoder::advance`] then tells how many bytes came. `Error::OutOfMemory` leaves
+    /// that is read asynchronously. [`Decoder::advance`] then tells how many bytes came. [`Error::OutOfMemory`] leaves
     /// the bytes received unchanged.
     ///
     /// ```
-    /// use pendratsoa::{Decoder, Error};
+    /// use pendratsoa::{Decoder, Error, Version};
     ///
     /// # trait AsyncRead { fn read(&mut self, room: &mut [u8]) -> std::future::Ready<usize>; }
     /// # async fn list(mut socket: impl AsyncRead) -> Result<(), Error> {
-    /// let mut decoder = Decoder::new(8)?;
+    /// let mut decoder = Decoder::new(Version::V8);
     /// loop {
     ///     let count = socket.read(decoder.room(64 << 10)?).await;
     ///     if count == 0 {
@@ -278,13 +280,13 @@ impl Decoder {
         self.end += count.min(self.bytes.len() - self.end);
     }
 
-    /// Says that the stream ended: `Error::Incomplete` if bytes are in no item. Its items have to be taken before. It
+    /// Says that the stream ended: [`Error::Incomplete`] if bytes are in no item. Its items have to be taken before. It
     /// changes nothing: [`Decoder::trailing`] still has these bytes.
     ///
     /// ```
-    /// use pendratsoa::{Decoder, Error};
+    /// use pendratsoa::{Decoder, Error, Version};
     ///
-    /// let mut decoder = Decoder::new(8)?;
+    /// let mut decoder = Decoder::new(Version::V8);
     /// decoder.feed(&[0, 3, 0, 0, 0, 0, 0, 0, 0, 3])?;
     /// assert_eq!(decoder.items().count(), 1);
     /// match decoder.finish() {
@@ -333,9 +335,9 @@ impl Decoder {
 
     /// The whole items among the pending bytes. An item that was taken does not come again.
     ///
-    /// The iterator ends after an error, `Error::Unexpected` or `Error::MessageTooLong`; the item that is the reason is
-    /// not taken. With a [`Numbering`] it also ends after `Error::OutOfMemory`, and after `Error::Malformed`, which
-    /// takes the item.
+    /// The iterator ends after an error, [`Error::Unexpected`] or [`Error::MessageTooLong`]; the item that is the
+    /// reason is not taken. With a [`Numbering`] it also ends after [`Error::OutOfMemory`], and after
+    /// [`Error::Malformed`], which takes the item.
     pub fn items(&mut self) -> Items<'_> {
         Items {
             version: self.version,
@@ -352,12 +354,12 @@ impl Decoder {
     }
 
     /// The next of the whole items, with bytes of its own, or `None` if no whole one is left. The errors are those of
-    /// [`Decoder::items`], and `Error::OutOfMemory`, which leaves the item where it is.
+    /// [`Decoder::items`], and [`Error::OutOfMemory`], which leaves the item where it is.
     ///
     /// ```
-    /// use pendratsoa::Decoder;
+    /// use pendratsoa::{Decoder, Version};
     ///
-    /// let mut decoder = Decoder::new(8)?;
+    /// let mut decoder = Decoder::new(Version::V8);
     /// decoder.feed(&[0, 3, 0, 0, 0, 0, 0, 0])?;
     /// let item = decoder.next_owned().unwrap()?;
     /// // the decoder is free
@@ -386,12 +388,12 @@ impl Decoder {
 
     /// The pending bytes: those received that no item has yet. Once the whole items are taken, they are the beginning
     /// of the next one. At the end of a stream a proxy passes them on after the last item: [`Decoder::finish`] leaves
-    /// them. After `Error::MessageTooLong` there are none.
+    /// them. After [`Error::MessageTooLong`] there are none.
     ///
     /// ```
-    /// use pendratsoa::Decoder;
+    /// use pendratsoa::{Decoder, Version};
     ///
-    /// let mut decoder = Decoder::new(8)?;
+    /// let mut decoder = Decoder::new(Version::V8);
     /// decoder.feed(&[0, 3, 0, 0, 0, 0, 0, 0, 4, 0, 0])?;
     /// let mut out = Vec::new();
     /// for item in decoder.items() {
@@ -410,10 +412,11 @@ impl Decoder {
     }
 }
 
-/// The items of a [`Decoder`], which borrow its bytes.
+/// The items of a [`Decoder`], which borrow its bytes, by [`Decoder::items`].
 #[derive(Debug)]
+#[must_use = "an iterator takes no item until it is used"]
 pub struct Items<'a> {
-    version: u32,
+    version: Version,
     max_message_size: u32,
     taken: &'a mut u64,
     ended: &'a mut Option<Error>,
@@ -434,14 +437,14 @@ impl<'a> Items<'a> {
             return Err(error.clone());
         }
         let (bytes, limit) = (&self.bytes[*self.begin..], self.max_message_size);
-        match self.found.look(self.version, limit, bytes) {
+        match self.found.look(self.version.into(), limit, bytes) {
             Ok(()) => Ok(()),
             Err(Refusal::TooLong) => {
                 let error = Error::MessageTooLong(MessageTooLong::of(bytes, limit, *self.taken));
                 *self.ended = Some(error.clone());
                 Err(error)
             }
-            Err(refusal) => Err(Error::of(refusal, |_| Argument::Version(self.version))),
+            Err(refusal) => Err(Error::of(refusal, |_| Argument::Stream(bytes.len()))),
         }
     }
 
@@ -543,6 +546,7 @@ impl FusedIterator for Items<'_> {}
 
 /// The items of a reader, by [`Decoder::read`].
 #[derive(Debug)]
+#[must_use = "an iterator takes no item until it is used"]
 pub struct ReadItems<'a, R> {
     decoder: &'a mut Decoder,
     reader: R,

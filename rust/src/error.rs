@@ -10,7 +10,7 @@ use crate::fields::FieldError;
 use crate::numbering::NumberingError;
 use crate::reading::JsonError;
 use crate::schema::Schema;
-use crate::{FIRST_VERSION, LAST_VERSION};
+use crate::version::Version;
 
 /// Why a call fails, and which of its arguments is the reason.
 #[derive(Clone, Debug, PartialEq, Eq, Hash)]
@@ -20,20 +20,20 @@ pub enum Error {
     Malformed(Argument),
     /// An allocation failed. The call can be repeated.
     OutOfMemory,
-    /// A slice for numbers is too short. This crate never passes such a slice.
-    NoRoom,
     /// A payload has, or would have, more than 4,294,967,295 bytes.
     TooLong(Argument),
     /// The payload of a message has more bytes than the limit of the decoder.
     MessageTooLong(MessageTooLong),
-    /// A version, a schema, a code or a name does not exist, or is not of the kind that the call is for.
+    /// A version, a schema, a code or a name does not exist, or is not of the kind that the call is for. An unknown
+    /// version is an error only where a [`Version`] is made.
     Unknown(Argument),
+    /// There is no frame at this version, where the type has another record: a suspension as it is before version 7 has
+    /// none from 7 on.
+    NoFrame(Version),
     /// A notification has no id.
     NoId(Argument),
     /// A notification has an id, and no result.
     NoResult(Argument),
-    /// A payload is well-formed for its schema, and not canonical.
-    NotCanonical(Argument),
     /// A JSON text means no value of its schema.
     Json(JsonError),
     /// A field of a record cannot be encoded.
@@ -50,8 +50,8 @@ pub enum Error {
 #[derive(Clone, Debug, PartialEq, Eq, Hash)]
 #[non_exhaustive]
 pub enum Argument {
-    /// The number of a version.
-    Version(u32),
+    /// The number of a version, or another text in its place.
+    Version(String),
     /// The code of a type.
     Code(u16),
     /// The number of a schema.
@@ -150,13 +150,13 @@ impl MessageTooLong {
 impl Error {
     /// The code of the type of the message, or of the item, that the error is about.
     ///
-    /// That of a payload's error that a method of [`Message`](crate::Message) returned, of `Error::MessageTooLong`, and
-    /// of `Error::Incomplete` if two bytes of the item came; otherwise `None`.
+    /// That of a payload's error that a method of [`Message`](crate::Message) returned, of [`Error::MessageTooLong`],
+    /// and of [`Error::Incomplete`] if two bytes of the item came; otherwise `None`.
     ///
     /// ```
-    /// use pendratsoa::{Decoder, Item};
+    /// use pendratsoa::{Decoder, Item, Version};
     ///
-    /// let mut decoder = Decoder::new(8)?;
+    /// let mut decoder = Decoder::new(Version::V8);
     /// decoder.feed(&[0, 3, 0, 0, 0, 0, 0, 0, 4, 3, 0, 0, 0, 0, 0, 3, 0x0A, 5, b'a'])?;
     /// for item in decoder.items() {
     ///     let item = item?;
@@ -222,12 +222,13 @@ impl Error {
         match refusal {
             Refusal::Malformed(about) => Error::Malformed(argument(about)),
             Refusal::OutOfMemory => Error::OutOfMemory,
-            Refusal::NoRoom => Error::NoRoom,
             Refusal::TooLong => Error::TooLong(argument(About::Payload)),
             Refusal::Unknown(about) => Error::Unknown(argument(about)),
             Refusal::NoId => Error::NoId(argument(About::Payload)),
             Refusal::NoResult => Error::NoResult(argument(About::Payload)),
-            Refusal::NotCanonical => Error::NotCanonical(argument(About::Payload)),
+            Refusal::NotCanonical => {
+                Error::unexpected("the error", "that a payload is not canonical")
+            }
             Refusal::Unlisted(number) => Error::unexpected("the error", number),
         }
     }
@@ -248,12 +249,11 @@ impl fmt::Display for Error {
         match self {
             Error::Malformed(argument) => write!(f, "{argument} is malformed"),
             Error::OutOfMemory => f.write_str("an allocation failed"),
-            Error::NoRoom => f.write_str("a slice for numbers is too short"),
             Error::TooLong(argument) => {
                 write!(f, "{argument}: the payload exceeds 4,294,967,295 bytes")
             }
             Error::MessageTooLong(error) => error.fmt(f),
-            Error::Unknown(Argument::Version(number)) => write_unknown_version(f, *number),
+            Error::Unknown(Argument::Version(given)) => write_unknown_version(f, given),
             Error::Unknown(Argument::Schema(number)) => {
                 write!(
                     f,
@@ -267,11 +267,14 @@ impl fmt::Display for Error {
             ),
             Error::Unknown(Argument::Name(name)) => write_unknown_name(f, name),
             Error::Unknown(argument) => write!(f, "{argument} is unknown"),
+            Error::NoFrame(version) => {
+                write!(
+                    f,
+                    "protocol version {version} has no message of this record"
+                )
+            }
             Error::NoId(argument) => write!(f, "{argument} has no id"),
             Error::NoResult(argument) => write!(f, "{argument} has an id, and no result"),
-            Error::NotCanonical(argument) => {
-                write!(f, "{argument} is well-formed, and not canonical")
-            }
             Error::Json(error) => write!(f, "the JSON text: {error}"),
             Error::Field(error) => write!(f, "the field {error}"),
             Error::Numbering(error) => error.fmt(f),
@@ -286,15 +289,15 @@ impl fmt::Display for Error {
     }
 }
 
-/// Writes that a version is none; or, of one that is, that it has not the record for which a frame was to be made.
-fn write_unknown_version(f: &mut fmt::Formatter<'_>, number: u32) -> fmt::Result {
-    if (FIRST_VERSION..=LAST_VERSION).contains(&number) {
-        return write!(f, "protocol version {number} has no message of this record");
+/// Writes that a version is unknown, as it was given: in quotes if it is not a number.
+fn write_unknown_version(f: &mut fmt::Formatter<'_>, given: &str) -> fmt::Result {
+    f.write_str("unknown protocol version ")?;
+    if given.is_empty() || given.contains(|letter: char| !letter.is_ascii_digit()) {
+        write!(f, "{given:?}")?;
+    } else {
+        f.write_str(given)?;
     }
-    write!(
-        f,
-        "unknown protocol version {number} ({FIRST_VERSION} to {LAST_VERSION})"
-    )
+    write!(f, " ({} to {})", Version::FIRST, Version::LAST)
 }
 
 /// Writes that a name is unknown, and asks whether a type was meant if it is that of the type's record.
@@ -310,7 +313,7 @@ fn write_unknown_name(f: &mut fmt::Formatter<'_>, name: &str) -> fmt::Result {
 
 impl error::Error for Error {}
 
-/// The kind is `OutOfMemory` of a failed allocation, `UnexpectedEof` of `Error::Incomplete`, and otherwise
+/// The kind is `OutOfMemory` of a failed allocation, `UnexpectedEof` of [`Error::Incomplete`], and otherwise
 /// `InvalidData`; `get_ref` has the [`Error`].
 impl From<Error> for io::Error {
     fn from(error: Error) -> io::Error {
@@ -381,7 +384,7 @@ fn name_and_code(code: u16) -> String {
 impl fmt::Display for Argument {
     fn fmt(&self, f: &mut fmt::Formatter<'_>) -> fmt::Result {
         match self {
-            Argument::Version(number) => write!(f, "the version {number}"),
+            Argument::Version(given) => write!(f, "the version {given:?}"),
             Argument::Code(code) => write!(f, "the code {code:#06x}"),
             Argument::Schema(number) => write!(f, "the schema {number}"),
             Argument::Name(name) => write!(f, "the name {name:?}"),
@@ -425,7 +428,6 @@ mod tests {
                 "the payload of 0 bytes has no id",
             ),
             (Error::OutOfMemory, "an allocation failed"),
-            (Error::NoRoom, "a slice for numbers is too short"),
             (
                 Error::TooLong(Argument::PayloadLength(1 << 32)),
                 "the payload length 4294967296: the payload exceeds 4,294,967,295 bytes",
@@ -440,11 +442,11 @@ mod tests {
                 "a message of type InputCommand (0x0400) at offset 106 has 1025 bytes, more than the limit of 1024",
             ),
             (
-                Error::Unknown(Argument::Version(7)),
+                Error::NoFrame(Version::V7),
                 "protocol version 7 has no message of this record",
             ),
             (
-                Error::Unknown(Argument::Version(4)),
+                Error::Unknown(Argument::Version("4".to_owned())),
                 "unknown protocol version 4 (5 to 9)",
             ),
             (
@@ -517,12 +519,14 @@ mod tests {
             (Malformed(About::Payload), Error::Malformed(payload.clone())),
             (Malformed(About::Second), Error::Malformed(second.clone())),
             (OutOfMemory, Error::OutOfMemory),
-            (NoRoom, Error::NoRoom),
             (TooLong, Error::TooLong(payload.clone())),
             (Unknown(About::Type), Error::Unknown(code.clone())),
             (NoId, Error::NoId(payload.clone())),
             (NoResult, Error::NoResult(payload.clone())),
-            (NotCanonical, Error::NotCanonical(payload.clone())),
+            (
+                NotCanonical,
+                Error::Unexpected("the error that a payload is not canonical".to_owned()),
+            ),
             (Unlisted(-12), Error::Unexpected("the error -12".to_owned())),
         ] {
             let found = Error::of(refusal, |about| match about {

@@ -25,15 +25,12 @@ pub use writer::Writer;
 /// Which argument of a call an error is about.
 #[derive(Clone, Copy, Debug, PartialEq, Eq)]
 pub(crate) enum About {
-    Version,
     Schema,
     /// The code or the name of a type.
     Type,
     /// The only payload, or the first of two.
     Payload,
     Second,
-    /// The options of a replay.
-    Options,
 }
 
 /// A negative result of a call.
@@ -41,13 +38,12 @@ pub(crate) enum About {
 pub(crate) enum Refusal {
     Malformed(About),
     OutOfMemory,
-    NoRoom,
     TooLong,
     Unknown(About),
     NoId,
     NoResult,
     NotCanonical,
-    /// One that the header does not list.
+    /// One that the header does not list, or that is about what this crate does not pass.
     Unlisted(i64),
 }
 
@@ -79,7 +75,8 @@ unsafe fn written(guess: usize, call: impl FnMut(*mut u8, usize) -> i64) -> Resu
 }
 
 /// Appends the bytes that a call writes, and returns how many they are. It is made once if they fit into the room that
-/// is guessed, and otherwise again with as much as it returned. An error leaves the vector as it was.
+/// is guessed, and otherwise again with as much as it returned, as where there is no memory for the guess. An error
+/// leaves the vector as it was.
 ///
 /// # Safety
 ///
@@ -91,10 +88,11 @@ unsafe fn appended(
     call: impl FnMut(*mut u8, usize) -> i64,
 ) -> Result<usize> {
     let mut call = call;
+    // what is guessed may be more than there is, where what is needed is not
     if out.capacity() == 0 {
-        *out = with_room(guess)?;
+        *out = with_room(guess).unwrap_or_default();
     } else if out.capacity() - out.len() < guess {
-        reserve(out, guess)?;
+        reserve(out, guess).unwrap_or_default();
     }
     let spare = out.spare_capacity_mut();
     let room = spare.len();
@@ -212,6 +210,24 @@ mod tests {
     }
 
     #[test]
+    fn a_guess_that_cannot_be_had_is_no_error() {
+        let guess = usize::MAX / 2;
+        let mut rooms = Vec::new();
+        // SAFETY: it writes as many bytes as it returns
+        let found = unsafe {
+            written(guess, |out, room| {
+                rooms.push(room);
+                text(b"text", out, room)
+            })
+        };
+        assert_eq!((found, rooms), (Ok(b"text".to_vec()), vec![0, 4]));
+        let mut out = b"a ".to_vec();
+        // SAFETY: as above
+        let length = unsafe { appended(&mut out, guess, |out, room| text(b"text", out, room)) };
+        assert_eq!((length, &out[..]), (Ok(4), &b"a text"[..]));
+    }
+
+    #[test]
     fn room_that_cannot_be_had_is_an_error() {
         for returned in [i64::MAX, 1 << 62] {
             // SAFETY: it writes nothing, and returns more than there is room for
@@ -226,19 +242,17 @@ mod tests {
         for (refusal, returned) in [
             (Malformed(About::Payload), -1),
             (OutOfMemory, -2),
-            (NoRoom, -3),
             (TooLong, -4),
             (NoId, -6),
             (NoResult, -7),
             (NotCanonical, -8),
             (Malformed(About::Second), -17),
-            (Unknown(About::Version), -21),
             (Unknown(About::Schema), -37),
             (Unknown(About::Type), -53),
         ] {
             assert_eq!(count(returned), Err(refusal));
         }
-        for returned in [-5, -9, -12, -33, i64::MIN] {
+        for returned in [-3, -5, -9, -12, -21, -33, -69, i64::MIN] {
             assert_eq!(count(returned), Err(Unlisted(returned)));
         }
         assert_eq!(count(0), Ok(0));

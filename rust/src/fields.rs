@@ -1,17 +1,18 @@
 //! Records and the table of fields: a record is read from the fields that the library finds in a payload, and written
 //! as those of which the library makes one. Nothing is known here of how a payload is encoded.
 
+use std::collections::HashMap;
 use std::error;
 use std::fmt;
 
 use crate::calls::{canonical, frame, header, of_payload, schema};
-use crate::error::{Argument, Error};
+use crate::error::Error;
 use crate::ffi::{Entry, Refusal, Room, Table, Writer, WRITTEN};
 use crate::kinds::FieldReason;
 use crate::message_type::MessageType;
 use crate::messages::listed;
 use crate::schema::Schema;
-use crate::LAST_VERSION;
+use crate::version::Version;
 
 /// The name of a record, and its fields: their numbers, their names, whether they are repeated, and the schema of what
 /// they hold. It has no public name.
@@ -30,7 +31,7 @@ pub trait Record<'a>: Fields<'a> {
     /// The record that a payload means, in any encoding. What it holds is borrowed from a canonical payload, and copied
     /// out of another one.
     ///
-    /// `Error::Malformed`, `Error::TooLong`, `Error::OutOfMemory`.
+    /// [`Error::Malformed`], [`Error::TooLong`], [`Error::OutOfMemory`].
     fn decode(payload: &'a [u8]) -> Result<Self, Error> {
         let schema = Self::SCHEMA.number();
         let mut room = Room::new();
@@ -49,7 +50,7 @@ pub trait Record<'a>: Fields<'a> {
 
     /// The canonical payload of the record.
     ///
-    /// `Error::Field` names a field that cannot be encoded; `Error::TooLong`, `Error::OutOfMemory`.
+    /// [`Error::Field`] names a field that cannot be encoded; [`Error::TooLong`], [`Error::OutOfMemory`].
     fn encode(&self) -> Result<Vec<u8>, Error> {
         let mut out = Vec::new();
         self.append_to(&mut out)?;
@@ -71,17 +72,26 @@ pub trait MessageRecord<'a>: Record<'a> {
     /// The type of the message.
     const TYPE: MessageType;
     /// The version before which it is the record of its type, if the type has another one since.
-    const BEFORE_VERSION: Option<u32> = None;
-    /// Whether it is the record of its type at each version that this crate knows.
+    const BEFORE_VERSION: Option<Version> = None;
+    /// Whether it is the record of its type at each version.
     #[doc(hidden)]
     const IS_ALONE: bool = true;
 
     /// The frame of the message at a version: a header, and the canonical payload after it.
     ///
-    /// The errors are those of [`Record::encode`], and `Error::Unknown` if the number is not a version's, or that of
-    /// one whose messages of the type have another record.
-    fn frame(&self, version: impl Into<u32>) -> Result<Vec<u8>, Error> {
-        let (version, code) = (version.into(), Self::TYPE.code());
+    /// The errors are those of [`Record::encode`], and [`Error::NoFrame`] if the type has another record at the
+    /// version.
+    ///
+    /// ```
+    /// use pendratsoa::messages::{MessageRecord, SleepCommandMessage};
+    /// use pendratsoa::Version;
+    ///
+    /// let sleep = SleepCommandMessage { wake_up_time: 5, ..Default::default() };
+    /// assert_eq!(sleep.frame(Version::V8)?.len(), 10);
+    /// # Ok::<(), pendratsoa::Error>(())
+    /// ```
+    fn frame(&self, version: Version) -> Result<Vec<u8>, Error> {
+        let code = Self::TYPE.code();
         let mut out = Vec::new();
         let length = match self.append_struct(&mut out, HEADER) {
             Some(length) => length,
@@ -93,16 +103,14 @@ pub trait MessageRecord<'a>: Record<'a> {
                 append_table(self, &mut out)?
             }
         };
-        // a later library may have another record of the type at a later version
-        let is_its_record = Self::IS_ALONE && version <= LAST_VERSION;
-        if is_its_record || schema(version, code)? == Self::SCHEMA.number() {
+        if Self::IS_ALONE || schema(version, code)? == Self::SCHEMA.number() {
             out[..HEADER].copy_from_slice(&header(version, code, length)?);
             return Ok(out);
         }
         match Self::BEFORE_VERSION {
             // the record that the type has at the version is written of what it has of this one
             None => frame(version, code, &out[HEADER..]),
-            Some(_) => Err(Error::Unknown(Argument::Version(version))),
+            Some(_) => Err(Error::NoFrame(version)),
         }
     }
 }
@@ -146,12 +154,18 @@ fn read<'a, R: Record<'a>>(mut table: Table<'a, '_>) -> Result<R, Error> {
     }
 }
 
+/// The level at which the library rejects any message, since it is nested more than one hundred levels deep.
+const TOO_DEEP: u64 = 100;
+
 impl Writer {
-    /// Appends the entries of a record that is a field.
+    /// Appends the entries of a record that is a field. There are none of one that is too deep, whose entry is
+    /// rejected: so no depth of a record is too much for the stack.
     #[inline]
     pub(crate) fn record<'a, R: Record<'a>>(&mut self, level: u64, number: u64, record: &R) {
         self.message(level, number, R::SCHEMA.number());
-        record.write(self, level + 1);
+        if level < TOO_DEEP {
+            record.write(self, level + 1);
+        }
     }
 }
 
@@ -182,7 +196,7 @@ fn rejected(entries: &[Entry], schema: u32, number: u64, index: u64) -> Error {
 // a level is at most one hundred
 #[allow(clippy::cast_possible_truncation)]
 fn path(schema: usize, entries: &[Entry]) -> String {
-    let mut levels: Vec<(usize, Vec<u64>)> = vec![(schema, Vec::new())];
+    let mut levels: Vec<(usize, HashMap<u64, usize>)> = vec![(schema, HashMap::new())];
     let mut names: Vec<String> = Vec::new();
     for &[level, number, ..] in entries {
         let level = level as usize;
@@ -194,15 +208,15 @@ fn path(schema: usize, entries: &[Entry]) -> String {
             .iter()
             .find(|field| field.0 == number)
             .unwrap_or(&fields[0]);
-        let count = seen.iter().filter(|other| **other == number).count();
-        seen.push(number);
+        let count = seen.entry(number).or_insert(0);
         names.push(if *is_repeated {
             format!("{name}[{count}]")
         } else {
             (*name).to_owned()
         });
+        *count += 1;
         if let Some(holds) = holds {
-            levels.push((*holds, Vec::new()));
+            levels.push((*holds, HashMap::new()));
         }
     }
     names.join(".")

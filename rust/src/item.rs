@@ -15,6 +15,7 @@ use crate::message_type::MessageType;
 use crate::messages::AnyMessage;
 use crate::notification::{notification, Notification};
 use crate::reading::from_json;
+use crate::version::Version;
 
 /// Where an item begins in its stream. It takes no part in a comparison: the same item may come twice.
 #[derive(Clone, Copy)]
@@ -68,7 +69,7 @@ pub enum Item<'a> {
 #[non_exhaustive]
 pub struct Message<'a> {
     /// The version of the stream.
-    pub version: u32,
+    pub version: Version,
     /// The code of the type.
     pub code: u16,
     /// The header, as a big-endian number.
@@ -77,6 +78,9 @@ pub struct Message<'a> {
     pub requested_ack: bool,
     /// The payload as received, which need not be well-formed. That of a decoder with a
     /// [`Numbering`](crate::Numbering) is at the numbers of the protocol.
+    ///
+    /// A message with another payload is made by [`Message::new`]. What is put here is not in the header, which keeps
+    /// the length of what was received; so [`Item::append_to`] appends no whole message of it.
     pub payload: &'a [u8],
     /// The payload as received, if it is another one. A slice would make each item longer.
     received: Option<&'a Vec<u8>>,
@@ -89,7 +93,7 @@ pub struct Message<'a> {
 #[non_exhaustive]
 pub struct UnknownCode {
     /// The version of the stream.
-    pub version: u32,
+    pub version: Version,
     /// The code that no type has.
     pub code: u16,
     /// The eight bytes, as a big-endian number.
@@ -102,7 +106,7 @@ pub struct UnknownCode {
 #[non_exhaustive]
 pub struct Skipped<'a> {
     /// The version of the stream.
-    pub version: u32,
+    pub version: Version,
     /// The code that no type has.
     pub code: u16,
     /// The header, as a big-endian number.
@@ -113,6 +117,16 @@ pub struct Skipped<'a> {
 }
 
 impl<'a> Item<'a> {
+    /// The version of its stream.
+    #[must_use]
+    pub fn version(&self) -> Version {
+        match self {
+            Item::Message(message) => message.version,
+            Item::UnknownCode(unknown) => unknown.version,
+            Item::Skipped(skipped) => skipped.version,
+        }
+    }
+
     /// The code of its type: the first two bytes of the item. That of an unknown code, or of what is skipped, is one
     /// that no type has.
     #[must_use]
@@ -124,13 +138,13 @@ impl<'a> Item<'a> {
         }
     }
 
-    /// The name of its type, as [`Message::type_name`] has it. `Error::Unknown` of what is not a message, since no type
-    /// has its code.
+    /// The name of its type, as [`Message::type_name`] has it. [`Error::Unknown`] of what is not a message, since no
+    /// type has its code.
     ///
     /// ```
-    /// use pendratsoa::{Argument, Decoder, Error};
+    /// use pendratsoa::{Argument, Decoder, Error, Version};
     ///
-    /// let mut decoder = Decoder::new(8)?;
+    /// let mut decoder = Decoder::new(Version::V8);
     /// decoder.feed(&[0x04, 0, 0, 0, 0, 0, 0, 0, 0, 8, 0, 0, 0, 0, 0, 0])?;
     /// let items: Vec<_> = decoder.items().collect::<Result<_, _>>()?;
     /// assert_eq!(items[0].type_name()?, "InputCommand");
@@ -170,11 +184,11 @@ impl<'a> Item<'a> {
     /// The item as one that begins at this offset of its stream.
     ///
     /// ```
-    /// use pendratsoa::{next_item, Next};
+    /// use pendratsoa::{next_item, Next, Version};
     ///
     /// let stream = [0, 3, 0, 0, 0, 0, 0, 0, 0, 3, 0, 0, 0, 0, 0, 0];
     /// let mut offset = 0;
-    /// while let Next::Item { item, size } = next_item(8, &stream[offset..])? {
+    /// while let Next::Item { item, size } = next_item(Version::V8, &stream[offset..])? {
     ///     let item = item.with_offset(offset as u64);
     ///     assert_eq!(item.offset(), Some(offset as u64));
     ///     offset += size;
@@ -198,9 +212,9 @@ impl<'a> Item<'a> {
     ///
     /// ```
     /// use pendratsoa::messages::SetStateCommandMessage;
-    /// use pendratsoa::Decoder;
+    /// use pendratsoa::{Decoder, Version};
     ///
-    /// let mut decoder = Decoder::new(8)?;
+    /// let mut decoder = Decoder::new(Version::V8);
     /// decoder.feed(b"\0\x03\0\0\0\0\0\0\x04\x03\0\0\0\0\0\x03\n\x01a")?;
     /// for item in decoder.items() {
     ///     if let Some(command) = item?.record::<SetStateCommandMessage>()? {
@@ -216,7 +230,7 @@ impl<'a> Item<'a> {
         }
     }
 
-    /// The item with bytes of its own. `Error::OutOfMemory`.
+    /// The item with bytes of its own. [`Error::OutOfMemory`].
     pub fn into_owned(self) -> Result<OwnedItem, Error> {
         let (payload, received) = match self {
             Item::Message(message) => (message.payload, message.received),
@@ -252,13 +266,13 @@ impl<'a> Item<'a> {
         (word.to_be_bytes(), payload)
     }
 
-    /// The item as received, byte for byte. `Error::OutOfMemory`.
+    /// The item as received, byte for byte. [`Error::OutOfMemory`].
     ///
     /// ```
-    /// use pendratsoa::{next_item, Next};
+    /// use pendratsoa::{next_item, Next, Version};
     ///
     /// let stream = [0, 8, 0xFF, 0xFF, 0, 0, 0, 0];
-    /// match next_item(8, &stream)? {
+    /// match next_item(Version::V8, &stream)? {
     ///     Next::Item { item, .. } => assert_eq!(item.to_bytes()?, stream),
     ///     Next::Missing(_) => unreachable!(),
     /// }
@@ -270,7 +284,7 @@ impl<'a> Item<'a> {
         Ok(out)
     }
 
-    /// Appends the item as received. `Error::OutOfMemory` leaves the vector as it was.
+    /// Appends the item as received. [`Error::OutOfMemory`] leaves the vector as it was.
     pub fn append_to(&self, out: &mut Vec<u8>) -> Result<(), Error> {
         let (header, payload) = self.parts();
         out.try_reserve(header.len() + payload.len())
@@ -369,17 +383,17 @@ impl<'a> From<Message<'a>> for Item<'a> {
 impl<'a> Message<'a> {
     /// The message of a type with a payload, as it would come in a stream of the version.
     ///
-    /// The payload need not be well-formed. `Error::Unknown` if the number is not a version's or the code unassigned;
-    /// `Error::TooLong` if the payload has more than 4,294,967,295 bytes.
+    /// The payload need not be well-formed. [`Error::Unknown`] if the code is unassigned; [`Error::TooLong`] if the
+    /// payload has more than 4,294,967,295 bytes.
     ///
     /// ```
-    /// use pendratsoa::{Message, MessageType};
+    /// use pendratsoa::{Message, MessageType, Version};
     ///
-    /// let message = Message::new(8, MessageType::InputCommand.code(), &[])?;
+    /// let message = Message::new(Version::V8, MessageType::InputCommand.code(), &[])?;
     /// assert_eq!(message.frame()?, [0x04, 0, 0, 0, 0, 0, 0, 0]);
     /// # Ok::<(), pendratsoa::Error>(())
     /// ```
-    pub fn new(version: u32, code: u16, payload: &'a [u8]) -> Result<Message<'a>, Error> {
+    pub fn new(version: Version, code: u16, payload: &'a [u8]) -> Result<Message<'a>, Error> {
         let word = u64::from_be_bytes(header(version, code, payload.len())?);
         // a header of no payload is a whole item; the library tells what it requests
         let header = header(version, code, 0)?;
@@ -422,20 +436,20 @@ impl<'a> Message<'a> {
     /// The message of a named type that a JSON text means, as it would come in a stream of the version. Its payload,
     /// which is canonical, takes the place of what the buffer holds.
     ///
-    /// `Error::Json` if the text means no such message, `Error::Unknown` if the number is not a version's or the code
-    /// no named type's; `Error::TooLong`, `Error::OutOfMemory`. After an error the buffer is unchanged.
+    /// [`Error::Json`] if the text means no such message, [`Error::Unknown`] if no named type has the code;
+    /// [`Error::TooLong`], [`Error::OutOfMemory`]. After an error the buffer is unchanged.
     ///
     /// ```
-    /// use pendratsoa::{Message, MessageType};
+    /// use pendratsoa::{Message, MessageType, Version};
     ///
     /// let mut payload = Vec::new();
     /// let code = MessageType::SleepCommand.code();
-    /// let message = Message::from_json(8, code, r#"{"wakeUpTime": 5}"#, &mut payload)?;
+    /// let message = Message::from_json(Version::V8, code, r#"{"wakeUpTime": 5}"#, &mut payload)?;
     /// assert_eq!(message.json()?, r#"{"wakeUpTime":"5"}"#);
     /// # Ok::<(), pendratsoa::Error>(())
     /// ```
     pub fn from_json(
-        version: u32,
+        version: Version,
         code: u16,
         json: impl AsRef<[u8]>,
         buffer: &'a mut Vec<u8>,
@@ -451,17 +465,17 @@ impl<'a> Message<'a> {
     ///
     /// ```
     /// use pendratsoa::messages::SleepCommandMessage;
-    /// use pendratsoa::Message;
+    /// use pendratsoa::{Message, Version};
     ///
     /// let sleep = SleepCommandMessage { wake_up_time: 5, ..Default::default() };
     /// let mut buffer = Vec::new();
-    /// let message = Message::from_record(8, &sleep, &mut buffer)?;
+    /// let message = Message::from_record(Version::V8, &sleep, &mut buffer)?;
     /// assert_eq!(message.type_name()?, "SleepCommand");
     /// assert_eq!(message.record()?, Some(sleep));
     /// # Ok::<(), pendratsoa::Error>(())
     /// ```
     pub fn from_record<'r, R: MessageRecord<'r>>(
-        version: u32,
+        version: Version,
         record: &R,
         buffer: &'a mut Vec<u8>,
     ) -> Result<Message<'a>, Error> {
@@ -487,7 +501,7 @@ impl<'a> Message<'a> {
         MessageType::from_code(self.code)
     }
 
-    /// The name of the type, as [`type_name`] has it. `Error::Unknown` if no type has the code.
+    /// The name of the type, as [`type_name`] has it. [`Error::Unknown`] if no type has the code.
     pub fn type_name(&self) -> Result<String, Error> {
         type_name(self.code)
     }
@@ -508,7 +522,7 @@ impl<'a> Message<'a> {
             .map_or(false, MessageType::is_notification)
     }
 
-    /// The number of the payload's schema. A custom entry has none: `Error::Unknown`.
+    /// The number of the payload's schema. A custom entry has none: [`Error::Unknown`].
     pub fn schema(&self) -> Result<u32, Error> {
         schema(self.version, self.code)
     }
@@ -516,13 +530,14 @@ impl<'a> Message<'a> {
     /// The record that the payload means, which borrows it where it is canonical; `None` for a custom entry, which has
     /// no record.
     ///
-    /// `Error::Malformed`, `Error::TooLong`, `Error::OutOfMemory`. [`Message::record`] reads the record of one type.
+    /// [`Error::Malformed`], [`Error::TooLong`], [`Error::OutOfMemory`]. [`Message::record`] reads the record of one
+    /// type.
     ///
     /// ```
     /// use pendratsoa::messages::AnyMessage;
-    /// use pendratsoa::{Message, MessageType};
+    /// use pendratsoa::{Message, MessageType, Version};
     ///
-    /// let message = Message::new(8, MessageType::SetStateCommand.code(), b"\n\x01a\x1a\x03\n\x011")?;
+    /// let message = Message::new(Version::V8, MessageType::SetStateCommand.code(), b"\n\x01a\x1a\x03\n\x011")?;
     /// if let Some(AnyMessage::SetStateCommand(command)) = message.message()? {
     ///     assert_eq!(*command.key, *b"a");
     ///     assert_eq!(*command.value.unwrap().content, *b"1");
@@ -546,13 +561,13 @@ impl<'a> Message<'a> {
     /// The record of the payload, if the message is of the type of that record, and otherwise `None`; it borrows the
     /// payload where it is canonical. The payload of another type is not looked at.
     ///
-    /// `Error::Malformed`, `Error::TooLong`, `Error::OutOfMemory`.
+    /// [`Error::Malformed`], [`Error::TooLong`], [`Error::OutOfMemory`].
     ///
     /// ```
     /// use pendratsoa::messages::{SetStateCommandMessage, SleepCommandMessage};
-    /// use pendratsoa::{Message, MessageType};
+    /// use pendratsoa::{Message, MessageType, Version};
     ///
-    /// let message = Message::new(8, MessageType::SetStateCommand.code(), b"\n\x01a\x1a\x03\n\x011")?;
+    /// let message = Message::new(Version::V8, MessageType::SetStateCommand.code(), b"\n\x01a\x1a\x03\n\x011")?;
     /// if let Some(command) = message.record::<SetStateCommandMessage>()? {
     ///     assert_eq!(*command.key, *b"a");
     /// }
@@ -587,15 +602,15 @@ impl<'a> Message<'a> {
 
     /// The frame of the message at a version, as [`Message::frame`].
     ///
-    /// `Error::Unknown` besides for a version that cannot have the payload: a suspension before version 7 has no frame
+    /// [`Error::NoFrame`] at a version that cannot have the payload: a suspension from before version 7 has no frame
     /// from 7 on, and one since then has a frame at each.
-    pub fn frame_at(&self, version: u32) -> Result<Vec<u8>, Error> {
+    pub fn frame_at(&self, version: Version) -> Result<Vec<u8>, Error> {
         let mut out = Vec::new();
         self.append_frame_at(version, &mut out)?;
         Ok(out)
     }
 
-    fn append_frame_at(&self, version: u32, out: &mut Vec<u8>) -> Result<usize, Error> {
+    fn append_frame_at(&self, version: Version, out: &mut Vec<u8>) -> Result<usize, Error> {
         match earlier_schema(self.version, self.code) {
             Some(earlier) => {
                 append_earlier_frame(version, self.code, earlier, &self.canonical()?, out)
@@ -609,10 +624,10 @@ impl<'a> Message<'a> {
     /// leaves the vector as it was.
     ///
     /// ```
-    /// use pendratsoa::{Message, MessageType};
+    /// use pendratsoa::{Message, MessageType, Version};
     ///
     /// let mut out = Vec::new();
-    /// let message = Message::new(8, MessageType::InputCommand.code(), &[])?;
+    /// let message = Message::new(Version::V8, MessageType::InputCommand.code(), &[])?;
     /// assert_eq!(message.append_frame(&mut out)?, 8);
     /// message.append_frame(&mut out)?;
     /// assert_eq!(out.len(), 16);
@@ -630,7 +645,8 @@ impl<'a> Message<'a> {
 
     /// The id and the result, if it is a notification.
     ///
-    /// `Error::Unknown` if it is none; `Error::Malformed`, `Error::NoId`, `Error::NoResult`, `Error::OutOfMemory`.
+    /// [`Error::Unknown`] if it is none; [`Error::Malformed`], [`Error::NoId`], [`Error::NoResult`],
+    /// [`Error::OutOfMemory`].
     pub fn notification(&self) -> Result<Notification, Error> {
         notification(self.code, self.payload).map_err(|error| self.located(error))
     }
@@ -650,56 +666,58 @@ pub enum Next<'a> {
     Missing(usize),
 }
 
-/// Finds the item that bytes begin with, at a version from 5 to 9. It copies nothing and does not allocate.
+/// Finds the item that bytes of a stream of a version begin with. It copies nothing and does not allocate.
 ///
 /// For streams that come in chunks, a [`Decoder`](crate::Decoder) keeps the pending bytes.
 ///
 /// ```
-/// use pendratsoa::{next_item, Item, Next};
+/// use pendratsoa::{next_item, Item, Next, Version};
 ///
 /// let mut bytes: &[u8] = &[0, 3, 0, 0, 0, 0, 0, 0, 0, 3];
-/// while let Next::Item { item, size } = next_item(8, bytes)? {
+/// while let Next::Item { item, size } = next_item(Version::V8, bytes)? {
 ///     assert!(matches!(item, Item::Message(message) if message.code == 3));
 ///     bytes = &bytes[size..];
 /// }
-/// assert_eq!(next_item(8, bytes)?, Next::Missing(6));
+/// assert_eq!(next_item(Version::V8, bytes)?, Next::Missing(6));
 /// # Ok::<(), pendratsoa::Error>(())
 /// ```
-pub fn next_item(version: u32, bytes: &[u8]) -> Result<Next<'_>, Error> {
+pub fn next_item(version: Version, bytes: &[u8]) -> Result<Next<'_>, Error> {
     let mut numbers = [0; 6];
-    let missing = ffi::next(version, bytes, &mut numbers)
-        .map_err(|refusal| Error::of(refusal, |_| Argument::Version(version)))?;
+    let missing = ffi::next(version.into(), bytes, &mut numbers)
+        .map_err(|refusal| Error::of(refusal, |_| Argument::Stream(bytes.len())))?;
     next_of(version, bytes, missing, &numbers)
 }
 
 /// Finds the item that bytes begin with, as [`next_item`], if its payload has at most `limit` bytes.
 ///
-/// `Error::MessageTooLong` as soon as the eight bytes of a header are there that announces more. Its offset is 0, since
-/// the message begins where the bytes do. The header does not count: a message that is over the limit only with its
-/// header is taken.
+/// [`Error::MessageTooLong`] as soon as the eight bytes of a header are there that announces more. Its offset is 0,
+/// since the message begins where the bytes do. The header does not count: a message that is over the limit only with
+/// its header is taken.
 ///
 /// ```
-/// use pendratsoa::{next_item_within, Error};
+/// use pendratsoa::{next_item_within, Error, Version};
 ///
 /// let endless = [0, 0, 0, 0, 0xFF, 0xFF, 0xFF, 0xFF];
-/// match next_item_within(8, 1_000, &endless) {
+/// match next_item_within(Version::V8, 1_000, &endless) {
 ///     Err(Error::MessageTooLong(error)) => assert_eq!(error.length, 4_294_967_295),
 ///     other => panic!("{other:?}"),
 /// }
 /// ```
-pub fn next_item_within(version: u32, limit: u32, bytes: &[u8]) -> Result<Next<'_>, Error> {
+pub fn next_item_within(version: Version, limit: u32, bytes: &[u8]) -> Result<Next<'_>, Error> {
     let mut numbers = [0; 6];
     let missing =
-        ffi::next_within(version, limit, bytes, &mut numbers).map_err(|refusal| match refusal {
-            Refusal::TooLong => Error::MessageTooLong(MessageTooLong::of(bytes, limit, 0)),
-            refusal => Error::of(refusal, |_| Argument::Version(version)),
+        ffi::next_within(version.into(), limit, bytes, &mut numbers).map_err(|refusal| {
+            match refusal {
+                Refusal::TooLong => Error::MessageTooLong(MessageTooLong::of(bytes, limit, 0)),
+                refusal => Error::of(refusal, |_| Argument::Stream(bytes.len())),
+            }
         })?;
     next_of(version, bytes, missing, &numbers)
 }
 
 /// What bytes begin with: this many are missing, or there is an item of these numbers.
 fn next_of<'a>(
-    version: u32,
+    version: Version,
     bytes: &'a [u8],
     missing: usize,
     numbers: &ItemNumbers,
@@ -715,7 +733,7 @@ fn next_of<'a>(
 /// those of something else, as [`item_of`] tells.
 #[inline]
 pub(crate) fn message_of<'a>(
-    version: u32,
+    version: Version,
     bytes: &'a [u8],
     numbers: &ItemNumbers,
     offset: Place,
@@ -740,7 +758,7 @@ pub(crate) fn message_of<'a>(
 
 /// The item of these numbers, which the bytes begin with, at its place, and its size in bytes.
 pub(crate) fn item_of<'a>(
-    version: u32,
+    version: Version,
     bytes: &'a [u8],
     numbers: &ItemNumbers,
     offset: Place,
@@ -787,12 +805,17 @@ mod tests {
     const BYTES: [u8; 10] = [0xFC, 1, 0, 0, 0, 0, 0, 2, 7, 8];
 
     fn kind(kind: u64) -> Result<(Item<'static>, usize), Error> {
-        item_of(8, &BYTES, &[kind, 5, 0xFC01, 1, 10, 8], Place::NOWHERE)
+        item_of(
+            Version::V8,
+            &BYTES,
+            &[kind, 5, 0xFC01, 1, 10, 8],
+            Place::NOWHERE,
+        )
     }
 
     #[test]
     fn each_kind_is_an_item() {
-        let (version, code, word, payload) = (8, 0xFC01, 5, &BYTES[8..]);
+        let (version, code, word, payload) = (Version::V8, 0xFC01, 5, &BYTES[8..]);
         let (requested_ack, offset) = (true, Place::NOWHERE);
         for (number, item) in [
             (
@@ -840,15 +863,20 @@ mod tests {
             unexpected("the kind of item 18446744073709551615")
         );
         assert_eq!(
-            item_of(8, &BYTES, &[0, 0, 0x1_0000, 0, 10, 8], Place::NOWHERE),
+            item_of(
+                Version::V8,
+                &BYTES,
+                &[0, 0, 0x1_0000, 0, 10, 8],
+                Place::NOWHERE
+            ),
             unexpected("the code 65536")
         );
         assert_eq!(
-            item_of(8, &BYTES, &[0, 0, 0, 0, 11, 8], Place::NOWHERE),
+            item_of(Version::V8, &BYTES, &[0, 0, 0, 0, 11, 8], Place::NOWHERE),
             unexpected("the size 11")
         );
         assert_eq!(
-            item_of(8, &BYTES, &[0, 0, 0, 0, 10, 11], Place::NOWHERE),
+            item_of(Version::V8, &BYTES, &[0, 0, 0, 0, 10, 11], Place::NOWHERE),
             unexpected("the size 10")
         );
     }

@@ -3,6 +3,7 @@
 use crate::calls::text;
 use crate::error::{narrowed, Argument, Error};
 use crate::ffi;
+use crate::version::Version;
 
 /// How two journals compare.
 #[derive(Clone, Debug, PartialEq, Eq, Hash)]
@@ -47,29 +48,34 @@ const KINDS: [VerdictKind; 7] = [
     VerdictKind::BadReplayed,
 ];
 
-/// Compares a recorded journal with a replayed one, both streams of a version from 5 to 9, command by command.
+/// Compares a recorded journal with a replayed one, both streams of a version, command by command.
 ///
-/// Other items, and trailing bytes, are skipped. If `ignore_payloads`, the content of user data is not
-/// compared, but that of a signal is. `Error::Unknown` if the number is not a version's; `Error::OutOfMemory`. A
-/// malformed command is not an error, but a verdict.
+/// Other items, and trailing bytes, are skipped. If `ignore_payloads`, the content of user data is not compared, but
+/// that of a signal is. [`Error::OutOfMemory`]. A malformed command is not an error, but a verdict.
 ///
 /// ```
-/// use pendratsoa::{compare_journals, VerdictKind};
+/// use pendratsoa::{compare_journals, VerdictKind, Version};
 ///
 /// let recorded = [0x04, 0, 0, 0, 0, 0, 0, 0, 0x04, 0x05, 0, 0, 0, 0, 0, 0];
-/// let verdict = compare_journals(8, &recorded, &recorded[..8], false)?;
+/// let verdict = compare_journals(Version::V8, &recorded, &recorded[..8], false)?;
 /// assert_eq!((verdict.kind, verdict.index), (VerdictKind::ReplayedEnded, 1));
 /// # Ok::<(), pendratsoa::Error>(())
 /// ```
 pub fn compare_journals(
-    version: u32,
+    version: Version,
     recorded: &[u8],
     replayed: &[u8],
     ignore_payloads: bool,
 ) -> Result<Verdict, Error> {
     let mut numbers = [0; 2];
-    let bytes = ffi::verdict(version, recorded, replayed, ignore_payloads, &mut numbers)
-        .map_err(|refusal| Error::of(refusal, |_| Argument::Version(version)))?;
+    let bytes = ffi::verdict(
+        version.into(),
+        recorded,
+        replayed,
+        ignore_payloads,
+        &mut numbers,
+    )
+    .map_err(|refusal| Error::of(refusal, |_| Argument::Stream(recorded.len())))?;
     verdict_of(numbers, bytes)
 }
 

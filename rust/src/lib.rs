@@ -1,9 +1,9 @@
 //! The journal protocol of the Restate SDKs, by the calls of Pendratsoa's library for C.
 //!
 //! ```
-//! use pendratsoa::{Decoder, Item};
+//! use pendratsoa::{Decoder, Item, Version};
 //!
-//! let mut decoder = Decoder::new(8)?;
+//! let mut decoder = Decoder::new(Version::V8);
 //! decoder.feed(&[0x04, 0, 0, 0, 0, 0, 0, 9, 0x72, 7, 0x0A, 5, b'i', b'n', b'p', b'u', b't'])?;
 //! for item in decoder.items() {
 //!     if let Item::Message(message) = item? {
@@ -13,6 +13,13 @@
 //! }
 //! # Ok::<(), pendratsoa::Error>(())
 //! ```
+//!
+//! - A [`Decoder`] of a [`Version`] takes the chunks of a stream, or a reader, and finds its [`Item`]s. An item is
+//!   passed on as received by [`Item::append_to`] or [`Item::write_to`].
+//! - [`Item::record`] and [`Message::message`] read the record of a payload, a struct of [`messages`].
+//!   [`MessageRecord::frame`](messages::MessageRecord::frame) writes one.
+//! - [`Replay`] checks a replay by its recording while it arrives, and [`compare_journals`] compares whole journals.
+//! - [`Numbering`] reads and writes payloads at the field numbers of another .proto.
 //!
 //! The library decides everything about the protocol; this crate turns its numbers into types. Each call of
 //! `pendratsoa.h` is a function here, of the same name without `journal_`, except four: `journal_next` is
@@ -71,6 +78,7 @@ mod numbering;
 mod reading;
 mod replay;
 mod schema;
+mod version;
 
 pub use calls::{
     append_frame, canonical, difference, frame, header, header_eq, is_well_formed, library_version,
@@ -81,16 +89,11 @@ pub use error::{Argument, Error, Incomplete, MessagePayload, MessageTooLong};
 pub use fields::FieldError;
 pub use item::{next_item, next_item_within, Item, Message, Next, OwnedItem, Skipped, UnknownCode};
 pub use journals::{compare_journals, Verdict, VerdictKind};
-pub use kinds::{FieldReason, Version};
+pub use kinds::FieldReason;
 pub use message_type::MessageType;
 pub use notification::{notification, Notification, NotificationId, NotificationResult};
 pub use numbering::{Numbering, NumberingError, NumberingReason};
 pub use reading::{from_json, JsonError, JsonReason};
 pub use replay::{ChangedField, Ignored, Mismatch, Replay};
 pub use schema::Schema;
-
-/// The first protocol version.
-pub const FIRST_VERSION: u32 = 5;
-
-/// The last protocol version. A later library may have further ones.
-pub const LAST_VERSION: u32 = 9;
+pub use version::Version;

@@ -109,7 +109,7 @@ pub enum MessageType {
 
 impl MessageType {
     /// The named types, in the order of their codes.
-    pub const NAMED: [MessageType; 41] = [
+    pub const NAMED: &'static [MessageType] = &[
         MessageType::Start,
         MessageType::Suspension,
         MessageType::Error,
@@ -317,7 +317,8 @@ impl MessageType {
     #[must_use]
     pub fn from_name(name: &str) -> Option<MessageType> {
         MessageType::NAMED
-            .into_iter()
+            .iter()
+            .copied()
             .find(|named| named.name() == name)
     }
 

@@ -7,13 +7,14 @@
 //!
 //! ```
 //! use pendratsoa::messages::{MessageRecord, Record, SetStateCommandMessage, Value};
+//! use pendratsoa::Version;
 //!
 //! let command = SetStateCommandMessage {
 //!     key: b"counter"[..].into(),
 //!     value: Some(Value { content: b"1"[..].into() }),
 //!     ..Default::default()
 //! };
-//! let frame = command.frame(8u32)?;
+//! let frame = command.frame(Version::V8)?;
 //! assert_eq!(frame.len(), 8 + command.encode()?.len());
 //! # Ok::<(), pendratsoa::Error>(())
 //! ```
@@ -25,6 +26,7 @@ use crate::ffi::{append_struct, structs, Table, Writer};
 use crate::fields::{Fields, Listed};
 use crate::message_type::MessageType;
 use crate::schema::Schema;
+use crate::version::Version;
 
 pub use crate::fields::{MessageRecord, Record};
 
@@ -33,7 +35,7 @@ pub use crate::fields::{MessageRecord, Record};
 pub struct CombinatorType(pub i32);
 
 impl CombinatorType {
-    /// `COMBINATOR_TYPE_ZERO`.
+    /// The number 0, which is the only one with a name.
     pub const COMBINATOR_TYPE_ZERO: CombinatorType = CombinatorType(0);
 }
 
@@ -42,9 +44,9 @@ impl CombinatorType {
 pub struct ErrorBehavior(pub i32);
 
 impl ErrorBehavior {
-    /// `RETRY`.
+    /// The service retries the invocation.
     pub const RETRY: ErrorBehavior = ErrorBehavior(0);
-    /// `PAUSE`.
+    /// The service pauses the invocation.
     pub const PAUSE: ErrorBehavior = ErrorBehavior(1);
 }
 
@@ -705,7 +707,7 @@ impl<'a> Record<'a> for SuspensionMessageV6<'a> {
 
 impl<'a> MessageRecord<'a> for SuspensionMessageV6<'a> {
     const TYPE: MessageType = MessageType::Suspension;
-    const BEFORE_VERSION: Option<u32> = Some(7);
+    const BEFORE_VERSION: Option<Version> = Some(Version::V7);
     const IS_ALONE: bool = false;
 }
 
@@ -3582,7 +3584,7 @@ impl<'a> AnyMessage<'a> {
     }
 
     /// Its frame at a version, as [`MessageRecord::frame`].
-    pub fn frame(&self, version: impl Into<u32>) -> Result<Vec<u8>, Error> {
+    pub fn frame(&self, version: Version) -> Result<Vec<u8>, Error> {
         match self {
             AnyMessage::Start(record) => record.frame(version),
             AnyMessage::Suspension(record) => record.frame(version),

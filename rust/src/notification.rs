@@ -36,20 +36,20 @@ pub enum NotificationId {
 pub enum NotificationResult {
     /// Nothing.
     Void,
-    /// The canonical payload of a [`Value`](crate::Schema::Value).
+    /// The canonical payload of a [`Value`](crate::messages::Value).
     Value(Vec<u8>),
-    /// The canonical payload of a [`Failure`](crate::Schema::Failure).
+    /// The canonical payload of a [`Failure`](crate::messages::Failure).
     Failure(Vec<u8>),
     /// The id of an invocation.
     InvocationId(String),
-    /// The canonical payload of [`StateKeys`](crate::Schema::StateKeys).
+    /// The canonical payload of [`StateKeys`](crate::messages::StateKeys).
     StateKeys(Vec<u8>),
 }
 
 /// Reads the id and the result of a notification of the type that has the code.
 ///
-/// In this order: `Error::Unknown` if the code is that of no notification, `Error::Malformed`, `Error::NoId`,
-/// `Error::NoResult`, `Error::TooLong`; `Error::OutOfMemory`.
+/// In this order: [`Error::Unknown`] if the code is that of no notification, [`Error::Malformed`], [`Error::NoId`],
+/// [`Error::NoResult`], [`Error::TooLong`]; [`Error::OutOfMemory`].
 ///
 /// ```
 /// use pendratsoa::{notification, MessageType, NotificationId, NotificationResult};

@@ -8,10 +8,11 @@ use std::sync::Arc;
 use crate::calls::{frame, is_well_formed, of_payload, schema, text};
 use crate::error::{Argument, Error};
 use crate::ffi::{
-    self, About, Refusal, Renumbering, LIST_LISTED, LIST_NO_RENAME, LIST_NO_SET, NUMBERING_READING,
+    self, Refusal, Renumbering, LIST_LISTED, LIST_NO_RENAME, LIST_NO_SET, NUMBERING_READING,
     NUMBERING_WRITING,
 };
 use crate::item::{copied, next_item, Item, Message, Next};
+use crate::version::Version;
 
 /// The field numbers of a runtime whose .proto has the messages of the protocol with other numbers.
 ///
@@ -72,8 +73,16 @@ impl Numbering {
     /// The numbering of a descriptor set. Of each rename the first name is that of a message in the set, and the second
     /// one its name in the protocol.
     ///
-    /// `Error::Numbering` if the set or a rename has a fault, `Error::OutOfMemory`.
+    /// [`Error::Numbering`] if the set or a rename has a fault, [`Error::OutOfMemory`].
     pub fn new(set: &[u8], renames: &[(&str, &str)]) -> Result<Numbering, Error> {
+        // the library takes a rename per line
+        let mut names = renames.iter().flat_map(|(theirs, ours)| [theirs, ours]);
+        if let Some(name) = names.find(|name| name.contains(&['=', '\n'][..])) {
+            return Err(Error::Numbering(NumberingError {
+                reason: NumberingReason::NoRename,
+                text: format!("{name:?} is not the name of a message"),
+            }));
+        }
         let lines: Vec<String> = renames
             .iter()
             .map(|(theirs, ours)| format!("{theirs}={ours}"))
@@ -97,8 +106,8 @@ impl Numbering {
 
     /// A payload of the schema that has the number, from the numbers of the set to those of the protocol.
     ///
-    /// `Error::Malformed` if it is not a list of fields, or a message in it is not one. `Error::TooLong`,
-    /// `Error::OutOfMemory`; `Error::Unknown` if no schema has the number.
+    /// [`Error::Malformed`] if it is not a list of fields, or a message in it is not one. [`Error::TooLong`],
+    /// [`Error::OutOfMemory`]; [`Error::Unknown`] if no schema has the number.
     pub fn read_payload(&self, schema: u32, payload: &[u8]) -> Result<Vec<u8>, Error> {
         payload_by(&self.tables.reading, schema, payload)
     }
@@ -113,8 +122,7 @@ impl Numbering {
     /// type, is copied as it is, and so are trailing bytes.
     ///
     /// The errors are those of [`Numbering::read_payload`], with the type and the offset of the message.
-    /// `Error::Unknown` if the number is not a version's.
-    pub fn read_stream(&self, version: u32, stream: &[u8]) -> Result<Vec<u8>, Error> {
+    pub fn read_stream(&self, version: Version, stream: &[u8]) -> Result<Vec<u8>, Error> {
         stream_by(&self.tables.reading, version, stream)
     }
 
@@ -132,17 +140,17 @@ impl Numbering {
     ///     value: Some(Value { content: b"1"[..].into() }),
     ///     ..Default::default()
     /// };
-    /// let frame = numbering.write_stream(8, &command.frame(Version::V8)?)?;
+    /// let frame = numbering.write_stream(Version::V8, &command.frame(Version::V8)?)?;
     /// # Ok(())
     /// # }
     /// ```
-    pub fn write_stream(&self, version: u32, stream: &[u8]) -> Result<Vec<u8>, Error> {
+    pub fn write_stream(&self, version: Version, stream: &[u8]) -> Result<Vec<u8>, Error> {
         stream_by(&self.tables.writing, version, stream)
     }
 
     /// The frame that [`frame`](crate::frame()) returns of a payload at the numbers of the protocol, at those of the
     /// set. The errors are those of that function and of [`Numbering::write_payload`].
-    pub fn frame(&self, version: u32, code: u16, payload: &[u8]) -> Result<Vec<u8>, Error> {
+    pub fn frame(&self, version: Version, code: u16, payload: &[u8]) -> Result<Vec<u8>, Error> {
         self.write_stream(version, &frame(version, code, payload)?)
     }
 
@@ -150,7 +158,7 @@ impl Numbering {
     /// vector as it was.
     pub fn append_frame(
         &self,
-        version: u32,
+        version: Version,
         code: u16,
         payload: &[u8],
         out: &mut Vec<u8>,
@@ -165,22 +173,23 @@ impl Numbering {
     /// The JSON of a stream of a version at the numbers of the set, as `journal dump --schema` prints it. It has one
     /// item per line, with all fields that the set has, and a last line of the trailing bytes.
     ///
-    /// `Error::Unknown` if the number is not a version's; `Error::TooLong`, `Error::OutOfMemory`.
+    /// [`Error::TooLong`], [`Error::OutOfMemory`].
     ///
     /// ```
-    /// use pendratsoa::Numbering;
+    /// use pendratsoa::{Numbering, Version};
     ///
     /// // the set of a file with `message SetStateCommandMessage { bytes key = 3; }`
     /// let set = b"\n=\n\x07a.proto\"*\n\x16SetStateCommandMessage\
     ///     \x12\x10\n\x03key\x18\x03 \x01(\x0cR\x03keyb\x06proto3";
-    /// let lines = Numbering::new(set, &[])?.dump(8, b"\x04\x03\0\0\0\0\0\x03\x1a\x01a")?;
+    /// let stream = b"\x04\x03\0\0\0\0\0\x03\x1a\x01a";
+    /// let lines = Numbering::new(set, &[])?.dump(Version::V8, stream)?;
     /// assert!(lines.contains(r#""type":"SetStateCommand","#) && lines.contains(r#""message":{"key":"YQ=="}"#));
     /// # Ok::<(), pendratsoa::Error>(())
     /// ```
-    pub fn dump(&self, version: u32, stream: &[u8]) -> Result<String, Error> {
+    pub fn dump(&self, version: Version, stream: &[u8]) -> Result<String, Error> {
         let tables = &self.tables;
-        let lines = ffi::numbering_dump(version, &tables.set, &tables.renames, stream)
-            .map_err(|refusal| of_stream(refusal, version, stream))?;
+        let lines = ffi::numbering_dump(version.into(), &tables.set, &tables.renames, stream)
+            .map_err(|refusal| of_stream(refusal, stream))?;
         text(lines)
     }
 
@@ -216,23 +225,20 @@ fn payload_by(table: &[Renumbering], schema: u32, payload: &[u8]) -> Result<Vec<
 }
 
 /// A stream of a version by a table.
-fn stream_by(table: &[Renumbering], version: u32, stream: &[u8]) -> Result<Vec<u8>, Error> {
-    ffi::renumber_stream(version, table, stream).map_err(|refusal| match refusal {
+fn stream_by(table: &[Renumbering], version: Version, stream: &[u8]) -> Result<Vec<u8>, Error> {
+    ffi::renumber_stream(version.into(), table, stream).map_err(|refusal| match refusal {
         Refusal::Malformed(_) => first_malformed(table, version, stream),
-        refusal => of_stream(refusal, version, stream),
+        refusal => of_stream(refusal, stream),
     })
 }
 
-/// The error of a call that takes a version and a stream.
-fn of_stream(refusal: Refusal, version: u32, stream: &[u8]) -> Error {
-    Error::of(refusal, |about| match about {
-        About::Version => Argument::Version(version),
-        _ => Argument::Stream(stream.len()),
-    })
+/// The error of a call that takes a stream.
+fn of_stream(refusal: Refusal, stream: &[u8]) -> Error {
+    Error::of(refusal, |_| Argument::Stream(stream.len()))
 }
 
 /// The error of the first message of a stream that cannot be written by a table.
-fn first_malformed(table: &[Renumbering], version: u32, stream: &[u8]) -> Error {
+fn first_malformed(table: &[Renumbering], version: Version, stream: &[u8]) -> Error {
     let (mut begin, mut payload) = (0, Vec::new());
     while let Ok(Next::Item { item, size }) = next_item(version, &stream[begin..]) {
         if let Item::Message(message) = item.with_offset(begin as u64) {
@@ -277,11 +283,17 @@ impl fmt::Debug for Numbering {
 
 impl fmt::Display for NumberingError {
     fn fmt(&self, f: &mut fmt::Formatter<'_>) -> fmt::Result {
-        let what = match self.reason {
+        write!(f, "{}: {}", self.reason, self.text)
+    }
+}
+
+/// The argument that has the fault.
+impl fmt::Display for NumberingReason {
+    fn fmt(&self, f: &mut fmt::Formatter<'_>) -> fmt::Result {
+        f.write_str(match self {
             NumberingReason::NoSet => "the descriptor set",
             NumberingReason::NoRename => "the renames",
-        };
-        write!(f, "{what}: {}", self.text)
+        })
     }
 }
 

@@ -55,8 +55,8 @@ const REASONS: [JsonReason; 8] = [
 
 /// The canonical payload of what a JSON text means, in protobuf's own form, for the schema that has the number.
 ///
-/// `Error::Json` if the text means no value of the schema, `Error::TooLong`, `Error::OutOfMemory`; `Error::Unknown` if
-/// no schema has the number.
+/// [`Error::Json`] if the text means no value of the schema, [`Error::TooLong`], [`Error::OutOfMemory`];
+/// [`Error::Unknown`] if no schema has the number.
 ///
 /// ```
 /// use pendratsoa::{from_json, Error, JsonReason, Schema};

@@ -5,9 +5,10 @@ use std::fmt;
 
 use crate::calls::{of_commands, text};
 use crate::error::{narrowed, Argument, Error};
-use crate::ffi::{self, About, Refusal, REPLAY_IGNORE_IDS, REPLAY_IGNORE_PAYLOADS};
+use crate::ffi::{self, Refusal, REPLAY_IGNORE_IDS, REPLAY_IGNORE_PAYLOADS};
 use crate::item::{next_item, Item, Message, Next};
 use crate::journals::{kind_of, VerdictKind};
+use crate::version::Version;
 
 /// How many bytes a header has.
 const HEADER: usize = 8;
@@ -33,11 +34,12 @@ pub struct ChangedField {
 /// fields, and never their values.
 ///
 /// ```
-/// use pendratsoa::{Decoder, Ignored, Replay};
+/// use pendratsoa::{Decoder, Ignored, Replay, Version};
 ///
 /// // the recorded command clears the state `a`, and the replayed one `b`
-/// let mut replay = Replay::new(8, b"\x04\x04\0\0\0\0\0\x03\n\x01a", Ignored::default())?;
-/// let mut decoder = Decoder::new(8)?;
+/// let recorded = b"\x04\x04\0\0\0\0\0\x03\n\x01a";
+/// let mut replay = Replay::new(Version::V8, recorded, Ignored::default());
+/// let mut decoder = Decoder::new(Version::V8);
 /// decoder.feed(b"\x04\x04\0\0\0\0\0\x03\n\x01b")?;
 /// let mismatch = replay.check(&decoder.items().next().unwrap()?)?.unwrap();
 /// assert_eq!(mismatch.to_string(), "command 0 differs from the recorded one in key");
@@ -46,7 +48,7 @@ pub struct ChangedField {
 #[derive(Clone, Debug, PartialEq, Eq, Hash)]
 #[non_exhaustive]
 pub struct Mismatch {
-    /// Which verdict it is, and never `VerdictKind::Same`.
+    /// Which verdict it is, and never [`VerdictKind::Same`].
     pub kind: VerdictKind,
     /// The index of the command, from 0.
     pub index: usize,
@@ -105,15 +107,15 @@ pub struct Ignored {
     pub ids: bool,
 }
 
-/// A replay of a version from 5 to 9, which is checked by its recording as it comes. It keeps nothing of the replay. A
+/// A replay of a version, which is checked by its recording as it comes. It keeps nothing of the replay. A
 /// clone goes on by itself.
 ///
 /// ```
-/// use pendratsoa::{Decoder, Ignored, Replay, VerdictKind};
+/// use pendratsoa::{Decoder, Ignored, Replay, VerdictKind, Version};
 ///
 /// let recorded = [0x04, 0x0C, 0, 0, 0, 0, 0, 0, 0x04, 0x05, 0, 0, 0, 0, 0, 0];
-/// let mut replay = Replay::new(8, &recorded, Ignored::default())?;
-/// let mut decoder = Decoder::new(8)?;
+/// let mut replay = Replay::new(Version::V8, &recorded, Ignored::default());
+/// let mut decoder = Decoder::new(Version::V8);
 /// decoder.feed(&recorded[..8])?;
 /// for item in decoder.items() {
 ///     assert_eq!(replay.check(&item?)?, None);
@@ -125,7 +127,7 @@ pub struct Ignored {
 /// ```
 #[derive(Clone, Debug)]
 pub struct Replay<'a> {
-    version: u32,
+    version: Version,
     recorded: &'a [u8],
     numbers: [u64; 6],
 }
@@ -133,24 +135,20 @@ pub struct Replay<'a> {
 impl<'a> Replay<'a> {
     /// A replay of a version that is checked by a recording, which is a whole journal: [`Replay::recorded_rest`] tells
     /// whether it ends with a whole item.
-    ///
-    /// `Error::Unknown` if there is no version of this number.
-    pub fn new(version: u32, recorded: &'a [u8], ignored: Ignored) -> Result<Replay<'a>, Error> {
+    #[must_use]
+    pub fn new(version: Version, recorded: &'a [u8], ignored: Ignored) -> Replay<'a> {
         let options = u64::from(ignored.payloads) * REPLAY_IGNORE_PAYLOADS
             + u64::from(ignored.ids) * REPLAY_IGNORE_IDS;
-        let replay = Replay {
+        Replay {
             version,
             recorded,
-            numbers: [version.into(), options, 0, 0, 0, 0],
-        };
-        // that there is no such version is known before an item comes
-        replay.command()?;
-        Ok(replay)
+            numbers: [u32::from(version).into(), options, 0, 0, 0, 0],
+        }
     }
 
     /// The version of the replay.
     #[must_use]
-    pub fn version(&self) -> u32 {
+    pub fn version(&self) -> Version {
         self.version
     }
 
@@ -165,14 +163,14 @@ impl<'a> Replay<'a> {
     ///
     /// `None` if there is nothing to report: the commands are the same, or the item is not a command. A mismatch is
     /// returned once: afterwards nothing is compared. [`compare_journals`](crate::compare_journals) of the recording
-    /// and of all items so far has the same kind, index and text. `Error::OutOfMemory` changes nothing, so that the
+    /// and of all items so far has the same kind, index and text. [`Error::OutOfMemory`] changes nothing, so that the
     /// call can be repeated.
     pub fn check(&mut self, item: &Item<'_>) -> Result<Option<Mismatch>, Error> {
         let (code, payload) = parts(item);
         // the replay goes on by its copy once all of the mismatch is there
         let (mut numbers, mut mismatch) = (self.numbers, [0; 6]);
         let said = ffi::replay_check(code, self.recorded, payload, &mut numbers, &mut mismatch)
-            .map_err(|refusal| self.error(refusal, payload))?;
+            .map_err(|refusal| of_item(refusal, payload))?;
         let found = if said == 0 {
             None
         } else {
@@ -210,12 +208,12 @@ impl<'a> Replay<'a> {
 
     /// Says that the replay ended. `None` if nothing is left of the recording, or a mismatch was reported.
     ///
-    /// Otherwise it is the mismatch of the command that comes next, whose kind is `VerdictKind::ReplayedEnded`. It
+    /// Otherwise it is the mismatch of the command that comes next, whose kind is [`VerdictKind::ReplayedEnded`]. It
     /// changes nothing.
     pub fn finish(&self) -> Result<Option<Mismatch>, Error> {
         let mut mismatch = [0; 6];
         let left = ffi::replay_finish(self.recorded, &self.numbers, &mut mismatch)
-            .map_err(|refusal| self.error(refusal, &[]))?;
+            .map_err(|refusal| of_item(refusal, &[]))?;
         if left == 0 {
             return Ok(None);
         }
@@ -228,10 +226,10 @@ impl<'a> Replay<'a> {
     /// ended.
     ///
     /// ```
-    /// use pendratsoa::{Ignored, Replay};
+    /// use pendratsoa::{Ignored, Replay, Version};
     ///
     /// let recorded = [0x04, 0x0C, 0, 0, 0, 0, 0, 0, 0x04, 0x05, 0];
-    /// let replay = Replay::new(8, &recorded, Ignored::default())?;
+    /// let replay = Replay::new(Version::V8, &recorded, Ignored::default());
     /// assert_eq!(replay.recorded_rest()?, 3);
     /// # Ok::<(), pendratsoa::Error>(())
     /// ```
@@ -252,7 +250,7 @@ impl<'a> Replay<'a> {
     fn command(&self) -> Result<Option<[u64; 3]>, Error> {
         let mut command = [0; 3];
         let count = ffi::replay_expected(self.recorded, &self.numbers, &mut command)
-            .map_err(|refusal| self.error(refusal, &[]))?;
+            .map_err(|refusal| of_item(refusal, &[]))?;
         Ok((count > 0).then_some(command))
     }
 
@@ -273,7 +271,7 @@ impl<'a> Replay<'a> {
             VerdictKind::TypeMismatch | VerdictKind::HeaderMismatch
         ) {
             let bytes = ffi::replay_text(code, self.recorded, payload, &self.numbers)
-                .map_err(|refusal| self.error(refusal, payload))?;
+                .map_err(|refusal| of_item(refusal, payload))?;
             found.text = text(bytes)?;
         }
         if kind == VerdictKind::HeaderMismatch {
@@ -292,13 +290,11 @@ impl<'a> Replay<'a> {
             .and_then(|rest| rest.get(..size)?.get(without..))
             .ok_or_else(|| Error::unexpected("the offset", offset))
     }
+}
 
-    fn error(&self, refusal: Refusal, payload: &[u8]) -> Error {
-        Error::of(refusal, |about| match about {
-            About::Version => Argument::Version(self.version),
-            _ => Argument::Payload(payload.len()),
-        })
-    }
+/// The error of a call that takes the payload of an item.
+fn of_item(refusal: Refusal, payload: &[u8]) -> Error {
+    Error::of(refusal, |_| Argument::Payload(payload.len()))
 }
 
 /// The code and the payload of an item.
@@ -411,7 +407,7 @@ mod tests {
 
     #[test]
     fn numbers_of_a_later_library() {
-        let replay = Replay::new(8, &[], Ignored::default()).unwrap();
+        let replay = Replay::new(Version::V8, &[], Ignored::default());
         for numbers in [[7, 0, 0, 0, 0, 0], [4, 0, 0, 0, 0, 8], [4, 0, 0, 9, 0, 8]] {
             assert!(replay.mismatch(numbers, 0x0405, &[]).is_err());
         }

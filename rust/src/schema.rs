@@ -130,7 +130,7 @@ pub enum Schema {
 
 impl Schema {
     /// The schemas, each at its number.
-    pub const ALL: [Schema; 53] = [
+    pub const ALL: &'static [Schema] = &[
         Schema::Void,
         Schema::Value,
         Schema::Failure,
@@ -277,7 +277,10 @@ impl Schema {
     /// The schema that has the name, or `None` if none has it.
     #[must_use]
     pub fn from_name(name: &str) -> Option<Schema> {
-        Schema::ALL.into_iter().find(|schema| schema.name() == name)
+        Schema::ALL
+            .iter()
+            .copied()
+            .find(|schema| schema.name() == name)
     }
 }
 

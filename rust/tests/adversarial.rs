@@ -5,8 +5,7 @@ use std::io::{self, ErrorKind, Read};
 use pendratsoa::{
     canonical, compare_journals, difference, frame, from_json, header, header_eq, is_well_formed,
     merge, next_item, notification, schema, to_json, type_code, type_name, Argument, Decoder,
-    Error, Item, JsonReason, Message, MessageType, Next, Schema, VerdictKind, FIRST_VERSION,
-    LAST_VERSION,
+    Error, Item, JsonReason, Message, MessageType, Next, Schema, VerdictKind, Version,
 };
 
 /// A generator of numbers that are the same in every run (splitmix64).
@@ -30,41 +29,58 @@ impl Random {
     }
 }
 
-fn version(number: u32) -> Error {
-    Error::Unknown(Argument::Version(number))
-}
-
 fn code(number: u16) -> Error {
     Error::Unknown(Argument::Code(number))
 }
 
 #[test]
+fn versions_that_exist() {
+    let numbers = Version::ALL.iter().copied().map(u32::from);
+    assert_eq!(numbers.collect::<Vec<u32>>(), [5, 6, 7, 8, 9]);
+    for &version in Version::ALL {
+        assert_eq!(Version::try_from(u32::from(version)), Ok(version));
+        assert_eq!(version.to_string().parse(), Ok(version));
+        assert_eq!(Decoder::new(version).version(), version);
+        // the library knows it too
+        assert!(schema(version, MessageType::End.code()).is_ok());
+        assert_eq!(next_item(version, &[]), Ok(Next::Missing(8)));
+    }
+    assert!(Version::ALL.windows(2).all(|pair| pair[0] < pair[1]));
+    assert_eq!(format!("{:>3}{:?}", Version::V8, Version::V8), "  8V8");
+}
+
+#[test]
 fn versions_that_do_not_exist() {
-    let end = MessageType::End.code();
-    for number in [
-        0,
-        FIRST_VERSION - 1,
-        LAST_VERSION + 1,
-        1 << 16,
-        (1 << 16) + 8,
-        u32::MAX,
-    ] {
-        assert_eq!(Decoder::new(number).err(), Some(version(number)));
-        assert_eq!(next_item(number, &[]), Err(version(number)));
-        assert_eq!(next_item(number, &[0; 64]), Err(version(number)));
-        assert_eq!(schema(number, end), Err(version(number)));
-        assert_eq!(header(number, end, 0), Err(version(number)));
-        assert_eq!(frame(number, end, &[]), Err(version(number)));
+    let unknown = |given: &str| Err(Error::Unknown(Argument::Version(given.to_owned())));
+    for number in [0, 4, 10, 1 << 16, (1 << 16) + 8, u32::MAX] {
+        let text = number.to_string();
+        assert_eq!(Version::try_from(number), unknown(&text));
+        assert_eq!(text.parse::<Version>(), unknown(&text));
         assert_eq!(
-            compare_journals(number, &[], &[], false),
-            Err(version(number))
+            Version::try_from(number).unwrap_err().to_string(),
+            format!("unknown protocol version {text} (5 to 9)")
         );
     }
-    for number in FIRST_VERSION..=LAST_VERSION {
-        assert_eq!(
-            Decoder::new(number).map(|decoder| decoder.version()),
-            Ok(number)
-        );
+    for text in [
+        "",
+        " 8",
+        "8 ",
+        "V8",
+        "v8",
+        "8.0",
+        "-8",
+        "0x8",
+        "\u{0668}",
+        "4294967304",
+        "8\n",
+    ] {
+        assert_eq!(text.parse::<Version>(), unknown(text));
+    }
+    // what is not a number is quoted
+    for (text, quoted) in [("", r#""""#), ("v8\u{1b}[0m", r#""v8\u{1b}[0m""#)] {
+        let error = text.parse::<Version>().unwrap_err();
+        let expected = format!("unknown protocol version {quoted} (5 to 9)");
+        assert_eq!(error.to_string(), expected);
     }
 }
 
@@ -79,10 +95,10 @@ fn every_code() {
                 .map(|known| known.to_string())
                 .ok_or_else(|| code(number))
         );
-        assert_eq!(header(8, number, 0).is_ok(), known.is_some());
+        assert_eq!(header(Version::V8, number, 0).is_ok(), known.is_some());
         let named = known.filter(|known| !matches!(known, MessageType::CustomEntry(_)));
-        assert_eq!(schema(8, number).is_ok(), named.is_some());
-        assert_eq!(frame(8, number, &[]).is_ok(), named.is_some());
+        assert_eq!(schema(Version::V8, number).is_ok(), named.is_some());
+        assert_eq!(frame(Version::V8, number, &[]).is_ok(), named.is_some());
         let is_command = named.map_or(false, MessageType::is_command);
         assert_eq!(header_eq(number, &[], &[], false).is_ok(), is_command);
         assert_eq!(difference(number, &[], &[]).is_ok(), is_command);
@@ -97,15 +113,15 @@ fn every_code() {
 
 #[test]
 fn types_and_schemas_are_those_of_the_library() {
-    for named in MessageType::NAMED {
+    for &named in MessageType::NAMED {
         assert_eq!(type_code(named.name()), Ok(named.code()));
         assert_eq!(MessageType::from_name(named.name()), Some(named));
         assert_eq!(MessageType::try_from(u16::from(named)), Ok(named));
-        let number = schema(LAST_VERSION, named.code()).unwrap();
+        let number = schema(Version::V9, named.code()).unwrap();
         let name = Schema::try_from(number).unwrap().name();
         assert_eq!(name.strip_suffix("Message"), Some(named.name()));
     }
-    for (number, schema) in (0..).zip(Schema::ALL) {
+    for (number, &schema) in (0..).zip(Schema::ALL) {
         assert_eq!((schema.number(), u32::from(schema)), (number, number));
         assert_eq!(Schema::from_name(schema.name()), Some(schema));
         assert_eq!(is_well_formed(number, &[]), Ok(true));
@@ -152,12 +168,12 @@ fn names_that_do_not_exist() {
 #[test]
 fn lengths_that_no_header_holds() {
     assert_eq!(
-        header(8, 0x0400, 0xFFFF_FFFF),
+        header(Version::V8, 0x0400, 0xFFFF_FFFF),
         Ok([4, 0, 0, 0, 0xFF, 0xFF, 0xFF, 0xFF])
     );
     for length in [1 << 32, (1 << 32) + 5, usize::MAX] {
         let too_long = Error::TooLong(Argument::PayloadLength(length));
-        assert_eq!(header(8, 0x0400, length), Err(too_long));
+        assert_eq!(header(Version::V8, 0x0400, length), Err(too_long));
     }
 }
 
@@ -175,7 +191,7 @@ fn malformed_payloads_are_named() {
     );
     let clear = MessageType::ClearStateCommand.code();
     assert_eq!(
-        frame(8, clear, bad),
+        frame(Version::V8, clear, bad),
         Err(Error::Malformed(Argument::Payload(4)))
     );
     for (first, second, malformed) in [
@@ -211,7 +227,7 @@ fn malformed_payloads_are_named() {
 fn streams_of_noise() {
     let mut random = Random(1);
     for round in 0..2000 {
-        let version = FIRST_VERSION + round % (LAST_VERSION - FIRST_VERSION + 1);
+        let version = Version::ALL[round % Version::ALL.len()];
         let mut stream = Vec::new();
         for _ in 0..random.below(8) {
             // headers that promise short payloads, of known and unknown types
@@ -222,7 +238,7 @@ fn streams_of_noise() {
             stream.extend_from_slice(&word.to_be_bytes());
             stream.extend(random.bytes(24));
         }
-        let mut decoder = Decoder::new(version).unwrap();
+        let mut decoder = Decoder::new(version);
         let mut size = 0;
         let mut rest = &stream[..];
         while !rest.is_empty() {
@@ -286,7 +302,7 @@ fn readers_that_fail() {
     ]
     .concat();
     for fails_at in 0..=stream.len() {
-        let mut decoder = Decoder::new(8).unwrap();
+        let mut decoder = Decoder::new(Version::V8);
         let mut reader = Reader {
             bytes: &stream,
             index: 0,
@@ -314,7 +330,7 @@ fn streams_longer_than_a_chunk() {
     let message = b"\x04\0\0\0\0\0\0\x09\x72\x07\x0A\x05input";
     let stream = message.repeat(10_000);
     let mut reader = &stream[..];
-    let mut decoder = Decoder::new(8).unwrap();
+    let mut decoder = Decoder::new(Version::V8);
     let mut count = 0;
     while decoder.read_from(&mut reader).unwrap() > 0 {
         count += decoder
@@ -336,7 +352,7 @@ impl Read for Boaster {
 
 #[test]
 fn a_reader_that_returns_too_much() {
-    let mut decoder = Decoder::new(8).unwrap();
+    let mut decoder = Decoder::new(Version::V8);
     assert_eq!(decoder.read_from(Boaster).unwrap(), decoder.rest());
 }
 
@@ -368,9 +384,9 @@ fn called(item: &Item<'_>) {
             let is_well_formed = is_well_formed(schema.unwrap(), message.payload).unwrap();
             assert_eq!(message.json().is_ok(), is_well_formed);
             assert_eq!(message.canonical().is_ok(), is_well_formed);
-            for version in FIRST_VERSION..=LAST_VERSION {
+            for &version in Version::ALL {
                 // a suspension is read by its schema from version 7 on
-                if message.version >= 7 || named != MessageType::Suspension {
+                if message.version >= Version::V7 || named != MessageType::Suspension {
                     assert_eq!(message.frame_at(version).is_ok(), is_well_formed);
                 }
             }
@@ -498,18 +514,17 @@ fn texts_of_noise() {
 #[test]
 fn messages_of_json() {
     let mut buffer = vec![7; 9];
-    for (version, code, json) in [
-        (8, 0xFC01, "{}"),
-        (8, 4, "{}"),
-        (4, 0x0400, "{}"),
-        (8, 0x0400, "{\"value\":1}"),
-    ] {
-        assert!(Message::from_json(version, code, json, &mut buffer).is_err());
+    for (code, json) in [(0xFC01, "{}"), (4, "{}"), (0x0400, "{\"value\":1}")] {
+        assert!(Message::from_json(Version::V8, code, json, &mut buffer).is_err());
         assert_eq!(buffer, [7; 9]);
     }
     let code = MessageType::ProposeRunCompletion.code();
     let json = r#"{"resultCompletionId":1,"value":"eA=="}"#;
-    for (version, requested_ack) in [(6, false), (7, true), (9, true)] {
+    for (version, requested_ack) in [
+        (Version::V6, false),
+        (Version::V7, true),
+        (Version::V9, true),
+    ] {
         let message = Message::from_json(version, code, json, &mut buffer).unwrap();
         assert_eq!(message.payload, [0x08, 1, 0x72, 1, b'x']);
         assert_eq!(message.requested_ack, requested_ack);
@@ -526,8 +541,9 @@ fn journals_of_noise() {
     for _ in 0..500 {
         let (recorded, replayed) = (random.bytes(64), random.bytes(64));
         for ignore_payloads in [false, true] {
-            assert!(compare_journals(8, &recorded, &replayed, ignore_payloads).is_ok());
-            let same = compare_journals(8, &recorded, &recorded, ignore_payloads).unwrap();
+            assert!(compare_journals(Version::V8, &recorded, &replayed, ignore_payloads).is_ok());
+            let same =
+                compare_journals(Version::V8, &recorded, &recorded, ignore_payloads).unwrap();
             assert_eq!((same.kind, same.text.as_str()), (VerdictKind::Same, ""));
         }
     }
@@ -554,8 +570,9 @@ fn results_longer_than_the_first_guess() {
     let [a, b] = ["a", "b"].map(|letter| letter.repeat(5000));
     assert_eq!(text, format!("\n   key: '{a}' != '{b}'"));
 
-    let [first, second] = [first, second].map(|payload| frame(8, code, &payload).unwrap());
-    let verdict = compare_journals(8, &first, &second, false).unwrap();
+    let [first, second] =
+        [first, second].map(|payload| frame(Version::V8, code, &payload).unwrap());
+    let verdict = compare_journals(Version::V8, &first, &second, false).unwrap();
     assert_eq!(
         (verdict.kind, verdict.index),
         (VerdictKind::HeaderMismatch, 0)

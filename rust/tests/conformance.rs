@@ -11,7 +11,7 @@ use std::process::ExitCode;
 
 use pendratsoa::{
     canonical, difference, frame, from_json, header, header_eq, is_well_formed, merge, schema,
-    to_json, type_code, Decoder, Error, Item, Schema,
+    to_json, type_code, Decoder, Error, Item, Schema, Version,
 };
 
 #[rustfmt::skip]
@@ -185,8 +185,8 @@ fn on_stream(version: &str, chunks: &[&str]) -> Outcome {
 }
 
 /// The items of a stream and the number of bytes that are in none, as the lines have them.
-fn listing<'a>(version: u32, chunks: impl IntoIterator<Item = &'a [u8]>) -> Outcome {
-    let mut decoder = Decoder::new(version)?;
+fn listing<'a>(version: Version, chunks: impl IntoIterator<Item = &'a [u8]>) -> Outcome {
+    let mut decoder = Decoder::new(version);
     let mut listed = Vec::new();
     for chunk in chunks {
         decoder.feed(chunk)?;

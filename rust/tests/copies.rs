@@ -3,13 +3,13 @@
 use std::io;
 
 use pendratsoa::{
-    append_frame, next_item, Argument, Decoder, Error, Item, Message, MessageType, Next,
+    append_frame, next_item, Decoder, Error, Item, Message, MessageType, Next, Version,
 };
 
 /// Flags that no encoder sets, long lengths of fields, a custom entry, and what is of no type.
-const FAITHFUL: [(u32, &[u8]); 2] = [
+const FAITHFUL: [(Version, &[u8]); 2] = [
     (
-        8,
+        Version::V8,
         b"\x04\x00\x12\x34\x00\x00\x00\x09r\x07\n\x05input\
           \x04\x03\x00\x00\x00\x00\x00\x0b\n\x81\x00a\x1a\x05\n\x82\x00xy\
           \xFC\x01\xFF\xFF\x00\x00\x00\x01\xFF\
@@ -17,7 +17,7 @@ const FAITHFUL: [(u32, &[u8]); 2] = [
           \x00\x03\x00\x00\x00\x00\x00\x00",
     ),
     (
-        9,
+        Version::V9,
         b"\x00\x08\xA5\xA5\x00\x00\x00\x02\x00\x03\xFC\x01\x00\x00\x00\x00\x00\x00",
     ),
 ];
@@ -27,7 +27,7 @@ fn items_are_copied_as_they_came() {
     for (version, stream) in FAITHFUL {
         for size in [1, 7, stream.len()] {
             let (mut appended, mut written, mut together) = (Vec::new(), Vec::new(), Vec::new());
-            let mut decoder = Decoder::new(version).unwrap();
+            let mut decoder = Decoder::new(version);
             for chunk in stream.chunks(size) {
                 decoder.feed(chunk).unwrap();
                 for item in decoder.items() {
@@ -48,33 +48,36 @@ fn items_are_copied_as_they_came() {
 #[test]
 fn a_message_that_is_made_is_copied_with_the_header_of_its_type() {
     let code = MessageType::ProposeRunCompletion.code();
-    let message = Message::new(8, code, &[8, 0x81, 0]).unwrap();
+    let message = Message::new(Version::V8, code, &[8, 0x81, 0]).unwrap();
     let bytes = Item::from(message).to_bytes().unwrap();
     assert_eq!(bytes, b"\x00\x05\x80\x00\x00\x00\x00\x03\x08\x81\x00");
     let (item, size) = (Item::Message(message), bytes.len());
-    assert_eq!(next_item(8, &bytes), Ok(Next::Item { item, size }));
+    assert_eq!(
+        next_item(Version::V8, &bytes),
+        Ok(Next::Item { item, size })
+    );
 }
 
 /// Suspensions received at a version, and their frames at another, or the error that it has none.
 #[test]
 fn suspensions_of_each_version() {
+    use Version::*;
     let v6 = &b"\x08\x01\n\x02\x02\x03\x08\x04"[..];
     let v7 = &b"\x22\x12\n\x01\x01\x22\x08\n\x01\x02\x22\x03\n\x01\x01\x22\x03\n\x01\x03"[..];
     let flat = Ok(b"\x00\x01\x00\x00\x00\x00\x00\x06\n\x04\x01\x02\x03\x04".to_vec());
     let flattened = Ok(b"\x00\x01\x00\x00\x00\x00\x00\x06\n\x04\x01\x02\x01\x03".to_vec());
     let whole = Ok([&b"\x00\x01\x00\x00\x00\x00\x00\x14"[..], v7].concat());
-    let unknown = |version| Err(Error::Unknown(Argument::Version(version)));
+    let none = |version| Err(Error::NoFrame(version));
     for (came, payload, version, wanted) in [
-        (6, v6, 6, flat.clone()),
-        (6, v6, 5, flat.clone()),
-        (5, v6, 6, flat),
-        (6, v6, 7, unknown(7)),
-        (5, v6, 9, unknown(9)),
-        (6, v6, 10, unknown(10)),
-        (7, v7, 7, whole.clone()),
-        (9, v7, 8, whole),
-        (9, v7, 6, flattened.clone()),
-        (7, v7, 5, flattened),
+        (V6, v6, V6, flat.clone()),
+        (V6, v6, V5, flat.clone()),
+        (V5, v6, V6, flat),
+        (V6, v6, V7, none(V7)),
+        (V5, v6, V9, none(V9)),
+        (V7, v7, V7, whole.clone()),
+        (V9, v7, V8, whole),
+        (V9, v7, V6, flattened.clone()),
+        (V7, v7, V5, flattened),
     ] {
         let message = Message::new(came, MessageType::Suspension.code(), payload).unwrap();
         assert_eq!(message.frame_at(version), wanted);
@@ -84,7 +87,7 @@ fn suspensions_of_each_version() {
             assert_eq!(out[1..], wanted.unwrap_or_default());
         }
     }
-    let malformed = Message::new(6, MessageType::Suspension.code(), b"\n\x04").unwrap();
+    let malformed = Message::new(Version::V6, MessageType::Suspension.code(), b"\n\x04").unwrap();
     let (mut out, error) = (vec![7], malformed.frame().unwrap_err());
     assert_eq!(
         error.to_string(),
@@ -97,7 +100,7 @@ fn suspensions_of_each_version() {
 #[test]
 fn items_print_as_a_listing() {
     let (_, stream) = FAITHFUL[0];
-    let mut decoder = Decoder::new(8).unwrap();
+    let mut decoder = Decoder::new(Version::V8);
     decoder.feed(stream).unwrap();
     decoder.feed(&[0, 5, 0x80, 0, 0, 0, 0, 0]).unwrap();
     let items: Vec<Item> = decoder.items().map(Result::unwrap).collect();
@@ -119,7 +122,7 @@ fn items_print_as_a_listing() {
 #[test]
 fn frames_are_appended() {
     let payload = b"r\x07\n\x05input";
-    let message = Message::new(8, MessageType::InputCommand.code(), payload).unwrap();
+    let message = Message::new(Version::V8, MessageType::InputCommand.code(), payload).unwrap();
     for room in [0, 1, 17, 100] {
         let mut out = Vec::with_capacity(1 + room);
         out.push(7);
@@ -127,19 +130,15 @@ fn frames_are_appended() {
         assert_eq!(out[1..], message.frame().unwrap());
         assert_eq!(out[0], 7);
         let before = out.clone();
-        for (version, code, payload) in [
-            (8, 0x400, &payload[..3]),
-            (4, 0x400, payload),
-            (8, 8, payload),
-        ] {
-            assert!(append_frame(version, code, payload, &mut out).is_err());
+        for (code, payload) in [(0x400, &payload[..3]), (8, payload)] {
+            assert!(append_frame(Version::V8, code, payload, &mut out).is_err());
             assert_eq!(out, before);
         }
     }
     let mut written = Vec::new();
     message.write_frame(&mut written).unwrap();
     assert_eq!(written, message.frame().unwrap());
-    let malformed = Message::new(8, 0x400, &payload[..3]).unwrap();
+    let malformed = Message::new(Version::V8, 0x400, &payload[..3]).unwrap();
     let error = malformed.write_frame(&mut written).unwrap_err();
     assert_eq!(error.kind(), io::ErrorKind::InvalidData);
     let inner = error.into_inner().unwrap();
@@ -151,7 +150,7 @@ fn frames_are_appended() {
 fn a_decoder_has_room_for_what_comes_in_another_way() {
     let (version, stream) = FAITHFUL[0];
     for size in 1..=stream.len() {
-        let mut decoder = Decoder::new(version).unwrap();
+        let mut decoder = Decoder::new(version);
         let mut copied = Vec::new();
         for chunk in stream.chunks(size) {
             // room that is not used, and room of which a part is
@@ -170,7 +169,7 @@ fn a_decoder_has_room_for_what_comes_in_another_way() {
         assert_eq!(copied, stream);
         assert_eq!(decoder.trailing(), []);
     }
-    let mut decoder = Decoder::new(8).unwrap();
+    let mut decoder = Decoder::new(Version::V8);
     decoder.advance(9);
     assert_eq!(decoder.rest(), 0);
     decoder.room(2).unwrap();
@@ -189,7 +188,7 @@ fn a_decoder_has_room_for_what_comes_in_another_way() {
 fn a_stream_that_ends_within_an_item_is_passed_on_with_its_trailing_bytes() {
     for (version, stream) in FAITHFUL {
         for end in 0..=stream.len() {
-            let mut decoder = Decoder::new(version).unwrap();
+            let mut decoder = Decoder::new(version);
             let mut copied = Vec::new();
             for chunk in stream[..end].chunks(3) {
                 decoder.feed(chunk).unwrap();
@@ -212,7 +211,7 @@ fn a_stream_that_ends_within_an_item_is_passed_on_with_its_trailing_bytes() {
 fn a_message_that_is_longer_than_the_limit_ends_the_stream() {
     let stream = [0, 0, 0, 0, 0, 0, 0, 0, 4, 0, 0, 0, 0, 0, 0, 10, 0xFF];
     for takes in 0..3 {
-        let mut decoder = Decoder::with_max_message_size(8, 9).unwrap();
+        let mut decoder = Decoder::with_max_message_size(Version::V8, 9);
         decoder.room(20).unwrap()[..17].copy_from_slice(&stream);
         decoder.advance(17);
         let mut found: Vec<_> = decoder.items().collect();

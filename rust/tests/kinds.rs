@@ -3,17 +3,16 @@
 
 use pendratsoa::{
     compare_journals, header, library_version, next_item, notification, Argument, Error, Item,
-    Message, MessageType, Next, NotificationId, NotificationResult, Verdict, VerdictKind,
-    FIRST_VERSION, LAST_VERSION,
+    Message, MessageType, Next, NotificationId, NotificationResult, Verdict, VerdictKind, Version,
 };
 
 /// A frame at version 8 with any payload.
 fn frame(message_type: MessageType, payload: &[u8]) -> Vec<u8> {
-    let header = header(8, message_type.code(), payload.len()).unwrap();
+    let header = header(Version::V8, message_type.code(), payload.len()).unwrap();
     [&header, payload].concat()
 }
 
-fn item(version: u32, bytes: &[u8]) -> Item<'_> {
+fn item(version: Version, bytes: &[u8]) -> Item<'_> {
     match next_item(version, bytes).unwrap() {
         Next::Item { item, size } => {
             assert_eq!(size, bytes.len());
@@ -32,9 +31,9 @@ fn version() {
 fn items() {
     // a proposed result of a run, with the bit that requests an acknowledgement
     let bytes = [0, 5, 0x80, 0, 0, 0, 0, 2, 0x08, 1];
-    match item(8, &bytes) {
+    match item(Version::V8, &bytes) {
         Item::Message(message) => {
-            assert_eq!((message.version, message.code), (8, 5));
+            assert_eq!((message.version, message.code), (Version::V8, 5));
             assert_eq!(message.word.to_be_bytes(), bytes[..8]);
             assert_eq!(message.payload, &bytes[8..]);
             assert!(message.requested_ack);
@@ -43,8 +42,9 @@ fn items() {
                 Some(MessageType::ProposeRunCompletion)
             );
             assert!(!message.is_command() && !message.is_notification());
-            assert_eq!(item(8, &bytes).code(), 5);
-            assert_eq!(item(8, &bytes).type_name(), message.type_name());
+            assert_eq!(item(Version::V8, &bytes).code(), 5);
+            assert_eq!(item(Version::V8, &bytes).version(), Version::V8);
+            assert_eq!(item(Version::V8, &bytes).type_name(), message.type_name());
             assert_eq!(message.canonical().unwrap(), [0x08, 1]);
             assert_eq!(message.json().unwrap(), r#"{"resultCompletionId":1}"#);
             assert_eq!(message.frame().unwrap()[8..], bytes[8..]);
@@ -53,25 +53,25 @@ fn items() {
     }
     // no type has the code 4: before version 9 its header is an item by itself
     let bytes = [0, 4, 1, 2, 3, 4, 0, 2, 0x08, 1];
-    match item(8, &bytes[..8]) {
+    match item(Version::V8, &bytes[..8]) {
         Item::UnknownCode(unknown) => {
-            assert_eq!((unknown.version, unknown.code), (8, 4));
+            assert_eq!((unknown.version, unknown.code), (Version::V8, 4));
             assert_eq!(unknown.word, 0x0004_0102_0304_0002);
         }
         other => panic!("{other:?}"),
     }
     let bytes = [0, 4, 1, 2, 0, 0, 0, 2, 0x08, 1];
-    match item(9, &bytes) {
+    match item(Version::V9, &bytes) {
         Item::Skipped(skipped) => {
-            assert_eq!((skipped.version, skipped.code), (9, 4));
+            assert_eq!((skipped.version, skipped.code), (Version::V9, 4));
             assert_eq!(skipped.word, 0x0004_0102_0000_0002);
             assert_eq!(skipped.payload, &bytes[8..]);
         }
         other => panic!("{other:?}"),
     }
-    for version in [8, 9] {
+    for version in [Version::V8, Version::V9] {
         let item = item(version, &[0, 4, 1, 2, 0, 0, 0, 0]);
-        assert_eq!(item.code(), 4);
+        assert_eq!((item.version(), item.code()), (version, 4));
         assert_eq!(item.type_name(), Err(Error::Unknown(Argument::Code(4))));
         assert!(!item.is_command() && !item.is_notification());
     }
@@ -80,7 +80,7 @@ fn items() {
 #[test]
 fn commands_and_notifications() {
     for code in (0..=u16::MAX).filter(|code| MessageType::from_code(*code).is_some()) {
-        let message = Message::new(8, code, &[]).unwrap();
+        let message = Message::new(Version::V8, code, &[]).unwrap();
         let item = Item::from(message);
         let is_command = (0x0400..0x8000).contains(&code);
         assert_eq!(
@@ -95,11 +95,9 @@ fn commands_and_notifications() {
 #[test]
 fn messages_that_are_made() {
     let payload = [0x08, 1];
-    for version in FIRST_VERSION..=LAST_VERSION {
-        for named in MessageType::NAMED
-            .into_iter()
-            .chain([MessageType::CustomEntry(0xFC01)])
-        {
+    for &version in Version::ALL {
+        let custom = MessageType::CustomEntry(0xFC01);
+        for named in MessageType::NAMED.iter().copied().chain([custom]) {
             let made = Message::new(version, named.code(), &payload).unwrap();
             let header = header(version, named.code(), payload.len()).unwrap();
             let bytes = [&header[..], &payload].concat();
@@ -107,24 +105,23 @@ fn messages_that_are_made() {
         }
     }
     assert_eq!(
-        Message::new(8, 4, &payload),
+        Message::new(Version::V8, 4, &payload),
         Err(Error::Unknown(Argument::Code(4)))
-    );
-    assert_eq!(
-        Message::new(4, 3, &payload),
-        Err(Error::Unknown(Argument::Version(4)))
     );
 }
 
 #[test]
 fn frames_at_other_versions() {
+    use Version::*;
     // a suspension that waits for a completion and for another future, which has a list of each before version 7
     let payload = [
         0x22, 0x10, 0x12, 1, 1, 0x22, 0x0B, 0x0A, 1, 1, 0x12, 1, 0x11, 0x1A, 3, b'a', b'b', b'c',
     ];
     let bytes = frame(MessageType::Suspension, &payload);
-    let found = match item(8, &bytes) {
-        Item::Message(message) => [5, 6, 7, 8, 9].map(|version| message.frame_at(version).unwrap()),
+    let found = match item(Version::V8, &bytes) {
+        Item::Message(message) => {
+            [V5, V6, V7, V8, V9].map(|version| message.frame_at(version).unwrap())
+        }
         other => panic!("{other:?}"),
     };
     let [v5, v6, v7, v8, v9] = found;
@@ -180,7 +177,7 @@ fn results_of_notifications() {
         ] {
             let payload = [id, result].concat();
             let bytes = frame(MessageType::SignalNotification, &payload);
-            let found = match item(8, &bytes) {
+            let found = match item(Version::V8, &bytes) {
                 Item::Message(message) if message.is_notification() => message.notification(),
                 other => panic!("{other:?}"),
             };
@@ -251,7 +248,7 @@ fn verdicts() {
             index: at,
             text,
             ..
-        } = compare_journals(8, &recorded, &replayed, false).unwrap();
+        } = compare_journals(Version::V8, &recorded, &replayed, false).unwrap();
         assert_eq!((found, at), (kind, index));
         let has_text = matches!(
             kind,
@@ -266,8 +263,8 @@ fn custom_entries_are_not_compared() {
     let clear = frame(MessageType::ClearAllStateCommand, &[]);
     // the first of the two codes is in the range of commands
     for code in [0x3F3F, 0xFC01] {
-        let entry = [&header(8, code, 1).unwrap()[..], &[0xFF], &clear].concat();
-        let verdict = compare_journals(8, &clear, &entry, false).unwrap();
+        let entry = [&header(Version::V8, code, 1).unwrap()[..], &[0xFF], &clear].concat();
+        let verdict = compare_journals(Version::V8, &clear, &entry, false).unwrap();
         assert_eq!((verdict.kind, verdict.index), (VerdictKind::Same, 1));
     }
 }
@@ -283,7 +280,7 @@ fn ignored_payloads() {
         (false, VerdictKind::HeaderMismatch, 0),
         (true, VerdictKind::Same, 1),
     ] {
-        let found = compare_journals(8, &set(b'1'), &set(b'2'), ignore_payloads).unwrap();
+        let found = compare_journals(Version::V8, &set(b'1'), &set(b'2'), ignore_payloads).unwrap();
         assert_eq!((found.kind, found.index), (kind, index));
     }
 }

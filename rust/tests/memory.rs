@@ -2,7 +2,7 @@
 
 use std::fs;
 
-use pendratsoa::{Decoder, Item};
+use pendratsoa::{Decoder, Item, Version};
 
 const INPUT: &[u8] = b"\x04\0\0\0\0\0\0\x09\x72\x07\x0A\x05input";
 
@@ -14,7 +14,7 @@ fn resident() -> Option<usize> {
 
 #[test]
 fn memory_does_not_grow() {
-    let mut decoder = Decoder::new(8).unwrap();
+    let mut decoder = Decoder::new(Version::V8);
     let mut decode = |rounds| {
         for _ in 0..rounds {
             decoder.feed(INPUT).unwrap();

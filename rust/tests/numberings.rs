@@ -141,21 +141,22 @@ fn payloads_are_read_and_written() {
 fn streams_are_read_and_written() {
     let numbering = numbering();
     assert_eq!(
-        numbering.read_stream(8, &stream(THEIRS)).unwrap(),
+        numbering.read_stream(Version::V8, &stream(THEIRS)).unwrap(),
         stream(OURS)
     );
     assert_eq!(
-        numbering.write_stream(8, &stream(OURS)).unwrap(),
+        numbering.write_stream(Version::V8, &stream(OURS)).unwrap(),
         stream(THEIRS)
     );
     let skipped = b"\0\x08\0\0\0\0\0\x02\x0a\x01";
-    assert_eq!(numbering.read_stream(9, skipped).unwrap(), skipped);
-    assert_eq!(numbering.read_stream(8, b"").unwrap(), b"");
-    for version in [0, 4, 10, u32::MAX] {
-        let read = numbering.read_stream(version, b"");
-        assert!(matches!(read, Err(Error::Unknown(_))));
-    }
-    let error = numbering.read_stream(8, &stream(b"\x1a")).unwrap_err();
+    assert_eq!(
+        numbering.read_stream(Version::V9, skipped).unwrap(),
+        skipped
+    );
+    assert_eq!(numbering.read_stream(Version::V8, b"").unwrap(), b"");
+    let error = numbering
+        .read_stream(Version::V8, &stream(b"\x1a"))
+        .unwrap_err();
     assert_eq!((error.code(), error.offset()), (Some(0x0403), Some(0)));
     assert_eq!(
         error.to_string(),
@@ -167,21 +168,18 @@ fn streams_are_read_and_written() {
 fn a_stream_is_dumped_with_all_fields_of_the_set() {
     let (set, payload) = (theirs(), b"\xf2\x01\x06\x12\x01tr\x011");
     let stream = [&[0x04, 0x03, 0, 0, 0, 0, 0, 9], &payload[..], &[0x04]].concat();
-    let lines = Numbering::new(&set, &[]).unwrap().dump(8, &stream).unwrap();
+    let lines = Numbering::new(&set, &[])
+        .unwrap()
+        .dump(Version::V8, &stream)
+        .unwrap();
     let lines: Vec<&str> = lines.lines().collect();
     assert_eq!(lines.len(), 2);
     assert!(lines[0].contains(r#""message":{"value":{"contentType":"t","content":"MQ=="}}"#));
     assert!(lines[1].contains(r#""rest":1"#));
     let numbering = numbering();
-    for version in [4, 10] {
-        assert!(matches!(
-            numbering.dump(version, b""),
-            Err(Error::Unknown(_))
-        ));
-    }
     // what is malformed by the set is said of its item
     let lines = numbering
-        .dump(8, &[0x04, 0x03, 0, 0, 0, 0, 0, 1, 0x1a])
+        .dump(Version::V8, &[0x04, 0x03, 0, 0, 0, 0, 0, 1, 0x1a])
         .unwrap();
     assert!(lines.contains(r#""malformed":true"#));
 }
@@ -196,7 +194,7 @@ fn frames_are_written() {
         b"b\x01n\n\x01a\x1a\x03\n\x011",
         b"\x1a\x03\n\x011b\x01n\n\x01a",
     ] {
-        assert_eq!(numbering.frame(8, code, payload).unwrap(), wanted);
+        assert_eq!(numbering.frame(Version::V8, code, payload).unwrap(), wanted);
     }
     let command = SetStateCommandMessage {
         key: b"a"[..].into(),
@@ -206,15 +204,18 @@ fn frames_are_written() {
         name: "n".into(),
     };
     let own = command.frame(Version::V8).unwrap();
-    assert_eq!(numbering.write_stream(8, &own).unwrap(), wanted);
+    assert_eq!(numbering.write_stream(Version::V8, &own).unwrap(), wanted);
     let mut out = vec![7];
     let encoded = command.encode().unwrap();
-    assert_eq!(numbering.append_frame(8, code, &encoded, &mut out), Ok(20));
+    assert_eq!(
+        numbering.append_frame(Version::V8, code, &encoded, &mut out),
+        Ok(20)
+    );
     assert_eq!(out, [&[7], &wanted[..]].concat());
-    for (version, code, payload) in [(4, 0x0403, &b""[..]), (8, 0xFC01, b""), (8, 0x0403, b"\n")] {
+    for (code, payload) in [(0xFC01, &b""[..]), (0x0403, b"\n")] {
         assert_eq!(
-            numbering.append_frame(version, code, payload, &mut out),
-            frame(version, code, payload).map(|_| 0)
+            numbering.append_frame(Version::V8, code, payload, &mut out),
+            frame(Version::V8, code, payload).map(|_| 0)
         );
         assert_eq!(out.len(), 21);
     }
@@ -224,11 +225,11 @@ fn frames_are_written() {
 fn a_decoder_reads_by_a_numbering() {
     let (ours, theirs) = (stream(OURS), stream(THEIRS));
     let numbering = numbering();
-    let mut own = Decoder::new(8).unwrap();
+    let mut own = Decoder::new(Version::V8);
     own.feed(&ours).unwrap();
     let own: Vec<Item<'_>> = own.items().map(Result::unwrap).collect();
     for size in 1..=theirs.len() {
-        let mut decoder = Decoder::new(8).unwrap().with_numbering(&numbering);
+        let mut decoder = Decoder::new(Version::V8).with_numbering(&numbering);
         let mut passed_on = Vec::new();
         let mut found = Vec::new();
         for chunk in theirs.chunks(size) {
@@ -265,7 +266,7 @@ fn a_decoder_reads_by_a_numbering() {
 #[test]
 fn an_owned_item_has_both_payloads() {
     let theirs = stream(THEIRS);
-    let mut decoder = Decoder::new(8).unwrap().with_numbering(&numbering());
+    let mut decoder = Decoder::new(Version::V8).with_numbering(&numbering());
     let mut copied = Vec::new();
     for item in decoder.read(&theirs[..theirs.len() - 3]) {
         let item = item.unwrap().clone();
@@ -295,7 +296,7 @@ fn an_owned_item_has_both_payloads() {
 fn a_loop_goes_on_after_a_payload_that_cannot_be_read() {
     let end = [0, 3, 0, 0, 0, 0, 0, 0];
     let bad = b"\x04\x03\0\0\0\0\0\x01\x1a";
-    let mut decoder = Decoder::new(8).unwrap().with_numbering(&numbering());
+    let mut decoder = Decoder::new(Version::V8).with_numbering(&numbering());
     decoder.feed(&[&end[..], bad, &end].concat()).unwrap();
     let mut items = decoder.items();
     assert!(items.next().unwrap().is_ok());
@@ -319,7 +320,7 @@ fn a_loop_goes_on_after_a_payload_that_cannot_be_read() {
 fn a_limit_is_one_on_what_is_received() {
     let stream = [&[0x04, 0x03, 0, 0, 0, 0, 0, 12], THEIRS].concat();
     for (limit, is_taken) in [(11, false), (12, true)] {
-        let decoder = Decoder::with_max_message_size(8, limit).unwrap();
+        let decoder = Decoder::with_max_message_size(Version::V8, limit);
         let mut decoder = decoder.with_numbering(&numbering());
         decoder.feed(&stream).unwrap();
         assert_eq!(decoder.items().next().unwrap().is_ok(), is_taken);
@@ -332,9 +333,9 @@ fn a_replay_has_the_offsets_of_what_is_received() {
     let other: &[u8] = b"\x1a\x01b";
     let one = [&[0x04, 0x03, 0, 0, 0, 0, 0, 12], THEIRS].concat();
     let two = [&[0x04, 0x03, 0, 0, 0, 0, 0, 3], other].concat();
-    let recorded = numbering.read_stream(8, &one.repeat(3)).unwrap();
-    let mut replay = Replay::new(8, &recorded, Ignored::default()).unwrap();
-    let mut decoder = Decoder::new(8).unwrap().with_numbering(&numbering);
+    let recorded = numbering.read_stream(Version::V8, &one.repeat(3)).unwrap();
+    let mut replay = Replay::new(Version::V8, &recorded, Ignored::default());
+    let mut decoder = Decoder::new(Version::V8).with_numbering(&numbering);
     decoder.feed(&[&one[..], &two, &one].concat()).unwrap();
     let mut found = Vec::new();
     for item in decoder.items() {
@@ -346,8 +347,8 @@ fn a_replay_has_the_offsets_of_what_is_received() {
         (1, one.len() as u64)
     );
     assert_eq!(found[0].fields[0].name, "key");
-    let mut replay = Replay::new(8, &recorded, Ignored::default()).unwrap();
-    let mut decoder = Decoder::new(8).unwrap().with_numbering(&numbering);
+    let mut replay = Replay::new(Version::V8, &recorded, Ignored::default());
+    let mut decoder = Decoder::new(Version::V8).with_numbering(&numbering);
     decoder.feed(&one.repeat(2)).unwrap();
     for item in decoder.items() {
         assert_eq!(replay.check(&item.unwrap()).unwrap(), None);
@@ -391,6 +392,16 @@ fn renames_and_rejected_sets() {
         (theirs(), vec![("Pause", "SlepCommandMessage")], no_rename),
         (theirs(), vec![("Pause", "")], no_rename),
         (theirs(), vec![("", "")], no_rename),
+        (
+            theirs(),
+            vec![("Pause", "SleepCommandMessage\n")],
+            no_rename,
+        ),
+        (
+            theirs(),
+            vec![("Pause=SleepCommandMessage\nPause", "SleepCommandMessage")],
+            no_rename,
+        ),
     ] {
         match Numbering::new(&set, &renames) {
             Err(Error::Numbering(error)) => {
@@ -437,7 +448,7 @@ fn any_bytes_as_a_set_or_as_a_payload() {
                     let _ = numbering.read_payload(schema, &bytes);
                     let _ = numbering.write_payload(schema, &bytes);
                 }
-                let _ = numbering.read_stream(9, &bytes);
+                let _ = numbering.read_stream(Version::V9, &bytes);
             }
             Err(Error::Numbering(error)) => assert_eq!(error.reason, NumberingReason::NoSet),
             Err(error) => panic!("{error}"),
@@ -453,7 +464,7 @@ fn threads_share_a_numbering() {
             let numbering = numbering.clone();
             thread::spawn(move || {
                 for _ in 0..100 {
-                    let read = numbering.read_stream(8, &stream(THEIRS)).unwrap();
+                    let read = numbering.read_stream(Version::V8, &stream(THEIRS)).unwrap();
                     assert_eq!(read, stream(OURS));
                 }
             })

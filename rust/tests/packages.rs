@@ -9,8 +9,9 @@ use pendratsoa::messages::{
     SuspensionMessage, SuspensionMessageV6,
 };
 use pendratsoa::{
-    compare_journals, is_well_formed, type_code, type_name, Decoder, Error, Ignored, Item,
+    compare_journals, header, is_well_formed, type_code, type_name, Decoder, Error, Ignored, Item,
     JsonReason, Message, Mismatch, Numbering, NumberingReason, Replay, Schema, VerdictKind,
+    Version,
 };
 
 mod packages_records;
@@ -74,12 +75,11 @@ fn line(item: &Item<'_>) -> String {
     format!("{} {item}", item.offset().unwrap())
 }
 
-fn decoder(version: u32, limit: Option<u32>) -> Decoder {
+fn decoder(version: Version, limit: Option<u32>) -> Decoder {
     match limit {
         Some(limit) => Decoder::with_max_message_size(version, limit),
         None => Decoder::new(version),
     }
-    .unwrap()
 }
 
 /// The result of a stream in chunks that are fed.
@@ -269,7 +269,7 @@ fn mismatch_case(words: &[&str]) -> String {
         payloads: words[1] == "yes",
         ids: words[1] == "ids",
     };
-    let mut replay = Replay::new(version, &recorded, ignored).unwrap();
+    let mut replay = Replay::new(version, &recorded, ignored);
     let mut decoder = decoder(version, None);
     decoder.feed(&bytes(words[3])).unwrap();
     let mut found: Vec<Mismatch> = decoder
@@ -309,7 +309,7 @@ fn replay_case(words: &[&str]) -> String {
         payloads: words[1] == "yes",
         ids: words[1] == "ids",
     };
-    let mut replay = Replay::new(version, &recorded, ignored).unwrap();
+    let mut replay = Replay::new(version, &recorded, ignored);
     let mut decoder = decoder(version, None);
     decoder.feed(&bytes(words[3])).unwrap();
     let mut steps = vec![step(&replay, None)];
@@ -326,7 +326,7 @@ fn replay_case(words: &[&str]) -> String {
 
 fn rest_case(words: &[&str]) -> String {
     let (version, recorded) = (words[0].parse().unwrap(), bytes(words[1]));
-    let mut replay = Replay::new(version, &recorded, Ignored::default()).unwrap();
+    let mut replay = Replay::new(version, &recorded, Ignored::default());
     let rest = replay.recorded_rest().unwrap();
     let mut decoder = decoder(version, None);
     decoder.feed(&recorded).unwrap();
@@ -353,14 +353,16 @@ fn step(replay: &Replay<'_>, said: Option<Mismatch>) -> String {
 }
 
 fn json_case(words: &[&str]) -> String {
-    let (version, mut payload) = (words[0].parse().unwrap(), Vec::new());
-    let message = type_code(words[1])
-        .and_then(|code| Message::from_json(version, code, bytes(words[2]), &mut payload));
+    let mut payload = Vec::new();
+    let message = words[0].parse().and_then(|version| {
+        let code = type_code(words[1])?;
+        Message::from_json(version, code, bytes(words[2]), &mut payload)
+    });
     match message {
         Ok(message) => {
             assert_eq!(
-                (message.version, name(Some(message.code))),
-                (version, words[1].to_owned())
+                (message.version.to_string(), name(Some(message.code))),
+                (words[0].to_owned(), words[1].to_owned())
             );
             word(message.payload)
         }
@@ -390,16 +392,31 @@ fn reason(reason: JsonReason) -> &'static str {
 }
 
 fn limit_case(words: &[&str]) -> String {
-    match words[0].parse() {
-        Ok(limit) => Decoder::with_max_message_size(8, limit)
-            .map_or_else(|error| error.to_string(), |_| "ok".to_owned()),
+    match words[0].parse::<u32>() {
+        Ok(limit) => {
+            // a payload as long as the limit is taken, and a longer one is not
+            for length in [Some(limit), limit.checked_add(1)].into_iter().flatten() {
+                let mut decoder = decoder(Version::V8, Some(limit));
+                let begin = header(Version::V8, 0x0400, length as usize).unwrap();
+                decoder.feed(&begin).unwrap();
+                assert_eq!(decoder.items().next().transpose().is_ok(), length == limit);
+            }
+            "ok".to_owned()
+        }
         Err(_) => "out_of_range".to_owned(),
     }
 }
 
 fn number_case(words: &[&str]) -> String {
     let known = match (words[0], words[1].parse::<u32>(), words[1].parse::<u16>()) {
-        ("version", Ok(version), _) => Decoder::new(version).map(|_| ()),
+        ("version", number, _) => {
+            let version: Result<Version, Error> = words[1].parse();
+            // its number is the same, or the same error
+            if let Ok(number) = number {
+                assert_eq!(Version::try_from(number), version);
+            }
+            version.map(|_| ())
+        }
         ("schema", Ok(schema), _) => is_well_formed(schema, &[]).map(|_| ()),
         ("code", _, Ok(code)) => type_name(code).map(|_| ()),
         _ => return "unknown".to_owned(),
@@ -497,13 +514,15 @@ fn set_case(made: &Result<Numbering, Error>) -> String {
 }
 
 /// A decoder with a numbering has the messages of the stream that was read by it, or the same error.
-fn same_items(numbering: &Numbering, version: u32, stream: &[u8], read: &Result<Vec<u8>, Error>) {
-    let mut decoder = match Decoder::new(version) {
-        Ok(decoder) => decoder.with_numbering(numbering),
-        Err(error) => return assert_eq!(*read, Err(error)),
-    };
+fn same_items(
+    numbering: &Numbering,
+    version: Version,
+    stream: &[u8],
+    read: &Result<Vec<u8>, Error>,
+) {
+    let mut decoder = Decoder::new(version).with_numbering(numbering);
     decoder.feed(stream).unwrap();
-    let mut own = Decoder::new(version).unwrap();
+    let mut own = Decoder::new(version);
     own.feed(read.as_deref().unwrap_or_default()).unwrap();
     let (mut copied, mut error) = (Vec::new(), None);
     let mut others = own.items();
@@ -556,14 +575,18 @@ fn the_cases_of_numberings() {
                 renumbered(numberings[name].write_payload(schema(of), &bytes(payload)))
             }
             ["stream", "read", name, version, stream] => {
-                let (version, stream) = (version.parse().unwrap(), bytes(stream));
-                let read = numberings[name].read_stream(version, &stream);
-                same_items(&numberings[name], version, &stream, &read);
-                renumbered(read)
+                let stream = bytes(stream);
+                renumbered(version.parse().and_then(|version| {
+                    let read = numberings[name].read_stream(version, &stream);
+                    same_items(&numberings[name], version, &stream, &read);
+                    read
+                }))
             }
             ["stream", "write", name, version, stream] => {
-                let version = version.parse().unwrap();
-                renumbered(numberings[name].write_stream(version, &bytes(stream)))
+                let written = version
+                    .parse()
+                    .and_then(|version| numberings[name].write_stream(version, &bytes(stream)));
+                renumbered(written)
             }
             _ => panic!("{line}"),
         };
@@ -575,7 +598,7 @@ fn the_cases_of_numberings() {
 
 #[test]
 fn where_an_item_begins_is_not_compared() {
-    let message = Message::new(8, 0x0403, &[0x0A, 5, b'a']).unwrap();
+    let message = Message::new(Version::V8, 0x0403, &[0x0A, 5, b'a']).unwrap();
     assert_eq!(message.offset(), None);
     let item = Item::from(message);
     let (first, second) = (item.with_offset(0), item.with_offset(8));
@@ -618,7 +641,7 @@ fn a_reader_that_fails_is_read_on() {
         fails(),
         Ok(vec![0, 3, 0, 0, 0, 0, 0, 0, 0, 3, 0, 0, 0]),
     ]);
-    let mut decoder = Decoder::new(8).unwrap();
+    let mut decoder = Decoder::new(Version::V8);
     let mut items = decoder.read(reader);
     let offset = |item: io::Result<pendratsoa::OwnedItem>| item.unwrap().item().offset();
     assert_eq!(items.next().and_then(offset), Some(0));

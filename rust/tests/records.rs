@@ -10,14 +10,13 @@ use pendratsoa::messages::{
 };
 use pendratsoa::{
     header, Argument, Decoder, Error, FieldReason, Item, Message, MessageType, Version,
-    FIRST_VERSION, LAST_VERSION,
 };
 
 const RECORDED: &[u8] = include_bytes!("../../examples/streams/recorded");
 
 #[test]
 fn the_messages_of_a_stream() {
-    let mut decoder = Decoder::new(8).unwrap();
+    let mut decoder = Decoder::new(Version::V8);
     decoder.feed(RECORDED).unwrap();
     let mut states = 0;
     for item in decoder.items() {
@@ -51,8 +50,8 @@ fn a_custom_entry_has_no_record() {
     let state = b"\x04\x03\x00\x00\x00\x00\x00\x03\n\x01a";
     let custom = b"\xFC\x01\x00\x00\x00\x00\x00\x02\xFF\xFF";
     let stream = [&state[..], custom, state].concat();
-    for version in FIRST_VERSION..=LAST_VERSION {
-        let mut decoder = Decoder::new(version).unwrap();
+    for &version in Version::ALL {
+        let mut decoder = Decoder::new(version);
         decoder.feed(&stream).unwrap();
         let (mut states, mut custom) = (0, 0);
         for item in decoder.items() {
@@ -73,11 +72,11 @@ fn a_custom_entry_has_no_record() {
 #[test]
 fn the_record_of_one_type() {
     let code = MessageType::SetStateCommand.code();
-    let message = Message::new(8, code, b"\n\x01a").unwrap();
+    let message = Message::new(Version::V8, code, b"\n\x01a").unwrap();
     let command: Option<SetStateCommandMessage<'_>> = message.record().unwrap();
     assert_eq!(*command.unwrap().key, *b"a");
     // the payload of another type is not looked at
-    let malformed = Message::new(8, code, &[10]).unwrap();
+    let malformed = Message::new(Version::V8, code, &[10]).unwrap();
     assert_eq!(malformed.record::<ErrorMessage<'_>>(), Ok(None));
     let error = malformed
         .record::<SetStateCommandMessage<'_>>()
@@ -87,11 +86,11 @@ fn the_record_of_one_type() {
         Error::Malformed(Argument::MessagePayload(_))
     ));
     assert_eq!((error.code(), error.offset()), (Some(code), None));
-    let entry = Message::new(8, 0xFC01, &[10]).unwrap();
+    let entry = Message::new(Version::V8, 0xFC01, &[10]).unwrap();
     assert_eq!(entry.record::<SetStateCommandMessage<'_>>(), Ok(None));
     // a suspension has the record of its version
     let code = MessageType::Suspension.code();
-    for (version, is_earlier) in [(6, true), (7, false)] {
+    for (version, is_earlier) in [(Version::V6, true), (Version::V7, false)] {
         let message = Message::new(version, code, &[]).unwrap();
         let earlier = message.record::<SuspensionMessageV6<'_>>().unwrap();
         let later = message.record::<SuspensionMessage<'_>>().unwrap();
@@ -183,7 +182,8 @@ fn more_than_a_table_on_the_stack_has_room_for() {
                 let payload = input.encode().unwrap();
                 assert_eq!(InputCommandMessage::decode(&payload).unwrap(), input);
                 let frame = input.frame(Version::V8).unwrap();
-                let begin = header(8, MessageType::InputCommand.code(), payload.len()).unwrap();
+                let begin =
+                    header(Version::V8, MessageType::InputCommand.code(), payload.len()).unwrap();
                 assert_eq!(frame, [&begin[..], &payload].concat());
                 let mut out = b"before".to_vec();
                 assert_eq!(input.append_to(&mut out), Ok(payload.len()));
@@ -224,13 +224,55 @@ fn a_field_that_cannot_be_encoded_is_named() {
     assert!(error.to_string().ends_with(": too deep"), "{error}");
 }
 
+/// The path to the field of a record that is too deep.
+fn too_deep(record: &Future<'_>) -> String {
+    match record.encode() {
+        Err(Error::Field(error)) if error.reason == FieldReason::TooDeep => error.path,
+        other => panic!("{other:?}"),
+    }
+}
+
+#[test]
+fn a_record_of_any_depth_is_an_error() {
+    let mut deep = Future::default();
+    for _ in 0..100_000 {
+        deep = Future {
+            nested_futures: vec![deep],
+            ..Default::default()
+        };
+    }
+    assert_eq!(too_deep(&deep).matches("nested_futures[0]").count(), 101);
+    // one by one: dropped as it is, it would take as much stack as it is deep
+    while let Some(nested) = deep.nested_futures.pop() {
+        deep = nested;
+    }
+}
+
+#[test]
+fn the_path_to_one_of_many_elements() {
+    let mut deep = Future::default();
+    for _ in 0..100 {
+        deep = Future {
+            nested_futures: vec![deep],
+            ..Default::default()
+        };
+    }
+    let mut nested_futures = vec![Future::default(); 300_000];
+    nested_futures.push(deep);
+    let wide = Future {
+        nested_futures,
+        ..Default::default()
+    };
+    assert!(too_deep(&wide).starts_with("nested_futures[300000].nested_futures[0]."));
+}
+
 #[test]
 fn what_is_no_record() {
     assert_eq!(
         Value::decode(&[10]),
         Err(Error::Malformed(Argument::Payload(1)))
     );
-    let mut unknown = Message::new(8, 0xFC01, &[]).unwrap();
+    let mut unknown = Message::new(Version::V8, 0xFC01, &[]).unwrap();
     unknown.code = 8;
     assert_eq!(unknown.message(), Err(Error::Unknown(Argument::Code(8))));
     let suspension = SuspensionMessageV6 {
@@ -238,17 +280,17 @@ fn what_is_no_record() {
         ..Default::default()
     };
     assert_eq!(
-        suspension.frame(6u32).unwrap(),
+        suspension.frame(Version::V6).unwrap(),
         [0, 1, 0, 0, 0, 0, 0, 3, 10, 1, 1]
     );
-    assert_eq!(
-        suspension.frame(7u32),
-        Err(Error::Unknown(Argument::Version(7)))
-    );
-    assert_eq!(
-        suspension.frame(4u32),
-        Err(Error::Unknown(Argument::Version(4)))
-    );
+    let mut buffer = vec![7];
+    for version in [Version::V7, Version::V9] {
+        let none = Error::NoFrame(version);
+        assert_eq!(suspension.frame(version), Err(none.clone()));
+        let made = Message::from_record(version, &suspension, &mut buffer);
+        assert_eq!(made, Err(none));
+        assert_eq!(buffer, [7]);
+    }
 }
 
 #[test]

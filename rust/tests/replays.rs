@@ -4,8 +4,8 @@
 use std::fs;
 
 use pendratsoa::{
-    compare_journals, difference, type_name, Argument, Decoder, Error, Ignored, Item, Message,
-    Mismatch, OwnedItem, Replay, VerdictKind,
+    compare_journals, difference, type_name, Decoder, Ignored, Item, Message, Mismatch, OwnedItem,
+    Replay, VerdictKind, Version,
 };
 
 /// The bytes of a word.
@@ -18,8 +18,8 @@ fn bytes(word: &str) -> Vec<u8> {
 }
 
 /// The whole items of a stream.
-fn items(version: u32, stream: &[u8]) -> Vec<OwnedItem> {
-    let mut decoder = Decoder::new(version).unwrap();
+fn items(version: Version, stream: &[u8]) -> Vec<OwnedItem> {
+    let mut decoder = Decoder::new(version);
     decoder.feed(stream).unwrap();
     std::iter::from_fn(|| decoder.next_owned())
         .map(Result::unwrap)
@@ -40,14 +40,14 @@ fn command<'a>(item: &'a OwnedItem) -> Option<Message<'a>> {
 }
 
 /// What is said of a replay, in the words of the vectors.
-fn said(version: u32, recorded: &[u8], replayed: &[u8], payloads: bool) -> String {
+fn said(version: Version, recorded: &[u8], replayed: &[u8], payloads: bool) -> String {
     let (recording, replay_items) = (items(version, recorded), items(version, replayed));
     let mut commands = recording.iter().filter_map(command).peekable();
     let ignored = Ignored {
         payloads,
         ..Ignored::default()
     };
-    let mut replay = Replay::new(version, recorded, ignored).unwrap();
+    let mut replay = Replay::new(version, recorded, ignored);
     let mut found = None;
     let mut count = 0;
     for item in &replay_items {
@@ -161,10 +161,10 @@ fn journals_cut_short() {
     let other = fs::read("../examples/streams/replayed_other_payload").unwrap();
     for ignore_payloads in [false, true] {
         for end in 0..=other.len() {
-            said(8, &recorded, &other[..end], ignore_payloads);
+            said(Version::V8, &recorded, &other[..end], ignore_payloads);
         }
         for end in 0..=recorded.len() {
-            said(8, &recorded[..end], &other, ignore_payloads);
+            said(Version::V8, &recorded[..end], &other, ignore_payloads);
         }
     }
 }
@@ -172,7 +172,7 @@ fn journals_cut_short() {
 #[test]
 fn bytes_after_the_last_whole_item() {
     let recorded = fs::read("../examples/streams/recorded").unwrap();
-    let recording = items(8, &recorded);
+    let recording = items(Version::V8, &recorded);
     let ends: Vec<usize> = recording
         .iter()
         .map(|item| item.item().offset().unwrap() as usize)
@@ -180,7 +180,7 @@ fn bytes_after_the_last_whole_item() {
         .collect();
     for end in 0..=recorded.len() {
         let whole = ends.iter().rev().find(|whole| **whole <= end).unwrap();
-        let mut replay = Replay::new(8, &recorded[..end], Ignored::default()).unwrap();
+        let mut replay = Replay::new(Version::V8, &recorded[..end], Ignored::default());
         for item in &recording {
             assert_eq!(replay.recorded_rest(), Ok(end - whole));
             replay.check(&item.item()).unwrap();
@@ -191,22 +191,19 @@ fn bytes_after_the_last_whole_item() {
 }
 
 #[test]
-fn versions_that_are_none() {
-    for version in [0, 4, 10, u32::MAX] {
-        let error = Replay::new(version, &[], Ignored::default()).unwrap_err();
-        assert_eq!(error, Error::Unknown(Argument::Version(version)));
+fn each_version_has_a_replay() {
+    for &version in Version::ALL {
+        let replay = Replay::new(version, &[], Ignored::default());
+        assert_eq!(replay.version(), version);
+        assert_eq!((replay.expected(), replay.finish()), (Ok(None), Ok(None)));
     }
-    assert_eq!(
-        Replay::new(7, &[], Ignored::default()).unwrap().version(),
-        7
-    );
 }
 
 #[test]
 fn a_clone_goes_on_by_itself() {
     let recorded = [0x04, 0x0C, 0, 0, 0, 0, 0, 0];
-    let recording = items(8, &recorded);
-    let mut replay = Replay::new(8, &recorded, Ignored::default()).unwrap();
+    let recording = items(Version::V8, &recorded);
+    let mut replay = Replay::new(Version::V8, &recorded, Ignored::default());
     let before = replay.clone();
     assert_eq!(replay.check(&recording[0].item()), Ok(None));
     assert_eq!(replay.finish(), Ok(None));

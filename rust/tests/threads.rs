@@ -1,16 +1,19 @@
 //! Calls from several threads at once, and types that go from one to another.
 
 use std::env;
+use std::error;
 use std::fmt::Debug;
 use std::hash::Hash;
 use std::process::Command;
 use std::thread;
 
-use pendratsoa::messages::{Future, Record};
+use pendratsoa::messages::{AnyMessage, Future, Record};
 use pendratsoa::{
-    canonical, to_json, Argument, ChangedField, Decoder, Error, Item, Items, Message, MessageType,
-    Mismatch, Next, Notification, NotificationId, NotificationResult, Replay, Schema, Skipped,
-    UnknownCode, Verdict, VerdictKind,
+    canonical, to_json, Argument, ChangedField, Decoder, Error, FieldError, FieldReason, Ignored,
+    Incomplete, Item, Items, JsonError, JsonReason, Message, MessagePayload, MessageTooLong,
+    MessageType, Mismatch, Next, Notification, NotificationId, NotificationResult, Numbering,
+    NumberingError, NumberingReason, OwnedItem, ReadItems, Replay, Schema, Skipped, UnknownCode,
+    Verdict, VerdictKind, Version,
 };
 
 const INPUT: &[u8] = b"\x04\0\0\0\0\0\0\x09\x72\x07\x0A\x05input";
@@ -18,6 +21,9 @@ const INPUT: &[u8] = b"\x04\0\0\0\0\0\0\x09\x72\x07\x0A\x05input";
 fn shared<T: Send + Sync + Debug>() {}
 
 fn plain<T: Send + Sync + Debug + Clone + Eq + Hash + 'static>() {}
+
+/// An error that a function may return in a box, from any thread.
+fn reported<T: error::Error + Clone + Eq + Hash + Send + Sync + 'static>() {}
 
 #[test]
 fn every_type_may_be_sent_and_shared() {
@@ -28,9 +34,16 @@ fn every_type_may_be_sent_and_shared() {
     shared::<Message<'_>>();
     shared::<Skipped<'_>>();
     shared::<Replay<'_>>();
+    shared::<ReadItems<'_, &[u8]>>();
+    shared::<Numbering>();
+    shared::<AnyMessage<'_>>();
+    plain::<AnyMessage<'static>>();
+    plain::<OwnedItem>();
+    plain::<Ignored>();
     plain::<Mismatch>();
     plain::<ChangedField>();
     plain::<UnknownCode>();
+    plain::<Version>();
     plain::<MessageType>();
     plain::<Schema>();
     plain::<Notification>();
@@ -40,6 +53,17 @@ fn every_type_may_be_sent_and_shared() {
     plain::<VerdictKind>();
     plain::<Argument>();
     plain::<Error>();
+    reported::<Error>();
+    reported::<FieldError>();
+    reported::<Incomplete>();
+    reported::<JsonError>();
+    reported::<MessageTooLong>();
+    reported::<Mismatch>();
+    reported::<NumberingError>();
+    plain::<MessagePayload>();
+    plain::<FieldReason>();
+    plain::<JsonReason>();
+    plain::<NumberingReason>();
 }
 
 #[test]
@@ -65,7 +89,7 @@ fn calls_at_once() {
 
 #[test]
 fn a_decoder_and_its_items_in_other_threads() {
-    let mut decoder = Decoder::new(8).unwrap();
+    let mut decoder = Decoder::new(Version::V8);
     decoder.feed(&INPUT[..9]).unwrap();
     let mut decoder = thread::spawn(move || {
         decoder.feed(&INPUT[9..]).unwrap();

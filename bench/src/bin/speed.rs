@@ -679,9 +679,10 @@ impl Crossing {
 
 /// How many items a stream has, by a call for each.
 fn items_by_next(workload: &Workload) -> Result<usize, Failed> {
+    let version = workload.version.try_into()?;
     let mut rest = workload.stream.as_slice();
     let mut count = 0;
-    while let Next::Item { size, .. } = next_item(workload.version, rest)? {
+    while let Next::Item { size, .. } = next_item(version, rest)? {
         rest = &rest[size..];
         count += 1;
     }

@@ -7,8 +7,8 @@ use std::fs;
 use std::hint::black_box;
 
 use bytes::{Buf, BufMut, Bytes, BytesMut};
-use pendratsoa::messages::{self, MessageRecord, Record};
-use pendratsoa::{from_json, to_json, Decoder, Ignored, Item, Replay};
+use pendratsoa::messages::{self, MessageRecord};
+use pendratsoa::{from_json, to_json, Decoder, Ignored, Item, Replay, Version};
 use pendratsoa_bench::records;
 use prost::Message;
 use serde::de::DeserializeOwned;
@@ -128,7 +128,7 @@ fn each_peer(stream: &[u8], mut take: impl FnMut(u16, Bytes)) {
 
 /// Gives each item of a stream that comes in chunks to a function.
 fn each(stream: &[u8], mut take: impl FnMut(&Item<'_>)) {
-    let mut decoder = Decoder::new(8).unwrap();
+    let mut decoder = Decoder::new(Version::V8);
     for chunk in stream.chunks(CHUNK) {
         decoder.feed(chunk).unwrap();
         for item in decoder.items() {
@@ -164,7 +164,7 @@ fn measure_more<
     let schema = Ours::SCHEMA.number();
     let text = to_json(schema, payload)?;
     let read: Theirs = serde_json::from_str(&text)?;
-    if ours.frame(8_u32)? != frame || read.encode_to_vec() != from_json(schema, &text)? {
+    if ours.frame(Version::V8)? != frame || read.encode_to_vec() != from_json(schema, &text)? {
         return Err(format!("{name} is not the same").into());
     }
     let stream = frame.repeat(FRAMES);
@@ -187,13 +187,13 @@ fn measure_more<
     );
     let framed = least(
         1,
-        || black_box(&ours).frame(8_u32).unwrap().len(),
+        || black_box(&ours).frame(Version::V8).unwrap().len(),
         || peer_frame(code, black_box(&theirs)).len(),
     );
     let replayed = least(
         FRAMES,
         || {
-            let mut replay = Replay::new(8, &stream, Ignored::default()).unwrap();
+            let mut replay = Replay::new(Version::V8, &stream, Ignored::default());
             each(black_box(&stream), |item| {
                 assert!(replay.check(item).unwrap().is_none());
             });

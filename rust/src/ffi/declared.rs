@@ -78,16 +78,13 @@ impl From<i64> for Refusal {
         match returned {
             -1 => Refusal::Malformed(About::Payload),
             -2 => Refusal::OutOfMemory,
-            -3 => Refusal::NoRoom,
             -4 => Refusal::TooLong,
             -6 => Refusal::NoId,
             -7 => Refusal::NoResult,
             -8 => Refusal::NotCanonical,
             -17 => Refusal::Malformed(About::Second),
-            -21 => Refusal::Unknown(About::Version),
             -37 => Refusal::Unknown(About::Schema),
             -53 => Refusal::Unknown(About::Type),
-            -69 => Refusal::Unknown(About::Options),
             unlisted => Refusal::Unlisted(unlisted),
         }
     }

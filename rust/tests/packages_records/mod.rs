@@ -8,7 +8,7 @@ use pendratsoa::messages::{
     SendSignalCommandSignalId, SetStateCommandMessage, SignalNotificationMessage, StartMessage,
     SuspensionMessage, SuspensionMessageV6, Value, Void,
 };
-use pendratsoa::{Error, FieldError, Item, Message};
+use pendratsoa::{Error, FieldError, Item, Message, Version};
 
 use crate::{bytes, word};
 
@@ -80,20 +80,27 @@ impl Words<'_> {
     }
 }
 
-fn frame_of<'a, R: MessageRecord<'a>>(record: &R, version: u32) -> Result<Vec<u8>, String> {
+/// The version of a word, or that it is unknown.
+fn version_of(word: &str) -> Result<Version, String> {
+    word.parse().map_err(|error| match error {
+        Error::Unknown(_) => "unknown".to_owned(),
+        error => error.to_string(),
+    })
+}
+
+fn frame_of<'a, R: MessageRecord<'a>>(record: &R, version: Version) -> Result<Vec<u8>, String> {
     let frame = record.frame(version);
     let mut buffer = Vec::new();
     let message = Message::from_record(version, record, &mut buffer);
     let bytes = message.and_then(|message| Item::from(message).to_bytes());
     assert_eq!(bytes, frame);
     frame.map_err(|error| match error {
-        Error::Unknown(_) => "unknown".to_owned(),
         Error::Field(FieldError { reason, path, .. }) => format!("{reason:?} {path}"),
         error => error.to_string(),
     })
 }
 
-fn encoded(version: u32, name: &str, given: &Words<'_>) -> Result<Vec<u8>, String> {
+fn encoded(version: Version, name: &str, given: &Words<'_>) -> Result<Vec<u8>, String> {
     match name {
         "StartMessage" => {
             let record = StartMessage {
@@ -161,7 +168,8 @@ pub fn encode_case(words: &[&str]) -> String {
             .map(|word| word.split_once('=').unwrap())
             .collect(),
     );
-    match encoded(words[0].parse().unwrap(), words[1], &given) {
+    let frame = version_of(words[0]).and_then(|version| encoded(version, words[1], &given));
+    match frame {
         Ok(frame) => word(&frame),
         Err(why) => why,
     }
@@ -169,7 +177,10 @@ pub fn encode_case(words: &[&str]) -> String {
 
 /// The message of a record without a field, or why there is none.
 pub fn message_case(words: &[&str]) -> String {
-    let version = words[0].parse().unwrap();
+    let version = match version_of(words[0]) {
+        Ok(version) => version,
+        Err(why) => return why,
+    };
     match words[1] {
         "StartMessage" => message_of(&StartMessage::default(), version),
         "SetStateCommandMessage" => message_of(&SetStateCommandMessage::default(), version),
@@ -183,14 +194,10 @@ pub fn message_case(words: &[&str]) -> String {
     }
 }
 
-fn message_of<'a, R: MessageRecord<'a>>(record: &R, version: u32) -> String {
-    let mut buffer = vec![7];
+fn message_of<'a, R: MessageRecord<'a>>(record: &R, version: Version) -> String {
+    let mut buffer = Vec::new();
     match Message::from_record(version, record, &mut buffer) {
         Ok(message) => Item::Message(message).to_string(),
-        Err(Error::Unknown(_)) => {
-            assert_eq!(buffer, [7]);
-            "unknown".to_owned()
-        }
         Err(error) => error.to_string(),
     }
 }

@@ -2,10 +2,11 @@
 //!
 //! ```
 //! use bytes::BytesMut;
+//! use pendratsoa::Version;
 //! use pendratsoa_tokio::ItemCodec;
 //! use tokio_util::codec::Decoder;
 //!
-//! let mut codec = ItemCodec::new(8)?;
+//! let mut codec = ItemCodec::new(Version::V8);
 //! let mut buffer = BytesMut::from(&[0, 3, 0, 0, 0, 0, 0, 0, 0, 3][..]);
 //! let item = codec.decode(&mut buffer)?.unwrap();
 //! assert_eq!(item.to_string(), "End 0");
@@ -22,7 +23,7 @@
 use std::io;
 
 use bytes::BytesMut;
-use pendratsoa::{Error, Item, Numbering, OwnedItem};
+use pendratsoa::{Item, Numbering, OwnedItem, Version};
 use tokio_util::codec::{Decoder, Encoder};
 
 /// The codec of a stream of one version: it decodes items, and encodes them as received.
@@ -32,16 +33,20 @@ pub struct ItemCodec {
 }
 
 impl ItemCodec {
-    /// A codec at a version from 5 to 9, without a limit on the size of a message: `Error::Unknown` at another.
-    pub fn new(version: u32) -> Result<ItemCodec, Error> {
-        pendratsoa::Decoder::new(version).map(|decoder| ItemCodec { decoder })
+    /// A codec of a stream of a version, without a limit on the size of a message.
+    #[must_use]
+    pub fn new(version: Version) -> ItemCodec {
+        let decoder = pendratsoa::Decoder::new(version);
+        ItemCodec { decoder }
     }
 
-    /// A codec at a version from 5 to 9 that takes no message whose payload has more bytes than this. A longer message
-    /// is `Error::MessageTooLong` as soon as its header came, and of each call from then on. The header does not count.
-    pub fn with_max_message_size(version: u32, size: u32) -> Result<ItemCodec, Error> {
-        pendratsoa::Decoder::with_max_message_size(version, size)
-            .map(|decoder| ItemCodec { decoder })
+    /// A codec of a stream of a version that takes no message whose payload has more bytes than this. A longer message
+    /// is [`Error::MessageTooLong`](pendratsoa::Error::MessageTooLong) as soon as its header came, and of each call
+    /// from then on. The header does not count.
+    #[must_use]
+    pub fn with_max_message_size(version: Version, size: u32) -> ItemCodec {
+        let decoder = pendratsoa::Decoder::with_max_message_size(version, size);
+        ItemCodec { decoder }
     }
 
     /// The codec of a stream whose payloads are at the field numbers of a descriptor set, as
@@ -53,8 +58,8 @@ impl ItemCodec {
     }
 
     /// The bytes that the codec keeps: those taken out of the buffer that no item has yet. After the error that the
-    /// stream ended within an item, they are what a proxy passes on after the last item. After `Error::MessageTooLong`
-    /// there are none.
+    /// stream ended within an item, they are what a proxy passes on after the last item. After
+    /// [`Error::MessageTooLong`](pendratsoa::Error::MessageTooLong) there are none.
     #[must_use]
     pub fn trailing(&self) -> &[u8] {
         self.decoder.trailing()
@@ -67,15 +72,20 @@ impl Decoder for ItemCodec {
 
     /// The next item, which has bytes of its own. What came is taken out of the buffer, and kept by the codec.
     fn decode(&mut self, source: &mut BytesMut) -> io::Result<Option<OwnedItem>> {
-        self.decoder.feed(source)?;
-        source.clear();
+        let fed = self.decoder.feed(source);
+        // what comes after the stream ended is dropped too
+        if fed != Err(pendratsoa::Error::OutOfMemory) {
+            source.clear();
+        }
+        fed?;
         self.decoder
             .next_owned()
             .transpose()
             .map_err(io::Error::from)
     }
 
-    /// The next item; after the last one `None`, or `Error::Incomplete` where the stream ended within an item.
+    /// The next item; after the last one `None`, or [`Error::Incomplete`](pendratsoa::Error::Incomplete) where the
+    /// stream ended within an item.
     fn decode_eof(&mut self, source: &mut BytesMut) -> io::Result<Option<OwnedItem>> {
         let item = self.decode(source)?;
         if item.is_none() {
@@ -109,6 +119,8 @@ impl Encoder<OwnedItem> for ItemCodec {
 
 #[cfg(test)]
 mod tests {
+    use pendratsoa::Error;
+
     use super::*;
 
     const STREAM: [u8; 19] = [0, 3, 0, 0, 0, 0, 0, 0, 4, 3, 0, 0, 0, 0, 0, 3, 10, 1, b'a'];
@@ -136,7 +148,7 @@ mod tests {
     #[test]
     fn items_of_any_chunks_are_written_as_they_came() {
         for size in 1..=STREAM.len() {
-            let mut codec = ItemCodec::new(8).unwrap();
+            let mut codec = ItemCodec::new(Version::V8);
             let items = decoded(&mut codec, &STREAM, size).unwrap();
             let lines: Vec<String> = items.iter().map(OwnedItem::to_string).collect();
             assert_eq!(lines, ["End 0", "SetStateCommand 3"]);
@@ -153,13 +165,12 @@ mod tests {
     #[test]
     fn a_stream_that_ends_within_an_item() {
         for end in 9..STREAM.len() {
-            let mut codec = ItemCodec::new(8).unwrap();
+            let mut codec = ItemCodec::new(Version::V8);
             let error = decoded(&mut codec, &STREAM[..end], 5).unwrap_err();
             assert_eq!(error.kind(), io::ErrorKind::UnexpectedEof);
             assert_eq!(held(&error).offset(), Some(8));
             assert_eq!(codec.trailing(), &STREAM[8..end]);
         }
-        assert!(ItemCodec::new(4).is_err());
     }
 
     #[test]
@@ -168,8 +179,8 @@ mod tests {
         let set = b"\n=\n\x07a.proto\"*\n\x16SetStateCommandMessage\
             \x12\x10\n\x03key\x18\x03 \x01(\x0cR\x03keyb\x06proto3";
         let numbering = Numbering::new(set, &[]).unwrap();
-        let mut codec = ItemCodec::new(8).unwrap().with_numbering(&numbering);
-        let stream = numbering.write_stream(8, &STREAM).unwrap();
+        let mut codec = ItemCodec::new(Version::V8).with_numbering(&numbering);
+        let stream = numbering.write_stream(Version::V8, &STREAM).unwrap();
         let mut out = BytesMut::new();
         for item in decoded(&mut codec, &stream, 5).unwrap() {
             if let Item::Message(message) = item.item() {
@@ -183,13 +194,14 @@ mod tests {
 
     #[test]
     fn a_message_over_the_limit_is_an_error_of_each_call() {
-        let mut codec = ItemCodec::with_max_message_size(8, 2).unwrap();
+        let mut codec = ItemCodec::with_max_message_size(Version::V8, 2);
         let mut buffer = BytesMut::from(&STREAM[..16]);
         assert!(codec.decode(&mut buffer).unwrap().is_some());
         for _ in 0..3 {
             let error = codec.decode(&mut buffer).unwrap_err();
             assert_eq!(error.kind(), io::ErrorKind::InvalidData);
             assert!(matches!(held(&error), Error::MessageTooLong(error) if error.offset == 8));
+            assert!(buffer.is_empty());
             buffer.extend_from_slice(&[1]);
             assert_eq!(codec.trailing(), []);
         }

@@ -1,6 +1,6 @@
 //! The results of the library for random cases.
 
-use pendratsoa::{next_item, Item, Next};
+use pendratsoa::{next_item, Item, Next, Version};
 use pendratsoa_bench::cases::{any, any_chunk};
 use pendratsoa_bench::conformance::{hex, Case, Listing, MALFORMED};
 use pendratsoa_bench::ours::{self, FrameCall, Refusal};
@@ -150,6 +150,10 @@ fn list(version: u32, stream: &[u8], chunk: usize, rounds: usize) -> String {
 
 /// The same listing by a call for each item.
 fn list_by_next(version: u32, stream: &[u8]) -> String {
+    let version = match Version::try_from(version) {
+        Ok(version) => version,
+        Err(error) => return error.to_string(),
+    };
     let mut listing = Listing::default();
     let mut rest = stream;
     loop {
