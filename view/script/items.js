@@ -110,8 +110,9 @@ function awaitedKeys(item) {
 function partsOf(item) {
   const { type, message } = item.dump;
   if (message === undefined || schemaOf(item) === undefined) return [];
-  const awaited = awaitedKeys(item);
-  if (awaited.length > 0) return awaited.map((key) => ({ key, role: "awaits" }));
+  // an id may be there any number of times
+  const awaited = new Set(awaitedKeys(item));
+  if (awaited.size > 0) return Array.from(awaited, (key) => ({ key, role: "awaits" }));
   if (type === "SignalNotification") {
     if (message.name !== undefined) return [{ key: `n${message.name}`, role: "completes" }];
     return message.idx === undefined ? [] : [{ key: `s${message.idx}`, role: "completes" }];

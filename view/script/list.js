@@ -102,8 +102,13 @@ function rowNode(place) {
 
 /** The items that the selected ones are joined to. */
 function relatedItems() {
-  return new Set(itemsOf(selected).flatMap((item) =>
-    item.parts.flatMap(({ key }) => Object.values(threadOf(item, key)).flat())));
+  const related = new Set();
+  for (const item of itemsOf(selected)) {
+    for (const { key } of item.parts) {
+      for (const others of Object.values(threadOf(item, key))) others.forEach((other) => related.add(other));
+    }
+  }
+  return related;
 }
 
 /** Makes the rows that are in sight, and drops all others; with `all` those that fit on paper. */

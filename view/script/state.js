@@ -22,7 +22,9 @@ function stateChange(item) {
 }
 
 const changesOf = journals.map(() => null);
-const statesAt = journals.map(() => ({ next: 0, state: new Map() }));
+// `set` has the keys with a value, so that a key is cleared no more often than it is set
+const noState = () => ({ next: 0, state: new Map(), set: new Set() });
+const statesAt = journals.map(noState);
 
 /** The state after an item of a number: a map from keys to a value and the item that left it. */
 function stateAfter(side, number) {
@@ -31,12 +33,16 @@ function stateAfter(side, number) {
     .filter(({ change }) => change);
   const changes = changesOf[side];
   // from what was made last, if that is not later
-  if (changes[statesAt[side].next - 1]?.item.number > number) statesAt[side] = { next: 0, state: new Map() };
+  if (changes[statesAt[side].next - 1]?.item.number > number) statesAt[side] = noState();
   const at = statesAt[side];
   for (; changes[at.next]?.item.number <= number; at.next++) {
     const { item, change } = changes[at.next];
-    if (change.isAll) at.state = new Map([...at.state.keys()].map((key) => [key, { value: null, item }]));
-    for (const [key, value] of change.entries) at.state.set(key, { value, item });
+    const cleared = change.isAll ? Array.from(at.set, (key) => [key, null]) : [];
+    for (const [key, value] of [...cleared, ...change.entries]) {
+      at.state.set(key, { value, item });
+      if (value === null) at.set.delete(key);
+      else at.set.add(key);
+    }
   }
   return at.state;
 }

@@ -12,6 +12,8 @@ function searchedOf({ path, kind, value, cut }) {
   return [[path, decoded(bytes, cut !== undefined) ?? hexOf(bytes).replaceAll(" ", "")]];
 }
 
+const isName = ([path]) => NAME_PATH.test(path);
+
 /** What is searched of an item: its type, its names, and all its texts, in lower case. */
 function haystackOf(item) {
   if (!haystacks.has(item)) {
@@ -19,7 +21,8 @@ function haystackOf(item) {
     const lower = itemValues(item).flatMap(searchedOf).map(([path, text]) => [path, text.toLowerCase()]);
     haystacks.set(item, {
       type,
-      names: lower.filter(([path]) => NAME_PATH.test(path)).map(([, text]) => text).join("\n"),
+      // undefined of an item without a name, which has not even an empty text in its names
+      names: lower.some(isName) ? lower.filter(isName).map(([, text]) => text).join("\n") : undefined,
       all: [type, ...lower.map(([, text]) => text)].join("\n"),
     });
   }
@@ -61,12 +64,16 @@ const NUMBERS = {
 };
 const UNITS = { "": 1, b: 1, kb: 1e3, mb: 1e6, gb: 1e9, kib: 1024, mib: 1024 ** 2, gib: 1024 ** 3 };
 
+/** A number in a unit: 1.001 kB is 1001, and no number next to it that a product of two doubles is. */
+const scaledBy = (digits, unit) =>
+  digits.includes(".") ? Number((Number(digits) * unit).toPrecision(15)) : Number(digits) * unit;
+
 /** The range that is meant by 49, 40-60, >49, >=1MB or <2kB: the least and the greatest number; null by other texts. */
 function rangeOf(text) {
   const [, sign, from, unit, , to, lastUnit] =
     text.match(/^(>=?|<=?|=)?([\d.,]*\d[\d.,]*)([kmg]?i?b)?(-([\d.,]*\d[\d.,]*)([kmg]?i?b)?)?$/) ?? [];
   const [first, last] = [[from, unit], [to, lastUnit ?? unit]].map(([digits, of]) =>
-    digits === undefined ? undefined : Number(digits.replaceAll(",", "")) * UNITS[of ?? ""]);
+    digits === undefined ? undefined : scaledBy(digits.replaceAll(",", ""), UNITS[of ?? ""]));
   if (first === undefined || Number.isNaN(first) || (to !== undefined && (sign || Number.isNaN(last)))) return null;
   switch (sign) {
     case ">":
@@ -101,7 +108,7 @@ function testOf(field, rest) {
     return { wrong: `is: is not followed by ${rest}` };
   }
   const part = { type: "type", name: "names" }[field] ?? "all";
-  return { test: (item) => haystackOf(item)[part].includes(rest) };
+  return { test: (item) => haystackOf(item)[part]?.includes(rest) ?? false };
 }
 
 /** The words of a text, in lower case: `-` before a word, a field before a colon, and a phrase in quotes. */

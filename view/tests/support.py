@@ -77,6 +77,14 @@ class PageTest(unittest.TestCase):
         text = self.value(f"document.querySelector({json.dumps(selector)})?.textContent ?? null")
         return text if text is None else " ".join(text.split())
 
+    def unfold(self, selector):
+        """Unfolds elements, and waits until they have drawn what is in them, which an event of the page does later."""
+        self.value(f"""Promise.all(Array.from(document.querySelectorAll({json.dumps(selector)}), (one) =>
+            one.open || new Promise((drawn) => {{
+                one.addEventListener("toggle", () => drawn(), {{ once: true }});
+                one.open = true;
+            }})))""")
+
     def selected(self):
         """The text of the selected row."""
         return self.text(".row[aria-selected=true]")

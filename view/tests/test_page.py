@@ -356,7 +356,7 @@ class Hostile(PageTest):
         self.assertEqual(count, 9 * len(HOSTILE))
         for _ in range(count):
             browser.press("j")
-        self.value("document.querySelectorAll('#detail details').forEach((one) => { one.open = true; })")
+        self.unfold("#detail details")
         self.assertEqual(self.value("typeof hacked"), "undefined")
         self.assertEqual(self.value("document.querySelectorAll('img, b[onmouseover], svg:not(.bar svg)').length"), 0)
         self.assertEqual(self.value("document.querySelectorAll('body script').length"), 3)
@@ -372,7 +372,7 @@ class Hostile(PageTest):
             streams.append(written(f"<b>{side}", b"".join(frames)))
         self.open(*streams, place="#recorded-1?filter=<img src=x onerror=hacked=1>&type=<b>")
         browser.press("Escape", "g")
-        self.value("document.querySelector('.state').open = true")
+        self.unfold(".state")
         for _ in range(self.rows()):
             browser.press("j")
             self.value("document.querySelectorAll('.tree .key, .tree .fold').forEach((button) => button.click())")
@@ -380,6 +380,20 @@ class Hostile(PageTest):
         self.assertEqual(self.value("typeof hacked"), "undefined")
         self.assertEqual(self.value("document.querySelectorAll('img, b[onmouseover], svg:not(.bar svg)').length"), 0)
         self.assertEqual(self.value("document.querySelectorAll('body script').length"), 4)
+
+    def test_an_id_that_is_awaited_many_times(self):
+        once = frame("AwaitingOn", awaiting_on={"waiting_completions": [1] * 20_000, "waiting_signals": [17]})
+        self.open(written("often", once + frame("RunCommand", result_completion_id=1)))
+        self.assertEqual(self.rows(), 2)
+        browser.press("j")
+        self.assertEqual(self.value("document.querySelectorAll('.row.related').length"), 1)
+
+    def test_a_state_that_is_cleared_many_times(self):
+        sets = [frame("SetStateCommand", key=b"%d" % key, value={"content": b"1"}) for key in range(20_000)]
+        self.open(written("cleared", b"".join([*sets, *[frame("ClearAllStateCommand")] * 20_000])))
+        self.unfold(".state")
+        browser.press("G")
+        self.assertIn("cleared #20000", self.text(".state table"))
 
     def test_a_payload_is_shown_as_it_is(self):
         for text in HOSTILE[:6]:
