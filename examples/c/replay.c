@@ -64,7 +64,9 @@ static int print_mismatch(const struct journal_mismatch *found) {
     static const char *const kinds[] = {"same", "recorded_ended", "replayed_ended", "type_mismatch",
                                         "header_mismatch", "bad_recorded", "bad_replayed"};
 
-    printf("%s, command %" PRIu64 ", recorded at offset ", kinds[found->kind], found->index);
+    /* a later library may have further kinds */
+    printf("%s, command %" PRIu64 ", recorded at offset ",
+           found->kind < sizeof kinds / sizeof kinds[0] ? kinds[found->kind] : "mismatch", found->index);
     found->recorded_size > 0 ? printf("%" PRIu64, found->recorded_offset) : printf("-");
     printf(", replayed at offset %" PRIu64 "\n", found->replayed_offset);
     if (found->kind != JOURNAL_VERDICT_RECORDED_ENDED) {
@@ -161,6 +163,9 @@ int main(int argc, char **argv) {
     }
     if (result < 0) {
         fprintf(stderr, "replay: %s\n", journal_error_text(result));
+    } else if (fflush(stdout) != 0 || ferror(stdout)) {
+        fputs("replay: the output failed\n", stderr);
+        return 2;
     }
     return result < 0 ? 2 : (int)result;
 }

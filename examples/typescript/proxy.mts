@@ -6,7 +6,8 @@
 // All that it does not change it passes on byte for byte, also the beginning of a last item that is not whole. A
 // command that it changes has only the fields of its type: unknown fields of its payload and ignored bits of its header
 // are lost. The status is 0 after a whole stream, and 2 if the arguments are wrong. It is 1 if the stream ends within
-// an item, a command that sets a state is malformed, a payload has more than a mebibyte, or the output is closed.
+// an item, a command that sets a state is malformed, a state is not a number, a payload has more than a mebibyte, or
+// the output is closed.
 
 import { Incomplete, Message, items } from 'pendratsoa';
 import type { Item } from 'pendratsoa';
@@ -38,9 +39,13 @@ function passedOn(item: Item): Uint8Array {
   return item.bytes;
 }
 
-/** The number after that of a text, as a text. */
+/** The number after that of a text, as a text. It may be greater than a `number` can be exactly. */
 function oneMore(text: Uint8Array): Uint8Array {
-  return new TextEncoder().encode(String(Number(new TextDecoder().decode(text)) + 1));
+  const state = new TextDecoder().decode(text);
+  if (!/^[+-]?\d+$/.test(state)) {
+    throw new RangeError(`the state ${JSON.stringify(state)} is not a number`);
+  }
+  return new TextEncoder().encode(String(BigInt(state) + 1n));
 }
 
 /** Writes bytes to the standard output, and waits until that has taken them. */

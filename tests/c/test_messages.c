@@ -151,7 +151,7 @@ static int is_framed(uint32_t version, uint16_t code, const union journal_record
         fail("out of memory");
     }
     memset(out, 0x5A, room + 1);
-    for (int tries = 0; tries < 3; tries++) {
+    for (int tries = 0; tries < 2; tries++) {
         size_t size = arena.left + arena.lacking;
 
         free(arena.memory);
