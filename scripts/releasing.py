@@ -3,7 +3,8 @@
 
     FOLDER          where the outputs are kept, each as NAME.log, and at the end the release, in FOLDER/files
     --measure       only measures, on another processor; its FOLDER/speed goes into that of the machine of the release
-    --allow TEXT    what may say 'not run', by the beginning of its line; may be given several times
+    --allow TEXT    what may say 'not run', by the beginning of its line; may be given several times; with 'measured on'
+                    the tables of one processor are enough
     --list          lists the stages
 
 It stops at the first stage that fails, in which a case fails, or of which a part is not run, and says so. What has
@@ -132,10 +133,11 @@ def run(folder: pathlib.Path, options: argparse.Namespace) -> None:
     marks = [f"{stage.name}.passed" for stage in STAGES if stage.is_measure]
     places = sorted((folder / "speed").iterdir())
     measured = [place.name for place in places if all(has_passed(place / mark, "HEAD") for mark in marks)]
-    if len(measured) < PROCESSORS:
+    on = f"measured on {', '.join(measured)}"
+    if len(measured) < PROCESSORS and not on.startswith(tuple(options.allow)):
         raise Stopped(
-            f"this commit is measured on {', '.join(measured)} alone, and has to be on {PROCESSORS} processors: run it "
-            "with --measure on another one, and copy its speed folder here"
+            f"this commit is {on} only, and has to be on {PROCESSORS} processors: run it with --measure on another "
+            "one, and copy its speed folder here, or allow it by --allow 'measured on'"
         )
     logs = ["--gate", str(folder / "gate.log"), "--systems", str(folder / "systems.log")]
     command = ["sh", "scripts/release.sh", *logs, str(folder / "files")]

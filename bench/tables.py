@@ -1,0 +1,221 @@
+#!/usr/bin/env python3
+"""Writes what runs of speed, programs and journals measured into the tables of docs/PERFORMANCE.md:
+
+    bench/tables.py FOLDER..
+
+A folder is of a run, with speed.log, programs.log and journals.log, as releasing.sh leaves them. A rate is that of the run whose ratio is the middle one. Columns that no run measures, as instructions, stay, and cells
+with a dash. It stops where a row of the page was not measured, or not in each run.
+"""
+from __future__ import annotations
+
+import collections.abc
+import dataclasses
+import pathlib
+import statistics
+import sys
+
+PAGE = pathlib.Path(__file__).resolve().parent.parent / "docs" / "PERFORMANCE.md"
+
+# The cells of a line of a table.
+Cells = list[str]
+
+# What is written into a row: its columns, by the same row of each run, in the order of their ratios.
+Fill = collections.abc.Callable[[list[Cells]], dict[int, str]]
+
+
+class Unmeasured(Exception):
+    """A row of the page that the runs do not have."""
+
+
+@dataclasses.dataclass(frozen=True)
+class Table:
+    """A table of the page: the heading above it, the columns of the page that name a row, and what fills the others."""
+
+    heading: str
+    keys: tuple[int, ...]
+    fill: Fill
+    log: str = "speed"
+
+
+def cells_of(line: str) -> Cells:
+    return [cell.strip() for cell in line.strip().strip("|").split("|")]
+
+
+def plain(name: str) -> str:
+    """A name without its marks as code."""
+    return name.replace("`", "")
+
+
+def middle(rows: list[Cells]) -> Cells:
+    return rows[(len(rows) - 1) // 2]
+
+
+def spread(rows: list[Cells], column: int) -> str:
+    """A ratio of the middle run, with those of the others."""
+    others = [row[column] for row in rows if row is not middle(rows)]
+    return middle(rows)[column] + (f" ({', '.join(others)})" if others else "")
+
+
+def stretch(rows: list[Cells], column: int) -> str:
+    """The same with the least and the greatest one."""
+    return f"{middle(rows)[column]} ({rows[0][column]} to {rows[-1][column]})"
+
+
+def items(rows: list[Cells]) -> dict[int, str]:
+    return {3: middle(rows)[3], 4: spread(rows, 5), 6: f"{middle(rows)[6]}; {middle(rows)[7]}"}
+
+
+def frames(rows: list[Cells]) -> dict[int, str]:
+    return {2: middle(rows)[3], 3: middle(rows)[5], 5: f"{middle(rows)[6]}; {middle(rows)[7]}"}
+
+
+def comparisons(rows: list[Cells]) -> dict[int, str]:
+    return {1: middle(rows)[3], 2: spread(rows, 5)}
+
+
+def adversarial(rows: list[Cells]) -> dict[int, str]:
+    return {1: middle(rows)[1], 2: middle(rows)[3]}
+
+
+def calls(rows: list[Cells]) -> dict[int, str]:
+    return {1: middle(rows)[1], 2: middle(rows)[2], 3: middle(rows)[3]}
+
+
+def programs(rows: list[Cells]) -> dict[int, str]:
+    return {2: middle(rows)[3], 3: middle(rows)[4], 4: spread(rows, 6)}
+
+
+def lines(rows: list[Cells]) -> dict[int, str]:
+    return {1: middle(rows)[2], 2: middle(rows)[4], 3: stretch(rows, 6)}
+
+
+def journals(rows: list[Cells]) -> dict[int, str]:
+    return {
+        1: f"{int(middle(rows)[1].removesuffix(' commands')):,}",
+        **{column: middle(rows)[column] for column in (2, 3, 4, 5)},
+        6: stretch(rows, 6),
+    }
+
+
+TABLES = (
+    Table("Items of a stream", (0, 1, 2), items),
+    Table("Typed messages", (0, 1, 2), items),
+    Table("Frames written", (0, 1), frames),
+    Table("Comparing commands", (0,), comparisons),
+    Table("Adversarial messages", (0,), adversarial),
+    Table("C calls", (0,), calls),
+    Table("Streams dumped and listed", (0, 1), programs, log="programs"),
+    Table("JSON read", (0,), lines, log="programs"),
+    Table("Two journals compared", (0,), journals, log="journals"),
+)
+
+# Where the row of a run has its ratio, by the number of its cells and its log.
+RATIOS = {("speed", 8): 5, ("speed", 4): 3, ("programs", 7): 6, ("journals", 9): 6}
+
+# The heading of the table whose columns are kinds of work, and these.
+SUSPENSIONS = "Suspensions"
+WHATS = ("encode", "encode_into", "encode_spare", "encode_shared", "encode_held")
+
+
+def rows_of(folder: pathlib.Path, log: str) -> list[Cells]:
+    """The rows that a run printed, without the heads of its tables."""
+    rows = [cells_of(line) for line in (folder / f"{log}.log").read_text().splitlines() if line.startswith("| ")]
+    return [row for row in rows if any(character.isdigit() for cell in row[1:] for character in cell)]
+
+
+def names(table: str, row: Cells) -> tuple[str, ...]:
+    """How the page names a row of a run."""
+    match table:
+        case "Items of a stream" | "Typed messages":
+            return row[0], row[1], "a slice" if row[1] == "item_refs" else row[2]
+        case "Frames written" | "Streams dumped and listed":
+            return row[0], row[1]
+        case "JSON read" | "Comparing commands":
+            return (row[1],)
+    return (row[0],)
+
+
+def is_of(table: str, row: Cells) -> bool:
+    """Whether a row of a run is of a table of the page."""
+    match table:
+        case "Comparing commands":
+            return row[0] == "compare"
+        case "JSON read":
+            return row[0] == "journal_make"
+        case "C calls":
+            return len(row) == 4
+        case "Adversarial messages":
+            return len(row) == 8 and "," in row[1]
+    return True
+
+
+def ratio(log: str, row: Cells) -> float:
+    """What runs are ordered by; of an adversarial message its ratio at the largest size."""
+    if log == "speed" and len(row) == 8 and "," in row[3]:
+        return float(row[3].split(", ")[-1])
+    return float(row[RATIOS[log, len(row)]])
+
+
+def measured(runs: list[pathlib.Path], table: Table, key: tuple[str, ...]) -> list[Cells]:
+    """The row of a name of each run, in the order of the ratios."""
+    found = [row for run in runs for row in rows_of(run, table.log)
+             if is_of(table.heading, row) and tuple(map(plain, names(table.heading, row))) == key]
+    if len(found) != len(runs):
+        raise Unmeasured(f"{table.heading}: {', '.join(key)}: in {len(found)} of {len(runs)} runs")
+    return sorted(found, key=lambda row: ratio(table.log, row))
+
+
+def filled(runs: list[pathlib.Path], table: Table, line: str) -> str:
+    """A row of the page with what the runs have for it."""
+    cells = cells_of(line)
+    key = tuple(plain(cells[column]) for column in table.keys)
+    for column, text in table.fill(measured(runs, table, key)).items():
+        if cells[column] != "–":
+            cells[column] = text
+    return f"| {' | '.join(cells)} |"
+
+
+def suspension(runs: list[pathlib.Path], line: str) -> str:
+    """A row of suspensions, with the middle ratio of each kind of work."""
+    cells = cells_of(line)
+    for column, what in enumerate(WHATS, 1):
+        found = [row[5] for run in runs for row in rows_of(run, "speed") if row[:2] == [cells[0], what]]
+        if len(found) != len(runs):
+            raise Unmeasured(f"{cells[0]}, {what}: in {len(found)} of {len(runs)} runs")
+        cells[column] = f"{statistics.median_low(map(float, found)):.2f}"
+    return f"| {' | '.join(cells)} |"
+
+
+def written(runs: list[pathlib.Path], page: list[str]) -> list[str]:
+    """The lines of the page with the rows of the first table below each heading filled."""
+    made, heading, place = [], "", 0
+    tables = {table.heading: table for table in TABLES}
+    for line in page:
+        if line.startswith("## "):
+            heading, place = line.removeprefix("## "), 0
+        is_row = line.startswith("|")
+        # after the first table of a heading comes another one, which no run fills
+        place = place + 1 if is_row and place >= 0 else -1 if place > 0 else place
+        if is_row and place > 2 and heading == SUSPENSIONS:
+            line = suspension(runs, line)
+        elif is_row and place > 2 and heading in tables:
+            line = filled(runs, tables[heading], line)
+        made.append(line)
+    return made
+
+
+def main(words: list[str]) -> int:
+    if not words or words[0].startswith("-"):
+        print(__doc__.strip(), file=sys.stdout if words == ["--help"] else sys.stderr)
+        return 0 if words == ["--help"] else 2
+    try:
+        made = written([pathlib.Path(word) for word in words], PAGE.read_text().splitlines())
+    except (OSError, Unmeasured) as error:
+        print(f"tables.py: {error}", file=sys.stderr)
+        return 1
+    PAGE.write_text("\n".join(made) + "\n")
+    return 0
+
+
+if __name__ == "__main__":
+    sys.exit(main(sys.argv[1:]))
