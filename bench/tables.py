@@ -3,8 +3,9 @@
 
     bench/tables.py FOLDER..
 
-A folder is of a run, with speed.log, programs.log and journals.log, as releasing.sh leaves them. A rate is that of the run whose ratio is the middle one. Columns that no run measures, as instructions, stay, and cells
-with a dash. It stops where a row of the page was not measured, or not in each run.
+A folder is of a run, with speed.log, programs.log and journals.log, as releasing.sh leaves them. A rate is that of the
+run whose ratio is the middle one. Columns that no run measures, as instructions, stay, and cells with a dash. It stops
+where a row of the page was not measured, or not in each run.
 """
 from __future__ import annotations
 
