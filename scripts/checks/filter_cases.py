@@ -1,4 +1,4 @@
-"""What filters find: the cases of examples/filters.txt."""
+"""What filters find: the cases of examples/filters.txt; and words that are not a filter."""
 from __future__ import annotations
 
 import collections.abc
@@ -8,6 +8,17 @@ EXAMPLES = pathlib.Path(__file__).resolve().parent.parent.parent / "examples"
 
 # The words of a filter, and the indices of the items that have them.
 Case = tuple[str, list[int]]
+
+# Words that are not a filter, and what is said of them; a number has at most 128 bits.
+WRONG: tuple[tuple[str, str], ...] = (
+    ("size:big", "size: is followed by a number, as size:49, size:>49 or size:40-60"),
+    ("cmd:>1-2", "cmd: is followed by a number, as cmd:49, cmd:>49 or cmd:40-60"),
+    ("cmd:", "cmd: is followed by a number, as cmd:49, cmd:>49 or cmd:40-60"),
+    ("id:340282366920938463463374607431768211456", "id: is followed by a number, as id:49, id:>49 or id:40-60"),
+    ("id:>340282366920938463463374607431768211455", "id: is followed by a number, as id:49, id:>49 or id:40-60"),
+    ("is:constructor", "is: is not followed by constructor"),
+    ("is:same", "is: is not followed by same"),
+)
 
 
 def cases() -> collections.abc.Iterator[tuple[bytes, list[Case]]]:

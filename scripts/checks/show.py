@@ -165,14 +165,8 @@ TOO_LONG: tuple[tuple[str, str, str], ...] = (
 )
 
 
-# Words that are not a filter, and what is said of them.
-WRONG: tuple[tuple[str, str], ...] = (
-    ("size:big", "size: is followed by a number, as size:49, size:>49 or size:40-60"),
-    ("cmd:>1-2", "cmd: is followed by a number, as cmd:49, cmd:>49 or cmd:40-60"),
-    ("cmd:", "cmd: is followed by a number, as cmd:49, cmd:>49 or cmd:40-60"),
-    ("is:constructor", "is: is not followed by constructor"),
-    ("-is:open", "-is:open: what is open is known only at the end of a journal"),
-)
+# A word that the page takes, since it has the whole journal, and what is said of it here.
+NOT_OPEN = ("-is:open", "-is:open: what is open is known only at the end of a journal")
 
 
 def filters(check: checks.Check, show: Program) -> None:
@@ -184,7 +178,7 @@ def filters(check: checks.Check, show: Program) -> None:
             wanted = "is:open" in words
             indices = [int(index) for is_open, index in shown if bool(is_open) == wanted]
             check.case(f"--where {words}", ended.status == 0 and indices == found, ended)
-    for words, said in WRONG:
+    for words, said in (*filter_cases.WRONG, NOT_OPEN):
         ended = show.run(("--where", words), b"")
         check.case(f"--where {words}", ended.status == 2 and said in ended.err.decode(), ended)
 

@@ -64,8 +64,11 @@ const pieceText = ({ label, text, failure }) => failure ?? (label ? `${label} ${
 function linkText(item) {
   const texts = item.parts.map(({ key, role }) => {
     const thread = threadOf(item, key);
-    if (role === "requests") return thread.completes.length > 0 ? `→ #${thread.completes[0].number}` : "open";
     if (role === "awaits") return null;
+    if (role === "requests") {
+      if (isWaiting(item, key)) return "open";
+      return thread.completes.length > 0 ? `→ #${thread.completes[0].number}` : null;
+    }
     const [command] = thread.requests;
     if (command) return command.command === null ? `← #${command.number}` : `← command ${command.command}`;
     return thread.awaits.length > 0 ? `← #${thread.awaits[0].number}` : "no command";

@@ -62,35 +62,41 @@ const NUMBERS = {
   size: (item) => [item.size],
   offset: (item) => [item.dump.offset],
 };
-const UNITS = { "": 1, b: 1, kb: 1e3, mb: 1e6, gb: 1e9, kib: 1024, mib: 1024 ** 2, gib: 1024 ** 3 };
+const UNITS = { b: 1n, kb: 10n ** 3n, mb: 10n ** 6n, gb: 10n ** 9n, kib: 1n << 10n, mib: 1n << 20n, gib: 1n << 30n };
+const LIMIT = 1n << 128n; // journal show has numbers of 128 bits
 
-/** A number in a unit: 1.001 kB is 1001, and no number next to it that a product of two doubles is. */
-const scaledBy = (digits, unit) =>
-  digits.includes(".") ? Number((Number(digits) * unit).toPrecision(15)) : Number(digits) * unit;
+/** The whole numbers nearest to a number in a unit, down and up; null by other texts, and of more than 128 bits. */
+function roundedOf(text, unit = "b") {
+  const [whole, fraction = "", ...others] = text.replaceAll(",", "").split(".");
+  if (whole + fraction === "" || others.length > 0) return null;
+  const one = 10n ** BigInt(fraction.length);
+  const parts = BigInt(whole + fraction) * UNITS[unit];
+  const up = parts + one - 1n;
+  return up < LIMIT ? { floor: parts / one, ceiling: up / one } : null;
+}
 
-/** The range that is meant by 49, 40-60, >49, >=1MB or <2kB: the least and the greatest number; null by other texts. */
+const RANGE = /^(>=?|<=?|=)?([\d.,]+)((?:[kmg]i?)?b)?(?:-([\d.,]+)((?:[kmg]i?)?b)?)?$/;
+
+/** The range that is meant by 49, 40-60, >49, >=1MB or <2kB: the first and the last number; null by other texts. */
 function rangeOf(text) {
-  const [, sign, from, unit, , to, lastUnit] =
-    text.match(/^(>=?|<=?|=)?([\d.,]*\d[\d.,]*)([kmg]?i?b)?(-([\d.,]*\d[\d.,]*)([kmg]?i?b)?)?$/) ?? [];
-  const [first, last] = [[from, unit], [to, lastUnit ?? unit]].map(([digits, of]) =>
-    digits === undefined ? undefined : scaledBy(digits.replaceAll(",", ""), UNITS[of ?? ""]));
-  if (first === undefined || Number.isNaN(first) || (to !== undefined && (sign || Number.isNaN(last)))) return null;
+  const [, sign = "", from = "", unit, to, lastUnit] = text.match(RANGE) ?? [];
+  const [amount, last] = [roundedOf(from, unit), roundedOf(to ?? from, lastUnit ?? unit)];
+  if (amount === null || last === null || (to !== undefined && sign !== "")) return null;
   switch (sign) {
     case ">":
-      return { least: first, most: Infinity, isOpen: true };
+      return amount.floor + 1n < LIMIT ? { first: amount.floor + 1n, last: LIMIT } : null;
     case ">=":
-      return { least: first, most: Infinity };
+      return { first: amount.ceiling, last: LIMIT };
     case "<":
-      return { least: -Infinity, most: first, isOpen: true };
+      return { first: 0n, last: amount.ceiling - 1n };
     case "<=":
-      return { least: -Infinity, most: first };
+      return { first: 0n, last: amount.floor };
     default:
-      return { least: first, most: last ?? first };
+      return { first: amount.ceiling, last: last.floor };
   }
 }
 
-const isWithin = (value, { least, most, isOpen: isStrict }) =>
-  isStrict ? value > least && value < most : value >= least && value <= most;
+const isWithin = (value, { first, last }) => value >= first && value <= last;
 
 /** A word as a test of an item; `wrong` tells what is wrong with it. */
 function testOf(field, rest) {

@@ -598,15 +598,10 @@ class Words(PageTest):
                     self.assertEqual(shown, found)
 
     def test_words_that_mean_nothing(self):
-        for text, said in (
-            ("size:big", "size: is followed by a number"),
-            ("cmd:>1-2", "cmd: is followed by a number"),
-            ("is:constructor", "is: is not followed by constructor"),
-            ("cmd:", "cmd: is followed by a number"),
-        ):
+        for text, said in filter_cases.WRONG:
             with self.subTest(text=text):
                 self.search(text)
-                self.assertIn(said, self.text("#matches"))
+                self.assertEqual(self.text("#matches"), said)
                 self.assertEqual(self.rows(), 18)
                 browser.press("Escape")
 

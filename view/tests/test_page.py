@@ -536,6 +536,60 @@ class Filter(PageTest):
         self.assertIn("1 × · 103 B", self.text("#types"))
 
 
+def run(completion_id):
+    return frame("RunCommand", result_completion_id=completion_id, name="step")
+
+
+def done(completion_id, **result):
+    return frame("RunCompletionNotification", completion_id=completion_id, **result)
+
+
+FAILED = {"failure": {"code": 70, "message": "no"}}
+EPHEMERAL = frame("GetStateEphemeralCommand", key=b"key", completion_id=1)
+
+# Frames, and the rows that words find; examples/filters.txt has more, which journal show finds too.
+FOUND = (
+    ((run(1),), {"is:open": [0]}),
+    ((run(1), done(1)), {"is:open": []}),
+    ((run(1), done(1, **FAILED)), {"is:open": [], "is:failure": [1]}),
+    ((done(1), run(1)), {"is:open": []}),
+    # an id that comes twice: its next command waits again, or in place of the first
+    ((run(1), done(1), run(1)), {"is:open": [2]}),
+    ((run(1), done(1), done(1)), {"is:open": []}),
+    ((run(1), done(1), done(1), run(1)), {"is:open": []}),
+    ((run(1), run(1)), {"is:open": [1]}),
+    ((run(1), run(1), done(1)), {"is:open": []}),
+    # a command without an id, and a core message with one
+    ((run(0),), {"is:open": []}),
+    ((EPHEMERAL,), {"is:open": [], "is:core id:1": [0]}),
+    # a proposal, and what awaits an id, do not complete it
+    ((run(1), frame("ProposeRunCompletion", result_completion_id=1, value=b"x")), {"is:open": [0], "id:1": [0, 1]}),
+    ((run(1), frame("Suspension", awaiting_on={"waiting_completions": [1]})), {"is:open": [0], "id:1": [0, 1]}),
+    # what only the page finds
+    ((run(1), done(1), run(2)), {"-is:open": [0, 1]}),
+    ((run(1), b"\x04\x11\0"), {"is:rest": [1], "-is:rest": [0]}),
+)
+
+
+class Open(PageTest):
+    def test_what_words_find(self):
+        for frames, cases in FOUND:
+            self.open(written("open", b"".join(frames)))
+            for words, found in cases.items():
+                with self.subTest(frames=frames, words=words):
+                    self.search(words)
+                    self.assertEqual(self.value("shown"), found)
+
+    def test_a_row_says_open_where_the_word_finds_it(self):
+        stream = run(1) + done(1) + run(1) + EPHEMERAL + run(0) + run(2) + run(2)
+        self.open(written("open", stream))
+        links = [self.text(f"#row-{row} .link") for row in range(7)]
+        self.assertEqual(links, ["→ #1", "← command 0", "open", "", "", "", "open"])
+        self.assertIn("2 open", self.text("#facts"))
+        self.search("is:open")
+        self.assertEqual(self.value("shown"), [2, 6])
+
+
 class Keys(PageTest):
     def test_the_list(self):
         samples.write_orders(WORK)
