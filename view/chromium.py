@@ -7,7 +7,7 @@ import select
 import subprocess
 import time
 
-from driver import SECONDS, Browser
+from driver import SECONDS, Browser, TooLate
 
 # What a key is to the protocol, where its name is not its character.
 NAMED_KEYS = {"Enter": "\r", "Escape": "", "ArrowDown": "", "ArrowUp": "", "Home": "", "End": "", "Tab": ""}
@@ -38,7 +38,7 @@ class Chromium(Browser):
         os.close(to_browser)
         os.close(from_browser)
         self.pending = b""
-        self.session = None
+        self.session = self.loader = None
         target = self.call("Target.createTarget", url="about:blank")["targetId"]
         self.session = self.call("Target.attachToTarget", targetId=target, flatten=True)["sessionId"]
         for domain in ("Page", "Runtime", "Log", "Network"):
@@ -59,7 +59,7 @@ class Chromium(Browser):
         until = time.monotonic() + SECONDS
         while b"\0" not in self.pending:
             if not select.select([self.input], [], [], max(0, until - time.monotonic()))[0]:
-                raise RuntimeError("the browser says nothing")
+                raise TooLate("the browser says nothing")
             data = os.read(self.input, 1 << 20)
             if not data:
                 raise RuntimeError("the browser has ended")
@@ -89,11 +89,16 @@ class Chromium(Browser):
             self.messages.append(event["entry"]["text"])
         elif method == "Network.requestWillBeSent":
             self.requests.append(event["request"]["url"])
+        elif method == "Page.frameNavigated" and "parentId" not in event["frame"]:
+            self.loader = event["frame"]["loaderId"]
         elif method == "Page.javascriptDialogOpening":
             self.messages.append(f"a dialog: {event['message']}")
 
     def navigate(self, address):
-        self.call("Page.navigate", url=address)
+        """Navigates, and returns once the new page is there: a command that goes to the old one until then may fail."""
+        loader = self.call("Page.navigate", url=address)["loaderId"]
+        while self.loader != loader:
+            self.received()
 
     def evaluate(self, expression):
         """The value of an expression in the page, or of what it promises."""
@@ -138,6 +143,8 @@ class Chromium(Browser):
 
     def resize(self, width, height):
         self.call("Emulation.setDeviceMetricsOverride", width=width, height=height, deviceScaleFactor=1, mobile=False)
+        # the answer may come before the page has the size
+        self.wait(f"innerWidth === {width} && innerHeight === {height}")
 
     def emulate(self, media="", dark=False):
         """Shows the page as on this medium, `print` or by default a screen, and in dark colors if they are wanted."""

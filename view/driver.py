@@ -8,11 +8,15 @@ import subprocess
 import tempfile
 import time
 
-SECONDS = 120  # what a command or a condition may take
+SECONDS = 300  # what a command or a condition may take: a bound for failures, and no measure of speed
 
 
 class NotHere(Exception):
     """Why a browser cannot be driven here."""
+
+
+class TooLate(RuntimeError):
+    """What did not come in time. A browser that is slow is there, so this is never a reason to run nothing."""
 
 
 class Browser:
@@ -32,6 +36,9 @@ class Browser:
             raise NotHere(f"there is no {self.program}, which the Debian package of this name has")
         try:
             self.start()
+        except (TooLate, TimeoutError):
+            self.__exit__()
+            raise
         except (OSError, RuntimeError) as error:
             self.__exit__()
             raise NotHere(f"{self.program} does not start here: {error}") from error
@@ -61,19 +68,25 @@ class Browser:
         self.last += 1
         self.send(json.dumps({"id": self.last, **self.message(method, parameters)}).encode())
         while True:
-            received = json.loads(self.receive())
+            received = self.received()
             if received.get("id") == self.last:
                 if "error" in received:
                     raise RuntimeError(f"{method}: {received.get('message') or received['error']['message']}")
                 return received["result"]
+
+    def received(self):
+        """What comes next; an event is kept."""
+        received = json.loads(self.receive())
+        if "id" not in received:
             self.report(received.get("method"), received.get("params", {}))
+        return received
 
     def wait(self, condition, messages=0):
         """Waits until an expression in the page is true, and the console has so many errors."""
         until = time.monotonic() + SECONDS
         while not self.evaluate(condition) or len(self.messages) < messages:
             if time.monotonic() > until:
-                raise RuntimeError(f"it does not become true: {condition}; errors of the console: {self.messages}")
+                raise TooLate(f"it does not become true: {condition}; errors of the console: {self.messages}")
             time.sleep(0.02)
 
     def load(self, path, place=""):

@@ -8,7 +8,7 @@ import socket
 import subprocess
 import time
 
-from driver import SECONDS, Browser
+from driver import SECONDS, Browser, TooLate
 
 # What a key is to the protocol, where its name is not its character.
 NAMED_KEYS = {
@@ -69,15 +69,18 @@ class Firefox(Browser):
         """A connection to the port that the browser names, once it does."""
         until = time.monotonic() + SECONDS
         while not (found := re.search(rb"listening on ws://127\.0\.0\.1:(\d+)\n", log.read_bytes())):
-            if self.process.poll() is not None or time.monotonic() > until:
-                raise RuntimeError(" ".join(log.read_text(errors="replace").split())[-300:])
+            said = " ".join(log.read_text(errors="replace").split())[-300:]
+            if self.process.poll() is not None:
+                raise RuntimeError(said)
+            if time.monotonic() > until:
+                raise TooLate(f"the browser names no port: {said}")
             time.sleep(0.05)
         port = int(found[1])
         made = socket.create_connection(("127.0.0.1", port), timeout=SECONDS)
         made.sendall(HANDSHAKE.format(port=port).encode())
         answer = b""
-        while not answer.endswith(b"\r\n\r\n"):
-            answer += made.recv(1)
+        while not answer.endswith(b"\r\n\r\n") and (part := made.recv(1)):
+            answer += part
         if b" 101 " not in answer:
             raise RuntimeError(f"the browser takes no WebSocket: {answer}")
         return made
@@ -122,7 +125,7 @@ class Firefox(Browser):
             try:
                 part = self.socket.recv(1 << 20)
             except TimeoutError:
-                raise RuntimeError("the browser says nothing") from None
+                raise TooLate("the browser says nothing") from None
             if not part:
                 raise RuntimeError("the browser has ended")
             parts.append(part)

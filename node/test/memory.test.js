@@ -26,7 +26,10 @@ const collectGarbage = runInNewContext('gc');
 const ROUNDS = Number(process.env.PENDRATSOA_ROUNDS ?? 2000);
 // What is allowed to be more afterwards, of what is counted and of what the process takes.
 const GROWTH = 2 ** 20;
-const RESIDENT_GROWTH = 2 ** 24;
+const LIMITS = { heapUsed: GROWTH, external: GROWTH, arrayBuffers: GROWTH, rss: 2 ** 24 };
+// What is never freed grows each time. Other threads of V8 compile what is called often, on a slow machine late, and
+// malloc keeps what they took: so the least growth of several times counts.
+const TIMES = 6;
 
 const RECORDED = bytesOf('examples/streams/recorded');
 const LONG = joined(hex('12808008'), new Uint8Array(2 ** 17).fill(0x61));
@@ -70,19 +73,28 @@ async function held() {
   return { heapUsed, external, arrayBuffers, rss };
 }
 
-test(`${ROUNDS} rounds of calls keep no memory`, async () => {
-  for (let i = 0; i < 500; i += 1) {
-    round(i);
-  }
+/** By how many bytes each kind of memory grows in the rounds. */
+async function growth() {
   const before = await held();
   for (let i = 0; i < ROUNDS; i += 1) {
     round(i);
   }
   const after = await held();
-  for (const kind of ['heapUsed', 'external', 'arrayBuffers']) {
-    assert.ok(after[kind] - before[kind] < GROWTH, `${kind}: ${before[kind]} to ${after[kind]}`);
+  return Object.fromEntries(Object.keys(LIMITS).map((kind) => [kind, after[kind] - before[kind]]));
+}
+
+test(`${ROUNDS} rounds of calls keep no memory`, async () => {
+  for (let i = 0; i < 500; i += 1) {
+    round(i);
   }
-  assert.ok(after.rss - before.rss < RESIDENT_GROWTH, `rss: ${before.rss} to ${after.rss}`);
+  const least = {};
+  const tooMuch = () => Object.keys(LIMITS).filter((kind) => !(least[kind] < LIMITS[kind]));
+  for (let time = 0; time < TIMES && tooMuch().length > 0; time += 1) {
+    for (const [kind, grown] of Object.entries(await growth())) {
+      least[kind] = Math.min(grown, least[kind] ?? Infinity);
+    }
+  }
+  assert.deepEqual(tooMuch(), [], JSON.stringify(least));
 });
 
 test('a stream holds what is in no item, and no more', async () => {

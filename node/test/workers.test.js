@@ -33,8 +33,10 @@ if (!isMainThread && workerData === 'vectors') {
     }
   });
 } else if (!isMainThread) {
+  const lines = vectors();
+  parentPort.postMessage('calls');
   for (;;) {
-    check(vectors());
+    check(lines);
   }
 } else {
   test('the test vectors in four threads at once', async () => {
@@ -50,14 +52,17 @@ if (!isMainThread && workerData === 'vectors') {
   });
 
   test('workers that are ended while they call', async () => {
-    for (let i = 0; i < 6; i += 1) {
-      const worker = start('forever');
-      await once(worker, 'online');
-      await new Promise((resolve) => {
-        setTimeout(resolve, 40 * i);
-      });
-      assert.equal(await worker.terminate(), 1);
-      assert.deepEqual(check(vectors().slice(0, 100)).failed, 0);
+    // it is online before it has loaded the package, and sends a message when it begins to call
+    for (const begun of ['online', 'message']) {
+      for (let i = 0; i < 6; i += 1) {
+        const worker = start('forever');
+        await once(worker, begun);
+        await new Promise((resolve) => {
+          setTimeout(resolve, 40 * i);
+        });
+        assert.equal(await worker.terminate(), 1);
+        assert.deepEqual(check(vectors().slice(0, 100)).failed, 0);
+      }
     }
   });
 

@@ -346,10 +346,14 @@ class TestCompiled(unittest.TestCase):
                         ends(lambda: type(record).decode(payload + b"\xff"))
 
         work()
-        before = resident()
-        work()
-        work()
-        self.assertLess(resident() - before, 2 << 20)
+        # what is never freed grows each time; the system may make a large page of several at any time
+        grown = []
+        while len(grown) < 6 and min(grown, default=2 << 20) >= 2 << 20:
+            before = resident()
+            work()
+            work()
+            grown.append(resident() - before)
+        self.assertLess(min(grown), 2 << 20)
 
 
 if __name__ == "__main__":

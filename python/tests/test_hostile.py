@@ -216,10 +216,14 @@ class TestMemory(unittest.TestCase):
         # each turn is some twenty calls
         for _ in range(100):
             self.work()
-        before = self.resident()
-        for _ in range(LOOPS // 20):
-            self.work()
-        self.assertLess(self.resident() - before, 1 << 20)
+        # what is never freed grows each time; the system may make a large page of several at any time
+        grown = []
+        while len(grown) < 6 and min(grown, default=1 << 20) >= 1 << 20:
+            before = self.resident()
+            for _ in range(LOOPS // 20):
+                self.work()
+            grown.append(self.resident() - before)
+        self.assertLess(min(grown), 1 << 20)
 
     def test_a_loop_leaves_no_objects(self):
         for _ in range(10):

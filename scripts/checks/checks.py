@@ -6,6 +6,7 @@ line of its file tells what it shows, and `sh scripts/check.sh` lists that.
 from __future__ import annotations
 
 import collections.abc
+import contextlib
 import dataclasses
 import itertools
 import os
@@ -213,7 +214,9 @@ def program_path(name: str) -> pathlib.Path:
     crate = crates.crate_of(name)
     place = ROOT / "crates" / crate / "out" / name
     if name != crate and place.parent.exists() and not place.is_symlink():
-        place.symlink_to(crate)
+        # another check may make it at the same time
+        with contextlib.suppress(FileExistsError):
+            place.symlink_to(crate)
     return place
 
 

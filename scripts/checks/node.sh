@@ -101,7 +101,7 @@ for calls in addon ${module:+module}; do
 done
 unset PENDRATSOA_CALLS
 for browser in ${module:+chromium firefox}; do
-  counted "the package in $browser" timeout 900 python3 -B scripts/checks/browser_vectors.py "$tree" $browser
+  counted "the package in $browser" timeout 1800 python3 -B scripts/checks/browser_vectors.py "$tree" $browser
 done
 
 # The package as a user has it: the files that package.json lists, in node_modules.

@@ -16,6 +16,8 @@ import sys
 import tempfile
 import threading
 
+import taken
+
 # what is passed on as received: an input, a custom entry and a code that no type has, with all of their flags
 KEPT = bytes.fromhex("0400123400000009" "72070a05696e707574" "fc01ffff00000001ff" "0008a5a500000000")
 INPUT = KEPT[:-17]
@@ -85,6 +87,7 @@ def piped(command, version, journal):
             process.stdin.write(journal[:size])
             process.stdin.flush()
             journal = journal[size:]
+            taken.until_taken(process, process.stdin)
         process.stdin.close()
         reader.join(60)
         said = process.stderr.read().decode()

@@ -13,11 +13,11 @@ import os
 import pathlib
 import random
 import subprocess
-import time
 
 import checks
 import made_streams
 import schema
+import taken
 from programs import STREAMS, Program
 
 # A malformed message, a stream with it between two others, and the same at the protocol's numbers, by other.proto.
@@ -116,7 +116,7 @@ def in_chunks(program: Program, words: str, stream: bytes, sizes: list[int]) -> 
             run.stdin.write(stream[:size])
             run.stdin.flush()
             stream = stream[size:]
-            time.sleep(0.002)
+            taken.until_taken(run, run.stdin)
         run.stdin.write(stream)
         run.stdin.close()
         return reader.communicate()[0]
@@ -151,7 +151,7 @@ def random_messages(
         ours = by.read(canonical)
         check.same(f"{name}, back again", canonical, by.written(ours))
         check.same(f"{name} is canonical", by.run("make", by.run("dump", ours)), ours)
-        sizes = [random.Random(2).choice([1, 2, 7, 8, 9, 100]) for _ in range(30)]
+        sizes = random.Random(2).choices([1, 2, 7, 8, 9, 100], k=30)
         check.same(f"{name} in chunks", by.read(theirs), in_chunks(program, f"renumber {by.words}", theirs, sizes))
 
 

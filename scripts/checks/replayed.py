@@ -13,6 +13,8 @@ import sys
 import tempfile
 import typing
 
+import taken
+
 ROOT = pathlib.Path(__file__).resolve().parent.parent.parent
 STREAMS = ROOT / "examples/streams"
 
@@ -64,6 +66,7 @@ def run(words: list[str], replayed: bytes, sizes: typing.Callable[[], int]) -> t
                 process.stdin.write(replayed[:size])
                 process.stdin.flush()
                 replayed = replayed[size:]
+                taken.until_taken(process, process.stdin)
         except BrokenPipeError:
             pass  # it ended before, as it may after a mismatch
         finally:

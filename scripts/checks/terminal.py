@@ -18,6 +18,7 @@ import time
 import unittest
 
 import checks
+import taken
 
 PROGRAMS = ("journal_list", "journal_dump", "journal_diff", "journal_make")
 LIST, DUMP, DIFF, MAKE = map(checks.program_path, PROGRAMS)
@@ -331,6 +332,9 @@ class Programs(unittest.TestCase):
                 process.stdin.write(data[:9])
                 process.stdin.flush()
                 runs.append((words, terminal, process))
+        # from when each has begun to read, which may be late
+        for _, _, process in runs:
+            taken.until_taken(process, process.stdin)
         time.sleep(2)
         for words, terminal, process in runs:
             output, errors = process.communicate(data[9:], timeout=120)

@@ -67,7 +67,7 @@ else
   outcome 'cc tests/c/refuse.c' 1
   finish
 fi
-(cd "$crate" && "$work/kit/bin/rt" try --test --steps 1 --seconds 600) > "$out" 2> "$err"
+(cd "$crate" && "$work/kit/bin/rt" try --test --steps 1 --seconds 3600) > "$out" 2> "$err"
 status=$?
 if ! grep -q '^test result: ' "$out"; then
   outcome 'the tests of tests/ do not compile' 1

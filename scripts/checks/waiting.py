@@ -16,7 +16,7 @@ import checks
 STREAMS = checks.ROOT / "examples" / "streams"
 
 # A program that has not written by then is one that waits: a bound for failures, and no measure of speed.
-SECONDS = 30
+SECONDS = 120
 
 PROGRAMS = ("journal_list", "journal_dump", "journal_make", "journal_show")
 LIST, DUMP, MAKE, SHOW = map(checks.program_path, PROGRAMS)

@@ -14,6 +14,7 @@
 #include <stdio.h>
 #include <stdlib.h>
 #include <string.h>
+#include <sys/prctl.h>
 #include <sys/socket.h>
 #include <sys/wait.h>
 #include <unistd.h>
@@ -225,6 +226,8 @@ int main(int count, char **words) {
         close(listening);
         serve_as_client(address);
     }
+    /* the system would make a large page of several at any time, which holds more */
+    (void)prctl(PR_SET_THP_DISABLE, 1, 0, 0, 0);
     /* all of it is resident from the beginning, so that nothing but what is held can grow */
     memset(pending, 1, sizeof pending);
     uint64_t sizes = 54321;

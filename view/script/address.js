@@ -29,6 +29,9 @@ function keepPlace() {
   keeping = setTimeout(keepPlaceNow, KEPT_AFTER);
 }
 
+// an address that someone goes to stays: what was to be kept is of the item that was selected before
+addEventListener("popstate", () => clearTimeout(keeping));
+
 /** Filters as an address says, where it says something. */
 function filterByAddress(query) {
   const words = new URLSearchParams(query);
