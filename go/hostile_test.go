@@ -8,7 +8,7 @@ import (
 	"math/rand"
 	"os"
 	"reflect"
-	"runtime"
+	"runtime/debug"
 	"strconv"
 	"strings"
 	"sync"
@@ -161,14 +161,16 @@ func describe(t *testing.T, stream []byte) string {
 	return text.String()
 }
 
-// resident returns how many bytes of memory the process holds, after a collection.
+// resident returns how many bytes of memory the process holds. Free memory is none of them, which Go would give back to
+// the system in its own time, and neither are the pages of files, which the system drops and reads again.
 func resident(t *testing.T) int {
-	runtime.GC()
+	debug.FreeOSMemory()
 	status, err := os.ReadFile("/proc/self/statm")
 	if err != nil {
 		t.Skip("not run: ", err)
 	}
-	return must(strconv.Atoi(strings.Fields(string(status))[1]))(t) * os.Getpagesize()
+	pages := strings.Fields(string(status))
+	return (must(strconv.Atoi(pages[1]))(t) - must(strconv.Atoi(pages[2]))(t)) * os.Getpagesize()
 }
 
 // Each empty text once looked at all that come after it. These would take longer than Go gives a test.

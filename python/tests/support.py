@@ -2,6 +2,8 @@
 
 import contextlib
 import ctypes
+import gc
+import os
 import pathlib
 import re
 from unittest import mock
@@ -42,6 +44,28 @@ def defined(pattern, base=10):
     """The constants of the header whose values look so, by their names without JOURNAL_."""
     found = re.findall(rf"^#define JOURNAL_(\w+) \(?({pattern})\)?(?: |$)", HEADER, re.M)
     return {name: int(number, base) for name, number in found}
+
+
+def resident():
+    """How many bytes of memory the process holds. The pages of files are none of them: the system drops them and reads
+    them again when others need memory."""
+    gc.collect()
+    _, all_, of_files, *_ = map(int, pathlib.Path("/proc/self/statm").read_text().split())
+    return (all_ - of_files) * os.sysconf("SC_PAGE_SIZE")
+
+
+def least_growth(work, limit):
+    """How many bytes more the process holds after this work: the least of several times, up to one below the limit.
+    An allocator takes more pages now and then, the system joins a few to a huge one, and what is never freed grows each
+    time."""
+    grown = []
+    before = resident()
+    while len(grown) < 6 and min(grown, default=limit) >= limit:
+        work()
+        after = resident()
+        grown.append(after - before)
+        before = after
+    return min(grown)
 
 
 @contextlib.contextmanager

@@ -34,7 +34,7 @@ from pendratsoa.messages import (
     Void,
 )
 
-from support import CALL_COMMAND, INPUT, INPUT_COMMAND, replaced, returning
+from support import CALL_COMMAND, INPUT, INPUT_COMMAND, least_growth, replaced, returning
 
 # records of each kind and shape of field, and of long values
 SAMPLES = (
@@ -333,10 +333,6 @@ class TestCompiled(unittest.TestCase):
 
     @unittest.skipUnless(os.path.exists("/proc/self/statm"), "there is no /proc")
     def test_memory(self):
-        def resident():
-            gc.collect()
-            return int(pathlib.Path("/proc/self/statm").read_text().split()[1]) * os.sysconf("SC_PAGE_SIZE")
-
         def work():
             for record in (*SAMPLES, *(record for record, _ in UNUSUAL)):
                 for _ in range(300):
@@ -345,15 +341,12 @@ class TestCompiled(unittest.TestCase):
                         type(record).decode(payload)
                         ends(lambda: type(record).decode(payload + b"\xff"))
 
+        def twice():
+            work()
+            work()
+
         work()
-        # what is never freed grows each time; the system may make a large page of several at any time
-        grown = []
-        while len(grown) < 6 and min(grown, default=2 << 20) >= 2 << 20:
-            before = resident()
-            work()
-            work()
-            grown.append(resident() - before)
-        self.assertLess(min(grown), 2 << 20)
+        self.assertLess(least_growth(twice, 2 << 20), 2 << 20)
 
 
 if __name__ == "__main__":

@@ -7,7 +7,6 @@ import dataclasses
 import io
 import pickle
 import unittest
-from unittest import mock
 
 from pendratsoa import (
     Incomplete,
@@ -223,7 +222,12 @@ class TestAsync(unittest.IsolatedAsyncioTestCase):
         reader.feed_data(INPUT + INPUT[:5])
         self.assertEqual(str(await items.__anext__()), f"InputCommand {INPUT_LENGTH}")
         waiting = asyncio.ensure_future(items.__anext__())
-        self.assertEqual(await asyncio.wait([waiting], timeout=0.01), (set(), mock.ANY))
+        # turns of the loop, and no time, in which a machine with much work would take none
+        for _ in range(100):
+            await asyncio.sleep(0)
+        self.assertFalse(waiting.done())
+        reader.feed_data(INPUT[5:])
+        self.assertEqual(str(await waiting), f"InputCommand {INPUT_LENGTH}")
 
     async def test_strict(self):
         reader = asyncio.StreamReader()

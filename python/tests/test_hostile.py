@@ -1,10 +1,11 @@
 """Arguments of wrong kinds, several threads and long loops: errors of Python, no crash and no growth of memory."""
 
 import array
+import contextlib
 import inspect
 import itertools
 import os
-import pathlib
+import sys
 import threading
 import tracemalloc
 import unittest
@@ -13,7 +14,7 @@ import pendratsoa
 from pendratsoa import JournalError, Message, Numbering, Stream
 from pendratsoa.messages import EndMessage, SuspensionMessageV6
 from descriptors import ALL
-from support import CALL_COMMAND, INPUT, RECORDED, SIGNAL_NOTIFICATION
+from support import CALL_COMMAND, INPUT, RECORDED, SIGNAL_NOTIFICATION, least_growth
 
 # how often a loop is done that must not take memory
 LOOPS = int(os.environ.get("PENDRATSOA_LOOPS", "20000"))
@@ -158,12 +159,19 @@ class TestThreads(unittest.TestCase):
     def test_bytes_that_change_while_they_are_read(self):
         data = bytearray(b"\x12\x7f" + b"x" * 127) * 100
         wrong = []
+        is_read = threading.Event()
+        self.addCleanup(is_read.set)
+        self.addCleanup(sys.setswitchinterval, sys.getswitchinterval())
+        sys.setswitchinterval(1e-6)
 
         def change():
-            for at in range(2000):
+            # as long as others read, who may begin late
+            for at in itertools.takewhile(lambda _: not is_read.is_set(), itertools.count()):
                 data[0] = at % 256
-                data.append(0)
-                del data[-1]
+                # while a view copies it, a bytearray cannot grow, which is an error of what lets it grow
+                with contextlib.suppress(BufferError):
+                    data.append(0)
+                    del data[-1]
 
         def read():
             for _ in range(200):
@@ -174,8 +182,13 @@ class TestThreads(unittest.TestCase):
                 except Exception as error:
                     wrong.append(error)
 
-        self.together(change, read, change, read)
-        # while a view copies it, a bytearray cannot grow, which is an error of what lets it grow
+        def read_in_two():
+            try:
+                self.together(read, read)
+            finally:
+                is_read.set()
+
+        self.together(change, read_in_two, change)
         self.assertEqual(wrong, [])
 
 
@@ -207,23 +220,15 @@ class TestMemory(unittest.TestCase):
         with self.assertRaises(pendratsoa.Malformed):
             self.numbering.read_payload("Value", b"\n")
 
-    def resident(self):
-        """The memory that the process has, in bytes."""
-        pages = int(pathlib.Path("/proc/self/statm").read_text().split()[1])
-        return pages * os.sysconf("SC_PAGE_SIZE")
-
     def test_a_loop_takes_no_memory(self):
-        # each turn is some twenty calls
-        for _ in range(100):
-            self.work()
-        # what is never freed grows each time; the system may make a large page of several at any time
-        grown = []
-        while len(grown) < 6 and min(grown, default=1 << 20) >= 1 << 20:
-            before = self.resident()
+        def loop():
+            # each turn is some twenty calls
             for _ in range(LOOPS // 20):
                 self.work()
-            grown.append(self.resident() - before)
-        self.assertLess(min(grown), 1 << 20)
+
+        for _ in range(100):
+            self.work()
+        self.assertLess(least_growth(loop, 1 << 20), 1 << 20)
 
     def test_a_loop_leaves_no_objects(self):
         for _ in range(10):

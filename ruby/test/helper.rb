@@ -34,23 +34,36 @@ module Helper
 
   # A block keeps no memory. The process may hold up to a mebibyte more after so many rounds. The least growth
   # of several times counts: Ruby and malloc take more pages now and then, and what is never freed grows each time.
+  # Each time begins where the one before ended: one more collection in between would free pages that the first kept.
   def assert_keeps_no_memory(rounds, &)
     skip "not run: there is no /proc" unless File.exist?("/proc/self/statm")
+    before = resident
     grown = Array.new(12) do
-      before = resident
       rounds.times(&)
-      growth = resident - before
+      after = resident
+      growth = after - before
       return pass if growth < 1 << 20
 
+      before = after
       growth
     end
     flunk "#{rounds} rounds keep #{grown.min} bytes"
   end
 
-  # How many bytes of memory the process holds.
+  # glibc's call that gives free memory back to the system, and nil if there is none.
+  TRIM = begin
+    Fiddle::Function.new(Fiddle::Handle::DEFAULT["malloc_trim"], [Fiddle::TYPE_SIZE_T], Fiddle::TYPE_INT)
+  rescue Fiddle::DLError
+    nil
+  end
+
+  # How many bytes of memory the process holds. Free memory is none of them, and neither are the pages of files, which
+  # the system drops and reads again when others need memory.
   def resident
     GC.start
-    Integer(File.read("/proc/self/statm").split[1]) * 4096
+    TRIM&.call(0)
+    _, all, of_files = File.read("/proc/self/statm").split.map { |pages| Integer(pages) }
+    (all - of_files) * 4096
   end
 
   # The error of a block, which has to be exactly of this class and say this.

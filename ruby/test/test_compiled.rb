@@ -174,14 +174,15 @@ class TestCompiled < Minitest::Test
         Thread.pass
       end
     end
-    rounds = 0
-    # until the other thread has had a turn, too: where processors are busy it begins late
-    until rounds >= 20 && turns.positive?
+    # the other thread may get its first turn late
+    2000.times do |round|
+      break if round >= 20 && turns.positive?
+
       assert_equal frame, Pendratsoa.frame(8, 0x0401, given)
       assert_equal payload, OutputCommandMessage.decode(given).encode
       assert_equal frame, OutputCommandMessage.decode(given).frame(8)
-      rounds += 1
     end
+    assert_operator turns, :>, 0
   ensure
     is_over = true
     changing&.join

@@ -206,9 +206,23 @@ class TestThreadsAndMemory < Minitest::Test
 
   def test_bytes_that_another_thread_changes
     bytes = "\x12\xe8\x07".b + ("x" * 1000)
-    changing = Thread.new { 20_000.times { bytes.replace(bytes.reverse) && (bytes << "x") && bytes.chop! } }
-    Pendratsoa.well_formed?(13, bytes) while changing.alive?
+    calls = changes = 0
+    changing = Thread.new do
+      # until there were calls too, which may begin late
+      until changes >= 20_000 && calls >= 100
+        bytes.replace(bytes.reverse) && (bytes << "x") && bytes.chop!
+        changes += 1
+      end
+    end
+    while changing.alive?
+      Pendratsoa.well_formed?(13, bytes)
+      calls += 1
+    end
+    # raises what ended it before
+    changing.join
     assert_equal "", Pendratsoa.canonical(13, "")
+  ensure
+    changing&.kill
   end
 
   def test_memory_does_not_grow

@@ -218,10 +218,18 @@ class TestStream < Minitest::Test
 
   def test_several_threads_share_a_stream
     stream = Pendratsoa::Stream.new
-    feeding = Array.new(2) { Thread.new { 500.times { stream.feed(Helper::INPUT) } } }
-    taking = Array.new(4) { Thread.new { Array.new(300) { stream.to_a }.flatten } }
-    found = (feeding + taking).map(&:value).drop(2).flatten + stream.to_a
+    is_fed = false
+    taking = Array.new(4) do
+      # to the end of what is fed, in whichever order the threads get their turns
+      Thread.new { [].tap { |items| items.concat(stream.to_a) && Thread.pass until is_fed } }
+    end
+    feeding = Array.new(2) { Thread.new { 500.times { stream.feed(Helper::INPUT) && Thread.pass } } }
+    feeding.each(&:join)
+    is_fed = true
+    found = taking.flat_map(&:value) + stream.to_a
     assert_equal [ITEMS[0]] * 1000, found
+  ensure
+    is_fed = true
   end
 
   def test_texts

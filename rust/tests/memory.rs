@@ -6,10 +6,13 @@ use pendratsoa::{Decoder, Item, Version};
 
 const INPUT: &[u8] = b"\x04\0\0\0\0\0\0\x09\x72\x07\x0A\x05input";
 
-/// The resident memory of the process in bytes, where Linux says so.
+/// The resident memory of the process in bytes, where Linux says so. The pages of files are none of it: the system
+/// drops them and reads them again when others need memory.
 fn resident() -> Option<usize> {
-    let pages = fs::read_to_string("/proc/self/statm").ok()?;
-    Some(pages.split(' ').nth(1)?.parse::<usize>().ok()? * 4096)
+    let text = fs::read_to_string("/proc/self/statm").ok()?;
+    let mut pages = text.split(' ').skip(1).map(str::parse::<usize>);
+    let (all, of_files) = (pages.next()?.ok()?, pages.next()?.ok()?);
+    Some(all.checked_sub(of_files)? * 4096)
 }
 
 #[test]

@@ -34,6 +34,9 @@ GREAT, GREATER = (bytes.fromhex("0403000000000017" "0a010a1a120a10") + b"9007199
 # a state that is set to what is not a number, at which a proxy ends, after it passed on what came before
 WORD = bytes.fromhex("0403000000000008" "0a010a1a030a0178")
 
+# A proxy that has not ended by then is one that waits: a bound for failures, and no measure of speed.
+SECONDS = 600
+
 # version, what is sent as whole items, what is passed on of them, and what is sent after them
 JOURNALS = (
     (8, KEPT + SET + END, KEPT + TWO + END, b""),
@@ -70,8 +73,8 @@ def passed_on(command, version, journal):
                     size = random.choice((1, 7, 8, 9, 1000, 100000))
                     source.sendall(journal[:size])
                     journal = journal[size:]
-            _, said = process.communicate(timeout=60)
-        reader.join(60)
+            _, said = process.communicate(timeout=SECONDS)
+        reader.join(SECONDS)
     return bytes(found), process.returncode, said
 
 
@@ -89,7 +92,7 @@ def piped(command, version, journal):
             journal = journal[size:]
             taken.until_taken(process, process.stdin)
         process.stdin.close()
-        reader.join(60)
+        reader.join(SECONDS)
         said = process.stderr.read().decode()
     return b"".join(found), process.returncode, said
 

@@ -18,6 +18,9 @@ import taken
 ROOT = pathlib.Path(__file__).resolve().parent.parent.parent
 STREAMS = ROOT / "examples/streams"
 
+# An example that has not ended by then is one that waits: a bound for failures, and no measure of speed.
+SECONDS = 600
+
 
 class Case(typing.NamedTuple):
     """What is given to the example, and what it prints, ends with, and whether it reports the reason."""
@@ -75,7 +78,7 @@ def run(words: list[str], replayed: bytes, sizes: typing.Callable[[], int]) -> t
             except BrokenPipeError:
                 pass
         process.stdin = None
-        printed, why = process.communicate(timeout=60)
+        printed, why = process.communicate(timeout=SECONDS)
     return process.returncode, printed.decode(), why.decode()
 
 

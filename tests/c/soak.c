@@ -151,13 +151,19 @@ static void serve_as_client(struct sockaddr_in address) {
 static uint8_t pending[LONGEST + 8 + CHUNK];
 static size_t pending_length;
 
-/* Resident pages of the process's own. Those of its files (the program, the C library) come as they are first used. */
+/* Pages of the process's own, resident or swapped out. Those of its files (the program, the C library) come as they are
+ * first used. They are counted one by one: /proc/self/statm may lack those that a processor has not added to it yet. */
 static long own_pages(void) {
-    long size = 0, resident = 0, of_files = 0;
-    FILE *memory = fopen("/proc/self/statm", "r");
-    if (memory == NULL || fscanf(memory, "%ld %ld %ld", &size, &resident, &of_files) != 3) fail("no memory to read");
+    static char line[256];
+    long found = 0, own = 0, swapped = 0;
+    FILE *memory = fopen("/proc/self/smaps_rollup", "r");
+    while (memory != NULL && fgets(line, sizeof line, memory) != NULL) {
+        found += sscanf(line, "Anonymous: %ld kB", &own) == 1;
+        found += sscanf(line, "Swap: %ld kB", &swapped) == 1;
+    }
+    if (found != 2) fail("no memory to read");
     fclose(memory);
-    return resident - of_files;
+    return (own + swapped) / (sysconf(_SC_PAGESIZE) / 1024);
 }
 
 /* Takes the items at the front of what is pending. Returns the error that ended them, or 0. */
