@@ -68,7 +68,11 @@ var peers = map[string]peer{
 	},
 }
 
-var sum int
+// What is read is used: the compiler leaves none of it out.
+var (
+	sum  int
+	kept []byte
+)
 
 func main() {
 	text, err := os.ReadFile(os.Args[1])
@@ -122,24 +126,43 @@ type peerItem struct {
 	payload     []byte
 }
 
-// peerNext returns the next message of a stream, or io.EOF.
-func peerNext(reader *bufio.Reader, limit uint32) (peerItem, error) {
-	var header [8]byte
-	if _, err := io.ReadFull(reader, header[:]); err != nil {
+// A peerReader is a framing by hand. Each payload is read into the same buffer, since proto.Unmarshal copies.
+type peerReader struct {
+	input  *bufio.Reader
+	header [8]byte
+	buffer []byte
+}
+
+func newPeerReader(stream []byte) *peerReader {
+	return &peerReader{input: bufio.NewReaderSize(bytes.NewReader(stream), chunk)}
+}
+
+// next returns the next message, whose payload is there until the next call, or io.EOF.
+func (reader *peerReader) next() (peerItem, error) {
+	header := reader.header[:]
+	if _, err := io.ReadFull(reader.input, header); err != nil {
 		return peerItem{}, err
 	}
 	length := binary.BigEndian.Uint32(header[4:])
 	if length > limit {
 		return peerItem{}, fmt.Errorf("a message has %d bytes", length)
 	}
-	item := peerItem{binary.BigEndian.Uint16(header[:]), binary.BigEndian.Uint16(header[2:]), make([]byte, length)}
-	_, err := io.ReadFull(reader, item.payload)
-	return item, err
+	if int(length) > len(reader.buffer) {
+		reader.buffer = make([]byte, 2*length)
+	}
+	payload := reader.buffer[:length]
+	if _, err := io.ReadFull(reader.input, payload); err == io.EOF {
+		return peerItem{}, io.ErrUnexpectedEOF
+	} else if err != nil {
+		return peerItem{}, err
+	}
+	return peerItem{binary.BigEndian.Uint16(header), binary.BigEndian.Uint16(header[2:]), payload}, nil
 }
 
-// peerFrame returns the frame of a message.
+// peerFrame returns the frame of a message, whose size is found once.
 func peerFrame(code uint16, message proto.Message) ([]byte, error) {
-	frame, err := proto.MarshalOptions{}.MarshalAppend(make([]byte, 8, 8+proto.Size(message)), message)
+	room := make([]byte, 8, 8+proto.Size(message))
+	frame, err := proto.MarshalOptions{UseCachedSize: true}.MarshalAppend(room, message)
 	if err != nil {
 		return nil, err
 	}
@@ -157,9 +180,9 @@ const (
 
 // eachPeer gives each message of a stream to a function.
 func eachPeer(stream []byte, take func(peerItem)) {
-	reader := bufio.NewReaderSize(bytes.NewReader(stream), chunk)
+	reader := newPeerReader(stream)
 	for {
-		item, err := peerNext(reader, limit)
+		item, err := reader.next()
 		if err == io.EOF {
 			return
 		}
@@ -199,7 +222,11 @@ func measureStreams(name string, of peer, payload []byte) {
 	show(name, "items", func() {
 		each(stream, func(item pendratsoa.Item) { sum += len(item.(*pendratsoa.Message).Payload) })
 	}, func() {
-		eachPeer(stream, func(item peerItem) { sum += len(item.payload) })
+		// an item of the package has bytes of its own, and so has this one
+		eachPeer(stream, func(item peerItem) {
+			kept = append([]byte(nil), item.payload...)
+			sum += len(kept)
+		})
 	}, frames)
 	show(name, "items-read", func() {
 		each(stream, func(item pendratsoa.Item) {
@@ -243,19 +270,19 @@ func checkReplay(stream []byte) {
 	}
 }
 
-// checkPeer does the same by messages: bytes first, and one of two equal payloads is decoded.
+// checkPeer does the same by messages: bytes first, and one of two equal payloads is decoded, into the same message.
 func checkPeer(stream []byte, of peer) {
-	recorded := bufio.NewReaderSize(bytes.NewReader(stream), chunk)
+	recorded := newPeerReader(stream)
+	message := of.theirs()
 	eachPeer(stream, func(item peerItem) {
-		other, err := peerNext(recorded, limit)
+		other, err := recorded.next()
 		check(err)
-		message := of.theirs()
 		check(proto.Unmarshal(item.payload, message))
 		if item.code != other.code || !bytes.Equal(item.payload, other.payload) {
 			panic("not the same")
 		}
 	})
-	if _, err := peerNext(recorded, limit); err != io.EOF {
+	if _, err := recorded.next(); err != io.EOF {
 		panic("not the same")
 	}
 }

@@ -8,7 +8,7 @@ import { readFileSync } from 'node:fs';
 
 import { Message, Replay, Stream, fromJson, readRecord, toJson, writeRecord } from 'pendratsoa';
 
-import { TABLES, decode, dumped, encode, frameOf, messagesOf, undumped } from './peer.mjs';
+import { TABLES, copyOf, decode, dumped, encode, frameOf, messagesOf, undumped } from './peer.mjs';
 
 const bytesOf = (text) => Buffer.from(text, 'base64');
 const textOf = (bytes) => Buffer.from(bytes).toString('base64');
@@ -35,7 +35,9 @@ const READS = {
   ],
 };
 const COUNT = 20000;
+// What is read is used, so that none of it is left out.
 let sum = 0;
+let last = {};
 
 // How many frames a stream has, and how many bytes come at a time.
 const FRAMES = 1000;
@@ -61,10 +63,11 @@ function drained(chunks, read) {
   return count;
 }
 
+/** The same by hand. An item of the package has bytes of its own; what is only read needs none. */
 function peerDrained(chunks, read) {
   let count = 0;
-  for (const { payload } of messagesOf(chunks)) {
-    count += read === undefined ? payload.length : read(payload);
+  for (const { bytes, begin, end } of messagesOf(chunks)) {
+    count += read === undefined ? copyOf(bytes, begin, end).length : read(bytes, begin, end);
   }
   return count;
 }
@@ -81,16 +84,16 @@ function replayed(chunks, recorded) {
 }
 
 /** The same by hand: bytes first, and one of two equal payloads is decoded. */
-function peerReplayed(chunks, table) {
-  const recorded = messagesOf(chunks);
-  for (const { code, payload } of messagesOf(chunks)) {
-    const { value: other } = recorded.next();
-    sum += Object.keys(decode(table, payload)).length;
-    if (code !== other.code || !payload.equals(other.payload)) {
+function peerReplayed(chunks, recorded, table) {
+  const others = messagesOf([recorded]);
+  for (const { code, bytes, begin, end } of messagesOf(chunks)) {
+    const { value: other } = others.next();
+    last = decode(table, bytes, begin, end);
+    if (code !== other.code || bytes.compare(other.bytes, other.begin, other.end, begin, end) !== 0) {
       throw new Error('not the same');
     }
   }
-  return recorded.next().done ? 1 : 0;
+  return others.next().done ? 1 : 0;
 }
 
 /** Microseconds of processor time of the least round, since the machine may be busy. */
@@ -144,7 +147,7 @@ for (const line of readFileSync(new URL('messages.txt', import.meta.url), 'utf8'
   for (let at = 0; at < whole.length; at += CHUNK) {
     chunks.push(new Uint8Array(whole.subarray(at, at + CHUNK)));
   }
-  const peerRead = (one) => readPeer(decode(table, one));
+  const peerRead = (here, begin, end) => readPeer(decode(table, here, begin, end));
   if (drained(chunks) !== peerDrained(chunks) || drained(chunks, read) !== peerDrained(chunks, peerRead)) {
     throw new Error(name);
   }
@@ -153,7 +156,7 @@ for (const line of readFileSync(new URL('messages.txt', import.meta.url), 'utf8'
   // a replay of notifications has nothing to compare
   if (name.includes('Command')) {
     const recorded = new Uint8Array(whole);
-    show(name, 'replay', () => replayed(chunks, recorded), () => peerReplayed(chunks, table), FRAMES);
+    show(name, 'replay', () => replayed(chunks, recorded), () => peerReplayed(chunks, recorded, table), FRAMES);
   }
   const { type } = message;
   show(name, 'frame', () => Message.of(type, record).bytes.length, () => frameOf(message.code, table, peer).length);
@@ -161,4 +164,4 @@ for (const line of readFileSync(new URL('messages.txt', import.meta.url), 'utf8'
   show(name, 'to-json', () => toJson(name, payload).length, () => peerJson().length);
   show(name, 'from-json', () => fromJson(name, json).length, () => encode(table, peerOfJson()).length);
 }
-process.exitCode = Number.isFinite(sum) ? 0 : 1;
+process.exitCode = Number.isFinite(sum) && last ? 0 : 1;

@@ -9,7 +9,6 @@ import struct
 import sys
 import time
 import timeit
-from typing import NamedTuple
 
 sys.path.insert(0, sys.argv[1])
 
@@ -38,16 +37,8 @@ FRAMES = 1000
 CHUNK = 1 << 16
 
 
-class PeerItem(NamedTuple):
-    """A message as a framing by hand has it."""
-
-    code: int
-    flags: int
-    payload: bytes
-
-
 def peer_items(chunks, limit=1 << 24):
-    """The messages of a stream that comes in chunks."""
+    """The messages of a stream that comes in chunks: the code, the flags and the payload of each."""
     rest = b""
     for chunk in chunks:
         rest += chunk
@@ -60,7 +51,7 @@ def peer_items(chunks, limit=1 << 24):
             if len(rest) - begin < length:
                 break
             at = begin + length
-            yield PeerItem(code, flags, rest[begin:at])
+            yield code, flags, rest[begin:at]
         rest = rest[at:]
 
 
@@ -68,13 +59,13 @@ def peer_check(recorded, chunks, classes):
     """The index of the first command in which a replay that comes in chunks differs, or None."""
     others = peer_items([recorded])
     index = 0
-    for index, item in enumerate(peer_items(chunks), 1):
-        other = next(others, None)
-        if other is None or other.code != item.code:
+    for index, (code, _, payload) in enumerate(peer_items(chunks), 1):
+        other_code, _, other = next(others, (None, 0, b""))
+        if other_code != code:
             return index
         # what is not well-formed is an error
-        message = classes[item.code].FromString(item.payload)
-        if item.payload != other.payload and message != classes[other.code].FromString(other.payload):
+        message = classes[code].FromString(payload)
+        if payload != other and message != classes[code].FromString(other):
             return index
     return None if next(others, None) is None else index
 
@@ -136,7 +127,7 @@ def streams(name, here, there, ours):
         name,
         "items-read",
         lambda: read(items_of(chunks), lambda item: read_here(item.message)),
-        lambda: read(peer_items(chunks), lambda item: read_there(classes[item.code].FromString(item.payload))),
+        lambda: read(peer_items(chunks), lambda item: read_there(classes[item[0]].FromString(item[2]))),
         turns,
         FRAMES,
     )

@@ -25,10 +25,7 @@ LANGUAGE = Pendratsoa::COMPILED ? "ruby" : "ruby-fiddle"
 FRAMES = 1000
 CHUNK = 1 << 16
 
-# A message as a framing by hand has it.
-PeerItem = Struct.new(:code, :flags, :payload)
-
-# Yields the messages of a stream that comes in chunks.
+# Yields the messages of a stream that comes in chunks: the code, the flags and the payload of each.
 def peer_items(chunks, limit: 1 << 24)
   rest = String.new
   chunks.each do |chunk|
@@ -39,7 +36,7 @@ def peer_items(chunks, limit: 1 << 24)
       raise RangeError, format("a message of type 0x%04x has %d bytes", code, length) if length > limit
       break if rest.bytesize - at - 8 < length
 
-      yield PeerItem.new(code, flags, rest.byteslice(at + 8, length))
+      yield code, flags, rest.byteslice(at + 8, length)
       at += 8 + length
     end
     rest = rest.byteslice(at..)
@@ -49,15 +46,15 @@ end
 # The index of the first command in which a replay that comes in chunks differs, or nil.
 def peer_check(recorded, chunks, classes)
   others = []
-  peer_items([recorded]) { |item| others << item }
+  peer_items([recorded]) { |code, _flags, payload| others << [code, payload] }
   index = 0
-  peer_items(chunks) do |item|
-    other = others[index]
-    return index unless other&.code == item.code
+  peer_items(chunks) do |code, _flags, payload|
+    other_code, other = others[index]
+    return index unless other_code == code
 
     # what is not well-formed is an error
-    message = classes[item.code].decode(item.payload)
-    return index if item.payload != other.payload && message != classes[other.code].decode(other.payload)
+    message = classes[code].decode(payload)
+    return index if payload != other && message != classes[code].decode(other)
 
     index += 1
   end
@@ -114,10 +111,10 @@ File.foreach(File.join(__dir__, "messages.txt")) do |line|
   works = {
     "decode" => [-> { read_here[here.decode(payload)] }, -> { read_there[there.decode(payload)] }],
     "encode" => [-> { ours.encode }, -> { there.encode(theirs) }],
-    "items" => [-> { items_of(chunks) { |item| item } }, -> { peer_items(chunks) { |item| item } }, FRAMES],
+    "items" => [-> { items_of(chunks) { |item| item } }, -> { peer_items(chunks) { |_, _, payload| payload } }, FRAMES],
     "items-read" => [
       -> { items_of(chunks) { |item| read_here[item.message] } },
-      -> { peer_items(chunks) { |item| read_there[classes[item.code].decode(item.payload)] } }, FRAMES
+      -> { peer_items(chunks) { |code, _, payload| read_there[classes[code].decode(payload)] } }, FRAMES
     ],
     "frame" => [-> { ours.frame(8) }, -> { peer_frame(here::CODE, theirs) }],
     "to-json" => [-> { Pendratsoa.to_json(here::SCHEMA, payload) }, -> { there.encode_json(there.decode(payload)) }],

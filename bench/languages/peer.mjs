@@ -186,29 +186,33 @@ function undump(kind, value) {
 }
 
 /** A copy of a part of a Buffer, in Node's pool if it is short, as the payloads of the package are in theirs. */
-function copyOf(bytes, begin, end) {
+export function copyOf(bytes, begin, end) {
   return Buffer.from(bytes.subarray(begin, end));
 }
 
-/** The messages of a stream that comes in chunks. */
+/**
+ * The messages of a stream that comes in chunks. A payload is where it came, from `begin` to `end` of `bytes`; the
+ * reader above takes it there.
+ */
 export function* messagesOf(chunks, limit = 2 ** 24) {
   let rest = Buffer.alloc(0);
   for (const chunk of chunks) {
-    const bytes = rest.length === 0 ? Buffer.from(chunk) : Buffer.concat([rest, chunk]);
-    let begin = 0;
-    while (bytes.length - begin >= 8) {
-      const code = bytes.readUInt16BE(begin);
-      const length = bytes.readUInt32BE(begin + 4);
+    const here = Buffer.from(chunk.buffer, chunk.byteOffset, chunk.length);
+    const bytes = rest.length === 0 ? here : Buffer.concat([rest, here]);
+    let first = 0;
+    while (bytes.length - first >= 8) {
+      const code = bytes.readUInt16BE(first);
+      const length = bytes.readUInt32BE(first + 4);
       if (length > limit) {
         throw new RangeError(`a message of type ${code} has ${length} bytes`);
       }
-      const end = begin + 8 + length;
+      const end = first + 8 + length;
       if (end > bytes.length) {
         break;
       }
-      yield { code, flags: bytes.readUInt16BE(begin + 2), payload: copyOf(bytes, begin + 8, end) };
-      begin = end;
+      yield { code, flags: bytes.readUInt16BE(first + 2), bytes, begin: first + 8, end };
+      first = end;
     }
-    rest = bytes.subarray(begin);
+    rest = bytes.subarray(first);
   }
 }

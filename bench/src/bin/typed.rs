@@ -174,7 +174,7 @@ fn measure_more<
             let mut sum = 0;
             each(black_box(&stream), |item| {
                 if let Item::Message(message) = item {
-                    sum += message.payload.len();
+                    sum += message.payload().len();
                 }
             });
             sum
