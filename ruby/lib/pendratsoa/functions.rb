@@ -11,6 +11,8 @@ module Pendratsoa
   # is one of RESULT_KINDS, and the result the canonical payload of a `Value`, a `Failure` or `StateKeys`, or the text
   # of an invocation id in UTF-8; of a void it is empty.
   Notification = Struct.new(:id_kind, :id, :result_kind, :result) do
+    include FrozenStruct
+
     def initialize(*)
       super
       freeze
@@ -20,6 +22,8 @@ module Pendratsoa
   # How two journals compare: one of VERDICT_KINDS, the index of the first command that differs, or the number of
   # commands if none does, and the text of a mismatch, which is empty without one.
   Verdict = Struct.new(:kind, :index, :text) do
+    include FrozenStruct
+
     def initialize(*)
       super
       freeze

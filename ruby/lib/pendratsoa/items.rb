@@ -5,6 +5,9 @@ require "json"
 module Pendratsoa
   # What each item of a stream has besides its fields.
   module Item
+    # a copy that is not frozen could have a header that is not that of its payload
+    include FrozenStruct
+
     # Where it begins in its stream, in bytes; nil if it came in none. It is not a member, and `==` does not compare it.
     attr_reader :offset
 
@@ -37,12 +40,6 @@ module Pendratsoa
     # change it.
     def bytes
       [word].pack("Q>") << payload
-    end
-
-    # A copy is frozen too, since its header has the length of its payload.
-    def initialize_copy(original)
-      super
-      freeze
     end
 
     # Writes the item as received to an IO or the like, and returns the item.

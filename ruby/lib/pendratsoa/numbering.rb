@@ -13,6 +13,8 @@ module Pendratsoa
   #
   # It is frozen, and any thread may use it.
   class Numbering
+    include Frozen
+
     # Which argument is wrong, if no numbering comes of them.
     WRONG = { no_set: :descriptor_set, no_rename: :renames }.freeze
 
@@ -28,16 +30,7 @@ module Pendratsoa
     # The numbering of a set in a String.
     def initialize(descriptor_set, renames: {})
       call = Call.new("Numbering", descriptor_set: descriptor_set, renames: renames)
-      @given = [call.data(:descriptor_set), lines(call, renames)].freeze
-      text, kind = Named.call(Named::NUMBERING_TEXT, "Numbering", *@given)
-      @text = text.force_encoding(Encoding::UTF_8).scrub.freeze
-      wrong = WRONG[call.kind(LIST_KINDS, kind, "a numbering")]
-      raise call.error(NumberingError, @text, wrong) if wrong
-
-      @reading, @writing = %i[reading writing].map do |direction|
-        Named.call(Named::NUMBERING, "Numbering", NUMBERING_DIRECTIONS.index(direction), *@given).freeze
-      end
-      freeze
+      make(call, [call.data(:descriptor_set), lines(call, renames)])
     end
 
     # The list of fields: which are the same, renumbered, only there, only here, or of another kind.
@@ -84,6 +77,30 @@ module Pendratsoa
     end
 
     private
+
+    # Makes the tables of a set and renames, as lines.
+    def make(call, given)
+      @given = given.freeze
+      text, kind = Named.call(Named::NUMBERING_TEXT, "Numbering", *given)
+      @text = text.force_encoding(Encoding::UTF_8).scrub.freeze
+      wrong = WRONG[call.kind(LIST_KINDS, kind, "a numbering")]
+      raise call.error(NumberingError, @text, wrong) if wrong
+
+      @reading, @writing = %i[reading writing].map do |direction|
+        Named.call(Named::NUMBERING, "Numbering", NUMBERING_DIRECTIONS.index(direction), *given).freeze
+      end
+      freeze
+    end
+
+    def marshal_dump
+      @given
+    end
+
+    # What Marshal loads is made again, since the tables are those of one library, and is frozen too.
+    def marshal_load(given)
+      set, renames = given.each(&:freeze)
+      make(Call.new("Numbering", descriptor_set: set, renames: renames), given)
+    end
 
     # Renames as lines.
     def lines(call, renames)

@@ -21,6 +21,8 @@ module Pendratsoa
 
   # A member of a oneof where its class does not tell it apart: it holds a value.
   class Member
+    include Frozen
+
     attr_reader :value
 
     # A class of its own for a member.
@@ -56,6 +58,17 @@ module Pendratsoa
     def inspect
       "#<#{self.class} #{value.inspect}>"
     end
+
+    private
+
+    def marshal_dump
+      [value]
+    end
+
+    # What Marshal loads is frozen too.
+    def marshal_load(dumped)
+      initialize(dumped.first.freeze)
+    end
   end
 
   # What all records have. Each is a frozen class below this one, made with keywords: what is left out is absent, or
@@ -70,6 +83,8 @@ module Pendratsoa
   #     in Pendratsoa::SetStateCommandMessage[key:, value: { content: }] then ..
   #     end
   class Record
+    include Frozen
+
     # A field: its name, or that of the oneof that it is a member of, its number, its kind, its shape, what it holds,
     # and of a member of a oneof its own name, its class, and whether that is made for it.
     Row = Struct.new(:name, :number, :kind, :shape, :holds, :member, :member_class, :is_wrapped) do
@@ -189,6 +204,17 @@ module Pendratsoa
     alias to_s inspect
 
     private
+
+    def marshal_dump
+      to_h
+    end
+
+    # What Marshal loads is frozen too, and so are its texts and lists, as those of what is decoded. A field that is not
+    # there, as in what an earlier gem dumped, is what it is by default.
+    def marshal_load(fields)
+      fields.each_value { |value| value.is_a?(Array) ? value.each(&:freeze).freeze : value.freeze }
+      initialize(**fields)
+    end
 
     # A list with the same bytes in binary Strings. What is no String is left to `encode`, which rejects it.
     def binary(values)

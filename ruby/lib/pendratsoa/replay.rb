@@ -9,6 +9,8 @@ module Pendratsoa
   # A text is as it is in the journal, of any length and with any control characters; bytes are quoted. Escape both
   # values before you print them in a line.
   ChangedField = Struct.new(:name, :recorded, :replayed) do
+    include FrozenStruct
+
     def initialize(*)
       super
       freeze
@@ -24,6 +26,8 @@ module Pendratsoa
   # printed ones in which two commands of one type differ, each a ChangedField. There are none if the commands differ
   # only in what is not printed, such as the name of most commands.
   Mismatch = Struct.new(:kind, :index, :recorded_offset, :replayed_offset, :text, :fields) do
+    include FrozenStruct
+
     def initialize(*)
       super
       freeze
