@@ -24,7 +24,7 @@ const CHUNK: usize = 64 << 10;
 ///     decoder.feed(chunk)?;
 ///     for item in decoder.items() {
 ///         if let Item::Message(message) = item? {
-///             assert_eq!(message.payload, *b"one");
+///             assert_eq!(message.payload(), b"one");
 ///         }
 ///     }
 /// }
@@ -507,7 +507,7 @@ impl<'a> Items<'a> {
                 return Ok(message);
             }
         };
-        let kept = keep(place, payload, copied(message.payload)?)?;
+        let kept = keep(place, payload, copied(message.payload())?)?;
         self.place = Some(kept.next);
         Ok(message.with_payload(kept.payload, Some(kept.received)))
     }

@@ -7,7 +7,7 @@ use std::fmt;
 
 use crate::calls::{canonical, frame, header, of_payload, schema};
 use crate::error::Error;
-use crate::ffi::{Entry, Refusal, Room, Table, Writer, WRITTEN};
+use crate::ffi::{Entry, Refusal, Room, Table, Writer, LEVELS, WRITTEN};
 use crate::kinds::FieldReason;
 use crate::message_type::MessageType;
 use crate::messages::listed;
@@ -154,16 +154,13 @@ fn read<'a, R: Record<'a>>(mut table: Table<'a, '_>) -> Result<R, Error> {
     }
 }
 
-/// The level at which the library rejects any message, since it is nested more than one hundred levels deep.
-const TOO_DEEP: u64 = 100;
-
 impl Writer {
     /// Appends the entries of a record that is a field. There are none of one that is too deep, whose entry is
     /// rejected: so no depth of a record is too much for the stack.
     #[inline]
     pub(crate) fn record<'a, R: Record<'a>>(&mut self, level: u64, number: u64, record: &R) {
         self.message(level, number, R::SCHEMA.number());
-        if level < TOO_DEEP {
+        if level < LEVELS {
             record.write(self, level + 1);
         }
     }

@@ -64,24 +64,21 @@ pub enum Item<'a> {
     Skipped(Skipped<'a>),
 }
 
-/// A message of a stream of a version.
+/// A message of a stream of a version. Its header has the length of its payload, so neither can be replaced; a message
+/// with another payload is made by [`Message::new`]:
+///
+/// ```compile_fail,E0616
+/// # fn example(mut message: pendratsoa::Message<'_>) {
+/// message.payload = b"another";
+/// # }
+/// ```
 #[derive(Clone, Copy, Debug, PartialEq, Eq, Hash)]
-#[non_exhaustive]
 pub struct Message<'a> {
-    /// The version of the stream.
-    pub version: Version,
-    /// The code of the type.
-    pub code: u16,
-    /// The header, as a big-endian number.
-    pub word: u64,
-    /// Whether the header requests an acknowledgement.
-    pub requested_ack: bool,
-    /// The payload as received, which need not be well-formed. That of a decoder with a
-    /// [`Numbering`](crate::Numbering) is at the numbers of the protocol.
-    ///
-    /// A message with another payload is made by [`Message::new`]. What is put here is not in the header, which keeps
-    /// the length of what was received; so [`Item::append_to`] appends no whole message of it.
-    pub payload: &'a [u8],
+    version: Version,
+    code: u16,
+    word: u64,
+    requested_ack: bool,
+    payload: &'a [u8],
     /// The payload as received, if it is another one. A slice would make each item longer.
     received: Option<&'a Vec<u8>>,
     offset: Place,
@@ -90,29 +87,20 @@ pub struct Message<'a> {
 /// Eight bytes of a stream with an unassigned code, which are an item of its own before version 9. The programs call
 /// them an unknown header.
 #[derive(Clone, Copy, Debug, PartialEq, Eq, Hash)]
-#[non_exhaustive]
 pub struct UnknownCode {
-    /// The version of the stream.
-    pub version: Version,
-    /// The code that no type has.
-    pub code: u16,
-    /// The eight bytes, as a big-endian number.
-    pub word: u64,
+    version: Version,
+    code: u16,
+    word: u64,
     offset: Place,
 }
 
 /// A message of an unknown type.
 #[derive(Clone, Copy, Debug, PartialEq, Eq, Hash)]
-#[non_exhaustive]
 pub struct Skipped<'a> {
-    /// The version of the stream.
-    pub version: Version,
-    /// The code that no type has.
-    pub code: u16,
-    /// The header, as a big-endian number.
-    pub word: u64,
-    /// The payload that is skipped.
-    pub payload: &'a [u8],
+    version: Version,
+    code: u16,
+    word: u64,
+    payload: &'a [u8],
     offset: Place,
 }
 
@@ -359,6 +347,27 @@ impl fmt::Display for OwnedItem {
 }
 
 impl UnknownCode {
+    /// The version of the stream.
+    #[inline]
+    #[must_use]
+    pub fn version(&self) -> Version {
+        self.version
+    }
+
+    /// The code that no type has.
+    #[inline]
+    #[must_use]
+    pub fn code(&self) -> u16 {
+        self.code
+    }
+
+    /// The eight bytes, as a big-endian number.
+    #[inline]
+    #[must_use]
+    pub fn word(&self) -> u64 {
+        self.word
+    }
+
     /// Where the eight bytes begin in their stream, in bytes, as [`Item::offset`].
     #[must_use]
     pub fn offset(&self) -> Option<u64> {
@@ -366,7 +375,35 @@ impl UnknownCode {
     }
 }
 
-impl Skipped<'_> {
+impl<'a> Skipped<'a> {
+    /// The version of the stream.
+    #[inline]
+    #[must_use]
+    pub fn version(&self) -> Version {
+        self.version
+    }
+
+    /// The code that no type has.
+    #[inline]
+    #[must_use]
+    pub fn code(&self) -> u16 {
+        self.code
+    }
+
+    /// The header, as a big-endian number.
+    #[inline]
+    #[must_use]
+    pub fn word(&self) -> u64 {
+        self.word
+    }
+
+    /// The payload that is skipped, which borrows the stream.
+    #[inline]
+    #[must_use]
+    pub fn payload(&self) -> &'a [u8] {
+        self.payload
+    }
+
     /// Where the message begins in its stream, in bytes, as [`Item::offset`].
     #[must_use]
     pub fn offset(&self) -> Option<u64> {
@@ -483,6 +520,43 @@ impl<'a> Message<'a> {
         Message::new(version, R::TYPE.code(), &buffer[HEADER..])
     }
 
+    /// The version of the stream.
+    #[inline]
+    #[must_use]
+    pub fn version(&self) -> Version {
+        self.version
+    }
+
+    /// The code of the type.
+    #[inline]
+    #[must_use]
+    pub fn code(&self) -> u16 {
+        self.code
+    }
+
+    /// The header, as a big-endian number.
+    #[inline]
+    #[must_use]
+    pub fn word(&self) -> u64 {
+        self.word
+    }
+
+    /// Whether the header requests an acknowledgement.
+    #[inline]
+    #[must_use]
+    pub fn requested_ack(&self) -> bool {
+        self.requested_ack
+    }
+
+    /// The payload as received, which need not be well-formed. It borrows the stream, and not the message.
+    ///
+    /// That of a decoder with a [`Numbering`](crate::Numbering) is at the numbers of the protocol.
+    #[inline]
+    #[must_use]
+    pub fn payload(&self) -> &'a [u8] {
+        self.payload
+    }
+
     /// Where the message begins in its stream, in bytes, as [`Item::offset`]; `None` of one received in no stream. An
     /// error of the payload has it too ([`Error::offset`]).
     #[must_use]
@@ -546,10 +620,8 @@ impl<'a> Message<'a> {
     /// ```
     pub fn message(&self) -> Result<Option<AnyMessage<'a>>, Error> {
         let schema = match self.schema() {
-            // what has a header and no schema is a custom entry
-            Err(Error::Unknown(_)) if header(self.version, self.code, 0).is_ok() => {
-                return Ok(None);
-            }
+            // a message has a type, and only that of a custom entry has no schema
+            Err(Error::Unknown(_)) => return Ok(None),
             schema => schema?,
         };
         AnyMessage::read(schema, self.payload)
@@ -675,7 +747,7 @@ pub enum Next<'a> {
 ///
 /// let mut bytes: &[u8] = &[0, 3, 0, 0, 0, 0, 0, 0, 0, 3];
 /// while let Next::Item { item, size } = next_item(Version::V8, bytes)? {
-///     assert!(matches!(item, Item::Message(message) if message.code == 3));
+///     assert!(matches!(item, Item::Message(message) if message.code() == 3));
 ///     bytes = &bytes[size..];
 /// }
 /// assert_eq!(next_item(Version::V8, bytes)?, Next::Missing(6));

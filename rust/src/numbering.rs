@@ -258,12 +258,12 @@ fn append_payload(
     message: &Message<'_>,
     out: &mut Vec<u8>,
 ) -> Result<bool, Error> {
-    let schema = match schema(message.version, message.code) {
+    let schema = match schema(message.version(), message.code()) {
         Err(Error::Unknown(_)) => return Ok(false),
         schema => schema?,
     };
-    ffi::renumber(schema, table, message.payload, out).map_err(|refusal| {
-        of_payload(refusal, schema, message.payload).of_message(message.code, message.offset())
+    ffi::renumber(schema, table, message.payload(), out).map_err(|refusal| {
+        of_payload(refusal, schema, message.payload()).of_message(message.code(), message.offset())
     })?;
     Ok(true)
 }

@@ -300,9 +300,9 @@ fn of_item(refusal: Refusal, payload: &[u8]) -> Error {
 /// The code and the payload of an item.
 fn parts<'i>(item: &Item<'i>) -> (u16, &'i [u8]) {
     match item {
-        Item::Message(message) => (message.code, message.payload),
-        Item::UnknownCode(unknown) => (unknown.code, &[]),
-        Item::Skipped(skipped) => (skipped.code, skipped.payload),
+        Item::Message(message) => (message.code(), message.payload()),
+        Item::UnknownCode(unknown) => (unknown.code(), &[]),
+        Item::Skipped(skipped) => (skipped.code(), skipped.payload()),
     }
 }
 

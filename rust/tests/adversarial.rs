@@ -359,9 +359,9 @@ fn a_reader_that_returns_too_much() {
 /// The size of an item in bytes.
 fn size_of(item: &Item<'_>) -> usize {
     match item {
-        Item::Message(message) => 8 + message.payload.len(),
+        Item::Message(message) => 8 + message.payload().len(),
         Item::UnknownCode(_) => 8,
-        Item::Skipped(skipped) => 8 + skipped.payload.len(),
+        Item::Skipped(skipped) => 8 + skipped.payload().len(),
     }
 }
 
@@ -381,17 +381,17 @@ fn called(item: &Item<'_>) {
         }
         named => {
             assert_eq!(message.is_command(), named.is_command());
-            let is_well_formed = is_well_formed(schema.unwrap(), message.payload).unwrap();
+            let is_well_formed = is_well_formed(schema.unwrap(), message.payload()).unwrap();
             assert_eq!(message.json().is_ok(), is_well_formed);
             assert_eq!(message.canonical().is_ok(), is_well_formed);
             for &version in Version::ALL {
                 // a suspension is read by its schema from version 7 on
-                if message.version >= Version::V7 || named != MessageType::Suspension {
+                if message.version() >= Version::V7 || named != MessageType::Suspension {
                     assert_eq!(message.frame_at(version).is_ok(), is_well_formed);
                 }
             }
             if !message.is_notification() {
-                assert_eq!(message.notification(), Err(code(message.code)));
+                assert_eq!(message.notification(), Err(code(message.code())));
             }
         }
     }
@@ -526,12 +526,12 @@ fn messages_of_json() {
         (Version::V9, true),
     ] {
         let message = Message::from_json(version, code, json, &mut buffer).unwrap();
-        assert_eq!(message.payload, [0x08, 1, 0x72, 1, b'x']);
-        assert_eq!(message.requested_ack, requested_ack);
+        assert_eq!(message.payload(), [0x08, 1, 0x72, 1, b'x']);
+        assert_eq!(message.requested_ack(), requested_ack);
         // the members of its JSON are in the order of the fields' numbers
         let mut other = Vec::new();
         let again = Message::from_json(version, code, message.json().unwrap(), &mut other).unwrap();
-        assert_eq!(again.payload, message.payload);
+        assert_eq!(again.payload(), message.payload());
     }
 }
 

@@ -193,14 +193,14 @@ fn listing<'a>(version: Version, chunks: impl IntoIterator<Item = &'a [u8]>) -> 
         for item in decoder.items() {
             listed.push(match item? {
                 Item::Message(message) => {
-                    let ack = if message.requested_ack { " ack" } else { "" };
+                    let ack = if message.requested_ack() { " ack" } else { "" };
                     let law_of_names = message.message_type().map(|named| named.to_string());
                     law("names", law_of_names == Some(message.type_name()?))?;
-                    format!("{} {}{ack}", message.type_name()?, message.payload.len())
+                    format!("{} {}{ack}", message.type_name()?, message.payload().len())
                 }
-                Item::UnknownCode(unknown) => format!("unknown {:#x}", unknown.code),
+                Item::UnknownCode(unknown) => format!("unknown {:#x}", unknown.code()),
                 Item::Skipped(skipped) => {
-                    format!("skipped {:#x} {}", skipped.code, skipped.payload.len())
+                    format!("skipped {:#x} {}", skipped.code(), skipped.payload().len())
                 }
             });
         }

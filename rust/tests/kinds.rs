@@ -33,10 +33,10 @@ fn items() {
     let bytes = [0, 5, 0x80, 0, 0, 0, 0, 2, 0x08, 1];
     match item(Version::V8, &bytes) {
         Item::Message(message) => {
-            assert_eq!((message.version, message.code), (Version::V8, 5));
-            assert_eq!(message.word.to_be_bytes(), bytes[..8]);
-            assert_eq!(message.payload, &bytes[8..]);
-            assert!(message.requested_ack);
+            assert_eq!((message.version(), message.code()), (Version::V8, 5));
+            assert_eq!(message.word().to_be_bytes(), bytes[..8]);
+            assert_eq!(message.payload(), &bytes[8..]);
+            assert!(message.requested_ack());
             assert_eq!(
                 message.message_type(),
                 Some(MessageType::ProposeRunCompletion)
@@ -55,17 +55,17 @@ fn items() {
     let bytes = [0, 4, 1, 2, 3, 4, 0, 2, 0x08, 1];
     match item(Version::V8, &bytes[..8]) {
         Item::UnknownCode(unknown) => {
-            assert_eq!((unknown.version, unknown.code), (Version::V8, 4));
-            assert_eq!(unknown.word, 0x0004_0102_0304_0002);
+            assert_eq!((unknown.version(), unknown.code()), (Version::V8, 4));
+            assert_eq!(unknown.word(), 0x0004_0102_0304_0002);
         }
         other => panic!("{other:?}"),
     }
     let bytes = [0, 4, 1, 2, 0, 0, 0, 2, 0x08, 1];
     match item(Version::V9, &bytes) {
         Item::Skipped(skipped) => {
-            assert_eq!((skipped.version, skipped.code), (Version::V9, 4));
-            assert_eq!(skipped.word, 0x0004_0102_0000_0002);
-            assert_eq!(skipped.payload, &bytes[8..]);
+            assert_eq!((skipped.version(), skipped.code()), (Version::V9, 4));
+            assert_eq!(skipped.word(), 0x0004_0102_0000_0002);
+            assert_eq!(skipped.payload(), &bytes[8..]);
         }
         other => panic!("{other:?}"),
     }
@@ -89,6 +89,28 @@ fn commands_and_notifications() {
         );
         assert_eq!(item.is_notification(), message.is_notification());
         assert_eq!(item.is_notification(), (0x8000..0xFC00).contains(&code));
+    }
+}
+
+/// The payload of an item, which borrows the stream and not the item.
+fn payload(item: Item<'_>) -> &[u8] {
+    match item {
+        Item::Message(message) => message.payload(),
+        Item::UnknownCode(_) => &[],
+        Item::Skipped(skipped) => skipped.payload(),
+    }
+}
+
+#[test]
+fn payloads_outlive_their_items() {
+    for (version, code, length) in [
+        (Version::V8, 4, 0),
+        (Version::V8, 5, 2),
+        (Version::V9, 4, 2),
+    ] {
+        let bytes = [0, code, 0, 0, 0, 0, 0, length, 0x08, 1];
+        let end = 8 + usize::from(length);
+        assert_eq!(payload(item(version, &bytes[..end])), &bytes[8..end]);
     }
 }
 

@@ -252,9 +252,9 @@ fn a_decoder_reads_by_a_numbering() {
         for (found, own) in found.iter().zip(&own) {
             match (found.item(), own) {
                 (Item::Message(found), Item::Message(own)) => {
-                    assert_eq!((found.code, found.payload), (own.code, own.payload));
+                    assert_eq!((found.code(), found.payload()), (own.code(), own.payload()));
                     assert_eq!(found.message().unwrap(), own.message().unwrap());
-                    assert_eq!(found.requested_ack, own.requested_ack);
+                    assert_eq!(found.requested_ack(), own.requested_ack());
                 }
                 (found, own) => assert_eq!(found.to_string(), own.to_string()),
             }

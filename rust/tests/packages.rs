@@ -184,7 +184,7 @@ fn failure(error: &Error, message: Message<'_>) -> String {
         Error::NoResult(_) => "no_result",
         error => return error.to_string(),
     };
-    assert_eq!(error.code(), Some(message.code));
+    assert_eq!(error.code(), Some(message.code()));
     let (name, offset) = (name(error.code()), error.offset().unwrap());
     let text = error.to_string();
     assert!(
@@ -346,7 +346,7 @@ fn step(replay: &Replay<'_>, said: Option<Mismatch>) -> String {
     match replay.expected().unwrap() {
         Some(expected) => {
             let offset = expected.offset().unwrap();
-            format!("{kind} {index} {offset} {}", name(Some(expected.code)))
+            format!("{kind} {index} {offset} {}", name(Some(expected.code())))
         }
         None => format!("{kind} {index}"),
     }
@@ -361,10 +361,10 @@ fn json_case(words: &[&str]) -> String {
     match message {
         Ok(message) => {
             assert_eq!(
-                (message.version.to_string(), name(Some(message.code))),
+                (message.version().to_string(), name(Some(message.code()))),
                 (words[0].to_owned(), words[1].to_owned())
             );
-            word(message.payload)
+            word(message.payload())
         }
         Err(Error::Unknown(_)) => "unknown".to_owned(),
         Err(Error::Json(error)) => {
@@ -533,7 +533,7 @@ fn same_items(
                 let other = others.next().unwrap().unwrap();
                 assert_eq!(item.to_string(), other.to_string());
                 if let (Item::Message(message), Item::Message(other)) = (item, other) {
-                    assert_eq!(message.payload, other.payload);
+                    assert_eq!(message.payload(), other.payload());
                 }
             }
             Err(found) => error = Some(found),

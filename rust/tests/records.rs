@@ -272,9 +272,10 @@ fn what_is_no_record() {
         Value::decode(&[10]),
         Err(Error::Malformed(Argument::Payload(1)))
     );
-    let mut unknown = Message::new(Version::V8, 0xFC01, &[]).unwrap();
-    unknown.code = 8;
-    assert_eq!(unknown.message(), Err(Error::Unknown(Argument::Code(8))));
+    for &version in Version::ALL {
+        let custom = Message::new(version, 0xFC01, &[10]).unwrap();
+        assert_eq!(custom.message(), Ok(None));
+    }
     let suspension = SuspensionMessageV6 {
         waiting_completions: vec![1],
         ..Default::default()

@@ -31,7 +31,9 @@ fn command<'a>(item: &'a OwnedItem) -> Option<Message<'a>> {
     match item.item() {
         Item::Message(message)
             if message.is_command()
-                && !type_name(message.code).unwrap().starts_with("CustomEntry") =>
+                && !type_name(message.code())
+                    .unwrap()
+                    .starts_with("CustomEntry") =>
         {
             Some(message)
         }
@@ -110,7 +112,7 @@ fn check_fields(mismatch: &Mismatch, recorded: &Message<'_>, replayed: &OwnedIte
             )
         })
         .collect();
-    let text = difference(recorded.code, recorded.payload, second.payload).unwrap();
+    let text = difference(recorded.code(), recorded.payload(), second.payload()).unwrap();
     assert_eq!(lines, text);
     assert_eq!(
         (mismatch.recorded_offset, Some(mismatch.replayed_offset)),

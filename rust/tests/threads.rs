@@ -101,7 +101,7 @@ fn a_decoder_and_its_items_in_other_threads() {
     thread::scope(|scope| {
         for _ in 0..2 {
             scope.spawn(move || match item {
-                Item::Message(message) => assert_eq!(message.payload, &INPUT[8..]),
+                Item::Message(message) => assert_eq!(message.payload(), &INPUT[8..]),
                 other => panic!("{other:?}"),
             });
         }

@@ -8,6 +8,7 @@ local USUAL_VERSION = 8
 local SKIPPED_FROM = 9
 local EARLIER_BEFORE = 7
 local FIRST_CUSTOM = 1024
+local DEEPEST = 100
 
 -- The fields of each message: number, name and kind, with a star before the kind of a list.
 local SCHEMAS = {
@@ -403,9 +404,6 @@ journal.fields = fields
 journal.experts = { malformed, unknown, cut_off }
 
 -- Payloads. What is said of a place in the bytes is an offset; `stop` is where they end.
-
--- Level 100 is the last one that is read.
-local DEEPEST = 100
 
 -- The varint at a place: its low and its high 32 bits, and where it ends; nothing if it is none.
 local function varint(bytes, at, stop)

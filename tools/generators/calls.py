@@ -846,7 +846,8 @@ def rust():
         is_enum = entry["kinds"] in RUST_ENUMS
         shown = list(constants(entry))[: entry.get("from", 0) if is_enum else None]
         text += "".join(f"pub(crate) const {name}: u64 = {number};\n" for number, name, _, _ in shown)
-    text += "\n"
+    text += "\n/// The deepest level that fields have: a message among the fields of this level is too deep.\n"
+    text += f"pub(crate) const LEVELS: u64 = {described()['levels']};\n\n"
     text += "/// The calls as the header declares them.\nmod c {\n    extern \"C\" {\n"
     for call in calls():
         text += f"        pub fn {call.symbol()}({', '.join(rust_raw(call))}) -> i64;\n"

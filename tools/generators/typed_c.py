@@ -4,6 +4,7 @@ import pathlib
 import textwrap
 
 from . import Refused
+from .calls_data import described
 from .model import camel, snake
 from .proto import earlier, typed
 from .typed_model import KINDS, TypedOneOf, enumerations, records
@@ -455,6 +456,7 @@ def header():
     repeated = {field.record for record in records() for field in record.fields() if field.shape == "repeated"}
     pointed = [record for record in records() if record.name in repeated]
     words = {
+        "LEVELS": str(described()["levels"]),
         "ENUMS": enums().rstrip("\n") + "\n",
         "FORWARD": "".join(f"struct journal_{record.name};\n" for record in pointed),
         "STRUCTS": "\n".join(struct(record) for record in in_order()),

@@ -56,9 +56,6 @@ journal.experts = { malformed, unknown, cut_off }
 
 -- Payloads. What is said of a place in the bytes is an offset; `stop` is where they end.
 
--- Level 100 is the last one that is read.
-local DEEPEST = 100
-
 -- The varint at a place: its low and its high 32 bits, and where it ends; nothing if it is none.
 local function varint(bytes, at, stop)
   local low, high = 0, 0

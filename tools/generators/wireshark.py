@@ -3,7 +3,7 @@ which is hand-written and reads items and payloads by them."""
 import json
 import pathlib
 
-from . import forms, missing, proto, renumbered  # noqa: F401
+from . import calls_data, forms, missing, proto, renumbered  # noqa: F401
 
 ABOUT = "The dissector for Wireshark."
 SOURCE = "proto/journal.proto, and tools/generators/wireshark.lua"
@@ -59,6 +59,8 @@ def files():
         "SKIPPED_FROM": renumbered.SKIPPED_FROM,
         "EARLIER_BEFORE": max(message.before_version for message in earlier),
         "FIRST_CUSTOM": proto.COMMANDS.start,
+        # the last level of messages that is read
+        "DEEPEST": calls_data.described()["levels"],
     }
     text += "".join(f"local {name} = {number}\n" for name, number in numbers.items())
     text += "\n-- The fields of each message: number, name and kind, with a star before the kind of a list.\n"

@@ -37,6 +37,9 @@ pub(crate) const LIST_LISTED: u64 = 0;
 pub(crate) const LIST_NO_SET: u64 = 1;
 pub(crate) const LIST_NO_RENAME: u64 = 2;
 
+/// The deepest level that fields have: a message among the fields of this level is too deep.
+pub(crate) const LEVELS: u64 = 100;
+
 /// The calls as the header declares them.
 mod c {
     extern "C" {

@@ -184,8 +184,8 @@ mod tests {
         let mut out = BytesMut::new();
         for item in decoded(&mut codec, &stream, 5).unwrap() {
             if let Item::Message(message) = item.item() {
-                let begin = STREAM.len() - message.payload.len();
-                assert!(message.code == 3 || *message.payload == STREAM[begin..]);
+                let begin = STREAM.len() - message.payload().len();
+                assert!(message.code() == 3 || *message.payload() == STREAM[begin..]);
             }
             codec.encode(item, &mut out).unwrap();
         }
