@@ -30,6 +30,7 @@ type Message struct {
 	// RequestedAck tells whether its header requests an acknowledgement.
 	RequestedAck bool
 	// Payload is its payload, in any encoding. That of a Decoder with a Numbering is at the numbers of the protocol.
+	// Bytes and WriteTo of a message that was received ignore what is put here: another payload is for a new Message.
 	Payload  []byte
 	came     received
 	position position
