@@ -1,16 +1,18 @@
 #!/usr/bin/env python3
-"""Writes what runs of speed, programs and journals measured into the tables of docs/PERFORMANCE.md:
+"""Writes what runs of speed, programs, journals and languages measured into the tables of docs/PERFORMANCE.md:
 
     bench/tables.py FOLDER..
 
-A folder is of a run, with speed.log, programs.log and journals.log, as releasing.sh leaves them. A rate is that of the
-run whose ratio is the middle one. Columns that no run measures, as instructions, stay, and cells with a dash. It stops
-where a row of the page was not measured, or not in each run.
+A folder is of a run, with speed.log, programs.log and journals.log, as releasing.sh leaves them, or languages.log, or
+all. A rate is that of the run whose ratio is the middle one. Columns that no run measures, as instructions, stay, and
+cells with a dash. It stops where a row of the page was not measured, or not in each run.
 """
 from __future__ import annotations
 
+import collections
 import collections.abc
 import dataclasses
+import itertools
 import pathlib
 import statistics
 import sys
@@ -117,6 +119,12 @@ RATIOS = {("speed", 8): 5, ("speed", 4): 3, ("programs", 7): 6, ("journals", 9):
 SUSPENSIONS = "Suspensions"
 WHATS = ("encode", "encode_into", "encode_spare", "encode_shared", "encode_held")
 
+# The heading of the tables of other languages, how a run names these, their records, and the works of the second table.
+OTHER = "Typed messages in other languages"
+LANGUAGES = {"Rust": "rust", "Go": "go", "Python": "python", "Ruby": "ruby", "TypeScript": "node"}
+RECORDS = ("SetStateCommand", "CallCommand", "CallCompletionNotification")
+WORKS = ("items", "items-read", "replay", "frame", "to-json", "from-json")
+
 
 def rows_of(folder: pathlib.Path, log: str) -> list[Cells]:
     """The rows that a run printed, without the heads of its tables."""
@@ -187,21 +195,75 @@ def suspension(runs: list[pathlib.Path], line: str) -> str:
     return f"| {' | '.join(cells)} |"
 
 
+def measured_in(runs: list[pathlib.Path], language: str) -> dict[tuple[str, str], tuple[float, float]]:
+    """The microseconds, the least ones, and the middle ratio of each record and work of a language."""
+    found = collections.defaultdict(list)
+    for run in runs:
+        for line in (run / "languages.log").read_text().splitlines():
+            words = line.split()
+            if len(words) == 6 and words[0] == LANGUAGES[language]:
+                found[words[1].removesuffix("Message"), words[2]].append((float(words[3]), float(words[5])))
+    few = [key for key, rows in found.items() if len(rows) != len(runs)]
+    if few or not found:
+        raise Unmeasured(f"{language}: {', '.join(few[0]) if few else 'nothing'}: not in each of {len(runs)} runs")
+    return {key: (min(times), statistics.median_low(ratios)) for key, rows in found.items()
+            for times, ratios in [zip(*rows)]}
+
+
+def microseconds(time: float) -> str:
+    return f"{time:.2f}" if time >= 0.1 else f"{time:.3f}"
+
+
+def records(runs: list[pathlib.Path], line: str) -> str:
+    """A row of the table of records: a cell for each record decoded, and then for each encoded."""
+    cells = cells_of(line)
+    found = measured_in(runs, cells[0])
+    for column, (work, record) in enumerate(itertools.product(("decode", "encode"), RECORDS), 1):
+        time, ratio = found[record, work]
+        cells[column] = f"{microseconds(time)}: {ratio:.2f}"
+    return f"| {' | '.join(cells)} |"
+
+
+def streams(runs: list[pathlib.Path], line: str) -> str:
+    """A row of the table of streams: a cell for each work, with the ratios of all records that it has."""
+    cells = cells_of(line)
+    found = measured_in(runs, cells[0])
+    for column, work in enumerate(WORKS, 1):
+        if cells[column] == "–":
+            continue
+        each = [found[record, work] for record in RECORDS if (record, work) in found]
+        ratios = (f"{ratio:.1f}" if ratio < 10 else f"{ratio:.0f}" for _, ratio in each)
+        cells[column] = f"{microseconds(each[0][0])}: {', '.join(ratios)}"
+    return f"| {' | '.join(cells)} |"
+
+
+def have(runs: list[pathlib.Path], log: str) -> bool:
+    """Whether the runs have a log; those of languages are made apart."""
+    return any((run / f"{log}.log").exists() for run in runs)
+
+
+def line_of(runs: list[pathlib.Path], place: tuple[str, int], line: str) -> str:
+    """A row of the page, of the first or a later table below a heading."""
+    table = {(table.heading, 1): table for table in TABLES}.get(place)
+    if table is not None and have(runs, table.log):
+        return filled(runs, table, line)
+    if place == (SUSPENSIONS, 1) and have(runs, "speed"):
+        return suspension(runs, line)
+    if place in ((OTHER, 1), (OTHER, 2)) and have(runs, "languages"):
+        return (records if place[1] == 1 else streams)(runs, line)
+    return line
+
+
 def written(runs: list[pathlib.Path], page: list[str]) -> list[str]:
-    """The lines of the page with the rows of the first table below each heading filled."""
-    made, heading, place = [], "", 0
-    tables = {table.heading: table for table in TABLES}
+    """The lines of the page, with the rows of its tables filled."""
+    made, heading, table, row = [], "", 0, 0
     for line in page:
         if line.startswith("## "):
-            heading, place = line.removeprefix("## "), 0
-        is_row = line.startswith("|")
-        # after the first table of a heading comes another one, which no run fills
-        place = place + 1 if is_row and place >= 0 else -1 if place > 0 else place
-        if is_row and place > 2 and heading == SUSPENSIONS:
-            line = suspension(runs, line)
-        elif is_row and place > 2 and heading in tables:
-            line = filled(runs, tables[heading], line)
-        made.append(line)
+            heading, table = line.removeprefix("## "), 0
+        row = row + 1 if line.startswith("|") else 0
+        table += row == 1
+        # the first two rows are its head
+        made.append(line_of(runs, (heading, table), line) if row > 2 else line)
     return made
 
 
