@@ -87,7 +87,9 @@ case_of 'the proxy of go/README.md' python3 -B "$top/scripts/checks/is_part.py" 
 case_of 'the replay of go/README.md' python3 -B "$top/scripts/checks/is_part.py" "$work/replay" example_test.go
 case_of 'the errors of go/README.md' python3 -B "$top/scripts/checks/is_part.py" "$work/errors" example_test.go
 
-if go test -race -run '^$' . > "$work/race" 2>&1; then
+mkdir "$work/bare"
+printf 'package main\n\nfunc main() {}\n' > "$work/bare/main.go"
+if go run -race "$work/bare/main.go" > "$work/race" 2>&1; then
   case_of 'goroutines with the race detector' go test -race -run Goroutines .
 else
   left_out 'goroutines with the race detector' 'it does not work here'
