@@ -163,11 +163,13 @@ fn list_by_next(version: u32, stream: &[u8]) -> String {
             Err(error) => return error.to_string(),
         };
         match item {
-            Item::Message(message) => {
-                listing.message(message.code, message.requested_ack, message.payload.len())
-            }
-            Item::UnknownCode(unknown) => listing.unknown(unknown.code),
-            Item::Skipped(skipped) => listing.skipped(skipped.code, skipped.payload.len()),
+            Item::Message(message) => listing.message(
+                message.code(),
+                message.requested_ack(),
+                message.payload().len(),
+            ),
+            Item::UnknownCode(unknown) => listing.unknown(unknown.code()),
+            Item::Skipped(skipped) => listing.skipped(skipped.code(), skipped.payload().len()),
         }
         rest = &rest[size..];
     }
