@@ -85,7 +85,7 @@ def calls(rows: list[Cells]) -> dict[int, str]:
 
 
 def programs(rows: list[Cells]) -> dict[int, str]:
-    return {2: middle(rows)[3], 3: middle(rows)[4], 4: spread(rows, 6)}
+    return {2: f"{int(middle(rows)[3]):,}", 3: middle(rows)[4], 4: spread(rows, 6)}
 
 
 def lines(rows: list[Cells]) -> dict[int, str]:

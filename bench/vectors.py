@@ -9,6 +9,7 @@ the static library for C, which scripts/build.py builds over what is proved, and
 from __future__ import annotations
 
 import collections.abc
+import os
 import subprocess
 import sys
 
@@ -62,6 +63,9 @@ def main(check: Check) -> None:
     built = ["cargo", "build", "--release", "--bin", "agree", "--bin", "vectors"]
     if not check.command("cargo build", built, cwd=BENCH):
         return
+    # what measures compiles too; nothing of it is linked here
+    places = {"BENCH_FFI": str(BENCH), "RATTLE_C": str(BENCH)}
+    check.command("cargo check", ["cargo", "check", "--release", "--all-features"], cwd=BENCH, env=os.environ | places)
     # prost has no tables of fields
     files = sorted(path for path in VECTORS.glob("*.txt") if path.name != "fields.txt")
     check.counted("the readers on the test vectors", [PROGRAMS / "agree", "--vectors", *files])

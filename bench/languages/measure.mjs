@@ -66,8 +66,8 @@ function drained(chunks, read) {
 /** The same by hand. An item of the package has bytes of its own; what is only read needs none. */
 function peerDrained(chunks, read) {
   let count = 0;
-  for (const { bytes, begin, end } of messagesOf(chunks)) {
-    count += read === undefined ? copyOf(bytes, begin, end).length : read(bytes, begin, end);
+  for (const { payload } of messagesOf(chunks)) {
+    count += read === undefined ? copyOf(payload).length : read(payload);
   }
   return count;
 }
@@ -86,10 +86,10 @@ function replayed(chunks, recorded) {
 /** The same by hand: bytes first, and one of two equal payloads is decoded. */
 function peerReplayed(chunks, recorded, table) {
   const others = messagesOf([recorded]);
-  for (const { code, bytes, begin, end } of messagesOf(chunks)) {
+  for (const { code, payload } of messagesOf(chunks)) {
     const { value: other } = others.next();
-    last = decode(table, bytes, begin, end);
-    if (code !== other.code || bytes.compare(other.bytes, other.begin, other.end, begin, end) !== 0) {
+    last = decode(table, payload);
+    if (code !== other.code || !payload.equals(other.payload)) {
       throw new Error('not the same');
     }
   }
@@ -147,7 +147,7 @@ for (const line of readFileSync(new URL('messages.txt', import.meta.url), 'utf8'
   for (let at = 0; at < whole.length; at += CHUNK) {
     chunks.push(new Uint8Array(whole.subarray(at, at + CHUNK)));
   }
-  const peerRead = (here, begin, end) => readPeer(decode(table, here, begin, end));
+  const peerRead = (one) => readPeer(decode(table, one));
   if (drained(chunks) !== peerDrained(chunks) || drained(chunks, read) !== peerDrained(chunks, peerRead)) {
     throw new Error(name);
   }

@@ -186,33 +186,30 @@ function undump(kind, value) {
 }
 
 /** A copy of a part of a Buffer, in Node's pool if it is short, as the payloads of the package are in theirs. */
-export function copyOf(bytes, begin, end) {
-  return Buffer.from(bytes.subarray(begin, end));
+export function copyOf(part) {
+  return Buffer.from(part);
 }
 
-/**
- * The messages of a stream that comes in chunks. A payload is where it came, from `begin` to `end` of `bytes`; the
- * reader above takes it there.
- */
+/** The messages of a stream that comes in chunks. A payload shares the bytes of the chunk in which it came whole. */
 export function* messagesOf(chunks, limit = 2 ** 24) {
   let rest = Buffer.alloc(0);
   for (const chunk of chunks) {
     const here = Buffer.from(chunk.buffer, chunk.byteOffset, chunk.length);
     const bytes = rest.length === 0 ? here : Buffer.concat([rest, here]);
-    let first = 0;
-    while (bytes.length - first >= 8) {
-      const code = bytes.readUInt16BE(first);
-      const length = bytes.readUInt32BE(first + 4);
+    let begin = 0;
+    while (bytes.length - begin >= 8) {
+      const code = bytes.readUInt16BE(begin);
+      const length = bytes.readUInt32BE(begin + 4);
       if (length > limit) {
         throw new RangeError(`a message of type ${code} has ${length} bytes`);
       }
-      const end = first + 8 + length;
+      const end = begin + 8 + length;
       if (end > bytes.length) {
         break;
       }
-      yield { code, flags: bytes.readUInt16BE(first + 2), bytes, begin: first + 8, end };
-      first = end;
+      yield { code, flags: bytes.readUInt16BE(begin + 2), payload: bytes.subarray(begin + 8, end) };
+      begin = end;
     }
-    rest = bytes.subarray(first);
+    rest = bytes.subarray(begin);
   }
 }
