@@ -32,21 +32,24 @@ class Unmeasured(Exception):
 
 @dataclasses.dataclass(frozen=True)
 class Table:
-    """A table of the page: the heading above it, the columns of the page that name a row, and what fills the others."""
+    """A table of the page: the heading above it, the columns that name a row, on the page and in a run, what fills the
+    others, and what a row of a run begins with, where several have the name."""
 
     heading: str
     keys: tuple[int, ...]
+    names: tuple[int, ...]
     fill: Fill
     log: str = "speed"
+    begins: str = ""
 
 
 def cells_of(line: str) -> Cells:
     return [cell.strip() for cell in line.strip().strip("|").split("|")]
 
 
-def plain(name: str) -> str:
-    """A name without its marks as code."""
-    return name.replace("`", "")
+def plain(cells: Cells, columns: tuple[int, ...]) -> list[str]:
+    """The names in some columns without their marks as code; what borrows from a slice has no chunks in a run."""
+    return [cells[column].replace("`", "").replace("a slice", "-") for column in columns]
 
 
 def middle(rows: list[Cells]) -> Cells:
@@ -101,15 +104,15 @@ def journals(rows: list[Cells]) -> dict[int, str]:
 
 
 TABLES = (
-    Table("Items of a stream", (0, 1, 2), items),
-    Table("Typed messages", (0, 1, 2), items),
-    Table("Frames written", (0, 1), frames),
-    Table("Comparing commands", (0,), comparisons),
-    Table("Adversarial messages", (0,), adversarial),
-    Table("C calls", (0,), calls),
-    Table("Streams dumped and listed", (0, 1), programs, log="programs"),
-    Table("JSON read", (0,), lines, log="programs"),
-    Table("Two journals compared", (0,), journals, log="journals"),
+    Table("Items of a stream", (0, 1, 2), (0, 1, 2), items),
+    Table("Typed messages", (0, 1, 2), (0, 1, 2), items),
+    Table("Frames written", (0, 1), (0, 1), frames),
+    Table("Comparing commands", (0,), (1,), comparisons),
+    Table("Adversarial messages", (0,), (0,), adversarial),
+    Table("C calls", (0,), (0,), calls),
+    Table("Streams dumped and listed", (0, 1), (0, 1), programs, log="programs"),
+    Table("JSON read", (0,), (1,), lines, log="programs", begins="journal_make"),
+    Table("Two journals compared", (0,), (0,), journals, log="journals"),
 )
 
 # Where the row of a run has its ratio, by the number of its cells and its log.
@@ -132,32 +135,6 @@ def rows_of(folder: pathlib.Path, log: str) -> list[Cells]:
     return [row for row in rows if any(character.isdigit() for cell in row[1:] for character in cell)]
 
 
-def names(table: str, row: Cells) -> tuple[str, ...]:
-    """How the page names a row of a run."""
-    match table:
-        case "Items of a stream" | "Typed messages":
-            return row[0], row[1], "a slice" if row[1] == "item_refs" else row[2]
-        case "Frames written" | "Streams dumped and listed":
-            return row[0], row[1]
-        case "JSON read" | "Comparing commands":
-            return (row[1],)
-    return (row[0],)
-
-
-def is_of(table: str, row: Cells) -> bool:
-    """Whether a row of a run is of a table of the page."""
-    match table:
-        case "Comparing commands":
-            return row[0] == "compare"
-        case "JSON read":
-            return row[0] == "journal_make"
-        case "C calls":
-            return len(row) == 4
-        case "Adversarial messages":
-            return len(row) == 8 and "," in row[1]
-    return True
-
-
 def ratio(log: str, row: Cells) -> float:
     """What runs are ordered by; of an adversarial message its ratio at the largest size."""
     if log == "speed" and len(row) == 8 and "," in row[3]:
@@ -165,10 +142,10 @@ def ratio(log: str, row: Cells) -> float:
     return float(row[RATIOS[log, len(row)]])
 
 
-def measured(runs: list[pathlib.Path], table: Table, key: tuple[str, ...]) -> list[Cells]:
+def measured(runs: list[pathlib.Path], table: Table, key: list[str]) -> list[Cells]:
     """The row of a name of each run, in the order of the ratios."""
     found = [row for run in runs for row in rows_of(run, table.log)
-             if is_of(table.heading, row) and tuple(map(plain, names(table.heading, row))) == key]
+             if row[0].startswith(table.begins) and plain(row, table.names) == key]
     if len(found) != len(runs):
         raise Unmeasured(f"{table.heading}: {', '.join(key)}: in {len(found)} of {len(runs)} runs")
     return sorted(found, key=lambda row: ratio(table.log, row))
@@ -177,8 +154,7 @@ def measured(runs: list[pathlib.Path], table: Table, key: tuple[str, ...]) -> li
 def filled(runs: list[pathlib.Path], table: Table, line: str) -> str:
     """A row of the page with what the runs have for it."""
     cells = cells_of(line)
-    key = tuple(plain(cells[column]) for column in table.keys)
-    for column, text in table.fill(measured(runs, table, key)).items():
+    for column, text in table.fill(measured(runs, table, plain(cells, table.keys))).items():
         if cells[column] != "–":
             cells[column] = text
     return f"| {' | '.join(cells)} |"
