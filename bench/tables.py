@@ -1,11 +1,13 @@
 #!/usr/bin/env python3
-"""Writes what runs of speed, programs, journals and languages measured into the tables of docs/PERFORMANCE.md:
+"""Writes what runs of speed, programs, journals, messages and languages measured into the tables of
+docs/PERFORMANCE.md:
 
     bench/tables.py FOLDER..
 
-A folder is of a run, with speed.log, programs.log and journals.log, as releasing.sh leaves them, or languages.log, or
-all. A rate is that of the run whose ratio is the middle one. Columns that no run measures, as instructions, stay, and
-cells with a dash. It stops where a row of the page was not measured, or not in each run.
+A folder is of a run, with speed.log, programs.log, journals.log, messages.log and languages.log, as releasing.sh leaves
+them. Tables whose log no run has stay as they are. A rate is that of the run whose ratio is the middle one. Columns
+that no run measures, as instructions, stay, and cells with a dash. It stops where a row of the page was not measured,
+or not in each run.
 """
 from __future__ import annotations
 
@@ -32,8 +34,8 @@ class Unmeasured(Exception):
 
 @dataclasses.dataclass(frozen=True)
 class Table:
-    """A table of the page: the heading above it, the columns that name a row, on the page and in a run, what fills the
-    others, and what a row of a run begins with, where several have the name."""
+    """A table of the page: the heading above it, the columns that name a row, on the page and in a run, and what fills
+    the others. Where several rows of a run have a name: what the row begins with, or how many cells it has."""
 
     heading: str
     keys: tuple[int, ...]
@@ -41,6 +43,7 @@ class Table:
     fill: Fill
     log: str = "speed"
     begins: str = ""
+    width: int | None = None
 
 
 def cells_of(line: str) -> Cells:
@@ -103,6 +106,19 @@ def journals(rows: list[Cells]) -> dict[int, str]:
     }
 
 
+def nanoseconds(time: str) -> str:
+    return f"{float(time) / 1000:.0f} k" if float(time) >= 10_000 else f"{float(time):.0f}"
+
+
+def structs(rows: list[Cells]) -> dict[int, str]:
+    ratios = (f"{float(cell):.0f}" if float(cell) >= 100 else cell for cell in middle(rows)[6:9])
+    return {2: nanoseconds(middle(rows)[2]), 3: "; ".join(ratios)}
+
+
+def fields(rows: list[Cells]) -> dict[int, str]:
+    return {1: "; ".join(map(nanoseconds, middle(rows)[1:3])), 2: stretch(rows, 3)}
+
+
 TABLES = (
     Table("Items of a stream", (0, 1, 2), (0, 1, 2), items),
     Table("Typed messages", (0, 1, 2), (0, 1, 2), items),
@@ -113,10 +129,14 @@ TABLES = (
     Table("Streams dumped and listed", (0, 1), (0, 1), programs, log="programs"),
     Table("JSON read", (0,), (1,), lines, log="programs", begins="journal_make"),
     Table("Two journals compared", (0,), (0,), journals, log="journals"),
+    Table("Structs of messages in C", (0, 1), (0, 1), structs, log="messages", width=9),
+    Table("The iterator of fields", (0,), (0,), fields, log="messages", width=4),
 )
 
 # Where the row of a run has its ratio, by the number of its cells and its log.
-RATIOS = {("speed", 8): 5, ("speed", 4): 3, ("programs", 7): 6, ("journals", 9): 6}
+RATIOS = {
+    ("speed", 8): 5, ("speed", 4): 3, ("programs", 7): 6, ("journals", 9): 6, ("messages", 9): 6, ("messages", 4): 3,
+}
 
 # The heading of the table whose columns are kinds of work, and these.
 SUSPENSIONS = "Suspensions"
@@ -145,15 +165,18 @@ def ratio(log: str, row: Cells) -> float:
 def measured(runs: list[pathlib.Path], table: Table, key: list[str]) -> list[Cells]:
     """The row of a name of each run, in the order of the ratios."""
     found = [row for run in runs for row in rows_of(run, table.log)
-             if row[0].startswith(table.begins) and plain(row, table.names) == key]
+             if row[0].startswith(table.begins) and table.width in (None, len(row))
+             and plain(row, table.names) == key]
     if len(found) != len(runs):
         raise Unmeasured(f"{table.heading}: {', '.join(key)}: in {len(found)} of {len(runs)} runs")
     return sorted(found, key=lambda row: ratio(table.log, row))
 
 
 def filled(runs: list[pathlib.Path], table: Table, line: str) -> str:
-    """A row of the page with what the runs have for it."""
+    """A row of the page with what the runs have for it; one that begins with a dash has only what is counted."""
     cells = cells_of(line)
+    if cells[len(table.keys)] == "–":
+        return line
     for column, text in table.fill(measured(runs, table, plain(cells, table.keys))).items():
         if cells[column] != "–":
             cells[column] = text
@@ -214,7 +237,7 @@ def streams(runs: list[pathlib.Path], line: str) -> str:
 
 
 def have(runs: list[pathlib.Path], log: str) -> bool:
-    """Whether the runs have a log; those of languages are made apart."""
+    """Whether the runs have a log."""
     return any((run / f"{log}.log").exists() for run in runs)
 
 

@@ -2,6 +2,7 @@
 """Runs what is run before a release, in order, and then makes it: scripts/releasing.sh [OPTION..] FOLDER
 
     FOLDER          where the outputs are kept, each as NAME.log, and at the end the release, in FOLDER/files
+    --sign KEY      signs the checksums of the release with a key of minisign
     --measure       only measures, on another processor; its FOLDER/speed goes into that of the machine of the release
     --allow TEXT    what may say 'not run', by the beginning of its line; may be given several times; with 'measured on'
                     the tables of one processor are enough
@@ -17,6 +18,7 @@ import dataclasses
 import os
 import pathlib
 import re
+import shutil
 import subprocess
 import sys
 
@@ -48,6 +50,8 @@ STAGES = (
     Stage("speed", "scripts/bench.sh speed", "the tables of the library", is_measure=True),
     Stage("programs", "scripts/bench.sh programs", "those of the programs", is_measure=True),
     Stage("journals", "scripts/bench.sh journals", "those of journals compared", is_measure=True),
+    Stage("messages", "scripts/bench.sh messages", "those of structs in C", is_measure=True),
+    Stage("languages", "scripts/bench.sh languages", "those of the packages", is_measure=True),
 )
 
 
@@ -105,9 +109,11 @@ def main(words: list[str]) -> int:
         return 0
     parser = argparse.ArgumentParser(prog="releasing.sh", usage="releasing.sh [OPTION..] FOLDER", add_help=False)
     parser.add_argument("folder", metavar="FOLDER")
+    parser.add_argument("--sign", metavar="KEY")
     parser.add_argument("--measure", action="store_true")
     parser.add_argument("--allow", action="append", default=[])
     options = parser.parse_args(words)
+    options.sign = options.sign and os.path.abspath(options.sign)
     folder = pathlib.Path(options.folder).resolve()
     os.chdir(ROOT)
     try:
@@ -139,9 +145,12 @@ def run(folder: pathlib.Path, options: argparse.Namespace) -> None:
             f"this commit is {on} only, and has to be on {PROCESSORS} processors: run it with --measure on another "
             "one, and copy its speed folder here, or allow it by --allow 'measured on'"
         )
+    files = folder / "files"
+    # what an earlier run has left of them is made again
+    shutil.rmtree(files, ignore_errors=True)
     logs = ["--gate", str(folder / "gate.log"), "--systems", str(folder / "systems.log")]
-    command = ["sh", "scripts/release.sh", *logs, str(folder / "files")]
-    if subprocess.run(command).returncode != 0:
+    signing = ["--sign", options.sign] if options.sign else []
+    if subprocess.run(["sh", "scripts/release.sh", *logs, *signing, str(files)]).returncode != 0:
         raise Stopped("scripts/release.sh has failed")
 
 
