@@ -36,7 +36,7 @@ library=$prefix/lib/libpendratsoa.so
 exported_names
 
 # The programs of the page, by pkg-config where it is there; the page has every call's errors.
-for number in 1 2 3; do
+for number in 1 2 3 4; do
   awk -v number=$number '/^```c$/ { is_code = ++count == number; next } /^```$/ { is_code = 0 } is_code' docs/C.md \
     > "$work/page_$number.c"
   sed -n 's/^It prints `\(.*\)`\..*/\1/p' docs/C.md | sed -n "${number}p" > "$work/wanted_$number"
@@ -52,7 +52,7 @@ if command -v pkg-config > /dev/null; then
     $(PKG_CONFIG_PATH=$plain/lib/pkgconfig pkg-config --cflags --libs pendratsoa) -o "$work/page"
   LD_LIBRARY_PATH=$prefix/lib "$work/page" > "$work/out" 2> "$work/err"
   same 'what it prints' "$work/wanted" "$work/out"
-  for number in 2 3; do
+  for number in 2 3 4; do
     # shellcheck disable=SC2046 # the flags are split
     case_of "program $number of docs/C.md" cc -std=c99 -Wall -Wextra -Wpedantic -Wconversion -Werror \
       "$work/page_$number.c" $(PKG_CONFIG_PATH=$plain/lib/pkgconfig pkg-config --cflags --libs pendratsoa) \

@@ -60,6 +60,8 @@ else
       if command -v $compiler > /dev/null; then
         case_of "the compiled module without a warning of $compiler" $compiler -std=gnu11 -O2 -Wall -Wextra -Wshadow \
           -Wconversion -Wsign-conversion -Werror -fsyntax-only -isystem "$headers" python/src/*.c
+      else
+        without "the compiled module without a warning of $compiler" $compiler
       fi
     done
   fi

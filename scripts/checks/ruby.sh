@@ -36,6 +36,8 @@ if [ -n "$compiled" ]; then
         -Wshadow -Wconversion -Wsign-conversion -Werror -fsyntax-only \
         -isystem "$(ruby -e 'print RbConfig::CONFIG["rubyhdrdir"]')" \
         -isystem "$(ruby -e 'print RbConfig::CONFIG["rubyarchhdrdir"]')" ext/pendratsoa/*.c
+    else
+      without "the compiled module without a warning of $compiler" $compiler
     fi
   done
 else
