@@ -139,31 +139,25 @@ function failureOf({ dump }) {
 
 const failureText = (failure) => `${failure.code ?? 0}: ${failure.message ?? ""}`;
 
-/**
- * The items that wait for their other half at the end of a journal, by their ids, as journal show --open has them: a
- * command and a notification of an id are joined, whichever comes first, and the next command of that id waits again.
- */
-function waitingIn(items) {
-  const waiting = new Map();
-  for (const item of items) {
-    // other messages join nothing here: a core message has ids too, as one that reads ephemeral state
-    if (item.direction !== "command" && item.direction !== "notification") continue;
-    for (const { key } of item.parts) {
-      const other = waiting.get(key);
-      if (other !== undefined && other.direction !== item.direction) waiting.delete(key);
-      // a payload does not have an id that is 0
-      else if (key !== "c0") waiting.set(key, item);
-    }
-  }
-  return waiting;
-}
-
 /** The items of a key, by their roles. */
 const emptyThread = () => ({ requests: [], proposes: [], acknowledges: [], completes: [], awaits: [] });
 
 /**
- * The items of a journal in order, last the rest; and what joins them: the items of each key by their roles, and those
- * that wait. An item has its number in the journal, as the page may begin later, and its place here.
+ * The thread of a key that an item joins, of the last one of each key. As journal show --open has them, a command and a
+ * notification of a completion are joined, whichever comes first, and the next one of either uses the id again.
+ */
+function joinThread(threads, item, { key, role }) {
+  const isHalf = key[0] === "c" && ["requests", "completes"].includes(role);
+  const isUsedAgain = isHalf && threads.get(key)?.[role].some((other) => other !== item);
+  if (isUsedAgain || !threads.has(key)) threads.set(key, emptyThread());
+  threads.get(key)[role].push(item);
+  return threads.get(key);
+}
+
+/**
+ * The items of a journal in order, last the rest; and what joins them: the items of each key by their roles, where an
+ * id is used again those of its last use. An item has its own threads, its number in the journal, as the page may begin
+ * later, and its place here.
  */
 function readJournal(side) {
   const lines = byId(`journal-${side}`).textContent.trim().split("\n");
@@ -181,20 +175,20 @@ function readJournal(side) {
     item.failure = failureOf(item);
     item.parts = partsOf(item);
     if (item.direction === "command") item.command = firstCommand + commands.push(item) - 1;
-    for (const { key, role } of item.parts) {
-      if (!threads.has(key)) threads.set(key, emptyThread());
-      threads.get(key)[role].push(item);
-    }
+    item.threads = new Map(item.parts.map((part) => [part.key, joinThread(threads, item, part)]));
     return item;
   });
   if (items.at(-1).size === 0) items.pop();
-  return { items, threads, commands, waiting: waitingIn(items) };
+  return { items, threads, commands };
 }
 
 const journals = about.journals.map((_, side) => readJournal(side));
-const threadOf = (item, key) => journals[item.side].threads.get(key);
-const isWaiting = (item, key) => journals[item.side].waiting.get(key) === item;
-const isOpen = (item) => item.command !== null && item.parts.some(({ key }) => isWaiting(item, key));
+const threadOf = (item, key) => item.threads.get(key);
+const isLast = (item, key) => journals[item.side].threads.get(key) === threadOf(item, key);
+// a payload does not have an id that is 0
+const isWaiting = (item, key) =>
+  item.command !== null && key !== "c0" && isLast(item, key) && threadOf(item, key).completes.length === 0;
+const isOpen = (item) => item.parts.some(({ key }) => isWaiting(item, key));
 const isProblem = (item) =>
   item.failure !== null || item.dump.malformed || ["unknown", "rest"].includes(item.direction);
 

@@ -279,6 +279,28 @@ class Joins(PageTest):
         self.assertEqual([self.text(f"#row-{row} .link") for row in (0, 1)], ["open", "no command"])
         self.assertIn("not completed in this journal", self.text("#detail"))
 
+    def test_an_id_that_is_used_again(self):
+        command = frame("SleepCommand", result_completion_id=1)
+        completion = frame("SleepCompletionNotification", completion_id=1)
+        suspension = frame("Suspension", awaiting_on={"waiting_completions": [1]})
+        self.open(written("again", command + completion + command + suspension))
+        self.assertEqual([self.text(f"#row-{row} .link") for row in (0, 1, 2)], ["→ #1", "← command 0", "open"])
+        joined = []
+        for row in range(3):
+            self.value(f"select({row})")
+            joined.append(self.text(".joined"))
+        self.assertEqual(joined, [
+            "completion 1completed by #1 SleepCompletionNotification",
+            "completion 1requested by #0 SleepCommand",
+            "completion 1awaited by #3 Suspensionnot completed in this journal",
+        ])
+        self.value("select(3)")
+        self.assertIn("completion 1 of #2 SleepCommand, open", self.text(".future"))
+        # it is completed a second time, and once more, which is of no command
+        self.open(written("again", (command + completion) * 2 + completion))
+        links = [self.text(f"#row-{row} .link") for row in range(5)]
+        self.assertEqual(links, ["→ #1", "← command 0", "→ #3", "← command 1", "no command"])
+
     def test_an_error_leads_to_its_command(self):
         commands = frame("InputCommand") + frame("RunCommand", name="charge", result_completion_id=1)
         error = frame("Error", code=571, message="it differs", related_command_index=1, stacktrace="at charge")
