@@ -142,7 +142,8 @@ class Check:
         return self.case(name, ended.status == 0, ended)
 
     def counted(self, name: str, words: collections.abc.Sequence[str | pathlib.Path], **how: typing.Any) -> Run:
-        """Adds what a command counts, whose last line is 'N passed, M failed', and shows what it says of failures."""
+        """Adds what a command counts, whose last line is 'N passed, M failed', and shows what it says of failures. It
+        has failed too if it counts none and its status is not 0."""
         ended = run(words, **how)
         counts = re.search(rb"^(\d+) passed, (\d+) failed\n\Z", ended.out, re.MULTILINE)
         if not counts:
@@ -152,6 +153,8 @@ class Check:
         self.failed += int(counts[2])
         if int(counts[2]):
             print(beginning(ended.out), end="")
+        elif ended.status != 0:
+            self.case(name, False, ended)
         return ended
 
     def same(self, name: str, expected: Text, found: Text) -> bool:

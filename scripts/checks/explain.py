@@ -7,7 +7,6 @@ from __future__ import annotations
 
 import collections.abc
 import re
-import shutil
 import subprocess
 import typing
 
@@ -168,7 +167,7 @@ def main(check: checks.Check) -> None:
         header(STATE, 5), Piece(0, 1, "malformed: key: the value has 3 bytes, and fewer are left"), rest(3))))
     too_long = "journal explain: SetStateCommand at offset 8: 5 bytes of payload, more than the limit of 4\n"
     explain.ends("explain --max-message 4 made", lines[0], too_long, 1)
-    if shutil.which("protoc") is None:
+    if not check.has("protoc", "payloads beside protoc"):
         return
     for index, (_, payload, _) in enumerate(MESSAGES):
         raw = subprocess.run(["protoc", "--decode_raw"], input=payload, capture_output=True)

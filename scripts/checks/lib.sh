@@ -8,6 +8,8 @@ passed=0
 failed=0
 work=$(mktemp -d) || exit 1
 trap 'rm -rf "$work"' EXIT
+# a signal that is not trapped leaves the folder there
+trap 'exit 143' HUP INT TERM
 out=$work/out
 err=$work/err
 status=
@@ -75,15 +77,16 @@ case_of() {
   outcome "$name" $ended
 }
 
-# counted NAME COMMAND..: a command whose last line is 'N passed, M failed', which are added to the tally; lines that
-# say what is not run are shown
+# counted NAME COMMAND..: a command whose last line is 'N passed, M failed', which are added to the tally, and which has
+# failed too if it counts no failure and its status is not 0; lines that say what is not run are shown
 counted() {
   name=$1
   shift
   "$@" > "$work/log" 2> "$err"
+  ended=$?
   sed -n '/: not run, since /p' "$work/log"
   counts=$(sed -n '$p' "$work/log")
-  if ! add "$counts"; then
+  if ! add "$counts" || { [ $ended -ne 0 ] && [ "${counts##*, }" = '0 failed' ]; }; then
     head -n 20 "$work/log"
     outcome "$name" 1
   elif [ "${counts##*, }" != '0 failed' ]; then

@@ -1,21 +1,27 @@
 #!/usr/bin/env python3
 """How mutants are tried together: which function each changes, and what the prover's lines say of it. And which of them
-are left out, since they were refused over the same sources.
+are left out, since they were refused over the same sources. And that a check has failed that does not end, or of which
+a command fails and counts no failure.
 
 It needs no prover: what a check prints is given.
 """
 from __future__ import annotations
 
 import collections.abc
+import contextlib
+import io
 import os
 import pathlib
 import re
+import select
 import subprocess
 import tempfile
+import textwrap
 import unittest
 import unittest.mock
 
-import checks  # noqa: F401 (it finds the modules of scripts/)
+import checks  # it finds the modules of scripts/
+import check
 import crates
 import functions
 import mutants
@@ -372,6 +378,98 @@ class KeptTest(unittest.TestCase):
     def test_unknown_commit(self) -> None:
         self.commit({"docs/mutants.tried": mutants.COMMENT + "high/n abcdef0 2026-11-30\n"})
         self.assertEqual(self.kept(), set())
+
+
+# Three checks that do not end by themselves, each with a file that tells where its temporary folder is, or 'none'; and
+# others that do. SIGTERM does not end all that they run.
+CHECKS = {
+    "python.py": """\
+        import pathlib, time
+        held = open("held", "w")
+        print("is shown")
+        pathlib.Path("python").write_text("none")
+        time.sleep(60)
+        """,
+    "shell.sh": """\
+        . {folder}/lib.sh
+        exec 3> held
+        echo '3 passed, 0 failed'
+        (trap '' TERM; exec sleep 60) &
+        sh -c 'echo "$0" > shell; exec sleep 60' "$work"
+        """,
+    "deaf.sh": """\
+        exec 3> held
+        trap '' TERM
+        printf 'is shown'
+        echo none > deaf
+        sleep 60
+        echo it goes on
+        """,
+    "ends.sh": "echo '2 passed, 0 failed'\n",
+    "counts.sh": """\
+        . {folder}/lib.sh
+        counted 'a command' sh -c 'echo 2 passed, 0 failed; exit 3'
+        counted 'another' echo 1 passed, 0 failed
+        finish
+        """,
+    "counts_too.py": """\
+        import sys
+        sys.path.insert(0, "{folder}")
+        import checks
+        def counts(check):
+            check.counted("a command", ["sh", "-c", "echo 2 passed, 0 failed; exit 3"])
+            check.counted("another", ["echo", "1 passed, 0 failed"])
+        checks.perform(counts)
+        """,
+}
+
+
+class ChecksTest(unittest.TestCase):
+    def setUp(self) -> None:
+        room = tempfile.TemporaryDirectory()
+        self.addCleanup(room.cleanup)
+        self.top = pathlib.Path(room.name)
+        (self.top / check.FOLDER).mkdir(parents=True)
+        for name, text in CHECKS.items():
+            (self.top / check.FOLDER / name).write_text(textwrap.dedent(text).format(folder=checks.ROOT / check.FOLDER))
+        top = unittest.mock.patch.object(check, "ROOT", self.top)
+        top.start()
+        self.addCleanup(top.stop)
+
+    def told(self, *names: str) -> list[str]:
+        """The lines of checks that run side by side, one of which fails."""
+        with contextlib.redirect_stdout(io.StringIO()) as said:
+            self.assertEqual(check.perform_all(list(names), len(names), 2), 1)
+        return said.getvalue().splitlines()
+
+    def test_limit(self) -> None:
+        """Checks that run longer than they may are ended with all that they have begun, and have failed."""
+        # what runs holds the other end
+        os.mkfifo(self.top / "held")
+        reader = os.open(self.top / "held", os.O_RDONLY | os.O_NONBLOCK)
+        self.addCleanup(os.close, reader)
+        late = ("python", "shell", "deaf")
+
+        def seconds() -> float:
+            """A clock: all have begun before the limit is reached, and it goes on when no folder is there."""
+            told = [path.read_text().strip() for name in late if (path := self.top / name).exists()]
+            if len(told) < len(late) or "" in told:
+                return 0
+            return 120 + check.SECONDS_TO_END * (not any(map(os.path.exists, told)))
+
+        with unittest.mock.patch.object(check, "time", unittest.mock.Mock(monotonic=seconds)):
+            lines = self.told(*late, "ends")
+        for name in late:
+            self.assertIn(f"failed: {name} did not end within 2 minutes", lines)
+        self.assertEqual(lines.count("is shown"), 2, "a folder stays, or what ignores SIGTERM goes on")
+        self.assertEqual(lines[-1], "5 passed, 3 failed")
+        has_ended = select.poll()
+        has_ended.register(reader)
+        self.assertTrue(has_ended.poll(10_000), "something runs")
+
+    def test_status_of_what_counts(self) -> None:
+        for name in ("counts", "counts_too"):
+            self.assertEqual(self.told(name)[-1], "3 passed, 1 failed", name)
 
 
 if __name__ == "__main__":

@@ -53,8 +53,10 @@ if command -v cc > /dev/null; then
   if sh "$work/native/node/build.sh" "$prefix" > "$out" 2> "$err"; then
     addon=$work/native/node/build/pendratsoa.node
     counted 'the module beside the addon' node wasm/tests/differ.mjs "$work/tree/node" "$addon" 20000
-  else
+  elif grep -q 'there is no node_api.h' "$err"; then
     left_out 'the module beside the addon' "$(sed 's/.*since //' "$err")"
+  else
+    outcome 'build.sh' 1
   fi
 else
   without 'the module beside the addon' cc

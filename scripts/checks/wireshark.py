@@ -180,7 +180,7 @@ def show_payloads(check: Check) -> None:
     packets.add(segments)
     text = shown(check, packets, [*columns(("pendratsoa.name", "pendratsoa.malformed")), "-Y", "pendratsoa"])
     rows = [line.split("\t") for line in text.splitlines()]
-    check.case("all payloads are shown", len(rows) == len(wanted), f"{len(rows)} and not {len(wanted)}")
+    check.case("all payloads are shown", len(rows) == len(wanted) > 0, f"{len(rows)} and not {len(wanted)}")
     for (what, is_malformed), row in zip(wanted, rows):
         check.case(what[:200], bool(row[1]) == is_malformed, row)
 
