@@ -1,8 +1,9 @@
 #!/bin/sh
 # scripts/run.sh: its usage, arguments and status of the program, and a program that is built unproved once.
 #
-# It runs in a copy of the sources from another folder. An rt that only says that it was called comes before the
-# toolchain's where nothing may be built, and a script that prints its arguments is in the place of each proved program.
+# It runs in a copy of the sources from another folder. An rt that only says that it was called, and waits for notes of
+# the time, comes before the toolchain's where nothing may be built. A script that prints its arguments is in the place
+# of each proved program.
 set -u
 cd "$(dirname "$0")/../.." || exit 1
 . scripts/checks/lib.sh
@@ -10,9 +11,19 @@ cd "$(dirname "$0")/../.." || exit 1
 top=$PWD
 path=$PATH
 mkdir "$work/no-rt" "$work/a folder" "$work/tree"
-printf '#!/bin/sh\necho "$*" >> "%s/called"\nexit 2\n' "$work" > "$work/no-rt/rt"
+# 15 seconds are none here, so that the second note comes at once on any machine
+sleep=$(command -v sleep)
+printf '#!/bin/sh\n[ "$*" = 15 ] && exec "%s" 0.1\n' "$sleep" > "$work/no-rt/sleep"
+cat > "$work/no-rt/rt" << END
+#!/bin/sh
+echo "\$*" >> '$work/called'
+while [ \$((tries += 1)) -le 600 ] && ! grep -qx 'program.sh: 30 seconds' '$err'; do
+  '$sleep' 0.1
+done
+exit 2
+END
 printf '#!/bin/sh\necho "${0##*/}"\nprintf "<%%s>\\n" "$@"\ncat\nexit 7\n' > "$work/stand-in"
-chmod +x "$work/no-rt/rt" "$work/stand-in"
+chmod +x "$work"/no-rt/* "$work/stand-in"
 for part in crates.txt scripts proto include examples; do
   cp -R $part "$work/tree/"
 done
@@ -49,6 +60,9 @@ done
 run_sh --proved journal dump 'a stream'
 [ "$status" -eq 2 ] && [ -s "$work/called" ] && [ ! -s "$out" ]
 outcome 'a program that cannot be built' $?
+printf 'program.sh: %s seconds\n' 15 30 > "$work/wanted"
+sed -n 2,3p "$err" > "$work/notes"
+same 'what is said each 15 seconds' "$work/wanted" "$work/notes"
 rm "$work/called"
 
 # passed PROGRAM WORDS ARGUMENT..: the program gets the words, these arguments and the standard input, and its status is
@@ -95,8 +109,8 @@ rm -r "$work"/tree/crates/*/out
 unproved='run.sh: built without the proofs: it checks each access, and is hundreds of times slower than with --proved'
 run_sh list
 sed -e '1s/^program.sh: building journal_list without the proofs, .*/begins/' \
-  -e 's/^program.sh: [0-9]* seconds$/waits/' "$err" | uniq > "$work/steps"
-printf '%s\n' begins waits "$unproved" > "$work/wanted"
+  -e '/^program.sh: [0-9]* seconds$/d' "$err" > "$work/steps"
+printf '%s\n' begins "$unproved" > "$work/wanted"
 [ "$status" -eq 0 ] && cmp -s "$work/steps" "$work/wanted"
 outcome 'a program that is built without the proofs' $?
 PATH=$work/no-rt:$PATH
