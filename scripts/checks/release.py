@@ -118,7 +118,7 @@ class Trial:
         sources = self.work / "sources.list"
         sources.write_text("".join(f"{line}\n" for line in dict.fromkeys(lines)))
         folder = self.work / "root"
-        words = ["timeout", "900", "mmdebstrap", "--quiet", f"--include={','.join(PACKAGES[self.machine.name])}"]
+        words = ["timeout", "15m", "mmdebstrap", "--quiet", f"--include={','.join(PACKAGES[self.machine.name])}"]
         emulator = ()
         if self.machine.tools:
             # no script of a package runs there, since this processor cannot
@@ -127,8 +127,11 @@ class Trial:
         else:
             words += ["--variant=essential"]
         ended = checks.run([*words, lines[0].split()[2], folder, sources])
-        if ended.status != 0:
-            raise checks.NotRun(f"mmdebstrap makes no bare system: {ended.err.decode(errors='replace').strip()[-200:]}")
+        if ended.status != 0 and b"E: apt-get update " in ended.err:
+            raise checks.NotRun(f"apt reaches no source of packages: {lines[0]}")
+        name = f"mmdebstrap makes a bare system within 15 minutes, {self.machine.name}"
+        if not self.check.case(name, ended.status == 0, ended):
+            raise checks.Stopped
         if emulator:
             shutil.copy(shutil.which(f"qemu-{self.machine.name}-static"), folder / "qemu")
         for name in ("trial", "proc", "srv"):
