@@ -84,7 +84,8 @@ def whole(name, path, content):
     if suffix not in COMMENTS and suffix not in BLOCKS or not getattr(generator(name), "IS_WHOLE", True):
         return data
     start, end = BLOCKS.get(suffix, (COMMENTS.get(suffix), ""))
-    return f"{start} {MARK} {name} from {generator(name).SOURCE}. Do not edit. {end}".rstrip().encode() + b"\n" + data
+    source = getattr(generator(name), "SOURCES", {}).get(path, generator(name).SOURCE)
+    return f"{start} {MARK} {name} from {source}. Do not edit. {end}".rstrip().encode() + b"\n" + data
 
 
 def left_behind():

@@ -1,9 +1,9 @@
 """What the generators share.
 
-A generator is a module of this package with a line on what it makes (ABOUT), where that comes from (SOURCE), and two
-functions: missing(), which tells what has to be there and is not, or None, and files(), the text or the bytes of each
-file by its path from the root, without the first line that says who made it. What cannot be known of the paths without
-the tools is said by paths().
+A generator is a module of this package with a line on what it makes (ABOUT), where that comes from (SOURCE, and in
+SOURCES by its path for a file that comes from more), and two functions: missing(), which tells what has to be there and
+is not, or None, and files(), the text or the bytes of each file by its path from the root, without the first line that
+says who made it. What cannot be known of the paths without the tools is said by paths().
 """
 import pathlib
 import re
