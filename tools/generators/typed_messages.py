@@ -4,9 +4,7 @@ from . import typed_c, typed_go, typed_python, typed_ruby, typed_rust, typed_typ
 
 ABOUT = "The records as types of each language, with their comments."
 SOURCE = "proto/journal.proto and proto/calls.json"
-SOURCES = {
-    "include/pendratsoa_messages.h": "proto/journal.proto, proto/calls.json and tools/generators/messages.h.in",
-}
+SOURCES = {"include/pendratsoa_messages.h": "journal.proto, calls.json and messages.h.in"}
 
 LANGUAGES = (typed_c, typed_python, typed_typescript, typed_go, typed_rust, typed_ruby)
 
