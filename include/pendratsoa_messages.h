@@ -5430,13 +5430,20 @@ static inline size_t journal_payload_room_(size_t room) {
     return room > 8 ? room - 8 : 0;
 }
 
-/* Puts the header before a payload of this length, if there is room for both. An error is returned as it is. */
-static inline int64_t journal_framed_(uint32_t version, uint16_t code, int64_t length, uint8_t *out, size_t room) {
+/*
+ * Puts a header before a payload of this length, if there is room for both. The header was made for no bytes, so that
+ * one call of the library serves. An error is returned as it is.
+ */
+static inline int64_t journal_framed_(const uint8_t header[8], int64_t length, uint8_t *out, size_t room) {
     if (length < 0) {
         return length;
     }
     if ((uint64_t)length + 8 <= room) {
-        (void)journal_header(version, code, (uint32_t)length, out, 8);
+        memcpy(out, header, 4);
+        out[4] = (uint8_t)(length >> 24);
+        out[5] = (uint8_t)(length >> 16);
+        out[6] = (uint8_t)(length >> 8);
+        out[7] = (uint8_t)length;
     }
     return length + 8;
 }
@@ -5444,18 +5451,20 @@ static inline int64_t journal_framed_(uint32_t version, uint16_t code, int64_t l
 /* Writes the frame of a message from its record StartMessage. */
 static inline int64_t journal_frame_StartMessage(uint32_t version, const struct journal_StartMessage *record,
                                                  struct journal_arena *arena, uint8_t *out, size_t room) {
-    int64_t length = journal_header(version, JOURNAL_TYPE_START, 0, NULL, 0);
+    uint8_t header[8];
+    int64_t length = journal_header(version, JOURNAL_TYPE_START, 0, header, sizeof header);
 
     if (length > 0) {
         length = journal_write_StartMessage(record, arena, journal_payload_(out, room), journal_payload_room_(room));
     }
-    return journal_framed_(version, JOURNAL_TYPE_START, length, out, room);
+    return journal_framed_(header, length, out, room);
 }
 
 /* Writes the frame of a message from its record SuspensionMessage. */
 static inline int64_t journal_frame_SuspensionMessage(uint32_t version, const struct journal_SuspensionMessage *record,
                                                       struct journal_arena *arena, uint8_t *out, size_t room) {
-    int64_t length = journal_header(version, JOURNAL_TYPE_SUSPENSION, 0, NULL, 0);
+    uint8_t header[8];
+    int64_t length = journal_header(version, JOURNAL_TYPE_SUSPENSION, 0, header, sizeof header);
 
     if (length > 0 && version < 7) {
         length = journal_write_SuspensionMessage(record, arena, NULL, 0);
@@ -5480,509 +5489,548 @@ static inline int64_t journal_frame_SuspensionMessage(uint32_t version, const st
         length = journal_write_SuspensionMessage(record, arena, journal_payload_(out, room),
                                                  journal_payload_room_(room));
     }
-    return journal_framed_(version, JOURNAL_TYPE_SUSPENSION, length, out, room);
+    return journal_framed_(header, length, out, room);
 }
 
 /* Writes the frame of a message from its record ErrorMessage. */
 static inline int64_t journal_frame_ErrorMessage(uint32_t version, const struct journal_ErrorMessage *record,
                                                  struct journal_arena *arena, uint8_t *out, size_t room) {
-    int64_t length = journal_header(version, JOURNAL_TYPE_ERROR, 0, NULL, 0);
+    uint8_t header[8];
+    int64_t length = journal_header(version, JOURNAL_TYPE_ERROR, 0, header, sizeof header);
 
     if (length > 0) {
         length = journal_write_ErrorMessage(record, arena, journal_payload_(out, room), journal_payload_room_(room));
     }
-    return journal_framed_(version, JOURNAL_TYPE_ERROR, length, out, room);
+    return journal_framed_(header, length, out, room);
 }
 
 /* Writes the frame of a message from its record EndMessage. */
 static inline int64_t journal_frame_EndMessage(uint32_t version, const struct journal_EndMessage *record,
                                                struct journal_arena *arena, uint8_t *out, size_t room) {
-    int64_t length = journal_header(version, JOURNAL_TYPE_END, 0, NULL, 0);
+    uint8_t header[8];
+    int64_t length = journal_header(version, JOURNAL_TYPE_END, 0, header, sizeof header);
 
     if (length > 0) {
         length = journal_write_EndMessage(record, arena, journal_payload_(out, room), journal_payload_room_(room));
     }
-    return journal_framed_(version, JOURNAL_TYPE_END, length, out, room);
+    return journal_framed_(header, length, out, room);
 }
 
 /* Writes the frame of a message from its record ProposeRunCompletionMessage. */
 static inline int64_t journal_frame_ProposeRunCompletionMessage(
     uint32_t version, const struct journal_ProposeRunCompletionMessage *record, struct journal_arena *arena,
     uint8_t *out, size_t room) {
-    int64_t length = journal_header(version, JOURNAL_TYPE_PROPOSE_RUN_COMPLETION, 0, NULL, 0);
+    uint8_t header[8];
+    int64_t length = journal_header(version, JOURNAL_TYPE_PROPOSE_RUN_COMPLETION, 0, header, sizeof header);
 
     if (length > 0) {
         length = journal_write_ProposeRunCompletionMessage(record, arena, journal_payload_(out, room),
                                                            journal_payload_room_(room));
     }
-    return journal_framed_(version, JOURNAL_TYPE_PROPOSE_RUN_COMPLETION, length, out, room);
+    return journal_framed_(header, length, out, room);
 }
 
 /* Writes the frame of a message from its record AwaitingOnMessage. */
 static inline int64_t journal_frame_AwaitingOnMessage(uint32_t version, const struct journal_AwaitingOnMessage *record,
                                                       struct journal_arena *arena, uint8_t *out, size_t room) {
-    int64_t length = journal_header(version, JOURNAL_TYPE_AWAITING_ON, 0, NULL, 0);
+    uint8_t header[8];
+    int64_t length = journal_header(version, JOURNAL_TYPE_AWAITING_ON, 0, header, sizeof header);
 
     if (length > 0) {
         length = journal_write_AwaitingOnMessage(record, arena, journal_payload_(out, room),
                                                  journal_payload_room_(room));
     }
-    return journal_framed_(version, JOURNAL_TYPE_AWAITING_ON, length, out, room);
+    return journal_framed_(header, length, out, room);
 }
 
 /* Writes the frame of a message from its record ProposeRunCompletionAckMessage. */
 static inline int64_t journal_frame_ProposeRunCompletionAckMessage(
     uint32_t version, const struct journal_ProposeRunCompletionAckMessage *record, struct journal_arena *arena,
     uint8_t *out, size_t room) {
-    int64_t length = journal_header(version, JOURNAL_TYPE_PROPOSE_RUN_COMPLETION_ACK, 0, NULL, 0);
+    uint8_t header[8];
+    int64_t length = journal_header(version, JOURNAL_TYPE_PROPOSE_RUN_COMPLETION_ACK, 0, header, sizeof header);
 
     if (length > 0) {
         length = journal_write_ProposeRunCompletionAckMessage(record, arena, journal_payload_(out, room),
                                                               journal_payload_room_(room));
     }
-    return journal_framed_(version, JOURNAL_TYPE_PROPOSE_RUN_COMPLETION_ACK, length, out, room);
+    return journal_framed_(header, length, out, room);
 }
 
 /* Writes the frame of a message from its record GetStateEphemeralCommandMessage. */
 static inline int64_t journal_frame_GetStateEphemeralCommandMessage(
     uint32_t version, const struct journal_GetStateEphemeralCommandMessage *record, struct journal_arena *arena,
     uint8_t *out, size_t room) {
-    int64_t length = journal_header(version, JOURNAL_TYPE_GET_STATE_EPHEMERAL_COMMAND, 0, NULL, 0);
+    uint8_t header[8];
+    int64_t length = journal_header(version, JOURNAL_TYPE_GET_STATE_EPHEMERAL_COMMAND, 0, header, sizeof header);
 
     if (length > 0) {
         length = journal_write_GetStateEphemeralCommandMessage(record, arena, journal_payload_(out, room),
                                                                journal_payload_room_(room));
     }
-    return journal_framed_(version, JOURNAL_TYPE_GET_STATE_EPHEMERAL_COMMAND, length, out, room);
+    return journal_framed_(header, length, out, room);
 }
 
 /* Writes the frame of a message from its record GetStateEphemeralNotificationMessage. */
 static inline int64_t journal_frame_GetStateEphemeralNotificationMessage(
     uint32_t version, const struct journal_GetStateEphemeralNotificationMessage *record, struct journal_arena *arena,
     uint8_t *out, size_t room) {
-    int64_t length = journal_header(version, JOURNAL_TYPE_GET_STATE_EPHEMERAL_NOTIFICATION, 0, NULL, 0);
+    uint8_t header[8];
+    int64_t length = journal_header(version, JOURNAL_TYPE_GET_STATE_EPHEMERAL_NOTIFICATION, 0, header, sizeof header);
 
     if (length > 0) {
         length = journal_write_GetStateEphemeralNotificationMessage(record, arena, journal_payload_(out, room),
                                                                     journal_payload_room_(room));
     }
-    return journal_framed_(version, JOURNAL_TYPE_GET_STATE_EPHEMERAL_NOTIFICATION, length, out, room);
+    return journal_framed_(header, length, out, room);
 }
 
 /* Writes the frame of a message from its record InputCommandMessage. */
 static inline int64_t journal_frame_InputCommandMessage(uint32_t version,
                                                         const struct journal_InputCommandMessage *record,
                                                         struct journal_arena *arena, uint8_t *out, size_t room) {
-    int64_t length = journal_header(version, JOURNAL_TYPE_INPUT_COMMAND, 0, NULL, 0);
+    uint8_t header[8];
+    int64_t length = journal_header(version, JOURNAL_TYPE_INPUT_COMMAND, 0, header, sizeof header);
 
     if (length > 0) {
         length = journal_write_InputCommandMessage(record, arena, journal_payload_(out, room),
                                                    journal_payload_room_(room));
     }
-    return journal_framed_(version, JOURNAL_TYPE_INPUT_COMMAND, length, out, room);
+    return journal_framed_(header, length, out, room);
 }
 
 /* Writes the frame of a message from its record OutputCommandMessage. */
 static inline int64_t journal_frame_OutputCommandMessage(uint32_t version,
                                                          const struct journal_OutputCommandMessage *record,
                                                          struct journal_arena *arena, uint8_t *out, size_t room) {
-    int64_t length = journal_header(version, JOURNAL_TYPE_OUTPUT_COMMAND, 0, NULL, 0);
+    uint8_t header[8];
+    int64_t length = journal_header(version, JOURNAL_TYPE_OUTPUT_COMMAND, 0, header, sizeof header);
 
     if (length > 0) {
         length = journal_write_OutputCommandMessage(record, arena, journal_payload_(out, room),
                                                     journal_payload_room_(room));
     }
-    return journal_framed_(version, JOURNAL_TYPE_OUTPUT_COMMAND, length, out, room);
+    return journal_framed_(header, length, out, room);
 }
 
 /* Writes the frame of a message from its record GetLazyStateCommandMessage. */
 static inline int64_t journal_frame_GetLazyStateCommandMessage(uint32_t version,
                                                                const struct journal_GetLazyStateCommandMessage *record,
                                                                struct journal_arena *arena, uint8_t *out, size_t room) {
-    int64_t length = journal_header(version, JOURNAL_TYPE_GET_LAZY_STATE_COMMAND, 0, NULL, 0);
+    uint8_t header[8];
+    int64_t length = journal_header(version, JOURNAL_TYPE_GET_LAZY_STATE_COMMAND, 0, header, sizeof header);
 
     if (length > 0) {
         length = journal_write_GetLazyStateCommandMessage(record, arena, journal_payload_(out, room),
                                                           journal_payload_room_(room));
     }
-    return journal_framed_(version, JOURNAL_TYPE_GET_LAZY_STATE_COMMAND, length, out, room);
+    return journal_framed_(header, length, out, room);
 }
 
 /* Writes the frame of a message from its record SetStateCommandMessage. */
 static inline int64_t journal_frame_SetStateCommandMessage(uint32_t version,
                                                            const struct journal_SetStateCommandMessage *record,
                                                            struct journal_arena *arena, uint8_t *out, size_t room) {
-    int64_t length = journal_header(version, JOURNAL_TYPE_SET_STATE_COMMAND, 0, NULL, 0);
+    uint8_t header[8];
+    int64_t length = journal_header(version, JOURNAL_TYPE_SET_STATE_COMMAND, 0, header, sizeof header);
 
     if (length > 0) {
         length = journal_write_SetStateCommandMessage(record, arena, journal_payload_(out, room),
                                                       journal_payload_room_(room));
     }
-    return journal_framed_(version, JOURNAL_TYPE_SET_STATE_COMMAND, length, out, room);
+    return journal_framed_(header, length, out, room);
 }
 
 /* Writes the frame of a message from its record ClearStateCommandMessage. */
 static inline int64_t journal_frame_ClearStateCommandMessage(uint32_t version,
                                                              const struct journal_ClearStateCommandMessage *record,
                                                              struct journal_arena *arena, uint8_t *out, size_t room) {
-    int64_t length = journal_header(version, JOURNAL_TYPE_CLEAR_STATE_COMMAND, 0, NULL, 0);
+    uint8_t header[8];
+    int64_t length = journal_header(version, JOURNAL_TYPE_CLEAR_STATE_COMMAND, 0, header, sizeof header);
 
     if (length > 0) {
         length = journal_write_ClearStateCommandMessage(record, arena, journal_payload_(out, room),
                                                         journal_payload_room_(room));
     }
-    return journal_framed_(version, JOURNAL_TYPE_CLEAR_STATE_COMMAND, length, out, room);
+    return journal_framed_(header, length, out, room);
 }
 
 /* Writes the frame of a message from its record ClearAllStateCommandMessage. */
 static inline int64_t journal_frame_ClearAllStateCommandMessage(
     uint32_t version, const struct journal_ClearAllStateCommandMessage *record, struct journal_arena *arena,
     uint8_t *out, size_t room) {
-    int64_t length = journal_header(version, JOURNAL_TYPE_CLEAR_ALL_STATE_COMMAND, 0, NULL, 0);
+    uint8_t header[8];
+    int64_t length = journal_header(version, JOURNAL_TYPE_CLEAR_ALL_STATE_COMMAND, 0, header, sizeof header);
 
     if (length > 0) {
         length = journal_write_ClearAllStateCommandMessage(record, arena, journal_payload_(out, room),
                                                            journal_payload_room_(room));
     }
-    return journal_framed_(version, JOURNAL_TYPE_CLEAR_ALL_STATE_COMMAND, length, out, room);
+    return journal_framed_(header, length, out, room);
 }
 
 /* Writes the frame of a message from its record GetLazyStateKeysCommandMessage. */
 static inline int64_t journal_frame_GetLazyStateKeysCommandMessage(
     uint32_t version, const struct journal_GetLazyStateKeysCommandMessage *record, struct journal_arena *arena,
     uint8_t *out, size_t room) {
-    int64_t length = journal_header(version, JOURNAL_TYPE_GET_LAZY_STATE_KEYS_COMMAND, 0, NULL, 0);
+    uint8_t header[8];
+    int64_t length = journal_header(version, JOURNAL_TYPE_GET_LAZY_STATE_KEYS_COMMAND, 0, header, sizeof header);
 
     if (length > 0) {
         length = journal_write_GetLazyStateKeysCommandMessage(record, arena, journal_payload_(out, room),
                                                               journal_payload_room_(room));
     }
-    return journal_framed_(version, JOURNAL_TYPE_GET_LAZY_STATE_KEYS_COMMAND, length, out, room);
+    return journal_framed_(header, length, out, room);
 }
 
 /* Writes the frame of a message from its record GetEagerStateCommandMessage. */
 static inline int64_t journal_frame_GetEagerStateCommandMessage(
     uint32_t version, const struct journal_GetEagerStateCommandMessage *record, struct journal_arena *arena,
     uint8_t *out, size_t room) {
-    int64_t length = journal_header(version, JOURNAL_TYPE_GET_EAGER_STATE_COMMAND, 0, NULL, 0);
+    uint8_t header[8];
+    int64_t length = journal_header(version, JOURNAL_TYPE_GET_EAGER_STATE_COMMAND, 0, header, sizeof header);
 
     if (length > 0) {
         length = journal_write_GetEagerStateCommandMessage(record, arena, journal_payload_(out, room),
                                                            journal_payload_room_(room));
     }
-    return journal_framed_(version, JOURNAL_TYPE_GET_EAGER_STATE_COMMAND, length, out, room);
+    return journal_framed_(header, length, out, room);
 }
 
 /* Writes the frame of a message from its record GetEagerStateKeysCommandMessage. */
 static inline int64_t journal_frame_GetEagerStateKeysCommandMessage(
     uint32_t version, const struct journal_GetEagerStateKeysCommandMessage *record, struct journal_arena *arena,
     uint8_t *out, size_t room) {
-    int64_t length = journal_header(version, JOURNAL_TYPE_GET_EAGER_STATE_KEYS_COMMAND, 0, NULL, 0);
+    uint8_t header[8];
+    int64_t length = journal_header(version, JOURNAL_TYPE_GET_EAGER_STATE_KEYS_COMMAND, 0, header, sizeof header);
 
     if (length > 0) {
         length = journal_write_GetEagerStateKeysCommandMessage(record, arena, journal_payload_(out, room),
                                                                journal_payload_room_(room));
     }
-    return journal_framed_(version, JOURNAL_TYPE_GET_EAGER_STATE_KEYS_COMMAND, length, out, room);
+    return journal_framed_(header, length, out, room);
 }
 
 /* Writes the frame of a message from its record GetPromiseCommandMessage. */
 static inline int64_t journal_frame_GetPromiseCommandMessage(uint32_t version,
                                                              const struct journal_GetPromiseCommandMessage *record,
                                                              struct journal_arena *arena, uint8_t *out, size_t room) {
-    int64_t length = journal_header(version, JOURNAL_TYPE_GET_PROMISE_COMMAND, 0, NULL, 0);
+    uint8_t header[8];
+    int64_t length = journal_header(version, JOURNAL_TYPE_GET_PROMISE_COMMAND, 0, header, sizeof header);
 
     if (length > 0) {
         length = journal_write_GetPromiseCommandMessage(record, arena, journal_payload_(out, room),
                                                         journal_payload_room_(room));
     }
-    return journal_framed_(version, JOURNAL_TYPE_GET_PROMISE_COMMAND, length, out, room);
+    return journal_framed_(header, length, out, room);
 }
 
 /* Writes the frame of a message from its record PeekPromiseCommandMessage. */
 static inline int64_t journal_frame_PeekPromiseCommandMessage(uint32_t version,
                                                               const struct journal_PeekPromiseCommandMessage *record,
                                                               struct journal_arena *arena, uint8_t *out, size_t room) {
-    int64_t length = journal_header(version, JOURNAL_TYPE_PEEK_PROMISE_COMMAND, 0, NULL, 0);
+    uint8_t header[8];
+    int64_t length = journal_header(version, JOURNAL_TYPE_PEEK_PROMISE_COMMAND, 0, header, sizeof header);
 
     if (length > 0) {
         length = journal_write_PeekPromiseCommandMessage(record, arena, journal_payload_(out, room),
                                                          journal_payload_room_(room));
     }
-    return journal_framed_(version, JOURNAL_TYPE_PEEK_PROMISE_COMMAND, length, out, room);
+    return journal_framed_(header, length, out, room);
 }
 
 /* Writes the frame of a message from its record CompletePromiseCommandMessage. */
 static inline int64_t journal_frame_CompletePromiseCommandMessage(
     uint32_t version, const struct journal_CompletePromiseCommandMessage *record, struct journal_arena *arena,
     uint8_t *out, size_t room) {
-    int64_t length = journal_header(version, JOURNAL_TYPE_COMPLETE_PROMISE_COMMAND, 0, NULL, 0);
+    uint8_t header[8];
+    int64_t length = journal_header(version, JOURNAL_TYPE_COMPLETE_PROMISE_COMMAND, 0, header, sizeof header);
 
     if (length > 0) {
         length = journal_write_CompletePromiseCommandMessage(record, arena, journal_payload_(out, room),
                                                              journal_payload_room_(room));
     }
-    return journal_framed_(version, JOURNAL_TYPE_COMPLETE_PROMISE_COMMAND, length, out, room);
+    return journal_framed_(header, length, out, room);
 }
 
 /* Writes the frame of a message from its record SleepCommandMessage. */
 static inline int64_t journal_frame_SleepCommandMessage(uint32_t version,
                                                         const struct journal_SleepCommandMessage *record,
                                                         struct journal_arena *arena, uint8_t *out, size_t room) {
-    int64_t length = journal_header(version, JOURNAL_TYPE_SLEEP_COMMAND, 0, NULL, 0);
+    uint8_t header[8];
+    int64_t length = journal_header(version, JOURNAL_TYPE_SLEEP_COMMAND, 0, header, sizeof header);
 
     if (length > 0) {
         length = journal_write_SleepCommandMessage(record, arena, journal_payload_(out, room),
                                                    journal_payload_room_(room));
     }
-    return journal_framed_(version, JOURNAL_TYPE_SLEEP_COMMAND, length, out, room);
+    return journal_framed_(header, length, out, room);
 }
 
 /* Writes the frame of a message from its record CallCommandMessage. */
 static inline int64_t journal_frame_CallCommandMessage(uint32_t version,
                                                        const struct journal_CallCommandMessage *record,
                                                        struct journal_arena *arena, uint8_t *out, size_t room) {
-    int64_t length = journal_header(version, JOURNAL_TYPE_CALL_COMMAND, 0, NULL, 0);
+    uint8_t header[8];
+    int64_t length = journal_header(version, JOURNAL_TYPE_CALL_COMMAND, 0, header, sizeof header);
 
     if (length > 0) {
         length = journal_write_CallCommandMessage(record, arena, journal_payload_(out, room),
                                                   journal_payload_room_(room));
     }
-    return journal_framed_(version, JOURNAL_TYPE_CALL_COMMAND, length, out, room);
+    return journal_framed_(header, length, out, room);
 }
 
 /* Writes the frame of a message from its record OneWayCallCommandMessage. */
 static inline int64_t journal_frame_OneWayCallCommandMessage(uint32_t version,
                                                              const struct journal_OneWayCallCommandMessage *record,
                                                              struct journal_arena *arena, uint8_t *out, size_t room) {
-    int64_t length = journal_header(version, JOURNAL_TYPE_ONE_WAY_CALL_COMMAND, 0, NULL, 0);
+    uint8_t header[8];
+    int64_t length = journal_header(version, JOURNAL_TYPE_ONE_WAY_CALL_COMMAND, 0, header, sizeof header);
 
     if (length > 0) {
         length = journal_write_OneWayCallCommandMessage(record, arena, journal_payload_(out, room),
                                                         journal_payload_room_(room));
     }
-    return journal_framed_(version, JOURNAL_TYPE_ONE_WAY_CALL_COMMAND, length, out, room);
+    return journal_framed_(header, length, out, room);
 }
 
 /* Writes the frame of a message from its record SendSignalCommandMessage. */
 static inline int64_t journal_frame_SendSignalCommandMessage(uint32_t version,
                                                              const struct journal_SendSignalCommandMessage *record,
                                                              struct journal_arena *arena, uint8_t *out, size_t room) {
-    int64_t length = journal_header(version, JOURNAL_TYPE_SEND_SIGNAL_COMMAND, 0, NULL, 0);
+    uint8_t header[8];
+    int64_t length = journal_header(version, JOURNAL_TYPE_SEND_SIGNAL_COMMAND, 0, header, sizeof header);
 
     if (length > 0) {
         length = journal_write_SendSignalCommandMessage(record, arena, journal_payload_(out, room),
                                                         journal_payload_room_(room));
     }
-    return journal_framed_(version, JOURNAL_TYPE_SEND_SIGNAL_COMMAND, length, out, room);
+    return journal_framed_(header, length, out, room);
 }
 
 /* Writes the frame of a message from its record RunCommandMessage. */
 static inline int64_t journal_frame_RunCommandMessage(uint32_t version, const struct journal_RunCommandMessage *record,
                                                       struct journal_arena *arena, uint8_t *out, size_t room) {
-    int64_t length = journal_header(version, JOURNAL_TYPE_RUN_COMMAND, 0, NULL, 0);
+    uint8_t header[8];
+    int64_t length = journal_header(version, JOURNAL_TYPE_RUN_COMMAND, 0, header, sizeof header);
 
     if (length > 0) {
         length = journal_write_RunCommandMessage(record, arena, journal_payload_(out, room),
                                                  journal_payload_room_(room));
     }
-    return journal_framed_(version, JOURNAL_TYPE_RUN_COMMAND, length, out, room);
+    return journal_framed_(header, length, out, room);
 }
 
 /* Writes the frame of a message from its record AttachInvocationCommandMessage. */
 static inline int64_t journal_frame_AttachInvocationCommandMessage(
     uint32_t version, const struct journal_AttachInvocationCommandMessage *record, struct journal_arena *arena,
     uint8_t *out, size_t room) {
-    int64_t length = journal_header(version, JOURNAL_TYPE_ATTACH_INVOCATION_COMMAND, 0, NULL, 0);
+    uint8_t header[8];
+    int64_t length = journal_header(version, JOURNAL_TYPE_ATTACH_INVOCATION_COMMAND, 0, header, sizeof header);
 
     if (length > 0) {
         length = journal_write_AttachInvocationCommandMessage(record, arena, journal_payload_(out, room),
                                                               journal_payload_room_(room));
     }
-    return journal_framed_(version, JOURNAL_TYPE_ATTACH_INVOCATION_COMMAND, length, out, room);
+    return journal_framed_(header, length, out, room);
 }
 
 /* Writes the frame of a message from its record GetInvocationOutputCommandMessage. */
 static inline int64_t journal_frame_GetInvocationOutputCommandMessage(
     uint32_t version, const struct journal_GetInvocationOutputCommandMessage *record, struct journal_arena *arena,
     uint8_t *out, size_t room) {
-    int64_t length = journal_header(version, JOURNAL_TYPE_GET_INVOCATION_OUTPUT_COMMAND, 0, NULL, 0);
+    uint8_t header[8];
+    int64_t length = journal_header(version, JOURNAL_TYPE_GET_INVOCATION_OUTPUT_COMMAND, 0, header, sizeof header);
 
     if (length > 0) {
         length = journal_write_GetInvocationOutputCommandMessage(record, arena, journal_payload_(out, room),
                                                                  journal_payload_room_(room));
     }
-    return journal_framed_(version, JOURNAL_TYPE_GET_INVOCATION_OUTPUT_COMMAND, length, out, room);
+    return journal_framed_(header, length, out, room);
 }
 
 /* Writes the frame of a message from its record CompleteAwakeableCommandMessage. */
 static inline int64_t journal_frame_CompleteAwakeableCommandMessage(
     uint32_t version, const struct journal_CompleteAwakeableCommandMessage *record, struct journal_arena *arena,
     uint8_t *out, size_t room) {
-    int64_t length = journal_header(version, JOURNAL_TYPE_COMPLETE_AWAKEABLE_COMMAND, 0, NULL, 0);
+    uint8_t header[8];
+    int64_t length = journal_header(version, JOURNAL_TYPE_COMPLETE_AWAKEABLE_COMMAND, 0, header, sizeof header);
 
     if (length > 0) {
         length = journal_write_CompleteAwakeableCommandMessage(record, arena, journal_payload_(out, room),
                                                                journal_payload_room_(room));
     }
-    return journal_framed_(version, JOURNAL_TYPE_COMPLETE_AWAKEABLE_COMMAND, length, out, room);
+    return journal_framed_(header, length, out, room);
 }
 
 /* Writes the frame of a message from its record GetLazyStateCompletionNotificationMessage. */
 static inline int64_t journal_frame_GetLazyStateCompletionNotificationMessage(
     uint32_t version, const struct journal_GetLazyStateCompletionNotificationMessage *record,
     struct journal_arena *arena, uint8_t *out, size_t room) {
-    int64_t length = journal_header(version, JOURNAL_TYPE_GET_LAZY_STATE_COMPLETION_NOTIFICATION, 0, NULL, 0);
+    uint8_t header[8];
+    int64_t length = journal_header(version, JOURNAL_TYPE_GET_LAZY_STATE_COMPLETION_NOTIFICATION, 0, header, sizeof header);
 
     if (length > 0) {
         length = journal_write_GetLazyStateCompletionNotificationMessage(record, arena, journal_payload_(out, room),
                                                                          journal_payload_room_(room));
     }
-    return journal_framed_(version, JOURNAL_TYPE_GET_LAZY_STATE_COMPLETION_NOTIFICATION, length, out, room);
+    return journal_framed_(header, length, out, room);
 }
 
 /* Writes the frame of a message from its record GetPromiseCompletionNotificationMessage. */
 static inline int64_t journal_frame_GetPromiseCompletionNotificationMessage(
     uint32_t version, const struct journal_GetPromiseCompletionNotificationMessage *record, struct journal_arena *arena,
     uint8_t *out, size_t room) {
-    int64_t length = journal_header(version, JOURNAL_TYPE_GET_PROMISE_COMPLETION_NOTIFICATION, 0, NULL, 0);
+    uint8_t header[8];
+    int64_t length = journal_header(version, JOURNAL_TYPE_GET_PROMISE_COMPLETION_NOTIFICATION, 0, header, sizeof header);
 
     if (length > 0) {
         length = journal_write_GetPromiseCompletionNotificationMessage(record, arena, journal_payload_(out, room),
                                                                        journal_payload_room_(room));
     }
-    return journal_framed_(version, JOURNAL_TYPE_GET_PROMISE_COMPLETION_NOTIFICATION, length, out, room);
+    return journal_framed_(header, length, out, room);
 }
 
 /* Writes the frame of a message from its record PeekPromiseCompletionNotificationMessage. */
 static inline int64_t journal_frame_PeekPromiseCompletionNotificationMessage(
     uint32_t version, const struct journal_PeekPromiseCompletionNotificationMessage *record,
     struct journal_arena *arena, uint8_t *out, size_t room) {
-    int64_t length = journal_header(version, JOURNAL_TYPE_PEEK_PROMISE_COMPLETION_NOTIFICATION, 0, NULL, 0);
+    uint8_t header[8];
+    int64_t length = journal_header(version, JOURNAL_TYPE_PEEK_PROMISE_COMPLETION_NOTIFICATION, 0, header, sizeof header);
 
     if (length > 0) {
         length = journal_write_PeekPromiseCompletionNotificationMessage(record, arena, journal_payload_(out, room),
                                                                         journal_payload_room_(room));
     }
-    return journal_framed_(version, JOURNAL_TYPE_PEEK_PROMISE_COMPLETION_NOTIFICATION, length, out, room);
+    return journal_framed_(header, length, out, room);
 }
 
 /* Writes the frame of a message from its record GetInvocationOutputCompletionNotificationMessage. */
 static inline int64_t journal_frame_GetInvocationOutputCompletionNotificationMessage(
     uint32_t version, const struct journal_GetInvocationOutputCompletionNotificationMessage *record,
     struct journal_arena *arena, uint8_t *out, size_t room) {
-    int64_t length = journal_header(version, JOURNAL_TYPE_GET_INVOCATION_OUTPUT_COMPLETION_NOTIFICATION, 0, NULL, 0);
+    uint8_t header[8];
+    int64_t length = journal_header(version, JOURNAL_TYPE_GET_INVOCATION_OUTPUT_COMPLETION_NOTIFICATION, 0, header, sizeof header);
 
     if (length > 0) {
         length = journal_write_GetInvocationOutputCompletionNotificationMessage(record, arena,
                                                                                 journal_payload_(out, room),
                                                                                 journal_payload_room_(room));
     }
-    return journal_framed_(version, JOURNAL_TYPE_GET_INVOCATION_OUTPUT_COMPLETION_NOTIFICATION, length, out, room);
+    return journal_framed_(header, length, out, room);
 }
 
 /* Writes the frame of a message from its record CompletePromiseCompletionNotificationMessage. */
 static inline int64_t journal_frame_CompletePromiseCompletionNotificationMessage(
     uint32_t version, const struct journal_CompletePromiseCompletionNotificationMessage *record,
     struct journal_arena *arena, uint8_t *out, size_t room) {
-    int64_t length = journal_header(version, JOURNAL_TYPE_COMPLETE_PROMISE_COMPLETION_NOTIFICATION, 0, NULL, 0);
+    uint8_t header[8];
+    int64_t length = journal_header(version, JOURNAL_TYPE_COMPLETE_PROMISE_COMPLETION_NOTIFICATION, 0, header, sizeof header);
 
     if (length > 0) {
         length = journal_write_CompletePromiseCompletionNotificationMessage(record, arena, journal_payload_(out, room),
                                                                             journal_payload_room_(room));
     }
-    return journal_framed_(version, JOURNAL_TYPE_COMPLETE_PROMISE_COMPLETION_NOTIFICATION, length, out, room);
+    return journal_framed_(header, length, out, room);
 }
 
 /* Writes the frame of a message from its record CallCompletionNotificationMessage. */
 static inline int64_t journal_frame_CallCompletionNotificationMessage(
     uint32_t version, const struct journal_CallCompletionNotificationMessage *record, struct journal_arena *arena,
     uint8_t *out, size_t room) {
-    int64_t length = journal_header(version, JOURNAL_TYPE_CALL_COMPLETION_NOTIFICATION, 0, NULL, 0);
+    uint8_t header[8];
+    int64_t length = journal_header(version, JOURNAL_TYPE_CALL_COMPLETION_NOTIFICATION, 0, header, sizeof header);
 
     if (length > 0) {
         length = journal_write_CallCompletionNotificationMessage(record, arena, journal_payload_(out, room),
                                                                  journal_payload_room_(room));
     }
-    return journal_framed_(version, JOURNAL_TYPE_CALL_COMPLETION_NOTIFICATION, length, out, room);
+    return journal_framed_(header, length, out, room);
 }
 
 /* Writes the frame of a message from its record RunCompletionNotificationMessage. */
 static inline int64_t journal_frame_RunCompletionNotificationMessage(
     uint32_t version, const struct journal_RunCompletionNotificationMessage *record, struct journal_arena *arena,
     uint8_t *out, size_t room) {
-    int64_t length = journal_header(version, JOURNAL_TYPE_RUN_COMPLETION_NOTIFICATION, 0, NULL, 0);
+    uint8_t header[8];
+    int64_t length = journal_header(version, JOURNAL_TYPE_RUN_COMPLETION_NOTIFICATION, 0, header, sizeof header);
 
     if (length > 0) {
         length = journal_write_RunCompletionNotificationMessage(record, arena, journal_payload_(out, room),
                                                                 journal_payload_room_(room));
     }
-    return journal_framed_(version, JOURNAL_TYPE_RUN_COMPLETION_NOTIFICATION, length, out, room);
+    return journal_framed_(header, length, out, room);
 }
 
 /* Writes the frame of a message from its record AttachInvocationCompletionNotificationMessage. */
 static inline int64_t journal_frame_AttachInvocationCompletionNotificationMessage(
     uint32_t version, const struct journal_AttachInvocationCompletionNotificationMessage *record,
     struct journal_arena *arena, uint8_t *out, size_t room) {
-    int64_t length = journal_header(version, JOURNAL_TYPE_ATTACH_INVOCATION_COMPLETION_NOTIFICATION, 0, NULL, 0);
+    uint8_t header[8];
+    int64_t length = journal_header(version, JOURNAL_TYPE_ATTACH_INVOCATION_COMPLETION_NOTIFICATION, 0, header, sizeof header);
 
     if (length > 0) {
         length = journal_write_AttachInvocationCompletionNotificationMessage(record, arena, journal_payload_(out, room),
                                                                              journal_payload_room_(room));
     }
-    return journal_framed_(version, JOURNAL_TYPE_ATTACH_INVOCATION_COMPLETION_NOTIFICATION, length, out, room);
+    return journal_framed_(header, length, out, room);
 }
 
 /* Writes the frame of a message from its record SleepCompletionNotificationMessage. */
 static inline int64_t journal_frame_SleepCompletionNotificationMessage(
     uint32_t version, const struct journal_SleepCompletionNotificationMessage *record, struct journal_arena *arena,
     uint8_t *out, size_t room) {
-    int64_t length = journal_header(version, JOURNAL_TYPE_SLEEP_COMPLETION_NOTIFICATION, 0, NULL, 0);
+    uint8_t header[8];
+    int64_t length = journal_header(version, JOURNAL_TYPE_SLEEP_COMPLETION_NOTIFICATION, 0, header, sizeof header);
 
     if (length > 0) {
         length = journal_write_SleepCompletionNotificationMessage(record, arena, journal_payload_(out, room),
                                                                   journal_payload_room_(room));
     }
-    return journal_framed_(version, JOURNAL_TYPE_SLEEP_COMPLETION_NOTIFICATION, length, out, room);
+    return journal_framed_(header, length, out, room);
 }
 
 /* Writes the frame of a message from its record GetLazyStateKeysCompletionNotificationMessage. */
 static inline int64_t journal_frame_GetLazyStateKeysCompletionNotificationMessage(
     uint32_t version, const struct journal_GetLazyStateKeysCompletionNotificationMessage *record,
     struct journal_arena *arena, uint8_t *out, size_t room) {
-    int64_t length = journal_header(version, JOURNAL_TYPE_GET_LAZY_STATE_KEYS_COMPLETION_NOTIFICATION, 0, NULL, 0);
+    uint8_t header[8];
+    int64_t length = journal_header(version, JOURNAL_TYPE_GET_LAZY_STATE_KEYS_COMPLETION_NOTIFICATION, 0, header, sizeof header);
 
     if (length > 0) {
         length = journal_write_GetLazyStateKeysCompletionNotificationMessage(record, arena, journal_payload_(out, room),
                                                                              journal_payload_room_(room));
     }
-    return journal_framed_(version, JOURNAL_TYPE_GET_LAZY_STATE_KEYS_COMPLETION_NOTIFICATION, length, out, room);
+    return journal_framed_(header, length, out, room);
 }
 
 /* Writes the frame of a message from its record CallInvocationIdCompletionNotificationMessage. */
 static inline int64_t journal_frame_CallInvocationIdCompletionNotificationMessage(
     uint32_t version, const struct journal_CallInvocationIdCompletionNotificationMessage *record,
     struct journal_arena *arena, uint8_t *out, size_t room) {
-    int64_t length = journal_header(version, JOURNAL_TYPE_CALL_INVOCATION_ID_COMPLETION_NOTIFICATION, 0, NULL, 0);
+    uint8_t header[8];
+    int64_t length = journal_header(version, JOURNAL_TYPE_CALL_INVOCATION_ID_COMPLETION_NOTIFICATION, 0, header, sizeof header);
 
     if (length > 0) {
         length = journal_write_CallInvocationIdCompletionNotificationMessage(record, arena, journal_payload_(out, room),
                                                                              journal_payload_room_(room));
     }
-    return journal_framed_(version, JOURNAL_TYPE_CALL_INVOCATION_ID_COMPLETION_NOTIFICATION, length, out, room);
+    return journal_framed_(header, length, out, room);
 }
 
 /* Writes the frame of a message from its record SignalNotificationMessage. */
 static inline int64_t journal_frame_SignalNotificationMessage(uint32_t version,
                                                               const struct journal_SignalNotificationMessage *record,
                                                               struct journal_arena *arena, uint8_t *out, size_t room) {
-    int64_t length = journal_header(version, JOURNAL_TYPE_SIGNAL_NOTIFICATION, 0, NULL, 0);
+    uint8_t header[8];
+    int64_t length = journal_header(version, JOURNAL_TYPE_SIGNAL_NOTIFICATION, 0, header, sizeof header);
 
     if (length > 0) {
         length = journal_write_SignalNotificationMessage(record, arena, journal_payload_(out, room),
                                                          journal_payload_room_(room));
     }
-    return journal_framed_(version, JOURNAL_TYPE_SIGNAL_NOTIFICATION, length, out, room);
+    return journal_framed_(header, length, out, room);
 }
 
 /* Each record, with the name of its schema without JOURNAL_SCHEMA_. */

@@ -379,12 +379,13 @@ def framer(record, message, before):
     words = ["uint32_t version", f"const struct journal_{name} *record", "struct journal_arena *arena"]
     text = f"/* Writes the frame of a message from its record {name}. */\n"
     text += declared(f"static inline int64_t journal_frame_{name}(", [*words, "uint8_t *out", "size_t room"], ") {")
-    text += f"    int64_t length = journal_header(version, {code}, 0, NULL, 0);\n\n"
+    text += "    uint8_t header[8];\n"
+    text += f"    int64_t length = journal_header(version, {code}, 0, header, sizeof header);\n\n"
     text += earlier_frame(name, code, before) if before else ""
     text += "    if (length > 0) {\n"
     text += filled(f"        length = journal_write_{name}(",
                    ["record", "arena", "journal_payload_(out, room)", "journal_payload_room_(room)"], ");")
-    return text + f"    }}\n    return journal_framed_(version, {code}, length, out, room);\n}}\n\n"
+    return text + "    }\n    return journal_framed_(header, length, out, room);\n}\n\n"
 
 
 def earlier_frame(name, code, before):
