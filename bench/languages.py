@@ -4,10 +4,11 @@
 A line is the language, the record, the work (a payload decoded and two fields read, or a record encoded), microseconds
 of CPU time of this library's package and of the other, and how many times as fast this one is. There are also the items
 of a stream, the same with two fields of each read, replays, frames and JSON. The others are protobuf's own packages of
-Debian, for streams and frames with a framing of twenty lines, and prost with serde_json. For Node they are JSON.parse
-of the dump, and protobuf by hand (languages/peer.mjs). Where one is missing it says 'not run'. Python and Ruby are
-measured with their compiled modules, and without them as python-ctypes and ruby-fiddle. Lines of node-forms are the
-package for Node over its addon and over the WebAssembly module.
+Debian, for streams and frames with a framing of twenty lines, and prost with serde_json. For C it is libprotobuf, and
+the records are those of messages.sh. For Node they are JSON.parse of the dump, and protobuf by hand
+(languages/peer.mjs). Where one is missing it says 'not run'. Python and Ruby are measured with their compiled modules,
+and without them as python-ctypes and ruby-fiddle. Lines of node-forms are the package for Node over its addon and over
+the WebAssembly module.
 """
 from __future__ import annotations
 
@@ -20,7 +21,7 @@ import tempfile
 import typing
 
 import shared
-from shared import BENCH, PROGRAMS, ROOT, NotRun
+from shared import BENCH, OPTIMIZED, PROGRAMS, ROOT, NotRun
 
 MEASURES = BENCH / "languages"
 
@@ -41,6 +42,19 @@ def quietly(*words: str | pathlib.Path, **how: typing.Any) -> None:
 def is_there(*words: str) -> bool:
     """Whether a command can be run and succeeds."""
     return bool(shutil.which(words[0])) and subprocess.run(words, stderr=subprocess.DEVNULL).returncode == 0
+
+
+def c(work: pathlib.Path) -> None:
+    shared.needs("c++", "g++")
+    if not pathlib.Path("/usr/include/google/protobuf/util/json_util.h").exists():
+        raise NotRun("there is no libprotobuf-dev")
+    prefix = work / "prefix"
+    (work / "peer.proto").write_text(shared.description())
+    run("protoc", f"-I{work}", f"--cpp_out={work}", "peer.proto")
+    sources = (MEASURES / "measure.cc", work / "peer.pb.cc", prefix / "lib" / "libpendratsoa.a")
+    options = ("-std=c++14", *OPTIMIZED, "-I", prefix / "include", "-I", work)
+    run("c++", *options, *sources, "-lprotobuf", "-lpthread", "-o", work / "measure_c")
+    run(work / "measure_c", MEASURES / "messages.txt")
 
 
 def rust(work: pathlib.Path) -> None:
@@ -112,7 +126,7 @@ def main(words: list[str]) -> int:
         os.environ["LD_LIBRARY_PATH"] = str(prefix / "lib")
         proto = ROOT / "proto"
         run("protoc", f"--python_out={work}", f"--ruby_out={work}", f"-I{proto}", "journal.proto", "options.proto")
-        for language in (rust, python, ruby, node, go):
+        for language in (c, rust, python, ruby, node, go):
             try:
                 language(work)
             except NotRun as why:

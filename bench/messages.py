@@ -18,13 +18,12 @@ import tempfile
 import typing
 
 import shared
-from shared import BENCH, PROGRAMS, NotRun
+from shared import BENCH, OPTIMIZED, PROGRAMS, NotRun
 
 PACKAGES = ("libprotobuf-c-dev", "protobuf-c-compiler", "protobuf-compiler", "libprotobuf-dev")
 TOOLS = ("protoc", "protoc-c", "python3", "c++")
 SOURCES = BENCH / "messages"
 LIBRARY = BENCH / "target" / "pendratsoa"
-OPTIMIZED = ("-O3", "-march=x86-64-v2")
 
 # An optional field of proto3. protobuf-c takes none of these: it is a oneof of one member, with the same bytes.
 OPTIONAL = re.compile(r"^  optional ([a-z0-9]+) ([a-z_]+) = ([0-9]+);", re.MULTILINE)

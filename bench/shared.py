@@ -12,6 +12,9 @@ BENCH = pathlib.Path(__file__).resolve().parent
 ROOT = BENCH.parent
 PROGRAMS = BENCH / "target" / "release"
 
+# How what is measured in C and C++ is compiled.
+OPTIMIZED = ("-O3", "-march=x86-64-v2")
+
 
 class NotRun(Exception):
     """Why something is not measured."""

@@ -144,7 +144,7 @@ WHATS = ("encode", "encode_into", "encode_spare", "encode_shared", "encode_held"
 
 # The heading of the tables of other languages, how a run names these, their records, and the works of the second table.
 OTHER = "Typed messages in other languages"
-LANGUAGES = {"Rust": "rust", "Go": "go", "Python": "python", "Ruby": "ruby", "TypeScript": "node"}
+LANGUAGES = {"C": "c", "Rust": "rust", "Go": "go", "Python": "python", "Ruby": "ruby", "TypeScript": "node"}
 RECORDS = ("SetStateCommand", "CallCommand", "CallCompletionNotification")
 WORKS = ("items", "items-read", "replay", "frame", "to-json", "from-json")
 
