@@ -12,7 +12,7 @@ folder() {
   (cd "$(dirname "$1")" && pwd)
 }
 
-sh install.sh "$@" || exit 77
+sh install.sh "$@" || exit
 if ! command -v rt > /dev/null; then
   echo "not run: there is no rt"
   exit 77

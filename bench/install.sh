@@ -3,7 +3,7 @@
 #
 # It installs the packages where they are missing, but not with --no-install, and writes .cargo/config.toml, which puts
 # the distribution's folder of crates in the place of crates.io, and has the baseline compiled for the processor that
-# the library is compiled for. If that is not available, it says 'not run: ..' with status 1.
+# the library is compiled for. Where a tool is absent it says 'not run: ..' with status 77.
 set -u
 cd "$(dirname "$0")" || exit 1
 
@@ -19,7 +19,7 @@ packages="$packages librust-serde-dev librust-serde-json-dev librust-base64-dev"
 # not_run WHY: prints why nothing is built, and ends
 not_run() {
   echo "not run: $1"
-  exit 1
+  exit 77
 }
 
 # installed: whether each of the packages is there
@@ -40,7 +40,10 @@ if ! installed; then
 fi
 
 manifest=$(dpkg -L librust-prost-dev | grep '/prost-[0-9.]*/Cargo\.toml$' | sed 1q)
-[ -n "$manifest" ] || not_run "librust-prost-dev holds no crate"
+if [ -z "$manifest" ]; then
+  echo 'install.sh: librust-prost-dev holds no crate' >&2
+  exit 1
+fi
 registry=$(dirname "$(dirname "$manifest")")
 
 mkdir -p .cargo

@@ -10,7 +10,8 @@ cd "$(dirname "$0")" || exit 1
 
 if [ "${1-}" = --replay ]; then
   shift
-  sh build.sh || exit 0
+  # where a tool is absent it says so with status 77
+  sh build.sh || exit $(($? != 77))
   work=$(mktemp -d) || exit 1
   trap 'rm -rf "$work"' EXIT
   "${CC:-cc}" -O2 -Wall -Wextra -Werror -I target/pendratsoa/include replay.c target/pendratsoa/lib/libpendratsoa.a \
@@ -18,7 +19,8 @@ if [ "${1-}" = --replay ]; then
   target/release/journals "$work/replay" "$work" "$@"
   exit
 fi
-sh install.sh || exit 0
+# where a tool is absent it says so with status 77
+sh install.sh || exit $(($? != 77))
 journal=$PWD/../crates/journal/out/journal
 if [ ! -x "$journal" ]; then
   if ! command -v rt > /dev/null; then

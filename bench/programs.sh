@@ -7,7 +7,8 @@
 set -u
 cd "$(dirname "$0")" || exit 1
 
-sh install.sh || exit 0
+# where a tool is absent it says so with status 77
+sh install.sh || exit $(($? != 77))
 for name in journal journal_list; do
   [ ! -x "../crates/$name/out/$name" ] || continue
   if ! command -v rt > /dev/null; then

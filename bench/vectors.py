@@ -17,7 +17,7 @@ from shared import BENCH, PROGRAMS, ROOT
 
 sys.path.insert(1, str(ROOT / "scripts" / "checks"))
 
-from checks import Check, NotRun, perform  # noqa: E402
+from checks import Check, NotRun, perform, run  # noqa: E402
 
 VECTORS = ROOT / "conformance"
 
@@ -57,9 +57,12 @@ def main(check: Check) -> None:
     numbers = [word for word in sys.argv[1:] if word not in options]
     seed = numbers[0] if numbers else "1"
     count = numbers[1] if len(numbers) > 1 else str(COUNT)
-    ready = subprocess.run(["sh", BENCH / "install.sh", *options], stdout=subprocess.PIPE, text=True)
-    if ready.returncode != 0:
-        raise NotRun(ready.stdout.strip().removeprefix("not run: "))
+    ready = run(["sh", BENCH / "install.sh", *options])
+    # a tool is absent
+    if ready.status == 77:
+        raise NotRun(ready.out.decode().strip().removeprefix("not run: "))
+    if not check.case("install.sh", ready.status == 0, ready):
+        return
     built = ["cargo", "build", "--release", "--bin", "agree", "--bin", "vectors"]
     if not check.command("cargo build", built, cwd=BENCH):
         return

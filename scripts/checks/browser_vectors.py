@@ -11,6 +11,8 @@ import pathlib
 import sys
 import threading
 
+import tally
+
 ROOT = pathlib.Path(__file__).resolve().parent.parent.parent
 sys.path.insert(0, str(ROOT / "view"))
 
@@ -46,6 +48,7 @@ def vectors(tree: pathlib.Path) -> list[str]:
 
 
 def main(tree: str, name: str) -> int:
+    tally.end_by_exception()
     try:
         browser = BROWSERS[name]()
     except NotHere as why:

@@ -181,6 +181,7 @@ awk -v length_of_call=$(($(wc -c < "$work/long") - 8)) 'BEGIN { while (i++ < 200
 same 'the names of a call with long names' "$work/wanted" "$work/out"
 for kind in random mixed skipped; do
   python3 -B scripts/checks/write_stream.py $kind 200000 7 > "$work/$kind"
+  outcome "write_stream.py $kind" $?
   version=8
   [ $kind != skipped ] || version=9
   listed "a $kind stream" "$work/$kind" $version

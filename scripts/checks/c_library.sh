@@ -20,7 +20,7 @@ exported_names() {
   same 'the names of the static library' "$work/calls" "$work/names"
   "${tools}nm" -g --undefined-only "$prefix/lib/libpendratsoa.a" | awk 'NF == 2 { print $2 }' > "$work/names"
   grep -vxE 'malloc|realloc|free|mem(cpy|move|set|cmp)|bcmp|strlen' "$work/names" > "$err"
-  [ ! -s "$err" ]
+  [ -s "$work/names" ] && [ ! -s "$err" ]
   outcome 'the static library needs the C library alone' $?
   "${tools}readelf" -d "$library" | sed -n 's/.*(\(NEEDED\|SONAME\)).*\[\(.*\)\]$/\1 \2/p' | sort > "$work/names"
   printf '%s\n' 'NEEDED libc.so.6' 'SONAME libpendratsoa.so.0' > "$work/wanted"

@@ -142,9 +142,11 @@ class Check:
         return self.case(name, ended.status == 0, ended)
 
     def counted(self, name: str, words: collections.abc.Sequence[str | pathlib.Path], **how: typing.Any) -> Run:
-        """Adds what a command counts, whose last line is 'N passed, M failed', and shows what it says of failures. It
-        has failed too if it counts none and its status is not 0."""
+        """Adds what a command counts, whose last line is 'N passed, M failed', and shows what it says of failures and
+        of what is not run. It has failed too if it counts none and its status is not 0."""
         ended = run(words, **how)
+        for line in re.findall(rb"^.*: not (?:run|made), since .*$", ended.out, re.MULTILINE):
+            print(line.decode("utf-8", "backslashreplace"))
         counts = re.search(rb"^(\d+) passed, (\d+) failed\n\Z", ended.out, re.MULTILINE)
         if not counts:
             self.case(name, False, ended)
@@ -224,11 +226,11 @@ def program_path(name: str) -> pathlib.Path:
 
 
 def python_with_protobuf() -> str:
-    """A Python that has protobuf, or '' where there is none, or no protoc with the file that proto/journal.proto
-    imports."""
-    if shutil.which("protoc") is None:
-        return ""
-    if run(["protoc", "-Iproto", "--descriptor_set_out=/dev/null", "journal.proto"], cwd=ROOT).status != 0:
+    """A Python that has protobuf, or '' where there is none, or no protoc with the file that proto/options.proto
+    imports. A protoc that fails otherwise fails where it is used."""
+    from generators import proto
+
+    if proto.without_protoc():
         return ""
     pythons = (python for python in ("/usr/bin/python3", "python3") if shutil.which(python))
     return next((python for python in pythons if run([python, "-c", "import google.protobuf"]).status == 0), "")
@@ -247,6 +249,7 @@ def names_below(folder: pathlib.Path) -> list[str]:
 
 def perform(body: collections.abc.Callable[[Check], None]) -> typing.NoReturn:
     """Performs a check, whose last line is 'N passed, M failed', and ends with status 1 where a case failed."""
+    tally.end_by_exception()
     os.chdir(ROOT)
     with tempfile.TemporaryDirectory() as work:
         check = Check(pathlib.Path(sys.argv[0]).stem, pathlib.Path(work))

@@ -14,8 +14,8 @@ for python in python3 /usr/bin/python3; do
   fi
 done
 [ -n "$judge" ] || not_run 'there is no protobuf for python3; the Debian package python3-protobuf has it'
-protoc -Iproto --descriptor_set_out=/dev/null journal.proto 2> "$err" ||
-  not_run 'there is no protoc with descriptor.proto; the Debian packages protobuf-compiler and libprotobuf-dev have it'
+lacks=$(PYTHONPATH=tools python3 -B -c 'from generators import proto; print(proto.without_protoc() or "")')
+[ -z "$lacks" ] || not_run "$lacks"
 installed_library
 PYTHONPATH=python
 PYTHONDONTWRITEBYTECODE=1

@@ -77,6 +77,12 @@ case_of() {
   outcome "$name" $ended
 }
 
+# within SECONDS COMMAND..: a command that has so many seconds; it stays in the check's process group, which is ended as
+# a whole
+within() {
+  timeout --foreground "$@"
+}
+
 # counted NAME COMMAND..: a command whose last line is 'N passed, M failed', which are added to the tally, and which has
 # failed too if it counts no failure and its status is not 0; lines that say what is not run are shown
 counted() {

@@ -101,7 +101,7 @@ for calls in addon ${module:+module}; do
 done
 unset PENDRATSOA_CALLS
 for browser in ${module:+chromium firefox}; do
-  counted "the package in $browser" timeout 1800 python3 -B scripts/checks/browser_vectors.py "$tree" $browser
+  counted "the package in $browser" within 1800 python3 -B scripts/checks/browser_vectors.py "$tree" $browser
 done
 
 # The package as a user has it: the files that package.json lists, in node_modules.
@@ -135,6 +135,7 @@ if command -v tsc > /dev/null; then
     same "the listing of $stream" "$work/wanted" "$out"
   done
   python3 -B scripts/checks/write_stream.py mixed 100000 7 > "$work/mixed"
+  outcome 'write_stream.py' $?
   "$work/listing" < "$work/mixed" > "$work/wanted"
   node "$user/listing.mjs" < "$work/mixed" > "$out" 2> "$err"
   same 'the listing of a mixed stream' "$work/wanted" "$out"

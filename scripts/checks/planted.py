@@ -380,7 +380,7 @@ class KeptTest(unittest.TestCase):
         self.assertEqual(self.kept(), set())
 
 
-# Three checks that do not end by themselves, each with a file that tells where its temporary folder is, or 'none'; and
+# Five checks that do not end by themselves, each with a file that tells where its temporary folder is, or 'none'; and
 # others that do. SIGTERM does not end all that they run.
 CHECKS = {
     "python.py": """\
@@ -390,12 +390,38 @@ CHECKS = {
         pathlib.Path("python").write_text("none")
         time.sleep(60)
         """,
+    "performs.py": """\
+        import pathlib, sys, time
+        sys.path.insert(0, "{folder}")
+        import checks
+        held = open("held", "w")
+        told = pathlib.Path("performs").resolve()
+        def waits(check):
+            told.write_text(str(check.work))
+            time.sleep(60)
+        checks.perform(waits)
+        """,
+    "tests.py": """\
+        import pathlib, sys, tempfile, time, unittest
+        sys.path.insert(0, "{folder}")
+        import tally
+        held = open("held", "w")
+        class Tests(unittest.TestCase):
+            def test_1(self):
+                room = tempfile.TemporaryDirectory()
+                self.addCleanup(room.cleanup)
+                pathlib.Path("tests").write_text(room.name)
+                time.sleep(60)
+            def test_2(self):
+                pass
+        tally.tell()
+        """,
     "shell.sh": """\
         . {folder}/lib.sh
         exec 3> held
         echo '3 passed, 0 failed'
         (trap '' TERM; exec sleep 60) &
-        sh -c 'echo "$0" > shell; exec sleep 60' "$work"
+        within 60 sh -c 'echo "$0" > shell; exec sleep 60' "$work"
         """,
     "deaf.sh": """\
         exec 3> held
@@ -448,7 +474,7 @@ class ChecksTest(unittest.TestCase):
         os.mkfifo(self.top / "held")
         reader = os.open(self.top / "held", os.O_RDONLY | os.O_NONBLOCK)
         self.addCleanup(os.close, reader)
-        late = ("python", "shell", "deaf")
+        late = ("python", "performs", "tests", "shell", "deaf")
 
         def seconds() -> float:
             """A clock: all have begun before the limit is reached, and it goes on when no folder is there."""
@@ -462,7 +488,7 @@ class ChecksTest(unittest.TestCase):
         for name in late:
             self.assertIn(f"failed: {name} did not end within 2 minutes", lines)
         self.assertEqual(lines.count("is shown"), 2, "a folder stays, or what ignores SIGTERM goes on")
-        self.assertEqual(lines[-1], "5 passed, 3 failed")
+        self.assertEqual(lines[-1], "5 passed, 5 failed")
         has_ended = select.poll()
         has_ended.register(reader)
         self.assertTrue(has_ended.poll(10_000), "something runs")

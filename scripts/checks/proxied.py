@@ -17,6 +17,7 @@ import tempfile
 import threading
 
 import taken
+import tally
 
 # what is passed on as received: an input, a custom entry and a code that no type has, with all of their flags
 KEPT = bytes.fromhex("0400123400000009" "72070a05696e707574" "fc01ffff00000001ff" "0008a5a500000000")
@@ -103,6 +104,7 @@ def recorded(folder):
 
 
 def main(command):
+    tally.end_by_exception()
     passed = failed = 0
     is_recorded = command[:1] == ["--record"]
     passed_by = piped if command[:1] == ["--pipe"] else passed_on

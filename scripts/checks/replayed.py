@@ -14,6 +14,7 @@ import tempfile
 import typing
 
 import taken
+import tally
 
 ROOT = pathlib.Path(__file__).resolve().parent.parent.parent
 STREAMS = ROOT / "examples/streams"
@@ -83,6 +84,7 @@ def run(words: list[str], replayed: bytes, sizes: typing.Callable[[], int]) -> t
 
 
 def main(command: list[str]) -> int:
+    tally.end_by_exception()
     passed = failed = 0
     ways = (lambda: 1 << 20, lambda: 1, lambda: random.choice((1, 7, 8, 9, 40)))
     with tempfile.TemporaryDirectory() as work:

@@ -15,5 +15,5 @@ sed -n 's/^frame [A-Za-z]* 9 .*= \([0-9a-f]\{16,\}\)$/\1/p' conformance/frames.t
 case_of 'soak.c' cc -O2 -std=gnu99 -Wall -Wextra -Werror -I "$prefix/include" tests/c/soak.c \
   "$prefix/lib/libpendratsoa.a" -o "$work/soak"
 [ "$failed" -eq 0 ] || finish
-case_of "$messages messages" timeout 300 "$work/soak" "$messages" < "$work/frames"
+case_of "$messages messages" within 300 "$work/soak" "$messages" < "$work/frames"
 finish

@@ -62,7 +62,7 @@ class Terminal:
         modes[1] &= ~termios.OPOST
         termios.tcsetattr(self.slave, termios.TCSANOW, modes)
         self.shown = b""
-        self.reader = threading.Thread(target=self.read)
+        self.reader = threading.Thread(target=self.read, daemon=True)
         self.reader.start()
 
     def read(self):

@@ -16,8 +16,8 @@ counted 'the maker of the page' python3 view/tests/test_make_page.py
 wasm_module
 [ -n "$module" ] || without 'the page that opens journals' rt
 for browser in chromium firefox; do
-  counted "the pages in $browser" timeout 1800 python3 view/tests/in_browser.py $browser "$module"
+  counted "the pages in $browser" within 1800 python3 view/tests/in_browser.py $browser "$module"
 done
-counted 'the picture of the page' timeout 900 python3 view/picture.py --check
+counted 'the picture of the page' within 900 python3 view/picture.py --check
 
 finish

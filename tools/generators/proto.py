@@ -42,11 +42,12 @@ def refuse(text, line=None):
 
 @functools.cache
 def without_protoc():
-    """Why protoc cannot read the description here, or None: options.proto imports protobuf's own descriptor.proto."""
+    """What protoc lacks here to read the description, or None: options.proto imports protobuf's own descriptor.proto.
+    What else is wrong it says where the description is read."""
     if not shutil.which("protoc"):
         return "there is no protoc (protobuf-compiler)"
     reading = ["protoc", f"--proto_path={OPTIONS.parent}", "--descriptor_set_out=/dev/null", OPTIONS.name]
-    if subprocess.run(reading, capture_output=True).returncode != 0:
+    if b"google/protobuf/descriptor.proto: File not found" in subprocess.run(reading, capture_output=True).stderr:
         return "there is no google/protobuf/descriptor.proto (libprotobuf-dev), which protoc needs"
     return None
 

@@ -25,8 +25,10 @@ def missing(is_named):
         program = PROGRAM.relative_to(ROOT)
         return f"{program} is not built, or older than a source; 'generate.py random_vectors' builds it"
     ready = subprocess.run(["sh", "install.sh", "--no-install"], cwd=BENCH, capture_output=True, text=True)
-    if ready.returncode != 0:
+    # a tool is absent
+    if ready.returncode == 77:
         return ready.stdout.strip().removeprefix("not run: ")
+    ready.check_returncode()
     return None
 
 

@@ -11,10 +11,11 @@ import test_moved  # noqa: F401
 import test_opener  # noqa: F401
 import test_page  # noqa: F401
 from driver import NotHere
-from tally import tell
+from tally import end_by_exception, tell
 
 
 def main(name, module, *tests):
+    end_by_exception()
     support.BROWSER, support.MODULE = name, module
     try:
         browser = support.the_browser()
