@@ -64,14 +64,18 @@ TYPE_NAMES = set(
 
 # Names of types of the packages, which no message and no enum can have: there are records next to these.
 PACKAGE_TYPES = set(
-    "Any AppendFrame ArgumentError Array Call Canonical ChangedField Class ClassVar Compiled Cow Data Decoder "
-    "Difference Earlier Enumerable Error Exception Fiddle FieldError Fields File FirstVersion Frame Hash HeaderEq "
-    "Ignored Incomplete IncompleteError Init Integer Item JournalError Kernel LastVersion Library LibraryVersion "
-    "Listed Literal Malformed Member Merge Message MessageError MessageName MessageRecord MessageTooLong "
-    "MessageTooLongError Mismatch Module Named NamedType NoId NoResult NoRoom NotCanonical Notification "
-    "NotificationId NotificationResult Numbered Numbering NumberingError Object OpenEnum Optional OutOfMemory "
-    "Pending Process Replay Row Schema Shown Skipped Stream Struct Symbol Table TooLong Trapped Tuple TypeCode "
-    "TypeError TypeName Union Unknown UnknownCode Verdict Writer".split()
+    "Any AnyMessage AnyTyped AppendFrame ArgumentError Array BytesLike Call Canonical ChangedField Class "
+    "ClassVar CompareJournals CompareOptions Compiled Cow Data Decoder Difference Earlier Enumerable Error "
+    "Exception Fiddle FieldError FieldReason Fields File FirstVersion Frame FrameOptions FromJSON Frozen "
+    "FrozenStruct Hash HeaderEq IdKind Ignored Incomplete IncompleteError Init Integer IsWellFormed Item "
+    "JournalError JsonError JsonObject JsonReason JsonValue Kernel Kinds LastVersion Library LibraryVersion "
+    "Listed Literal Malformed Member Merge Message MessageError MessageFromJSON MessageName MessageRecord "
+    "MessageTooLong MessageTooLongError Mismatch Module Named NamedCall NamedType NewDecoder NewMessage "
+    "NewMessageOf NewNumbering NewReplay NoId NoResult NoRoom NotCanonical Notification NotificationId "
+    "NotificationResult Numbered Numbering NumberingError NumberingOptions NumberingReason Object OfMessage "
+    "OfPayload OpenEnum Optional OutOfMemory Pending Process ReadNotification Reader Replay ReplayOptions "
+    "ResultKind Row Schema SchemaNamed Shown Skipped Stream StreamOptions Struct Symbol Table ToJSON TooLong "
+    "Trapped Tuple TypeCode TypeError TypeName Union Unknown UnknownCode Verdict VerdictKind Writer".split()
 )
 
 # What functions of generated code call their own values, so that a member of a oneof is bound by another name there.
