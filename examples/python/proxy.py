@@ -51,7 +51,7 @@ def main(words: typing.List[str]) -> typing.Optional[str]:
     with source, socket.create_connection((given.host, given.port)) as target:
         with record(given.record, "received") as received, record(given.record, "passed_on") as passed:
             stream = pendratsoa.Stream(given.version)
-            for item in stream.read(source):
+            for item in stream.read(source, strict=False):
                 received.write(item.bytes)
                 changed = passed_on(item)
                 passed.write(changed)

@@ -43,7 +43,7 @@ def check(replay: Replay) -> int:
     """Prints what is to be said of a replay, and returns the status."""
     mismatch = None
     with open(0, "rb", buffering=0, closefd=False) as source:
-        for item in Stream(replay.version, LIMIT).read(source, strict=True):
+        for item in Stream(replay.version, LIMIT).read(source):
             index = replay.index
             mismatch = replay.check(item)
             if mismatch is not None:

@@ -263,7 +263,8 @@ export function refusal(number, given) {
   }
   const value = given[argument];
   const isUnknown = kind === 'Unknown';
-  const said = isUnknown ? `unknown ${UNKNOWN[argument](value, call)}` : `${argument} ${shown(value)}: ${reason}`;
+  const size = argument === 'json' ? sizeOf(value) : shown(value);
+  const said = isUnknown ? `unknown ${UNKNOWN[argument](value, call)}` : `${argument} ${size}: ${reason}`;
   return new ErrorClass(`${call}: ${said}`, { call, argument, value });
 }
 
@@ -278,7 +279,7 @@ export function notTaken({ call, json }, { reason, offset, path }) {
   const where = offset === undefined ? '' : ` at byte ${offset}`;
   const why = `${path === '' ? '' : `${path}: `}${REASONS[reason]}${where}`;
   const details = { call, argument: 'json', value: json, reason, offset, path };
-  return new JsonError(`${call}: json ${shown(json)}: ${why}`, details);
+  return new JsonError(`${call}: json ${sizeOf(json)}: ${why}`, details);
 }
 
 /** The error that no numbering comes of a descriptor set: the reason, and the fault. */
@@ -353,6 +354,11 @@ function shown(value) {
     return `of ${byteCount(value.byteLength)}`;
   }
   return texts.shown(value);
+}
+
+/** The length of a JSON text within a message, in bytes of its UTF-8: what it holds may be secret. */
+function sizeOf(json) {
+  return `of ${byteCount((typeof json === 'string' ? new TextEncoder().encode(json) : json).byteLength)}`;
 }
 
 /** The code of a type as a text, as 0x0400; what is not a code, as it is. */

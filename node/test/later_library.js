@@ -84,7 +84,7 @@ test('JSON texts of other kinds', () => {
   assert.throws(() => pendratsoa.fromJson(0, ''), {
     name: 'TooLong',
     argument: 'json',
-    message: "fromJson: json '': more than 4,294,967,295 bytes",
+    message: 'fromJson: json of 0 bytes: more than 4,294,967,295 bytes',
   });
 });
 

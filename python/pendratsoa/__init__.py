@@ -6,8 +6,9 @@
             if isinstance(item, Message):
                 print(item.type, item.message)
 
-What a call rejects is an exception below `JournalError`, whose text names the argument and its value. A payload's
-schema is given by its number or by the name of its record, as "SleepCommandMessage". All may be called from any thread.
+What a call rejects is an exception below `JournalError`, whose text names the argument and its value, of a payload only
+its length. A payload's schema is given by its number or by the name of its record, as "SleepCommandMessage". All may be
+called from any thread.
 
 The first call loads the library: the file that PENDRATSOA_LIBRARY names, or else that which is installed with this
 package, or else what the system finds as libpendratsoa.so.0. Where there is none, the call is an ImportError. COMPILED
@@ -47,6 +48,7 @@ from ._errors import (
     NoRoom,
     NotCanonical,
     NumberingError,
+    NumberingReason,
     OutOfMemory,
     TooLong,
     Unknown,
@@ -87,6 +89,7 @@ __all__ = [
     "Notification",
     "Numbering",
     "NumberingError",
+    "NumberingReason",
     "OutOfMemory",
     "Replay",
     "ResultKind",

@@ -5,7 +5,8 @@ from __future__ import annotations
 from typing import Dict, Optional, Tuple, Type
 
 from . import _declared
-from ._declared import FieldReason, JsonReason
+from ._declared import LIST_NO_RENAME, LIST_NO_SET, FieldReason, JsonReason
+from ._kinds import Kind
 
 
 class JournalError(Exception):
@@ -159,9 +160,38 @@ class JsonError(JournalError, ValueError):
         self.path = path
 
 
+class NumberingReason(Kind):
+    """Which argument of a numbering has a fault."""
+
+    NO_SET = "no_set", LIST_NO_SET
+    """The descriptor set."""
+
+    NO_RENAME = "no_rename", LIST_NO_RENAME
+    """One of the renames."""
+
+
 class NumberingError(JournalError, ValueError):
-    """No numbering comes of a descriptor set and renames. `argument` is that which is wrong: "descriptor_set" or
-    "renames"."""
+    """No numbering comes of a descriptor set and renames. `reason` tells which of them has a fault, `text` has the
+    fault, and `argument` is "descriptor_set" or "renames"."""
+
+    reason: NumberingReason
+    """Which of the two has a fault."""
+
+    text: str
+    """The fault, as "a.proto: b.Message.field: number of a later field"."""
+
+    def __init__(
+        self,
+        *texts: str,
+        call: Optional[str] = None,
+        argument: Optional[str] = None,
+        value: object = None,
+        reason: NumberingReason = NumberingReason.NO_SET,
+        text: str = "",
+    ) -> None:
+        super().__init__(*texts, call=call, argument=argument, value=value)
+        self.reason = reason
+        self.text = text
 
 
 class Incomplete(JournalError, EOFError):

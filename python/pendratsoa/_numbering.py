@@ -5,8 +5,8 @@ from __future__ import annotations
 import os
 from typing import TYPE_CHECKING, Mapping, Optional, Protocol, Tuple, Union
 
-from ._declared import LIST_LISTED, LIST_NO_RENAME, LIST_NO_SET, RENUMBERING_NUMBERS
-from ._errors import Malformed, NumberingError
+from ._declared import LIST_LISTED, RENUMBERING_NUMBERS
+from ._errors import Malformed, NumberingError, NumberingReason
 from ._fast import pending_of
 from ._items import Message, renumbered
 from ._kinds import BytesLike
@@ -18,7 +18,7 @@ if TYPE_CHECKING:
     from . import _compiled, _pending
 
 # which argument is wrong, if no numbering comes of them
-WRONG = {LIST_NO_SET: "descriptor_set", LIST_NO_RENAME: "renames"}
+WRONG = {NumberingReason.NO_SET: "descriptor_set", NumberingReason.NO_RENAME: "renames"}
 
 # how many bytes an entry of a table has
 ENTRY = 8 * RENUMBERING_NUMBERS
@@ -52,8 +52,9 @@ class Numbering(Tables):
         data, lines = request.data("descriptor_set"), _lines_of(request, renames)
         found, (kind,) = named.Numbering(data, lines)
         self._text = found.decode(errors="replace")
-        if kind in WRONG:
-            raise request.error(NumberingError, self._text, WRONG[kind])
+        reason = NumberingReason.of(kind)
+        if reason is not None:
+            raise _no_numbering(request, reason, self._text)
         if kind != LIST_LISTED:
             raise request.unexpected(f"a numbering of the kind {kind}")
         super().__init__(data, lines)
@@ -104,6 +105,15 @@ class Numbering(Tables):
         return f"<Numbering of {len(self._reading) // ENTRY} fields>"
 
 
+def _no_numbering(request: Request, reason: NumberingReason, text: str) -> NumberingError:
+    """The error that no numbering comes of a set and renames: which of them has a fault, and the fault."""
+    argument = WRONG[reason]
+    value = request.arguments[argument]
+    return NumberingError(
+        f"{argument}: {text}", call=request.call, argument=argument, value=value, reason=reason, text=text
+    )
+
+
 def _lines_of(request: Request, renames: Optional[Mapping[str, str]]) -> bytes:
     """Renames as lines, in UTF-8."""
     if renames is None:
@@ -116,7 +126,7 @@ def _lines_of(request: Request, renames: Optional[Mapping[str, str]]) -> bytes:
             if not isinstance(name, str):
                 raise TypeError(f"Numbering: a name in renames must be a str, not {type(name).__name__}")
             if "=" in name or "\n" in name:
-                raise request.error(NumberingError, f"renames: {name!r} is not the name of a message", "renames")
+                raise _no_numbering(request, NumberingReason.NO_RENAME, f"{name!r} is not the name of a message")
         lines.append("=".join(names) + "\n")
     # half a surrogate is in no name, which the library says
     return "".join(lines).encode("utf-8", "surrogatepass")

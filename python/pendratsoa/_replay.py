@@ -114,7 +114,7 @@ class Replay:
         recorded = io.BytesIO(self._recorded)
         recorded.seek(numbers[3])
         stream = Stream(numbers[0])
-        for _ in stream.read(recorded):
+        for _ in stream.read(recorded, strict=False):
             pass
         return stream.rest
 

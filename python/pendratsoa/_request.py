@@ -63,8 +63,14 @@ U16_END = 1 << 16
 U32_END = 1 << 32
 
 
+def byte_count(count: int) -> str:
+    """A number of bytes as texts show it."""
+    return "1 byte" if count == 1 else f"{count} bytes"
+
+
 def shown(value: object) -> str:
-    """A value as texts show it: of long bytes their beginning, and their number."""
+    """A value as texts show it: of long bytes their beginning, and their number. No error shows the bytes of a payload,
+    which may be a secret."""
     if isinstance(value, (bytes, bytearray, memoryview)):
         data = bytes(value)
         return repr(data) if len(data) <= 32 else f"{data[:16]!r}.. ({len(data)} bytes)"
@@ -184,7 +190,7 @@ class Request:
         if kind is Unknown:
             return self._unknown(argument)
         what = argument if argument == "payload" else f"{argument} payload"
-        return self.error(kind, f"{what} {shown(self.arguments[argument])} {TEXTS[kind]}", argument)
+        return self.error(kind, f"{what} of {byte_count(len(self.data(argument)))} {TEXTS[kind]}", argument)
 
     def error(self, kind: Type[JournalError], text: str, argument: Optional[str] = None) -> JournalError:
         """An error of this call, about one of its arguments or none. Its text does not name the call, which may be one
@@ -198,7 +204,7 @@ class Request:
         is_json = reason is not JsonReason.NOT_JSON
         why = f"{path}: {REASONS[reason]}" if path else REASONS[reason]
         return JsonError(
-            f"json {shown(value)}: {why if is_json else f'{why} at byte {offset}'}",
+            f"json of {byte_count(len(self.json('json')))}: {why if is_json else f'{why} at byte {offset}'}",
             call=self.call,
             argument="json",
             value=value,

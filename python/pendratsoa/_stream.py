@@ -13,7 +13,7 @@ from ._fast import pending_of
 from ._items import Item, Message, name_of, read_as, renumbered, type_of
 from ._kinds import BytesLike
 from ._named import named
-from ._request import Request
+from ._request import Request, byte_count
 from ._tables import tables_of
 
 if TYPE_CHECKING:
@@ -106,17 +106,17 @@ class Stream:
             self._check()
             self._pending.feed(chunk)
 
-    def read(self, file: Source, size: int = CHUNK, strict: bool = False) -> Iterator[Item]:
+    def read(self, file: Source, size: int = CHUNK, strict: bool = True) -> Iterator[Item]:
         """Feeds what a binary file or a socket has, at most `size` bytes at a time, and iterates over the items as they
-        come. It ends where the file ends; `trailing` has then the bytes of an item that is not whole, which are
-        `Incomplete` if it is `strict`.
+        come. If the file ends within an item, that is `Incomplete` after all whole items; `trailing` has its bytes.
+        With `strict=False` the loop ends there without an error, as for a file that is still being written.
 
         A file that does not block and has no bytes yet is a `BlockingIOError`; the call can be repeated.
         """
         receive = _receiver(file)
         return self._read(receive, _checked("read", size), strict)
 
-    def read_async(self, reader: AsyncReadable, size: int = CHUNK, strict: bool = False) -> AsyncIterator[Item]:
+    def read_async(self, reader: AsyncReadable, size: int = CHUNK, strict: bool = True) -> AsyncIterator[Item]:
         """Feeds what a reader as `asyncio.StreamReader` has, and iterates over the items as they come, for
         `async for`; all else is as for `read`."""
         return self._read_async(reader, _checked("read_async", size), strict)
@@ -149,8 +149,7 @@ class Stream:
         if rest > 0:
             offset, code = self._pending.offset(), self._code_of_rest()
             item = "an item" if code is None else name_of(code)
-            what = "1 byte" if rest == 1 else f"{rest} bytes"
-            text = f"the stream ended within {item} at offset {offset}, after {what} of it"
+            text = f"the stream ended within {item} at offset {offset}, after {byte_count(rest)} of it"
             raise Incomplete(text, call=call, rest=rest, offset=offset, code=code)
 
     def _code_of_rest(self) -> Optional[int]:

@@ -7,7 +7,7 @@ import re
 import unittest
 
 import pendratsoa
-from pendratsoa import FieldReason, IdKind, JsonReason, ResultKind, VerdictKind, _errors, _library
+from pendratsoa import FieldReason, IdKind, JsonReason, NumberingReason, ResultKind, VerdictKind, _errors, _library
 from support import HEADER, TOP, defined, types
 
 
@@ -24,7 +24,13 @@ class TestConstants(unittest.TestCase):
 
     def test_kinds(self):
         numbers = defined(r"\d+")
-        for kinds, family in ((JsonReason, "JSON_"), (IdKind, ""), (ResultKind, "RESULT_"), (VerdictKind, "VERDICT_")):
+        for kinds, family in (
+            (JsonReason, "JSON_"),
+            (IdKind, ""),
+            (ResultKind, "RESULT_"),
+            (VerdictKind, "VERDICT_"),
+            (NumberingReason, "LIST_"),
+        ):
             for kind in kinds:
                 self.assertEqual(numbers[family + kind.name], kind.number)
                 self.assertIs(kinds.of(kind.number), kind)
@@ -63,7 +69,7 @@ class TestConstants(unittest.TestCase):
     def test_kinds_are_words(self):
         self.assertEqual([str(kind) for kind in IdKind], ["completion_id", "signal_id", "signal_name"])
         self.assertEqual(f"{VerdictKind.SAME} %s" % VerdictKind.BAD_REPLAYED, "same bad_replayed")
-        for kind in (*JsonReason, *FieldReason, *IdKind, *ResultKind, *VerdictKind):
+        for kind in (*JsonReason, *FieldReason, *NumberingReason, *IdKind, *ResultKind, *VerdictKind):
             word = kind.name.lower()
             self.assertEqual((kind, {kind: 1}[word], {word: 1}[kind], type(kind)(word)), (word, 1, 1, kind))
             self.assertEqual((f"{kind}", str(kind), json.dumps(kind)), (word, word, f'"{word}"'))

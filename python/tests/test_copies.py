@@ -196,13 +196,20 @@ class TestEnd(unittest.TestCase):
             self.assertEqual((caught.exception.code, caught.exception.rest), (INPUT_COMMAND, len(INPUT)))
             self.assertEqual(len(list(stream)), 1)
 
-    def test_strict(self):
-        items = Stream().read(io.BytesIO(INPUT + INPUT[:5]), strict=True)
-        self.assertEqual(str(next(items)), f"InputCommand {INPUT_LENGTH}")
-        text = rf"^the stream ended within InputCommand at offset {len(INPUT)}, after 5 bytes of it$"
-        with self.assertRaisesRegex(Incomplete, text):
-            next(items)
-        self.assertEqual(len(list(Stream().read(io.BytesIO(INPUT), strict=True))), 1)
+    def test_a_file_that_ends_within_an_item(self):
+        for strict in ({}, {"strict": True}):
+            items = Stream().read(io.BytesIO(INPUT + INPUT[:5]), **strict)
+            self.assertEqual(str(next(items)), f"InputCommand {INPUT_LENGTH}")
+            text = rf"^the stream ended within InputCommand at offset {len(INPUT)}, after 5 bytes of it$"
+            with self.assertRaisesRegex(Incomplete, text):
+                next(items)
+        self.assertEqual(len(list(Stream().read(io.BytesIO(INPUT)))), 1)
+
+    def test_a_file_that_is_still_being_written(self):
+        stream = Stream()
+        self.assertEqual(len(list(stream.read(io.BytesIO(INPUT + INPUT[:5]), strict=False))), 1)
+        self.assertEqual(stream.trailing, INPUT[:5])
+        self.assertEqual(len(list(stream.read(io.BytesIO(INPUT[5:])))), 1)
 
 
 class TestAsync(unittest.IsolatedAsyncioTestCase):
@@ -218,7 +225,7 @@ class TestAsync(unittest.IsolatedAsyncioTestCase):
 
     async def test_items_come_before_the_end(self):
         reader = asyncio.StreamReader()
-        items = Stream().read_async(reader, strict=True)
+        items = Stream().read_async(reader)
         reader.feed_data(INPUT + INPUT[:5])
         self.assertEqual(str(await items.__anext__()), f"InputCommand {INPUT_LENGTH}")
         waiting = asyncio.ensure_future(items.__anext__())
@@ -229,14 +236,23 @@ class TestAsync(unittest.IsolatedAsyncioTestCase):
         reader.feed_data(INPUT[5:])
         self.assertEqual(str(await waiting), f"InputCommand {INPUT_LENGTH}")
 
-    async def test_strict(self):
+    async def test_a_reader_that_ends_within_an_item(self):
+        for strict in ({}, {"strict": True}):
+            reader = asyncio.StreamReader()
+            reader.feed_data(INPUT + INPUT[:5])
+            reader.feed_eof()
+            items = Stream().read_async(reader, **strict)
+            self.assertEqual(str(await items.__anext__()), f"InputCommand {INPUT_LENGTH}")
+            with self.assertRaisesRegex(Incomplete, "^the stream ended"):
+                await items.__anext__()
+
+    async def test_a_reader_of_what_is_still_being_written(self):
         reader = asyncio.StreamReader()
         reader.feed_data(INPUT + INPUT[:5])
         reader.feed_eof()
-        items = Stream().read_async(reader, strict=True)
-        self.assertEqual(str(await items.__anext__()), f"InputCommand {INPUT_LENGTH}")
-        with self.assertRaisesRegex(Incomplete, "^the stream ended"):
-            await items.__anext__()
+        stream = Stream()
+        self.assertEqual(len([item async for item in stream.read_async(reader, strict=False)]), 1)
+        self.assertEqual(stream.trailing, INPUT[:5])
 
     async def test_a_connection(self):
         async def serve(reader, writer):
@@ -247,7 +263,7 @@ class TestAsync(unittest.IsolatedAsyncioTestCase):
 
         server = await asyncio.start_server(serve, "127.0.0.1", 0)
         reader, writer = await asyncio.open_connection(*server.sockets[0].getsockname())
-        found = [item.type async for item in Stream().read_async(reader, strict=True)]
+        found = [item.type async for item in Stream().read_async(reader)]
         self.assertEqual(found, ["InputCommand", "InputCommand"])
         writer.close()
         server.close()

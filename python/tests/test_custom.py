@@ -48,7 +48,7 @@ def found(item):
 
 
 def items_of(*parts, version=8):
-    return list(Stream(version).read(io.BytesIO(b"".join(parts)), strict=True))
+    return list(Stream(version).read(io.BytesIO(b"".join(parts))))
 
 
 class TestCustomEntries(unittest.TestCase):
@@ -157,7 +157,7 @@ class TestOffsets(unittest.TestCase):
                 with self.assertRaises(Malformed) as raised:
                     call()
                 error = raised.exception
-                text = f"SetStateCommand{where}: payload b'\\n' is not well-formed"
+                text = f"SetStateCommand{where}: payload of 1 byte is not well-formed"
                 self.assertEqual((str(error), error.code, error.offset), (text, SET_STATE_COMMAND, offset))
                 self.assertEqual((error.call, error.argument, error.value), (name, "payload", b"\n"))
             self.assertEqual(out, b"")
@@ -171,7 +171,7 @@ class TestOffsets(unittest.TestCase):
             (message,) = items_of(header + payload)
             with self.assertRaises(kind) as raised:
                 message.notification()
-            text = f"SignalNotification at offset 0: payload {payload!r} {what}"
+            text = f"SignalNotification at offset 0: payload of 2 bytes {what}"
             error = raised.exception
             self.assertEqual((str(error), error.code, error.offset), (text, SIGNAL_NOTIFICATION, 0))
 
@@ -179,7 +179,7 @@ class TestOffsets(unittest.TestCase):
         for call in ("frame", "append_frame"):
             with self.assertRaises(Malformed) as raised:
                 getattr(Message(6, SUSPENSION, b"\n"), call)(*([bytearray()] if call == "append_frame" else []))
-            self.assertEqual(str(raised.exception), "Suspension: payload b'\\n' is not well-formed")
+            self.assertEqual(str(raised.exception), "Suspension: payload of 1 byte is not well-formed")
             self.assertEqual(raised.exception.call, call)
 
     def test_a_call_by_itself_knows_no_message(self):

@@ -15,6 +15,8 @@ from pendratsoa import (
     NoResult,
     MessageTooLong,
     NoRoom,
+    Numbering,
+    NumberingError,
     OutOfMemory,
     Stream,
     TooLong,
@@ -83,7 +85,7 @@ class TestErrors(unittest.TestCase):
                 "payload",
                 BAD,
                 "frame",
-                "payload b'\\x12' is not well-formed",
+                "payload of 1 byte is not well-formed",
             ),
             (
                 lambda: pendratsoa.canonical(pendratsoa.SCHEMAS, b""),
@@ -107,7 +109,7 @@ class TestErrors(unittest.TestCase):
                 "payload",
                 long,
                 "canonical",
-                f"payload {long[:16]!r}.. (1000 bytes) is not well-formed",
+                "payload of 1000 bytes is not well-formed",
             ),
             (
                 lambda: pendratsoa.merge(13, BAD, b""),
@@ -115,7 +117,7 @@ class TestErrors(unittest.TestCase):
                 "first",
                 BAD,
                 "merge",
-                "first payload b'\\x12' is not well-formed",
+                "first payload of 1 byte is not well-formed",
             ),
             (
                 lambda: pendratsoa.merge("ErrorMessage", b"", BAD),
@@ -123,7 +125,7 @@ class TestErrors(unittest.TestCase):
                 "second",
                 BAD,
                 "merge",
-                "second payload b'\\x12' is not well-formed",
+                "second payload of 1 byte is not well-formed",
             ),
             (
                 lambda: pendratsoa.header_eq(SET_STATE_COMMAND, b"", BAD),
@@ -131,7 +133,7 @@ class TestErrors(unittest.TestCase):
                 "second",
                 BAD,
                 "header_eq",
-                "second payload b'\\x12' is not well-formed",
+                "second payload of 1 byte is not well-formed",
             ),
             (
                 lambda: pendratsoa.difference(SET_STATE_COMMAND, BAD, b""),
@@ -139,7 +141,7 @@ class TestErrors(unittest.TestCase):
                 "first",
                 BAD,
                 "difference",
-                "first payload b'\\x12' is not well-formed",
+                "first payload of 1 byte is not well-formed",
             ),
             (
                 lambda: pendratsoa.difference(2, b"", b""),
@@ -163,7 +165,7 @@ class TestErrors(unittest.TestCase):
                 "payload",
                 NO_ID,
                 "notification",
-                f"payload {NO_ID!r} has no id",
+                "payload of 2 bytes has no id",
             ),
             (
                 lambda: pendratsoa.notification(SIGNAL_NOTIFICATION, NO_RESULT),
@@ -171,7 +173,7 @@ class TestErrors(unittest.TestCase):
                 "payload",
                 NO_RESULT,
                 "notification",
-                f"payload {NO_RESULT!r} has an id, and no result",
+                "payload of 2 bytes has an id, and no result",
             ),
             (
                 lambda: pendratsoa.compare_journals(10, b"", b""),
@@ -231,6 +233,33 @@ class TestErrors(unittest.TestCase):
             self.assertEqual((unknown.exception.argument, unknown.exception.value), ("type", value))
         with self.assertRaisesRegex(TypeError, "^Message.from_json: json must be "):
             Message.from_json("SleepCommand", 5)
+
+    def test_no_text_has_bytes_of_a_payload(self):
+        bad = b"\x0a\x40a secret"
+        stream = Stream()
+        stream.feed(pendratsoa.header(8, SET_STATE_COMMAND, len(bad)) + bad)
+        (came,) = stream
+        for call in (
+            lambda: pendratsoa.canonical("Value", bad),
+            lambda: pendratsoa.to_json("Value", bytearray(bad)),
+            lambda: pendratsoa.merge("Value", bad, b""),
+            lambda: pendratsoa.merge("Value", b"", memoryview(bad)),
+            lambda: pendratsoa.frame(8, SET_STATE_COMMAND, bad),
+            lambda: pendratsoa.notification(SIGNAL_NOTIFICATION, b"\x22\x0a\x0a\x08a secret"),
+            lambda: messages.Value.decode(bad),
+            lambda: came.message,
+            came.json,
+            came.canonical,
+            came.frame,
+            lambda: pendratsoa.from_json("Value", '{"content":"a secret"}'),
+            lambda: pendratsoa.from_json("Value", b'{"content":"a secret"'),
+            lambda: Message.from_json("SetStateCommand", {"key": "a secret"}),
+        ):
+            with self.assertRaises(JournalError) as raised:
+                call()
+            text = r"^(SetStateCommand at offset 0: )?(first |second )?(payload|json) of \d+ bytes"
+            self.assertRegex(str(raised.exception), text)
+            self.assertNotIn("secret", repr(raised.exception))
 
     def test_a_number_that_python_does_not_write(self):
         for number in (1 << 100_000, -1 << 100_000):
@@ -295,6 +324,7 @@ class TestErrors(unittest.TestCase):
             (NoId, ValueError),
             (NoResult, ValueError),
             (FieldError, ValueError),
+            (NumberingError, ValueError),
             (Incomplete, EOFError),
         ):
             self.assertTrue(issubclass(kind, other) and issubclass(kind, JournalError))
@@ -312,6 +342,7 @@ class TestErrors(unittest.TestCase):
             (ended.finish, ("call", "rest", "offset", "code")),
             (lambda: pendratsoa.from_json(13, "["), ("call", "argument", "value", "reason", "offset", "path")),
             (messages.Failure(code=-1).encode, ("call", "reason", "path")),
+            (lambda: Numbering(BAD), ("call", "argument", "value", "reason", "text")),
         ):
             with self.assertRaises(JournalError) as raised:
                 call()

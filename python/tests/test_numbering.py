@@ -16,8 +16,9 @@ import threading
 import unittest
 from unittest import mock
 
-from pendratsoa import JournalError, Malformed, Message, MessageTooLong, Numbering, NumberingError, OutOfMemory, Replay
-from pendratsoa import SCHEMA_NAMES, Stream, TooLong, Unknown, append_frame, canonical, compare_journals, frame
+from pendratsoa import JournalError, Malformed, Message, MessageTooLong, Numbering, NumberingError, NumberingReason
+from pendratsoa import OutOfMemory, Replay, SCHEMA_NAMES, Stream, TooLong, Unknown, append_frame, canonical
+from pendratsoa import compare_journals, frame
 from pendratsoa import _named, messages
 from pendratsoa.messages import GetLazyStateCommandMessage, SetStateCommandMessage, SuspensionMessageV6, Value
 from descriptors import ALL, SMALL, at_other_numbers, block, field, message, renumbered, set_of
@@ -40,6 +41,11 @@ HEAD = bytes.fromhex("04031234")
 PLAIN = bytes.fromhex("04030000")
 OTHERS = bytes.fromhex("fc01ffff00000001ff" "0008a5a500000000")
 TRAILING = bytes.fromhex("040000000000000972")
+
+
+def sized(payload):
+    """How many bytes a payload has, as errors show it."""
+    return "1 byte" if len(payload) == 1 else f"{len(payload)} bytes"
 
 
 def framed(payload, head=HEAD):
@@ -90,7 +96,7 @@ class TestPayloads(unittest.TestCase):
         for payload in (b"\n", b"\x22\x05a", b"\x12\x02\x1a\x05", b"\x10\x01", b"\xff"):
             with self.assertRaises(Malformed) as error:
                 numbering.read_payload(SCHEMA, payload)
-            self.assertEqual(str(error.exception), f"payload {payload!r} is not well-formed")
+            self.assertEqual(str(error.exception), f"payload of {sized(payload)} is not well-formed")
             self.assertEqual((error.exception.argument, error.exception.value), ("payload", payload))
         for call in (numbering.read_payload, numbering.write_payload):
             for schema in (len(SCHEMA_NAMES), -1, 1 << 32, "Values"):
@@ -169,8 +175,14 @@ class TestSets(unittest.TestCase):
         ):
             with self.assertRaises(NumberingError) as error:
                 Numbering(SMALL, renames=renames)
-            self.assertEqual((error.exception.argument, error.exception.value), ("renames", renames))
-            self.assertNotRegex(str(error.exception), r"^Numbering: ")
+            found = error.exception
+            self.assertEqual((found.reason, found.argument, found.value), ("no_rename", "renames", renames))
+            self.assertIs(type(found.reason), NumberingReason)
+            self.assertNotEqual(found.text, "")
+            self.assertEqual(str(found), f"renames: {found.text}")
+        with self.assertRaises(NumberingError) as error:
+            Numbering(SMALL, renames={"A=B": "Value"})
+        self.assertEqual(error.exception.text, "'A=B' is not the name of a message")
         for renames in (5, ["Value"], "Value=Value", {5: "Value"}, {"Value": b"Value"}):
             self.assertRaises(TypeError, Numbering, SMALL, renames=renames)
 
@@ -179,10 +191,15 @@ class TestSets(unittest.TestCase):
         for data in (twice, SMALL[:-1], b'syntax = "proto3";', b"\xff", bytes(100), block(1, block(4, b"\n\x05"))):
             with self.assertRaises(NumberingError) as error:
                 Numbering(data)
-            self.assertIsInstance(error.exception, (JournalError, ValueError))
-            self.assertEqual((error.exception.call, error.exception.argument), ("Numbering", "descriptor_set"))
-            self.assertEqual(error.exception.value, data)
-            self.assertNotRegex(str(error.exception), r"^Numbering: ")
+            found = error.exception
+            self.assertIsInstance(found, (JournalError, ValueError))
+            self.assertEqual((found.call, found.argument, found.value), ("Numbering", "descriptor_set", data))
+            self.assertIs(found.reason, NumberingReason.NO_SET)
+            self.assertNotEqual(found.text, "")
+            self.assertEqual(str(found), f"descriptor_set: {found.text}")
+        with self.assertRaises(NumberingError) as error:
+            Numbering(twice)
+        self.assertEqual(error.exception.text, "a.proto: a.Value.other: number of a later field")
 
     def test_an_empty_set(self):
         numbering = Numbering(b"")
@@ -297,7 +314,7 @@ class TestStreams(unittest.TestCase):
         numbering = Numbering(SMALL)
         with self.assertRaises(Malformed) as error:
             numbering.read_stream(8, OTHERS + framed(b"\n"))
-        text = r"SetStateCommand at offset 17: payload b'\n' is not well-formed"
+        text = "SetStateCommand at offset 17: payload of 1 byte is not well-formed"
         self.assertEqual(str(error.exception), text)
         self.assertEqual((error.exception.code, error.exception.offset), (SET_STATE_COMMAND, 17))
         for call in (numbering.read_stream, numbering.write_stream):
@@ -360,7 +377,7 @@ class TestReaders(unittest.TestCase):
 
     def test_other_ways(self):
         theirs = framed(THEIRS) * 3
-        found = list(Stream(numbering=Numbering(SMALL)).read(io.BytesIO(theirs), 7, strict=True))
+        found = list(Stream(numbering=Numbering(SMALL)).read(io.BytesIO(theirs), 7))
         self.assertEqual([(item.offset, item.payload) for item in found], [(0, OURS), (19, OURS), (38, OURS)])
         written = io.BytesIO()
         for item in found:
@@ -390,7 +407,7 @@ class TestReaders(unittest.TestCase):
         with self.assertRaises(Malformed) as error:
             for item in stream:
                 found.append(item.offset)
-        text = r"SetStateCommand at offset 19: payload b'\n' is not well-formed"
+        text = "SetStateCommand at offset 19: payload of 1 byte is not well-formed"
         self.assertEqual(str(error.exception), text)
         self.assertEqual((error.exception.code, error.exception.offset, found), (SET_STATE_COMMAND, 19, [0]))
         # the next loop goes on after it

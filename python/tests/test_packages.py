@@ -135,7 +135,7 @@ def listing(items, ended):
 
 def items_of(version, word):
     """The items of a stream that is there as a whole."""
-    return list(Stream(int(version)).read(io.BytesIO(bytes_of(word)), strict=True))
+    return list(Stream(int(version)).read(io.BytesIO(bytes_of(word))))
 
 
 class Chunks:
@@ -192,7 +192,7 @@ class TestPackages(unittest.TestCase):
         reader.read = lambda size: reader.next()
 
         def take():
-            for item in stream.read(reader, strict=True):
+            for item in stream.read(reader):
                 found.append(item)
 
         return self.checked(stream, chunks, found, raised(take))
@@ -203,7 +203,7 @@ class TestPackages(unittest.TestCase):
         found = []
 
         async def take():
-            async for item in stream.read_async(Chunks(chunks), strict=True):
+            async for item in stream.read_async(Chunks(chunks)):
                 found.append(item)
 
         return self.checked(stream, chunks, found, raised(lambda: asyncio.run(take())))
@@ -305,7 +305,7 @@ class TestPackages(unittest.TestCase):
         recorded = bytes_of(word)
         replay = Replay(int(version), recorded)
         rest = replay.recorded_rest
-        for item in Stream(int(version)).read(io.BytesIO(recorded)):
+        for item in Stream(int(version)).read(io.BytesIO(recorded), strict=False):
             replay.check(item)
             # wherever the replay is, and also after a mismatch
             self.assertEqual(replay.recorded_rest, rest)
@@ -388,8 +388,9 @@ class TestNumberings(unittest.TestCase):
         try:
             sets[name] = Numbering(bytes_of(word), renames=dict(line.split("=") for line in lines))
         except NumberingError as error:
-            kind = {"descriptor_set": "no_set", "renames": "no_rename"}[error.argument]
-            return f"{kind} {str(error).encode().hex()}"
+            self.assertEqual(error.argument, {"no_set": "descriptor_set", "no_rename": "renames"}[error.reason])
+            self.assertEqual(str(error), f"{error.argument}: {error.text}")
+            return f"{error.reason} {error.text.encode().hex()}"
         return "ok"
 
     def read_result(self, sets, name, schema, word):
@@ -432,7 +433,7 @@ class TestMadeByHand(unittest.TestCase):
         with self.assertRaises(Malformed) as error:
             message.json()
         self.assertEqual((error.exception.code, error.exception.offset), (SET_STATE_COMMAND, None))
-        self.assertEqual(str(error.exception), "SetStateCommand: payload b'\\n\\x05a' is not well-formed")
+        self.assertEqual(str(error.exception), "SetStateCommand: payload of 3 bytes is not well-formed")
 
 
 if __name__ == "__main__":

@@ -22,7 +22,7 @@ MALFORMED = {VerdictKind.BAD_RECORDED: "malformed recorded", VerdictKind.BAD_REP
 
 def items_of(version, data):
     """The whole items of a stream."""
-    return list(Stream(version).read(io.BytesIO(data)))
+    return list(Stream(version).read(io.BytesIO(data), strict=False))
 
 
 def commands_of(version, data):

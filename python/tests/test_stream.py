@@ -206,7 +206,7 @@ class TestFeeding(unittest.TestCase):
             self.assertEqual(error.offset, len(INPUT))
             self.assertEqual(stream.rest, 0)
         self.assertEqual(found, EXPECTED[:1])
-        for call in (lambda: stream.feed(b"x"), stream.finish, lambda: list(stream.read(io.BytesIO(), strict=True))):
+        for call in (lambda: stream.feed(b"x"), stream.finish, lambda: list(stream.read(io.BytesIO()))):
             with self.assertRaises(MessageTooLong):
                 call()
         for strict in (False, True):
@@ -261,17 +261,17 @@ class TestReading(unittest.TestCase):
     def test_every_size_and_what_is_left(self):
         for size in range(1, len(STREAM) + 2):
             stream = Stream()
-            self.assertEqual(list(stream.read(io.BytesIO(STREAM), size)), EXPECTED)
+            self.assertEqual(list(stream.read(io.BytesIO(STREAM), size, strict=False)), EXPECTED)
             self.assertEqual(stream.rest, 8)
 
     def test_what_was_fed_comes_first(self):
         stream = Stream()
         stream.feed(STREAM[:20])
-        self.assertEqual(list(stream.read(io.BytesIO(STREAM[20:]))), EXPECTED)
-        self.assertEqual(list(stream.read(io.BytesIO(b""))), [])
+        self.assertEqual(list(stream.read(io.BytesIO(STREAM[20:]), strict=False)), EXPECTED)
+        self.assertEqual(list(stream.read(io.BytesIO(b""), strict=False)), [])
         stream = Stream()
         stream.feed(STREAM)
-        self.assertEqual(list(stream.read(io.BytesIO(b""))), EXPECTED)
+        self.assertEqual(list(stream.read(io.BytesIO(b""), strict=False)), EXPECTED)
 
     def test_items_come_before_the_end_of_a_pipe_and_of_a_socket(self):
         reading, writing = os.pipe()
@@ -281,7 +281,7 @@ class TestReading(unittest.TestCase):
         first, second = socket.socketpair()
         with first, second:
             stream = Stream()
-            items = stream.read(first)
+            items = stream.read(first, strict=False)
             second.sendall(INPUT)
             self.assertEqual(next(items), EXPECTED[0])
             second.sendall(STREAM[len(INPUT) :])
@@ -295,7 +295,7 @@ class TestReading(unittest.TestCase):
         waited = 0
         while True:
             try:
-                found += stream.read(file)
+                found += stream.read(file, strict=False)
                 break
             except BlockingIOError:
                 waited += 1
@@ -308,10 +308,10 @@ class TestReading(unittest.TestCase):
         with open(reading, "rb") as file:
             stream = Stream()
             os.write(writing, STREAM[:20])
-            self.assertRaises(BlockingIOError, list, stream.read(file, strict=True))
+            self.assertRaises(BlockingIOError, list, stream.read(file))
             os.write(writing, STREAM[20:])
             os.close(writing)
-            self.assertEqual((list(stream.read(file)), stream.rest), (EXPECTED[1:], 8))
+            self.assertEqual((list(stream.read(file, strict=False)), stream.rest), (EXPECTED[1:], 8))
 
     def test_a_buffered_file_without_a_descriptor(self):
         data = io.BytesIO()
@@ -321,7 +321,7 @@ class TestReading(unittest.TestCase):
             archive.addfile(entry, io.BytesIO(STREAM))
         data.seek(0)
         with tarfile.open(fileobj=data) as archive:
-            self.assertEqual(list(Stream().read(archive.extractfile("journal"))), EXPECTED)
+            self.assertEqual(list(Stream().read(archive.extractfile("journal"), strict=False)), EXPECTED)
 
     def test_what_cannot_be_read(self):
         for file, text in ((b"bytes", "bytes has not"), (None, "NoneType has not")):
@@ -372,7 +372,7 @@ class TestTrailing(unittest.TestCase):
 
     def test_a_stream_that_ends_within_an_item(self):
         stream = Stream()
-        items = stream.read(io.BytesIO(INPUT + INPUT[:12]), size=5, strict=True)
+        items = stream.read(io.BytesIO(INPUT + INPUT[:12]), size=5)
         self.assertEqual(next(items), EXPECTED[0])
         for call in (lambda: next(items), stream.finish, stream.finish):
             with self.assertRaises(Incomplete) as ended:
@@ -395,7 +395,8 @@ class TestTrailing(unittest.TestCase):
     def test_what_is_passed_on_is_the_stream(self):
         for size in range(1, 20):
             stream = Stream()
-            passed = b"".join(item.bytes for item in stream.read(io.BytesIO(STREAM + RECORDED[:-3]), size))
+            items = stream.read(io.BytesIO(STREAM + RECORDED[:-3]), size, strict=False)
+            passed = b"".join(item.bytes for item in items)
             self.assertEqual(passed + stream.trailing, STREAM + RECORDED[:-3])
 
 

@@ -8,5 +8,5 @@ require "pendratsoa"
 abort "usage: listing.rb [5..9]" unless ARGV.length <= 1 && ARGV.all?(/\A[5-9]\z/)
 
 stream = Pendratsoa::Stream.new(version: Integer(ARGV.fetch(0, 8)))
-stream.read($stdin.binmode) { |item| puts item }
+stream.read($stdin.binmode, strict: false) { |item| puts item }
 puts "rest #{stream.rest}"

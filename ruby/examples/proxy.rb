@@ -28,7 +28,7 @@ source = server.accept
 target = TCPSocket.new(host, port)
 stream = Pendratsoa::Stream.new(version: Integer(version))
 begin
-  stream.read(source) { |item| target.write(passed_on(item)) }
+  stream.read(source, strict: false) { |item| target.write(passed_on(item)) }
   target.write(stream.trailing)
   stream.finish
 rescue Pendratsoa::Error => error

@@ -31,7 +31,7 @@ end
 
 # Prints each command that is the same, and returns the first mismatch.
 def first_mismatch(replay)
-  Pendratsoa::Stream.read($stdin.binmode, version: replay.version, strict: true, max_message_size: LIMIT) do |item|
+  Pendratsoa::Stream.read($stdin.binmode, version: replay.version, max_message_size: LIMIT) do |item|
     index = replay.index
     found = replay.check(item)
     return found if found

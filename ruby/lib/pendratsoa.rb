@@ -29,10 +29,10 @@ require_relative "pendratsoa/replay"
 #       stream.read(file) { |item| p item.type, item.message if item.is_a?(Pendratsoa::Message) }
 #     end
 #
-# What a call rejects is an exception below Pendratsoa::Error, whose text names the argument and its value; what is no
-# String or no Integer is a TypeError. A schema is given by its number or by the name of its record, as
-# "SleepCommandMessage". Bytes are Strings of any encoding; those that are returned are binary, and texts are UTF-8. All
-# may be called from any thread.
+# What a call rejects is an exception below Pendratsoa::Error, whose text names the argument and its value, of a payload
+# only its length; what is no String or no Integer is a TypeError. A schema is given by its number or by the name of its
+# record, as "SleepCommandMessage". Bytes are Strings of any encoding; those that are returned are binary, and texts are
+# UTF-8. All may be called from any thread.
 #
 # The first call loads the library: the file that PENDRATSOA_LIBRARY names, or else that which is copied into this gem,
 # or else what the system finds as libpendratsoa.so.0. Where there is none, the call is a LoadError. COMPILED tells

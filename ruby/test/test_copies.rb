@@ -90,11 +90,33 @@ class TestCopies < Minitest::Test
     text = "the stream ended within an item at offset 17, after 1 byte of it"
     error = assert_error(Pendratsoa::Incomplete, text) { stream.feed("x").finish }
     assert_equal [1, 17, nil], [error.rest, error.offset, error.code]
-    items = Pendratsoa::Stream.read(StringIO.new(INPUT + INPUT[0, 5]), strict: true)
-    assert_equal "InputCommand 9", items.next.to_s
-    text = "the stream ended within InputCommand at offset 17, after 5 bytes of it"
-    error = assert_error(Pendratsoa::Incomplete, text) { items.next }
-    assert_equal ["read", 5, CODES[:input]], [error.call, error.rest, error.code]
+  end
+
+  def test_an_input_that_ends_within_an_item
+    [{}, { strict: true }].each do |strict|
+      items = Pendratsoa::Stream.read(StringIO.new(INPUT + INPUT[0, 5]), **strict)
+      assert_equal "InputCommand 9", items.next.to_s
+      text = "the stream ended within InputCommand at offset 17, after 5 bytes of it"
+      error = assert_error(Pendratsoa::Incomplete, text) { items.next }
+      assert_equal ["read", 5, CODES[:input]], [error.call, error.rest, error.code]
+      taken = []
+      stream = Pendratsoa::Stream.new
+      assert_error(Pendratsoa::Incomplete, text) do
+        stream.read(StringIO.new(INPUT + INPUT[0, 5]), **strict) { |item| taken << item.to_s }
+      end
+      assert_equal [["InputCommand 9"], INPUT[0, 5]], [taken, stream.trailing]
+    end
+  end
+
+  def test_an_input_that_is_still_being_written
+    stream = Pendratsoa::Stream.new
+    assert_equal 1, stream.read(StringIO.new(INPUT + INPUT[0, 5]), strict: false).count
+    assert_equal INPUT[0, 5], stream.trailing
+    assert_equal 1, stream.read(StringIO.new(INPUT[5..])).count
+    taken = []
+    input = StringIO.new(INPUT + INPUT[0, 5])
+    stream = Pendratsoa::Stream.read(input, strict: false) { |item| taken << item.to_s }
+    assert_equal [["InputCommand 9"], 5], [taken, stream.rest]
   end
 
   def test_the_code_of_an_item_that_is_cut

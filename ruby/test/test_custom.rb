@@ -24,7 +24,7 @@ class TestCustom < Minitest::Test
   end
 
   def items_of(*parts, version: 8)
-    Stream.read(StringIO.new(parts.join), version: version, strict: true).to_a
+    Stream.read(StringIO.new(parts.join), version: version).to_a
   end
 
   def test_a_loop_over_all_items
@@ -66,7 +66,7 @@ class TestCustom < Minitest::Test
   end
 
   def test_a_pattern_does_not_pass_a_malformed_message_on
-    text = "SetStateCommand at offset 17: payload \"\\n\" is not well-formed"
+    text = "SetStateCommand at offset 17: payload of 1 byte is not well-formed"
     _, item = items_of(INPUT, MALFORMED)
     [
       -> { item in Message[type: "SetStateCommand", message: { key: String }] },
@@ -130,7 +130,7 @@ class TestCustom < Minitest::Test
         "frame" => -> { item.frame },
         "append_frame" => -> { item.append_frame(out) }
       }.each do |call, read|
-        error = assert_error(Malformed, "SetStateCommand#{where}: payload \"\\n\" is not well-formed", &read)
+        error = assert_error(Malformed, "SetStateCommand#{where}: payload of 1 byte is not well-formed", &read)
         assert_equal [call, :payload, "\n"], [error.call, error.argument, error.value]
         offset ? assert_equal(offset, error.offset) : assert_nil(error.offset)
         assert_equal CODES[:set_state], error.code
@@ -147,7 +147,7 @@ class TestCustom < Minitest::Test
       "\x10\x11" => [NoResult, "has an id, and no result"]
     }.each do |payload, (kind, what)|
       item = items_of(Pendratsoa.header(8, CODES[:signal], 2) + payload).first
-      text = "SignalNotification at offset 0: payload #{payload.b.inspect} #{what}"
+      text = "SignalNotification at offset 0: payload of 2 bytes #{what}"
       error = assert_error(kind, text) { item.notification }
       assert_equal [CODES[:signal], 0], [error.code, error.offset]
     end

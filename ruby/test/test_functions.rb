@@ -22,7 +22,8 @@ class TestConstants < Minitest::Test
 
   def test_kinds_are_those_of_the_header
     families = { "" => Pendratsoa::ID_KINDS, "RESULT_" => Pendratsoa::RESULT_KINDS,
-                 "VERDICT_" => Pendratsoa::VERDICT_KINDS, "JSON_" => [nil, *Pendratsoa::JSON_REASONS] }
+                 "VERDICT_" => Pendratsoa::VERDICT_KINDS, "JSON_" => [nil, *Pendratsoa::JSON_REASONS],
+                 "LIST_" => [nil, *Pendratsoa::NUMBERING_REASONS] }
     families.each do |family, kinds|
       kinds.each_with_index do |kind, number|
         assert_equal number, defined_numbers[family + kind.to_s.upcase], kind if kind
@@ -154,17 +155,41 @@ class TestPayloads < Minitest::Test
   end
 
   def test_malformed
-    error = assert_error(Pendratsoa::Malformed, 'canonical: payload "\x12" is not well-formed') do
+    error = assert_error(Pendratsoa::Malformed, "canonical: payload of 1 byte is not well-formed") do
       Pendratsoa.canonical("ErrorMessage", "\x12")
     end
     assert_equal ["canonical", :payload, "\x12"], [error.call, error.argument, error.value]
-    text = 'to_json: payload "\x0E\x0E\x0E\x0E\x0E\x0E\x0E\x0E\x0E\x0E\x0E\x0E\x0E\x0E\x0E\x0E"... (33 bytes) ' \
-           "is not well-formed"
+    text = "to_json: payload of 33 bytes is not well-formed"
     assert_error(Pendratsoa::Malformed, text) { Pendratsoa.to_json(13, "\x0e" * 33) }
-    assert_error(Pendratsoa::Malformed, 'merge: first "\x12" is not well-formed') { Pendratsoa.merge(13, "\x12", "") }
-    assert_error(Pendratsoa::Malformed, 'merge: second "\x12" is not well-formed') { Pendratsoa.merge(13, "", "\x12") }
-    assert_error(Pendratsoa::Malformed, 'difference: second "\n" is not well-formed') do
+    text = "merge: first payload of 1 byte is not well-formed"
+    assert_error(Pendratsoa::Malformed, text) { Pendratsoa.merge(13, "\x12", "") }
+    text = "merge: second payload of 1 byte is not well-formed"
+    assert_error(Pendratsoa::Malformed, text) { Pendratsoa.merge(13, "", "\x12") }
+    assert_error(Pendratsoa::Malformed, "difference: second payload of 1 byte is not well-formed") do
       Pendratsoa.difference(CODES[:set_state], "", "\n")
+    end
+  end
+
+  def test_no_text_has_bytes_of_a_payload
+    bad = "\x0a\x40a secret"
+    came = Pendratsoa::Stream.new.feed(Pendratsoa.header(8, CODES[:set_state], bad.bytesize) + bad).first
+    [
+      -> { Pendratsoa.canonical("Value", bad) },
+      -> { Pendratsoa.merge("Value", bad, "") },
+      -> { Pendratsoa.merge("Value", "", bad) },
+      -> { Pendratsoa.frame(8, CODES[:set_state], bad) },
+      -> { Pendratsoa.notification(CODES[:signal], "\x22\x0a\x0a\x08a secret") },
+      -> { Pendratsoa::Value.decode(bad) },
+      -> { came.message },
+      -> { came.json },
+      -> { came.frame },
+      -> { Pendratsoa.from_json("Value", '{"content":"a secret"}') },
+      -> { Pendratsoa.from_json("Value", '{"content":"a secret"') },
+      -> { Pendratsoa::Message.from_json(:SetStateCommand, { "key" => "a secret" }) }
+    ].each do |call|
+      error = assert_raises(Pendratsoa::Malformed, Pendratsoa::NoId, Pendratsoa::JsonError, &call)
+      assert_match(/: (first |second )?(payload|json) of /, error.message)
+      refute_includes error.inspect, "secret"
     end
   end
 end
@@ -184,20 +209,20 @@ class TestReading < Minitest::Test
   def test_what_is_not_taken
     deep = "#{'{"nestedFutures":[' * 102}#{"]}" * 102}"
     [
-      ["Value", "", :not_json, 0, "", '"": not JSON at byte 0'],
-      ["Value", "{\"content\":\"\xff\"}", :not_json, 12, "", '"{\"content\":\"\xFF\"}": not JSON at byte 12'],
-      ["Value", '{"a":1}', :unknown_member, nil, "a", '"{\"a\":1}": a: unknown member'],
-      [SLEEP, '{"name":"","name":""}', :repeated_member, nil, "name",
-       '"{\"name\":\"\",\"name\":\"\"}": name: repeated member'],
+      ["Value", "", :not_json, 0, "", "not JSON at byte 0"],
+      ["Value", "{\"content\":\"\xff\"}", :not_json, 12, "", "not JSON at byte 12"],
+      ["Value", '{"a":1}', :unknown_member, nil, "a", "a: unknown member"],
+      [SLEEP, '{"name":"","name":""}', :repeated_member, nil, "name", "name: repeated member"],
       ["ProposeRunCompletionMessage", '{"value":"","failure":{}}', :several_members, nil, "failure",
-       '"{\"value\":\"\",\"failure\":{}}": failure: several members of a oneof'],
-      ["Value", "[]", :wrong_kind, nil, "", '"[]": wrong kind of value'],
+       "failure: several members of a oneof"],
+      ["Value", "[]", :wrong_kind, nil, "", "wrong kind of value"],
       ["InputCommandMessage", '{"headers":[{},{"key":1}]}', :wrong_kind, nil, "headers[1].key",
-       '"{\"headers\":[{},{\"key\":1}]}": headers[1].key: wrong kind of value'],
-      [SLEEP, '{"wakeUpTime":-1}', :out_of_range, nil, "wakeUpTime", '"{\"wakeUpTime\":-1}": wakeUpTime: out of range'],
-      ["Value", '{"content":"a"}', :not_base64, nil, "content", '"{\"content\":\"a\"}": content: not base64']
-    ].each do |schema, json, reason, offset, path, text|
-      error = assert_error(Pendratsoa::JsonError, "from_json: json #{text}") { Pendratsoa.from_json(schema, json) }
+       "headers[1].key: wrong kind of value"],
+      [SLEEP, '{"wakeUpTime":-1}', :out_of_range, nil, "wakeUpTime", "wakeUpTime: out of range"],
+      ["Value", '{"content":"a"}', :not_base64, nil, "content", "content: not base64"]
+    ].each do |schema, json, reason, offset, path, why|
+      text = "from_json: json of #{json.bytesize} bytes: #{why}"
+      error = assert_error(Pendratsoa::JsonError, text) { Pendratsoa.from_json(schema, json) }
       offset ? assert_equal(offset, error.offset) : assert_nil(error.offset)
       assert_equal [reason, path, "from_json", :json, json],
                    [error.reason, error.path, error.call, error.argument, error.value]
@@ -250,10 +275,10 @@ class TestNotifications < Minitest::Test
   def test_without_id_or_result
     result = unhex("2200")
     id = unhex("1011")
-    assert_error(Pendratsoa::NoId, "notification: payload #{result.inspect} has no id") do
+    assert_error(Pendratsoa::NoId, "notification: payload of 2 bytes has no id") do
       Pendratsoa.notification(CODES[:signal], result)
     end
-    assert_error(Pendratsoa::NoResult, "notification: payload #{id.inspect} has an id, and no result") do
+    assert_error(Pendratsoa::NoResult, "notification: payload of 2 bytes has an id, and no result") do
       Pendratsoa.notification(CODES[:signal], id)
     end
   end

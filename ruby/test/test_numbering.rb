@@ -66,7 +66,7 @@ class TestNumbering < Minitest::Test
 
   def test_what_is_no_payload
     ["\n", "\x22\x05a", "\x12\x02\x1a\x05", "\x10\x01", "\xff"].each do |payload|
-      text = "read_payload: payload #{payload.b.inspect} is not well-formed"
+      text = "read_payload: payload of #{payload.bytesize} byte#{"s" if payload.bytesize > 1} is not well-formed"
       error = assert_error(Pendratsoa::Malformed, text) { small.read_payload(SCHEMA, payload) }
       assert_equal [:payload, payload], [error.argument, error.value]
     end
@@ -134,9 +134,12 @@ class TestNumbering < Minitest::Test
     [{ "Fetch" => "SetStateCommandMessage" }, { "Value" => "Fetch" }, { "" => "Value" }, { "Value" => "" },
      { "Value=Value" => "Value" }, { "Value" => "Value\nValue=Value" }, { "\xff" => "Value" }].each do |renames|
       error = assert_raises(Pendratsoa::NumberingError) { Pendratsoa::Numbering.new(SMALL, renames: renames) }
-      assert_equal [:renames, renames], [error.argument, error.value]
-      assert_match(/\ANumbering: \S/, error.message)
+      assert_equal [:no_rename, :renames, renames], [error.reason, error.argument, error.value]
+      assert_match(/\S/, error.text)
+      assert_equal "Numbering: renames: #{error.text}", error.message
     end
+    error = assert_raises(Pendratsoa::NumberingError) { Pendratsoa::Numbering.new(SMALL, renames: { "A=B": "Value" }) }
+    assert_equal '"A=B" is not the name of a message', error.text
     [nil, 5, ["Value"], "Value=Value", { 5 => "Value" }, { "Value" => nil }].each do |renames|
       assert_raises(TypeError) { Pendratsoa::Numbering.new(SMALL, renames: renames) }
     end
@@ -148,8 +151,12 @@ class TestNumbering < Minitest::Test
     [twice, SMALL[..-2], "syntax = \"proto3\";", "\xff", "\0" * 100, block(1, block(4, "\n\x05"))].each do |set|
       error = assert_raises(Pendratsoa::NumberingError) { Pendratsoa::Numbering.new(set) }
       assert_equal ["Numbering", :descriptor_set, set], [error.call, error.argument, error.value]
-      assert_match(/\ANumbering: \S/, error.message)
+      assert_equal :no_set, error.reason
+      assert_match(/\S/, error.text)
+      assert_equal "Numbering: descriptor_set: #{error.text}", error.message
     end
+    error = assert_raises(Pendratsoa::NumberingError) { Pendratsoa::Numbering.new(twice) }
+    assert_equal "a.proto: a.Value.other: number of a later field", error.text
     empty = Pendratsoa::Numbering.new("")
     assert_equal ["", ""], [empty.write_payload(SCHEMA, OURS), empty.read_payload(SCHEMA, OURS)]
   end
@@ -198,7 +205,7 @@ class TestNumbering < Minitest::Test
   end
 
   def test_errors_of_streams
-    text = "SetStateCommand at offset 17: payload \"\\n\" is not well-formed"
+    text = "SetStateCommand at offset 17: payload of 1 byte is not well-formed"
     error = assert_error(Pendratsoa::Malformed, text) { small.read_stream(8, OTHERS + framed("\n")) }
     assert_equal [CODES[:set_state], 17], [error.code, error.offset]
     %i[read_stream write_stream].each do |call|
@@ -243,7 +250,7 @@ class TestNumbering < Minitest::Test
 
   def test_items_that_are_read
     theirs = framed(THEIRS) * 3
-    items = Pendratsoa::Stream.read(StringIO.new(theirs), size: 7, strict: true, numbering: small).to_a
+    items = Pendratsoa::Stream.read(StringIO.new(theirs), size: 7, numbering: small).to_a
     assert_equal([[0, OURS], [19, OURS], [38, OURS]], items.map { |item| [item.offset, item.payload] })
     assert_equal theirs, items.each_with_object(StringIO.new("".b)) { |item, out| item.write_to(out) }.string
     assert_equal [framed(THEIRS), 19], [items[1].dup.bytes, items[1].dup.offset]
@@ -268,7 +275,7 @@ class TestNumbering < Minitest::Test
   def test_a_payload_that_is_none_in_a_stream
     stream = Pendratsoa::Stream.new(numbering: small).feed(framed(THEIRS) + framed("\n") + framed(THEIRS))
     found = []
-    text = "SetStateCommand at offset 19: payload \"\\n\" is not well-formed"
+    text = "SetStateCommand at offset 19: payload of 1 byte is not well-formed"
     error = assert_error(Pendratsoa::Malformed, text) { stream.each { |item| found << item.offset } }
     assert_equal [CODES[:set_state], 19, [0]], [error.code, error.offset, found]
     # the next loop goes on after it

@@ -49,7 +49,7 @@ class TestPackages < Minitest::Test
     message = Pendratsoa::Message.new(8, CODES[:set_state], unhex("0a0561"))
     others = [Pendratsoa::UnknownCode.new(8, 8, 0), Pendratsoa::Skipped.new(9, 8, 0, "")]
     assert_equal [nil] * 3, [message, *others].map(&:offset)
-    text = "SetStateCommand: payload \"\\n\\x05a\" is not well-formed"
+    text = "SetStateCommand: payload of 3 bytes is not well-formed"
     error = assert_error(Pendratsoa::Malformed, text) { message.json }
     assert_equal [CODES[:set_state], nil], [error.code, error.offset]
   end
@@ -77,7 +77,7 @@ class TestPackages < Minitest::Test
 
   # The items of a stream that is there as a whole.
   def items_of(version, word)
-    Pendratsoa::Stream.read(StringIO.new(bytes_of(word)), version: Integer(version), strict: true).to_a
+    Pendratsoa::Stream.read(StringIO.new(bytes_of(word)), version: Integer(version)).to_a
   end
 
   def items_result(version, limit, *words)
@@ -109,7 +109,7 @@ class TestPackages < Minitest::Test
     input.define_singleton_method(:read) { |_size| left.shift }
     stream = Pendratsoa::Stream.new(**options)
     items = []
-    ended = raised { stream.read(input, strict: true) { |item| items << item } }
+    ended = raised { stream.read(input) { |item| items << item } }
     listing(stream, chunks, items, ended)
   end
 
@@ -333,8 +333,9 @@ class TestPackages < Minitest::Test
     sets[name] = Pendratsoa::Numbering.new(bytes_of(word), renames: renames)
     "ok"
   rescue Pendratsoa::NumberingError => error
-    kind = { descriptor_set: "no_set", renames: "no_rename" }.fetch(error.argument)
-    "#{kind} #{word_of(error.message.partition(": ").last)}"
+    assert_equal({ no_set: :descriptor_set, no_rename: :renames }.fetch(error.reason), error.argument)
+    assert_equal "Numbering: #{error.argument}: #{error.text}", error.message
+    "#{error.reason} #{word_of(error.text)}"
   end
 
   def read_of_numbering(sets, name, schema, word)

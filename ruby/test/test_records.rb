@@ -101,7 +101,8 @@ class TestRecords < Minitest::Test
     assert_equal [1, 2, 3], Pendratsoa::SuspensionMessageV6.decode(unhex("08010a020203")).waiting_completions
     keys = Pendratsoa::StateKeys.new(keys: Array.new(5000, &:to_s))
     assert_equal keys, Pendratsoa::StateKeys.decode(keys.encode)
-    assert_error(Pendratsoa::Malformed, 'decode: payload "\n" is not well-formed') { Pendratsoa::Value.decode("\n") }
+    text = "decode: payload of 1 byte is not well-formed"
+    assert_error(Pendratsoa::Malformed, text) { Pendratsoa::Value.decode("\n") }
     assert_nil Pendratsoa::Message.new(8, CODES[:custom_entry], "").message
   end
 

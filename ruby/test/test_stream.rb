@@ -33,12 +33,12 @@ class TestStream < Minitest::Test
     only_read.define_singleton_method(:read) { |size| whole.read(size) }
     [StringIO.new(STREAM), reader, only_read].each do |input|
       stream = Pendratsoa::Stream.new(version: 8)
-      assert_equal ITEMS, stream.read(input, size: 5).to_a
+      assert_equal ITEMS, stream.read(input, size: 5, strict: false).to_a
       assert_equal 9, stream.rest
     end
-    assert_equal ITEMS, Pendratsoa::Stream.read(StringIO.new(STREAM)).to_a
+    assert_equal ITEMS, Pendratsoa::Stream.read(StringIO.new(STREAM), strict: false).to_a
     found = []
-    Pendratsoa::Stream.read(StringIO.new(STREAM), version: 8, size: 1) { |item| found << item }
+    Pendratsoa::Stream.read(StringIO.new(STREAM), version: 8, size: 1, strict: false) { |item| found << item }
     assert_equal ITEMS, found
   end
 
@@ -47,13 +47,13 @@ class TestStream < Minitest::Test
       paths = [STREAM.byteslice(0, 20), "", STREAM.byteslice(20..)].each_with_index.map do |part, index|
         File.join(folder, index.to_s).tap { |path| File.binwrite(path, part) }
       end
-      assert_equal ITEMS, Pendratsoa::Stream.read(ARGF.class.new(*paths), version: 8).to_a
+      assert_equal ITEMS, Pendratsoa::Stream.read(ARGF.class.new(*paths), version: 8, strict: false).to_a
     end
   end
 
   def test_an_input_is_read_as_items_are_taken
     reader, writer = IO.pipe
-    items = Pendratsoa::Stream.read(reader, version: 8)
+    items = Pendratsoa::Stream.read(reader, version: 8, strict: false)
     writer.write(STREAM.byteslice(0, 20))
     assert_equal ITEMS[0], items.next
     writer.write(STREAM.byteslice(20..))
@@ -74,7 +74,7 @@ class TestStream < Minitest::Test
     assert_raises(TypeError) { stream.read(other) { flunk } }
     assert_raises(ArgumentError) { stream.read(StringIO.new, size: 0) }
     assert_raises(ArgumentError) { stream.read(StringIO.new, size: -1) { flunk } }
-    assert_equal ITEMS, stream.read(StringIO.new(STREAM)).to_a
+    assert_equal ITEMS, stream.read(StringIO.new(STREAM), strict: false).to_a
   end
 
   def test_loops_go_on_where_they_stopped
@@ -149,7 +149,7 @@ class TestStream < Minitest::Test
 
   def test_trailing_bytes_once_a_stream_ended
     stream = Pendratsoa::Stream.new
-    items = stream.read(StringIO.new(Helper::INPUT + Helper::INPUT.byteslice(0, 12)), size: 5, strict: true)
+    items = stream.read(StringIO.new(Helper::INPUT + Helper::INPUT.byteslice(0, 12)), size: 5)
     assert_equal ITEMS[0], items.next
     [-> { items.next }, -> { stream.finish }, -> { stream.finish }].each do |call|
       error = assert_raises(Pendratsoa::Incomplete, &call)

@@ -132,6 +132,7 @@ module Typed
     numbering.read_payload("Value", numbering.write_payload(1, "\n\x01x"))
     Pendratsoa::Stream.new(numbering: numbering).feed(theirs).each { |item| item(item) }
     tried { Pendratsoa::Numbering.new("no set") }
+    tried { Pendratsoa::Numbering.new(Descriptors::ALL, renames: { "Value" => "Nobody" }) }
   end
 end
 

@@ -120,11 +120,11 @@ module Pendratsoa
 
     # The error of a rejected JSON text: the reason, the offset, and the path to the rejected value.
     def not_taken(reason, offset, path)
-      value = @arguments.fetch(:json)
+      size = Shown.byte_count(@arguments.fetch(:json).bytesize)
       where = reason == :not_json ? " at byte #{offset}" : ""
       text = "#{"#{path}: " unless path.empty?}#{REASONS.fetch(reason)}#{where}"
       offset = nil unless reason == :not_json
-      error(JsonError, "json #{Shown.bytes(value)}: #{text}", :json, reason: reason, offset: offset, path: path)
+      error(JsonError, "json of #{size}: #{text}", :json, reason: reason, offset: offset, path: path)
     end
 
     # The error of a message that is longer than the limit of a stream.
@@ -157,7 +157,9 @@ module Pendratsoa
       return unexpected(number) unless TEXTS.key?(kind)
       return error(kind, TEXTS.fetch(kind)) unless argument
 
-      error(kind, "#{argument} #{Shown.bytes(@arguments.fetch(argument))} #{TEXTS.fetch(kind)}", argument)
+      what = argument == :payload ? argument : "#{argument} payload"
+      size = Shown.byte_count(@arguments.fetch(argument).bytesize)
+      error(kind, "#{what} of #{size} #{TEXTS.fetch(kind)}", argument)
     end
 
     # The error that there is no such argument.

@@ -92,8 +92,24 @@ module Pendratsoa
     end
   end
 
-  # No numbering comes of a descriptor set and renames. `argument` is that which is wrong: :descriptor_set or :renames.
-  class NumberingError < Error; end
+  # Which argument of a numbering has a fault.
+  #
+  # - `:no_set`: the descriptor set.
+  # - `:no_rename`: one of the renames.
+  NUMBERING_REASONS = %i[no_set no_rename].freeze
+
+  # No numbering comes of a descriptor set and renames. `argument` is :descriptor_set or :renames.
+  class NumberingError < Error
+    # Which of the two has a fault, as one of NUMBERING_REASONS, and the fault, as
+    # "a.proto: b.Message.field: number of a later field".
+    attr_reader :reason, :text
+
+    def initialize(message = nil, reason: nil, text: "", **details)
+      super(message, **details)
+      @reason = reason
+      @text = text
+    end
+  end
 
   # A stream ended within an item.
   class Incomplete < Error

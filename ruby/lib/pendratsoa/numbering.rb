@@ -83,8 +83,8 @@ module Pendratsoa
       @given = given.freeze
       text, kind = Named.call(Named::NUMBERING_TEXT, "Numbering", *given)
       @text = text.force_encoding(Encoding::UTF_8).scrub.freeze
-      wrong = WRONG[call.kind(LIST_KINDS, kind, "a numbering")]
-      raise call.error(NumberingError, @text, wrong) if wrong
+      reason = call.kind(LIST_KINDS, kind, "a numbering")
+      raise no_numbering(call, reason, @text) if NUMBERING_REASONS.include?(reason)
 
       @reading, @writing = %i[reading writing].map do |direction|
         Named.call(Named::NUMBERING, "Numbering", NUMBERING_DIRECTIONS.index(direction), *given).freeze
@@ -115,7 +115,13 @@ module Pendratsoa
       raise TypeError, "Numbering: a name in renames must be a String, not #{name.class}" unless text.is_a?(String)
       return text.b unless text.b.match?(/[=\n]/)
 
-      raise call.error(NumberingError, "renames: #{Shown.value(text)} is not the name of a message", :renames)
+      raise no_numbering(call, :no_rename, "#{Shown.value(text)} is not the name of a message")
+    end
+
+    # The error that no numbering comes of a set and renames: which of them has a fault, and the fault.
+    def no_numbering(call, reason, text)
+      wrong = WRONG.fetch(reason)
+      call.error(NumberingError, "#{wrong}: #{text}", wrong, reason: reason, text: text)
     end
 
     def renumbered(name, table, schema, payload)

@@ -116,7 +116,7 @@ module Pendratsoa
     # How many bytes of the recording follow its last whole item, which are not compared: 0 of a whole one. It walks
     # over the recording, and changes nothing.
     def recorded_rest
-      Stream.read(StringIO.new(@recorded), version: @version) { nil }.rest
+      Stream.read(StringIO.new(@recorded), version: @version, strict: false) { nil }.rest
     end
 
     def inspect

@@ -9,7 +9,13 @@ module Pendratsoa
       text.length <= 80 ? text : "#{text[0, 77]}..."
     end
 
-    # The bytes of a String as `inspect` has them; of more than 32 the first 16, and how many there are.
+    # A number of bytes.
+    def self.byte_count(count)
+      count == 1 ? "1 byte" : "#{count} bytes"
+    end
+
+    # The bytes of a String as `inspect` has them; of more than 32 the first 16, and how many there are. No error shows
+    # those of a payload, which may be a secret.
     def self.bytes(string)
       bytes = string.b
       return bytes.inspect if bytes.bytesize <= 32

@@ -28,9 +28,9 @@ module Pendratsoa
     # The version of the protocol.
     attr_reader :version
 
-    # Yields the items that come from what is open for reading. Without a block it returns an Enumerator. Bytes at its
-    # end that are in no item are left out, or are Incomplete if it is strict.
-    def self.read(input, version: 8, size: CHUNK, strict: false, max_message_size: nil, numbering: nil, &block)
+    # Yields the items that come from what is open for reading. Without a block it returns an Enumerator. If the input
+    # ends within an item, that is Incomplete after all whole items; with `strict: false` the bytes are left out.
+    def self.read(input, version: 8, size: CHUNK, strict: true, max_message_size: nil, numbering: nil, &block)
       stream = new(version: version, max_message_size: max_message_size, numbering: numbering)
       stream.read(input, size: size, strict: strict, &block)
     end
@@ -82,10 +82,11 @@ module Pendratsoa
       self
     end
 
-    # Feeds what an IO or the like has, at most `size` bytes at a time, and yields the items as they come. It ends where
-    # the input ends; `trailing` has then the bytes of an item that is not whole, which are Incomplete if it is strict.
-    # Without a block it returns an Enumerator.
-    def read(input, size: CHUNK, strict: false, &block)
+    # Feeds what an IO or the like has, at most `size` bytes at a time, and yields the items as they come. If the input
+    # ends within an item, that is Incomplete after all whole items; `trailing` has its bytes. With `strict: false` the
+    # loop ends there without an error, as for an input that is still being written. Without a block it returns an
+    # Enumerator.
+    def read(input, size: CHUNK, strict: true, &block)
       raise ArgumentError, "read: size #{size} is less than 1" if size < 1
       return enum_for(:read, input, size: size, strict: strict) unless block
 
@@ -122,7 +123,7 @@ module Pendratsoa
       offset = @pending.offset
       code = code_of_rest
       where = "#{code ? Shown.type(code) : "an item"} at offset #{offset}"
-      text = "the stream ended within #{where}, after #{count} byte#{"s" if count > 1} of it"
+      text = "the stream ended within #{where}, after #{Shown.byte_count(count)} of it"
       raise Incomplete.new(text, call: call, rest: count, offset: offset, code: code)
     end
 
