@@ -18,7 +18,7 @@ import (
 var packageCases = map[string]func(t *testing.T, words []string) string{
 	"items": itemsCase, "too_long": tooLongCase, "read": readCase, "as": asCase, "compare": compareCase,
 	"mismatch": mismatchCase, "replay": stepsCase, "rest": restCase, "encode": encodeCase, "message": messageCase,
-	"decode": decodeCase, "json": jsonCase, "number": numberCase, "name": nameCase, "limit": limitCase,
+	"new": newCase, "decode": decodeCase, "json": jsonCase, "number": numberCase, "name": nameCase, "limit": limitCase,
 }
 
 func TestPackages(t *testing.T) {
@@ -411,6 +411,28 @@ func stepOf(t *testing.T, replay *Replay, said *Mismatch) string {
 func restCase(t *testing.T, words []string) string {
 	replay := must(NewReplay(must(strconv.Atoi(words[0]))(t), bytesOf(t, words[1]), Ignored{}))(t)
 	return strconv.Itoa(replay.RecordedRest())
+}
+
+func newCase(t *testing.T, words []string) string {
+	version, payload := must(strconv.Atoi(words[0]))(t), bytesOf(t, words[2])
+	code, err := strconv.ParseUint(words[1], 10, 16)
+	if err != nil {
+		return "unknown"
+	}
+	message, err := NewMessage(version, uint16(code), payload)
+	switch {
+	case errors.Is(err, ErrUnknown):
+		return "unknown"
+	case err != nil:
+		return err.Error()
+	case message.Version != version || message.Code != uint16(code) || !bytes.Equal(message.Payload, payload):
+		t.Errorf("another message: %v", message)
+	}
+	came := itemsOf(t, words[0], digitsOf(message.Bytes()))
+	if len(came) != 1 || came[0].String() != message.String() {
+		t.Errorf("%v came as %v", message, came)
+	}
+	return fmt.Sprintf("%v, %x", message, message.Bytes())
 }
 
 func limitCase(t *testing.T, words []string) string {

@@ -80,7 +80,14 @@ export type AnyTyped = { [T in NamedType]: Message<T> }[NamedType] | Message<`Cu
  * does not compare it.
  */
 export class Message<T extends TypeName = TypeName> {
-  constructor(version: number, code: number, payload: Uint8Array, requestedAck?: boolean);
+  /**
+   * The message of a type with a payload, which is taken as it is: `frame` rejects one that is malformed. It requests
+   * an acknowledgement if the header of its type does at the version.
+   * @throws {TooLong} the payload has more than 4,294,967,295 bytes
+   * @throws {TypeError} an argument is of another kind
+   * @throws {Unknown} the version is none, or no type has the code
+   */
+  constructor(version: number, code: number, payload: Uint8Array);
 
   /**
    * The message of a type that a record is of. It requests an acknowledgement if the header of its type does at the
@@ -116,7 +123,10 @@ export class Message<T extends TypeName = TypeName> {
   /** The code of its type. */
   readonly code: number;
 
-  /** Its payload, in any encoding, as received; of a stream with a `Numbering` at the numbers of the protocol. */
+  /**
+   * Its payload, in any encoding, as received; of a stream with a `Numbering` at the numbers of the protocol. Only the
+   * types make it readonly: JavaScript can put another one in its place, which `bytes` ignores if it came in a stream.
+   */
   readonly payload: Uint8Array;
 
   /** Whether its header requests an acknowledgement. */
@@ -131,7 +141,6 @@ export class Message<T extends TypeName = TypeName> {
   /**
    * The message as received, byte for byte, a copy at each access: what a proxy passes on if it does not change it. If
    * it came in no stream, its payload as it is after the header of its type.
-   * @throws {Unknown} it came in no stream, and there is no such version or type
    */
   get bytes(): Uint8Array;
 
@@ -142,7 +151,6 @@ export class Message<T extends TypeName = TypeName> {
    * The record that its payload means, which is decoded at each access; undefined of a custom entry, which has no
    * record. Bytes in it are parts of the payload, or of its canonical encoding.
    * @throws {Malformed} the payload is not well-formed for its schema
-   * @throws {Unknown} it came in no stream, and there is no such version or type
    */
   get message(): T extends NamedType ? MessageRecords[T] : undefined;
 

@@ -101,12 +101,12 @@ export function highOf(version, type) {
   return type.high;
 }
 
-/** The same of any type by its code, for a payload of a length. */
-export function highFor(version, code, payloadLength) {
+/** The same of any type by its code, for a payload of a length, and for a call, which an error names. */
+export function highFor(version, code, payloadLength, call) {
   const type = foundIn(typesOf, version, code);
   // the library rejects any other length
   const isKnown = type !== undefined && payloadLength <= MOST_LENGTH;
-  return isKnown ? highOf(version, type) : highIn(headOf(version, code, payloadLength));
+  return isKnown ? highOf(version, type) : highIn(headOf(version, code, payloadLength, call));
 }
 
 /** Whether a header requests an acknowledgement, by its upper half. */
@@ -168,8 +168,8 @@ export function header(version, code, payloadLength) {
 }
 
 /** A header, in bytes that the next one is written to. */
-function headOf(version, code, payloadLength) {
-  checked(addon.header(version, code, payloadLength, head), { call: 'header', version, code, payloadLength });
+function headOf(version, code, payloadLength, call = 'header') {
+  checked(addon.header(version, code, payloadLength, head), { call, version, code, payloadLength });
   return head;
 }
 

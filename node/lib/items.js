@@ -22,6 +22,7 @@ import {
 import { Unknown, notKnown, ofMessage, recordMeant, wrongKind } from './errors.js';
 import { payloadOf, recordOf } from './fields.js';
 import { frameAt, into } from './frames.js';
+import { bytesIn } from './module_memory.js';
 import { headed } from './pool.js';
 import { isCommandCode, isNotificationCode } from './protocol.js';
 import { RECORDS } from './records.js';
@@ -30,6 +31,9 @@ import { schemaNumber } from './schemas.js';
 import { texts } from './text.js';
 
 const NOTHING = new Uint8Array(0);
+
+// What says that a constructor is given the flag, as of what came; no caller has it.
+const FLAGGED = Symbol('flagged');
 
 // The items of a stream, each with the offset at which it begins there. One class for what they share would make each
 // seven times as slow to construct.
@@ -46,7 +50,7 @@ export class Message {
   #high;
   #low;
   #offset;
-  // the payload as received, of a message whose payload a numbering read
+  // the payload as received, which a numbering has read or a caller has replaced since
   #received;
   // the payload that the stream has made, which a caller may have replaced since
   #own;
@@ -54,24 +58,22 @@ export class Message {
 
   static {
     messageThatCame = (offset, high, low, version, code, payload, requestedAck, read) => {
-      const message = new Message(version, code, read ?? payload, requestedAck);
+      const message = new Message(version, code, read ?? payload, FLAGGED, requestedAck);
       message.#high = high;
       message.#low = low;
       message.#offset = offset;
+      message.#received = payload;
       message.#own = message.payload;
-      if (read !== undefined) {
-        message.#received = payload;
-      }
       return message;
     };
     receivedLength = (message) => (message.#received ?? message.payload).length;
   }
 
-  constructor(version, code, payload, requestedAck = false) {
+  constructor(version, code, payload, flagged, requestedAck) {
     this.version = version;
     this.code = code;
     this.payload = payload;
-    this.requestedAck = requestedAck;
+    this.requestedAck = flagged === FLAGGED ? requestedAck : flagFor(version, code, payload);
   }
 
   static of(type, record, version = 8) {
@@ -96,26 +98,16 @@ export class Message {
   }
 
   get bytes() {
-    const payload = this.#received ?? this.payload;
-    if (this.#high !== undefined) {
-      return headed(this.#high, this.#low, payload);
+    if (this.#received !== undefined) {
+      return headed(this.#high, this.#low, this.#received);
     }
-    let high;
-    try {
-      // what came in no stream has the header of its type
-      high = highFor(this.version, this.code, payload.length);
-    } catch (error) {
-      throw this.#ofThis(error);
-    }
-    return headed(high, payload.length, payload);
+    // what came in no stream has the header of its type
+    const { version, code, payload } = this;
+    return headed(highFor(version, code, payload.length), payload.length, payload);
   }
 
   get type() {
-    try {
-      return typeName(this.code);
-    } catch (error) {
-      throw this.#ofThis(error);
-    }
+    return typeName(this.code);
   }
 
   get message() {
@@ -229,9 +221,14 @@ function messageSchema(name) {
   return number;
 }
 
+/** Whether the header of a new message requests an acknowledgement, by its version and its type. */
+function flagFor(version, code, payload) {
+  return requestsAck(highFor(version, code, bytesIn('payload', payload), 'Message'));
+}
+
 /** A message of a type that is remembered. */
 function made(version, type, payload) {
-  return new Message(version, type.code, payload, requestsAck(highOf(version, type)));
+  return new Message(version, type.code, payload, FLAGGED, requestsAck(highOf(version, type)));
 }
 
 /** The codes of types that have another schema at earlier versions. */
@@ -319,12 +316,15 @@ export class UnknownCode {
 /** A message of an unknown type, which is skipped with its payload from version 9 on. */
 export class Skipped {
   #offset;
+  // the payload as received
+  #received;
   kind = 'skipped';
 
   static {
     skippedThatCame = (offset, ...fields) => {
       const skipped = new Skipped(...fields);
       skipped.#offset = offset;
+      skipped.#received = skipped.payload;
       return skipped;
     };
   }
@@ -346,7 +346,7 @@ export class Skipped {
   }
 
   get bytes() {
-    return wordAnd(this.word, this.payload);
+    return wordAnd(this.word, this.#received ?? this.payload);
   }
 
   toString() {

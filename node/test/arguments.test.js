@@ -212,6 +212,20 @@ test('PENDRATSOA_CALLS', () => {
   }
 });
 
+test('a new message of what is of the wrong kind', () => {
+  const given = { version: 8, code: 0, payload: NONE };
+  assert.equal(new pendratsoa.Message(...Object.values(given)).type, 'Start');
+  for (const [argument, value] of Object.entries(given)) {
+    for (const wrong of typeof value === 'number' ? NO_NUMBERS : NO_BYTES) {
+      assert.throws(() => new pendratsoa.Message(...Object.values({ ...given, [argument]: wrong })), {
+        name: 'TypeError',
+        code: 'ERR_INVALID_ARG_TYPE',
+        message: mentions(argument),
+      });
+    }
+  }
+});
+
 test('streams of the wrong kind', () => {
   for (const version of NO_NUMBERS.filter((value) => value !== undefined)) {
     assert.throws(() => new pendratsoa.Stream(version), { name: 'TypeError', message: mentions('version') });

@@ -193,7 +193,7 @@ test('JSON that is rejected', () => {
 
 test('messages of JSON', () => {
   const message = Message.fromJson('ProposeRunCompletion', '{"resultCompletionId":1,"value":"eA=="}');
-  assert.deepEqual(message, new Message(8, PROPOSE_RUN_COMPLETION, hex('0801720178'), true));
+  assert.deepEqual(message, new Message(8, PROPOSE_RUN_COMPLETION, hex('0801720178')));
   assert.deepEqual(Message.fromJson(message.code, message.json()), message);
   assert.deepEqual(Message.fromJson(SUSPENSION, { waitingCompletions: [1] }, 6).payload, hex('0a0101'));
   assert.throws(() => Message.fromJson(SUSPENSION, { waitingCompletions: [1] }, 7), pendratsoa.JsonError);
@@ -217,6 +217,14 @@ test('a message', () => {
   assert.deepEqual(message.json(), { value: { content: 'aW5wdXQ=' } });
   assert.deepEqual(message.canonical(), message.payload);
   assert.deepEqual(message.frame(), hex('0400000000000009 72070a05696e707574'));
+});
+
+test('a new message has the flag of its type', () => {
+  for (const given of [[], [true], [false], [undefined, true]]) {
+    assert.equal(new Message(8, PROPOSE_RUN_COMPLETION, hex(''), ...given).requestedAck, true);
+    assert.equal(new Message(8, CALL_COMMAND, hex(''), ...given).requestedAck, false);
+    assert.throws(() => new Message(8, 8, hex(''), ...given), pendratsoa.Unknown);
+  }
 });
 
 test('a message of its own version and of another', () => {
@@ -397,7 +405,8 @@ test('what does not exist is named', () => {
     [() => new pendratsoa.Stream(10), 'version', 10],
     [() => pendratsoa.decode(10), 'version', 10],
     [() => pendratsoa.items([], 10), 'version', 10],
-    [() => new Message(10, 0, none).schema, 'version', 10],
+    [() => new Message(10, 0, none), 'version', 10],
+    [() => new Message(8, 8, none), 'code', 8],
   ]) {
     assert.throws(call, unknown(argument, value));
   }
@@ -412,6 +421,7 @@ test('what does not exist is named', () => {
       'headerEq: unknown code 0x800d, or not of the kind that the call is for',
     ],
     [() => pendratsoa.typeName(-1), 'typeName: unknown code -1, or not of the kind that the call is for'],
+    [() => new Message(4, 0, none), 'Message: unknown protocol version 4 (5 to 9)'],
   ]) {
     assert.throws(call, { name: 'Unknown', message });
   }
@@ -429,6 +439,7 @@ test('no number wraps', () => {
       () => pendratsoa.headerEq(code, none, none),
       () => pendratsoa.difference(code, none, none),
       () => pendratsoa.notification(code + CALL_COMPLETION - CALL_COMMAND, hex('08012200')),
+      () => new Message(8, code, none),
     ]) {
       assert.throws(call, pendratsoa.Unknown);
     }
@@ -439,6 +450,7 @@ test('no number wraps', () => {
       () => pendratsoa.header(version, CALL_COMMAND, 0),
       () => pendratsoa.frame(version, CALL_COMMAND, none),
       () => pendratsoa.compareJournals(version, none, none),
+      () => new Message(version, CALL_COMMAND, none),
       () => new pendratsoa.Stream(version),
       () => pendratsoa.decode(version),
       () => pendratsoa.items([], version),

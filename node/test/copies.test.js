@@ -42,7 +42,6 @@ test('a message that is made has the header of its type', () => {
   stream.feed(message.bytes);
   const [came] = stream;
   assert.equal(came.word, 0x0005800000000003n);
-  assert.throws(() => new Message(8, 8, hex('')).bytes, Unknown);
   assert.deepEqual(new UnknownCode(8, 8, 2n).bytes, hex('0000000000000002'));
   assert.deepEqual(new Skipped(9, 8, 1n, hex('ff')).bytes, hex('0000000000000001 ff'));
 });
@@ -111,11 +110,11 @@ test('suspensions of each version', () => {
 test('items as texts and as JSON', () => {
   const stream = new Stream(8);
   stream.feed(hex(FAITHFUL[0][1]));
-  const made = [new Skipped(9, 8, 3n, hex('00ff')), new Message(8, 8, hex('')), new Message(8, 5, hex(''), true)];
+  const made = [new Skipped(9, 8, 3n, hex('00ff')), new Message(8, 5, hex(''))];
   const found = [...stream, ...made];
   const [input, set] = found.map((item) => item.payload?.length);
   const lines = [`InputCommand ${input}`, `SetStateCommand ${set}`, 'CustomEntry(64513) 1', 'unknown 0x8', 'End 0'];
-  assert.deepEqual(found.map(String), [...lines, 'skipped 0x8 2', 'code 0x8 0', 'ProposeRunCompletion 0 ack']);
+  assert.deepEqual(found.map(String), [...lines, 'skipped 0x8 2', 'ProposeRunCompletion 0 ack']);
   const json = JSON.parse(JSON.stringify(found));
   const fields = { kind: 'message', version: 8, requestedAck: false, payload: '/w==' };
   assert.deepEqual(json[2], { ...fields, code: 0xfc01, type: 'CustomEntry(64513)' });

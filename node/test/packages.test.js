@@ -354,6 +354,22 @@ const KINDS = {
     }
   },
 
+  new(version, code, word) {
+    const given = [Number(version), Number(code), bytesOf(word)];
+    let message;
+    const error = thrown(() => {
+      message = new Message(...given);
+    });
+    if (error !== undefined) {
+      assert.ok(error instanceof Unknown, `${error}`);
+      return 'unknown';
+    }
+    const digitsOfAll = digits(message.bytes);
+    assert.deepEqual([message.version, message.code, message.payload], given);
+    assert.deepEqual(itemsOf(version, digitsOfAll), [message]);
+    return `${message}, ${digitsOfAll}`;
+  },
+
   decode(name, word) {
     try {
       return fieldsOf(readRecord(name, bytesOf(word))).join(', ') || '-';

@@ -124,8 +124,6 @@ test('values of another kind', () => {
   }
   assert.throws(() => readRecord('Value', hex('0a')), Malformed);
   assert.throws(() => readRecord('Values', hex('')), Unknown);
-  assert.throws(() => new Message(8, 8, hex('')).message, Unknown);
-  assert.throws(() => new Message(4, 0xfc01, hex('')).message, Unknown);
   assert.throws(() => Message.of('SetStatCommand', {}), Unknown);
 });
 

@@ -187,5 +187,6 @@ test('arguments', () => {
   for (const item of [undefined, null, 7, {}, new Uint8Array(8)]) {
     assert.throws(() => replay.check(item), TypeError);
   }
-  assert.throws(() => replay.check(new Message(7, 65536, new Uint8Array(0))), Unknown);
+  const message = new Message(7, 0, new Uint8Array(0));
+  assert.throws(() => replay.check(Object.assign(message, { code: 65536 })), Unknown);
 });

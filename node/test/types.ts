@@ -238,6 +238,8 @@ export function calls(): void {
   canonical('Values', bytes);
   // @ts-expect-error a number is not a text
   fromJson('Value', 5);
+  // @ts-expect-error the flag of a new message is that of its type
+  new Message(8, 0, bytes, true);
   // @ts-expect-error a version is a number
   schema('8', index);
   // @ts-expect-error the names are constant

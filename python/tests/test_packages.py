@@ -328,6 +328,16 @@ class TestPackages(unittest.TestCase):
         except Unknown:
             return "unknown"
 
+    def new_result(self, version, code, word):
+        given = int(version), int(code), bytes_of(word)
+        try:
+            message = Message.of(given[1], given[2], given[0])
+        except Unknown:
+            return "unknown"
+        self.assertEqual((message.version, message.code, message.payload), given)
+        self.assertEqual(items_of(version, message.bytes.hex()), [message])
+        return f"{message}, {message.bytes.hex()}"
+
     def decode_result(self, name, word):
         try:
             return ", ".join(fields_of(getattr(messages, name).decode(bytes_of(word)))) or "-"

@@ -253,6 +253,16 @@ class TestPackages < Minitest::Test
     "unknown"
   end
 
+  def new_result(version, code, word)
+    given = [Integer(version), Integer(code), bytes_of(word)]
+    message = Pendratsoa::Message.of(given[1], given[2], version: given[0])
+    assert_equal given, [message.version, message.code, message.payload]
+    assert_equal [message], items_of(version, word_of(message.bytes))
+    "#{message}, #{word_of(message.bytes)}"
+  rescue Pendratsoa::Unknown
+    "unknown"
+  end
+
   # The attribute of a record that has a field, or a member of a oneof.
   def attribute(record, field)
     oneof, = ONEOFS.find { |name, members| record.members.include?(name) && members.include?(field) }

@@ -352,6 +352,29 @@ fn step(replay: &Replay<'_>, said: Option<Mismatch>) -> String {
     }
 }
 
+fn new_case(words: &[&str]) -> String {
+    let payload = bytes(words[2]);
+    let (version, code) = match (words[0].parse(), words[1].parse()) {
+        (Ok(version), Ok(code)) => (version, code),
+        (Ok(_) | Err(Error::Unknown(_)), _) => return "unknown".to_owned(),
+        (Err(error), _) => return error.to_string(),
+    };
+    let message = match Message::new(version, code, &payload) {
+        Ok(message) => message,
+        Err(Error::Unknown(_)) => return "unknown".to_owned(),
+        Err(error) => return error.to_string(),
+    };
+    assert_eq!((message.version(), message.code()), (version, code));
+    assert_eq!(message.payload(), payload);
+    let item = Item::from(message);
+    let all = item.to_bytes().unwrap();
+    let mut decoder = decoder(version, None);
+    decoder.feed(&all).unwrap();
+    let came: Vec<_> = decoder.items().map(Result::unwrap).collect();
+    assert_eq!(came, [item]);
+    format!("{item}, {}", word(&all))
+}
+
 fn json_case(words: &[&str]) -> String {
     let mut payload = Vec::new();
     let message = words[0].parse().and_then(|version| {
@@ -465,6 +488,7 @@ fn each_case_has_its_result() {
             "rest" => rest_case(&words[1..]),
             "encode" => encode_case(&words[1..]),
             "message" => message_case(&words[1..]),
+            "new" => new_case(&words[1..]),
             "decode" => decode_case(&words[1..]),
             "json" => json_case(&words[1..]),
             "number" => number_case(&words[1..]),

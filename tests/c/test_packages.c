@@ -711,6 +711,34 @@ static uint64_t next_number(uint64_t most, bool *is_in) {
     return number;
 }
 
+/* A message of a type with a payload: the header of its type, and the payload. */
+static void new_message(void) {
+    bool is_version, is_code;
+    const uint64_t version = next_number(UINT32_MAX, &is_version);
+    const uint64_t code = next_number(UINT16_MAX, &is_code);
+    struct buffer payload = next_bytes(), message = {NULL, 0, 0};
+    struct journal_item item;
+    uint8_t header[8];
+    int64_t result = JOURNAL_UNKNOWN;
+
+    if (is_version && is_code) {
+        result = journal_header((uint32_t)version, (uint16_t)code, (uint32_t)payload.length, header, sizeof header);
+    }
+    if (result < 0) {
+        say(JOURNAL_KIND_OF_ERROR(result) == JOURNAL_UNKNOWN ? "unknown" : "refused");
+    } else {
+        append(&message, header, sizeof header);
+        append(&message, payload.bytes, payload.length);
+        if (journal_next((uint32_t)version, message.bytes, message.length, &item, JOURNAL_ITEM_NUMBERS) == 0 &&
+            item.size == message.length) {
+            list_item(&found, &item);
+        }
+        append_hex(&found, message.bytes, message.length);
+    }
+    free(payload.bytes);
+    free(message.bytes);
+}
+
 static void number(void) {
     const char *what = next_word();
     const bool is_code = strcmp(what, "code") == 0, is_version = strcmp(what, "version") == 0;
@@ -741,7 +769,7 @@ static void limit(void) {
 static const struct kind_of_line kinds[] = {{"items", items},       {"read", read_messages}, {"compare", compare},
                                             {"mismatch", mismatch}, {"replay", replay},      {"encode", encode},
                                             {"decode", decode},     {"json", json},          {"number", number},
-                                            {"limit", limit},       {"rest", rest}};
+                                            {"limit", limit},       {"rest", rest},          {"new", new_message}};
 
 static int check_line(char *line) { return check_words(line, kinds, sizeof kinds / sizeof *kinds); }
 
